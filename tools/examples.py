@@ -172,10 +172,11 @@ def figures_answer(words):
         return figures.explained(network, trace), 0
     if found.command == 'draw':
         return figures.drawing(network, trace, found.across), 0
-    if found.command == 'timeline' and found.svg:
-        return ticks.picture_text(network, trace, found.first, found.last), 0
     if found.command == 'timeline':
-        return ticks.timeline_text(network, trace), 0
+        waits = figures.replay(network, trace)[0].waits()
+        if found.svg:
+            return ticks.picture_text(network, trace, waits, found.first, found.last), 0
+        return ticks.timeline_text(network, trace, waits), 0
     return figures.stats_text(network, trace, found.tsv), 0
 
 

@@ -13,6 +13,8 @@ HEAD = '''digraph network {
   node [fontname="sans-serif", shape=box];
   edge [fontname="sans-serif", fontsize=11];
 '''
+# Of a longer list so many items are shown.
+MOST_ITEMS = 20
 LEGEND = '  label="green: complete, nothing more is ever put there%s";\n'
 
 
@@ -261,10 +263,19 @@ def deadlock_text(audit):
             + (f'items left because of it: {left}\n' if left else ''))
 
 
+def cut(line):
+    """A line of an audit, with the first 20 items of a longer list."""
+    name, mark, items = line.rstrip('\n').partition(':')
+    more = len(items.split()) - MOST_ITEMS
+    if more <= 0:
+        return line
+    return f'{name}{mark} {" ".join(items.split()[:MOST_ITEMS])} .. {more:,} more\n'
+
+
 def explained(network, trace):
     """What is said of a legal trace."""
     audit = replay(network, trace)[0]
-    said = deadlock_text(audit) + audit.text()
+    said = deadlock_text(audit) + ''.join(map(cut, audit.text().splitlines(keepends=True)))
     if audit.is_quiet():
         return said
     complete = audit.complete()

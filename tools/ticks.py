@@ -159,13 +159,25 @@ def counter_lines(network, timing, c):
         yield line(ph='C', pid=1, ts=tick, name=network.channels[c], args={'unread': unread})
 
 
-def timeline_text(network, trace):
+def last_wait_lines(network, timing, waits):
+    """The waits that a history ends with go on for one tick behind the last one."""
+    for p, wait in enumerate(waits):
+        if wait:
+            full = ' full' if wait[0] == 'full' else ''
+            begin = max((timing.ticks[k] for k in timing.of_process[p]), default=0)
+            yield line(ph='X', pid=1, tid=p + 1, ts=begin, dur=timing.length + 1 - begin,
+                       name=f'waits {network.channels[wait[1]]}{full}')
+
+
+def timeline_text(network, trace, waits):
+    """The timeline of a history, with the wait of each process at its end, or None."""
     timing = Timing(network, trace)
     tracks = [line(ph='M', pid=1, tid=p + 1, name='thread_name', args={'name': name})
               for p, name in enumerate(network.instances)]
     counters = [told for c in range(len(network.channels)) for told in counter_lines(network, timing, c)]
     first = line(ph='M', pid=1, name='process_name', args={'name': 'kpn'})
-    lines = [first, *(f',{told}' for told in [*tracks, *event_lines(network, timing, trace.history), *counters])]
+    slices = [*event_lines(network, timing, trace.history), *last_wait_lines(network, timing, waits)]
+    lines = [first, *(f',{told}' for told in [*tracks, *slices, *counters])]
     text = '{"traceEvents":[\n' + ''.join(lines) + ']}\n'
     check_timeline(text)
     return text
@@ -222,16 +234,18 @@ class TooMany(Exception):
 
 
 class Picture:
-    def __init__(self, network, trace, first, last):
+    def __init__(self, network, trace, waits, first, last):
         self.network, self.timing = network, Timing(network, trace)
         self.front, self.back = first - 1, min(last, self.timing.length)
         self.ticks = max(self.back - self.front, 0)
+        # Behind the last tick of a run there is room for one more.
+        self.edge = self.back + (last > self.timing.length)
         found = [(wide, step) for most, wide, step in SCALES if self.ticks <= most]
         self.wide, self.step = found[0] if found else (2, 50)
         self.left = 24 + 7 * max(map(len, network.instances), default=0)
         self.bottom = 40 + 32 * len(network.instances)
         self.count, self.parts = 0, []
-        for event in self.slices(trace.history):
+        for event in [*self.slices(trace.history), *self.last_waits(waits)]:
             self.draw(*event)
         if max(self.count, self.ticks) > MOST_SLICES:
             raise TooMany
@@ -252,6 +266,16 @@ class Picture:
                 yield event[0], p, c, tick - 1, tick, f'{event[0]} {name}: item {place.value}, tick {tick}'
                 latest[p] = tick
 
+    def last_waits(self, waits):
+        """What is drawn of the waits that the history ends with."""
+        for p, wait in enumerate(waits):
+            if wait:
+                kind, c = wait
+                begin = max((self.timing.ticks[k] for k in self.timing.of_process[p]), default=0)
+                what = 'an item' if kind == 'empty' else 'room'
+                title = f'waits for {what} on {self.network.channels[c]} from tick {begin + 1} to the end'
+                yield kind, p, c, begin, self.timing.length + 1, title
+
     def at(self, when):
         return self.left + self.wide * (when - self.front)
 
@@ -263,7 +287,7 @@ class Picture:
                 self.parts.append(f'<path class="grow" d="M{self.at(begin)} {y + 1}l5 8h-10z">'
                                   f'<title>{name} grows</title></path>\n')
             return
-        begin, end = max(begin, self.front), min(end, self.back)
+        begin, end = max(begin, self.front), min(end, self.edge)
         if begin >= end:
             return
         self.count += 1
@@ -274,30 +298,34 @@ class Picture:
             self.parts.append(f'<text class="{kind}" x="{x + wide // 2}" y="{y + 19}">{name}</text>\n')
 
     def text(self):
-        wide, high = max(self.at(self.front + self.ticks) + 24, 500), self.bottom + 48
+        shown = self.wide * max(self.edge - self.front, 0)
+        wide, high = max(self.left + shown + 24, 500), self.bottom + 48
         head = (f'<svg xmlns="http://www.w3.org/2000/svg" width="{wide}" height="{high}" '
                 f'viewBox="0 0 {wide} {high}">\n')
-        rows = [f'<rect class="row" x="{self.left}" y="{40 + 32 * p + 2}" width="{self.wide * self.ticks}" height="28"/>\n'
+        rows = [f'<rect class="row" x="{self.left}" y="{40 + 32 * p + 2}" width="{shown}" height="28"/>\n'
                 f'<text class="name" x="{self.left - 8}" y="{40 + 32 * p + 20}">{name}</text>\n'
                 for p, name in enumerate(self.network.instances)]
         marks = [f'<path class="tick" d="M{self.at(when)} 36V{self.bottom}"/>\n'
                  f'<text class="mark" x="{self.at(when)}" y="32">{when}</text>\n'
                  for when in range(self.front, self.front + self.ticks + 1) if when % self.step == 0]
-        caption = f'<text x="12" y="16">{span(self.front + 1, self.back)} of {self.timing.length}</text>\n'
+        length = self.timing.length
+        what = f'{span(self.front + 1, self.back)} of {length}' if length else 'no ticks'
+        caption = f'<text x="12" y="16">{what}</text>\n'
         legend = f'<g transform="translate(12,{self.bottom + 20})">\n'
         return head + STYLE + caption + ''.join([*rows, *marks, *self.parts]) + legend + LEGEND
 
 
-def picture_text(network, trace, first=1, last=10 ** 9):
-    text = Picture(network, trace, first, last).text()
+def picture_text(network, trace, waits, first=1, last=10 ** 9):
+    """The picture of a history, with the wait of each process at its end, or None."""
+    text = Picture(network, trace, waits, first, last).text()
     xml.etree.ElementTree.fromstring(text)
     return text
 
 
-def picture_answer(network, trace, first=1, last=10 ** 9):
+def picture_answer(network, trace, waits, first=1, last=10 ** 9):
     """The picture, or the line that refuses a larger one."""
     try:
-        return picture_text(network, trace, first, last)
+        return picture_text(network, trace, waits, first, last)
     except TooMany:
         return (f'kpn: usage: --from T and --to T, with at most {MOST_SLICES} gets, puts, waits and growths between '
                 'them\n')

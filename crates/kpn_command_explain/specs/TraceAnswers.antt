@@ -23,11 +23,11 @@ use Rattle.kpn_shelf.specs.Shelf.{Loads}
 use Rattle.kpn_command_base.specs.Description.{IsDescribed}
 use Rattle.kpn_command_base.specs.Flaw.{event_line}
 use Rattle.kpn_command_base.specs.Audited.{IsFoundLegal, IsRefusalOfAudit}
-use Rattle.kpn_command_base.specs.AuditText.{audit_text}
 use Rattle.kpn_trace.specs.declared.fault.TraceFault.TheVariants.{BadEvent}
 use Rattle.kpn_trace.specs.TraceText.{head_lines}
 use Rattle.kpn_command_explain.specs.Excerpt.{where_text}
 use Rattle.kpn_command_explain.specs.Lines.{line_start}
+use Rattle.kpn_command_explain.specs.Cut.{cut_text}
 
 -- ---- the texts
 
@@ -40,10 +40,11 @@ BeginsByRings false text = text ≡ []
 abbrev pub TellsRings : Tables → List Wait → (text : List ℕ) → Type 0
 TellsRings t waits text = (told : List (List ℕ)) × AreRings t waits told × BeginsByRings (are_some told) text
 
--- what the audit says of a legal history, and more behind it only if it is not exact
+-- what the audit says of a legal history, with the first 20 items of each channel, and more behind it only if it is not
+-- exact
 abbrev pub IsAuditedText : {A : Type 0} → Document → Audit A → (text : List ℕ) → Type 0
 IsAuditedText d audit text =
-    (rest : List ℕ) × (text ≡ audit_text d.names.channels audit ++ rest) × (audit.exact ≡ true → rest ≡ [])
+    (rest : List ℕ) × (text ≡ cut_text d.names.channels audit ++ rest) × (audit.exact ≡ true → rest ≡ [])
 
 -- the rings of a legal history, if there are some, and what the audit says of it
 abbrev pub IsLegalText : {A : Type 0} → Document → Audit A → (text : List ℕ) → Type 0

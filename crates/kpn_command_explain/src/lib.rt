@@ -5,6 +5,7 @@ mod cases;
 mod choices;
 mod concerned;
 mod counts;
+mod cut;
 mod deadlock;
 mod description;
 mod excerpt;

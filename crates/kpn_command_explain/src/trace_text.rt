@@ -4,19 +4,19 @@ ghost use Rattle.std.specs.String.{string_bytes};
 ghost use Rattle.kpn_trace.specs.TraceText.{head_lines};
 ghost use Rattle.kpn_command_explain.specs.TraceAnswers as spec;
 
+use crate::cut::cut_text;
 use crate::deadlock::deadlock_text;
 use crate::excerpt::{push_excerpt, push_where};
 use crate::lines::line_start;
 use crate::not_exact::push_not_exact;
 use crate::trace_words::{push_event, push_scene};
 use kpn_audit::{Audit, Scene};
-use kpn_command_base::text_of_audit;
 use kpn_run_history::{Event, Trace, Version};
 use kpn_text::Document;
 use kpn_trace::TraceFault;
 use std::alloc::{AllocError, Global};
 
-/// The rings of a legal history, what the audit says of it, and what a stop means for the items if it is not exact.
+/// The rings of a legal history, what the audit says of it with the first items, and what a stop means for the items if it is not exact.
 pub(crate) fn legal_text(
     alloc: Global,
     document: &Document,
@@ -35,7 +35,7 @@ fn audited_text(alloc: Global, document: &Document, audit: &Audit) -> Result<Vec
     ensures { IfOk result (λ text. spec.IsAuditedText document.now audit.now text.items) }
 {
     let rest = not_exact_text(alloc, document, audit)?;
-    let mut text = text_of_audit(alloc, document, audit)?;
+    let mut text = cut_text(alloc, document, audit)?;
     text.extend_from_slice(rest.as_bytes())?;
     Ok(text)
 }

@@ -1,5 +1,5 @@
 -- A picture of few ticks has only small numbers. And what is drawn of a box, whose places are known.
-use Rattle.std.proofs.Common.{◌≡◌, ℕ, ℤ, ◌-◌, ◌≤◌, Bool, true, false, nat_eq, if◌then◌else◌, List, [], min, codes, arith, refl, sym, ap, ap₂, subst, ◌∙◌}
+use Rattle.std.proofs.Common.{◌≡◌, ℕ, ℤ, ◌+◌, ◌-◌, ◌≤◌, Bool, true, false, nat_eq, if◌then◌else◌, List, [], min, codes, arith, refl, sym, ap, ap₂, subst, ◌∙◌}
 use Rattle.std.proofs.lemmas.Bool.{ne_eqb}
 use Rattle.std.proofs.Math.Nat.{min-le_right}
 use Rattle.kpn_net.specs.Tables.{Tables}
@@ -8,7 +8,7 @@ use Rattle.kpn_run_history.specs.declared.event.Event.TheVariants.{Get, Put}
 use Rattle.kpn_text_names.specs.Names.{name_at}
 use Rattle.kpn_ticks.specs.Ticks.{Clocks, latest_of, get_tick, put_tick}
 use Rattle.kpn_command_views.specs.declared.scale.Scale.{Scale}
-use Rattle.kpn_command_views.specs.PictureText.{tick_width, longest_below, scale_for, ticks_in, place_of, row_of, whole_box, box, move_boxes, event_boxes}
+use Rattle.kpn_command_views.specs.PictureText.{tick_width, longest_below, scale_for, ticks_in, place_of, row_of, whole_box, box, last_wait_box, move_boxes, event_boxes}
 use Rattle.kpn_command_views.specs.Drawable.{IsDrawable}
 
 either : (b : Bool) (x y most : ℕ) → x ≤ most → y ≤ most → (if b then x else y) ≤ most
@@ -20,12 +20,20 @@ width_is_small ticks =
     either _ 44 _ 44 (omega arith)
     (either _ 20 _ 44 (omega arith) (either _ 10 _ 44 (omega arith) (either _ 5 2 44 (omega arith) (omega arith))))
 
+one_more_room : (most length front : ℕ) → min most length - front ≤ 2000 → min most (length + 1) - front ≤ 2001
+one_more_room most length front few = omega (arith, few)
+
 pub is_drawable : (names : List (List ℕ)) (processes first last length : ℕ)
     → ticks_in (scale_for names processes first last length) ≤ 2000
     → IsDrawable (scale_for names processes first last length)
 is_drawable names processes first last length few =
     let short = min-le_right (longest_below names processes) 32 in
-    record { ticks = few; left = omega (arith, short); wide = width_is_small (min last length - (first - 1)) }
+    record {
+      ticks = few;
+      room = one_more_room last length (first - 1) few;
+      left = omega (arith, short);
+      wide = width_is_small (min last length - (first - 1));
+    }
 
 otherwise : (b : Bool) (xs ys : List ℕ) → b ≡ false → ys ≡ if b then xs else ys
 otherwise true xs ys none = absurd cc
@@ -51,6 +59,14 @@ moved Added s p latest l tick m word kind what name n item v one two three four 
     (subst (λ x. Added (move_boxes s p latest x word kind what n v)) two
     (subst (λ x. Added (move_boxes s p latest tick word kind what x v)) three
     (subst (λ (x : ℤ). Added (move_boxes s p latest tick word kind what name x)) four added)))
+
+pub lasted : (Added : List ℕ → Type 0) (s : Scale) (p latest l last m : ℕ) (kind what name n : List ℕ) → latest ≡ l
+    → last ≡ m → name ≡ n → Added (last_wait_box s p latest last kind what name)
+    → Added (last_wait_box s p l m kind what n)
+lasted Added s p latest l last m kind what name n one two three added =
+    subst (λ x. Added (last_wait_box s p x m kind what n)) one
+    (subst (λ x. Added (last_wait_box s p latest x kind what n)) two
+    (subst (λ x. Added (last_wait_box s p latest last kind what x)) three added))
 
 -- the boxes of a get are those of the event
 pub got : (Added : List ℕ → Type 0) (names : List (List ℕ)) (t : Tables) (s : Scale) (k : Clocks) (event : Event)

@@ -94,12 +94,15 @@ counters_done a b c x w y name unread k place written reads was past there more 
     refl
 
 -- the whole
-pub timeline_sent : (a b c d : Option (List ℕ)) (t x y z front E C told Z : List ℕ) → t ≡ front
-    → AreSent a b x (t ++ E) → AreSent b c y (x ++ told) → told ≡ C → z ≡ y ++ Z → Appends c d z
-    → Appends a d (front ++ E ++ C ++ Z)
-timeline_sent a b c d t x y z front E C told Z is events channels as_told added last =
-    let sent = goes_on a b c x (t ++ E) y told events channels in
+pub timeline_sent : (a b c d : Option (List ℕ)) (t x w y z front E W C waits told Z : List ℕ) → t ≡ front
+    → AreSent a b x (t ++ E) → w ≡ x ++ waits → waits ≡ W → AreSent b c y (w ++ told) → told ≡ C → z ≡ y ++ Z
+    → Appends c d z → Appends a d (front ++ E ++ W ++ C ++ Z)
+timeline_sent a b c d t x w y z front E W C waits told Z is events waited as_waited channels as_told added last =
+    let waiting : AreSent b b w (x ++ waits) = subst (AreSent b b w) waited (none_sent b w) in
+    let before = goes_on a b b x (t ++ E) w waits events waiting in
+    let sent = goes_on a b c w (t ++ E ++ waits) y told before channels in
     subst (Appends a d)
     (ap (λ s. sent.sent ++ s) added ∙ sym (append_assoc sent.sent y Z) ∙ ap (λ s. s ++ Z) sent.kept
-    ∙ ap (λ s. s ++ E ++ told ++ Z) is ∙ ap (λ s. front ++ E ++ s ++ Z) as_told)
+    ∙ ap (λ s. s ++ E ++ waits ++ told ++ Z) is ∙ ap (λ s. front ++ E ++ s ++ told ++ Z) as_waited
+    ∙ ap (λ s. front ++ E ++ W ++ s ++ Z) as_told)
     (Appends-trans a c d sent.sent z sent.grows last)

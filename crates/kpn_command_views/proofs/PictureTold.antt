@@ -1,6 +1,7 @@
 -- The picture of the events of a trace is that of its history. The two differ only in the capacities of growths, which
 -- the picture does not show.
 use Rattle.std.proofs.Common.{◌≡◌, ℕ, ◌+◌, max, true, List, [], ◌∷◌, ◌++◌, length, refl, sym, ap, ap₂, ◌∙◌}
+use Rattle.kpn_net.specs.declared.wait.Wait.{Wait}
 use Rattle.kpn_net.specs.Tables.{Tables}
 use Rattle.kpn_run_history.specs.declared.event.Event.{Event}
 use Rattle.kpn_run_history.specs.declared.event.Event.TheVariants.{Grow}
@@ -11,7 +12,7 @@ use Rattle.kpn_audit.specs.Stored.{told, told_behind, history_of}
 use Rattle.kpn_ticks.specs.Ticks.{Clocks, after, start, clocks_after}
 use Rattle.kpn_ticks.proofs.Told.{same_after, history_clocks}
 use Rattle.kpn_command_views.specs.declared.scale.Scale.{Scale}
-use Rattle.kpn_command_views.specs.PictureText.{scale_for, ticks_in, event_boxes, all_event_boxes, box_count, all_box_count, head_text, grid_text, legend, picture, picture_size}
+use Rattle.kpn_command_views.specs.PictureText.{scale_for, ticks_in, event_boxes, all_event_boxes, last_boxes, box_count, all_box_count, last_counts, head_text, grid_text, legend, picture, picture_size}
 
 same_boxes : (names : List (List ℕ)) (t told_of : Tables) (s : Scale) (k : Clocks) (B : List Event) (event : Event)
     → event_boxes names t s k (told told_of B event) ≡ event_boxes names t s k event
@@ -52,7 +53,7 @@ history_count : (v : Version) (t : Tables) (s : Scale) (events : List Event)
 history_count One t s events = told_count t t s (start t true) [] events
 history_count Two t s events = refl
 
-module _ (d : Document) (t : Tables) (first last : ℕ) where
+module _ (d : Document) (t : Tables) (first last : ℕ) (waits : List Wait) where
   -- the scale for events after which these are the clocks
   abbrev scale_after : Clocks → Scale
   scale_after k = scale_for d.names.instances (length t.instances) first last k.last
@@ -60,13 +61,16 @@ module _ (d : Document) (t : Tables) (first last : ℕ) where
   abbrev text_after : Clocks → List ℕ → List ℕ
   text_after k boxes =
       head_text (scale_after k) (length t.instances) k.last
-      ++ grid_text d.names.instances (scale_after k) (length t.instances) ++ boxes ++ legend (length t.instances)
+      ++ grid_text d.names.instances (scale_after k) (length t.instances)
+      ++ (boxes ++ last_boxes d.names.channels (scale_after k) (length t.instances) waits k)
+      ++ legend (length t.instances)
 
   abbrev size_after : Clocks → ℕ → ℕ
-  size_after k count = max (ticks_in (scale_after k)) count
+  size_after k count =
+      max (ticks_in (scale_after k)) (count + last_counts (scale_after k) (length t.instances) waits k)
 
   pub same_picture : (v : Version) (events : List Event)
-      → picture d t first last events ≡ picture d t first last (history_of v t events)
+      → picture d t first last waits events ≡ picture d t first last waits (history_of v t events)
   same_picture v events =
       let history = history_of v t events in
       sym (ap (text_after (clocks_after t true history))
@@ -75,7 +79,7 @@ module _ (d : Document) (t : Tables) (first last : ℕ) where
       (all_event_boxes d.names.channels t (scale_after k) (start t true) events)) (history_clocks v t true events))
 
   pub same_size : (v : Version) (events : List Event)
-      → picture_size d t first last events ≡ picture_size d t first last (history_of v t events)
+      → picture_size d t first last waits events ≡ picture_size d t first last waits (history_of v t events)
   same_size v events =
       let history = history_of v t events in
       sym (ap (size_after (clocks_after t true history))

@@ -1,6 +1,7 @@
 -- What the code has made is the picture, or the reason why there is none.
-use Rattle.std.proofs.Common.{◌≡◌, ◌≤◌, ◌<◌, ◌^◌, ℕ, true, List, length, ap, ap₂, subst, ◌∙◌, arith}
+use Rattle.std.proofs.Common.{◌≡◌, ◌+◌, ◌≤◌, ◌<◌, ◌^◌, ℕ, true, List, length, ap, ap₂, subst, ◌∙◌, arith}
 use Rattle.std.proofs.Math.Nat.{max-le}
+use Rattle.kpn_net.specs.declared.wait.Wait.{Wait}
 use Rattle.kpn_net.specs.Tables.{Tables}
 use Rattle.kpn_net.specs.Faults.{IsNetwork}
 use Rattle.kpn_net.proofs.Networks.{sizes}
@@ -13,27 +14,36 @@ use Rattle.kpn_command_base.specs.declared.auditing.Audited.{Audited}
 use Rattle.kpn_command_base.specs.Audited.{IsAudited, IsRefusalOfAudit}
 use Rattle.kpn_ticks.specs.Ticks.{Clocks, start, clocks_after}
 use Rattle.kpn_command_views.specs.declared.scale.Scale.{Scale}
-use Rattle.kpn_command_views.specs.PictureText.{scale_for, scale_of, ticks_in, all_box_count, picture_with}
+use Rattle.kpn_command_views.specs.PictureText.{scale_for, scale_of, ticks_in, all_box_count, last_counts, boxes_in, picture_with}
 use Rattle.kpn_command_views.specs.PictureAnswers.{IsPicture, IsRefusalOfPicture, IsNoPicture, size_for}
 
-module _ (d : Document) (t : Tables) (first last : ℕ) (events : List Event) (s : Scale) (processes ends : ℕ)
-    (k : Clocks) (scaled : s ≡ scale_for d.names.instances processes first last ends)
-    (counted : processes ≡ length t.instances) (lasts : ends ≡ k.last) (timed : k ≡ clocks_after t true events) where
-  all : ends ≡ (clocks_after t true events).last
-  all = lasts ∙ ap (λ (k : Clocks). k.last) timed
+module _ (d : Document) (t : Tables) (first last : ℕ) (waits : List Wait) (events : List Event) (s : Scale)
+    (processes : ℕ) (k : Clocks) (scaled : s ≡ scale_for d.names.instances processes first last k.last)
+    (counted : processes ≡ length t.instances) (timed : k ≡ clocks_after t true events) where
+  known_scale : s ≡ scale_of d t first last events
+  known_scale =
+      scaled
+      ∙ ap₂ (λ (p : ℕ) (k : Clocks). scale_for d.names.instances p first last k.last) counted timed
 
-  pub known_scale : s ≡ scale_of d t first last events
-  known_scale = scaled ∙ ap₂ (λ (p n : ℕ). scale_for d.names.instances p first last n) counted all
+  known_boxes : (boxes lasts : ℕ) → boxes ≡ all_box_count t s (start t true) events
+      → lasts ≡ last_counts s processes waits k
+      → boxes + lasts
+      ≡ boxes_in t (scale_of d t first last events) (length t.instances) waits (clocks_after t true events) events
+  known_boxes boxes lasts are last_are =
+      ap₂ (λ (m n : ℕ). m + n) are last_are
+      ∙ ap (λ (s : Scale). boxes_in t s processes waits k events) known_scale
+      ∙ ap₂ (λ (p : ℕ) (k : Clocks). boxes_in t (scale_of d t first last events) p waits k events) counted timed
 
-  pub pictured : (text : List ℕ) (boxes : ℕ) → text ≡ picture_with d t s processes ends events → ticks_in s ≤ 2000
-      → boxes ≡ all_box_count t s (start t true) events → boxes ≤ 2000 → IsPicture d t first last events text
-  pictured text boxes made few are less = (
+  pub pictured : (text : List ℕ) (boxes lasts : ℕ) → text ≡ picture_with d t s processes waits k events
+      → ticks_in s ≤ 2000 → boxes ≡ all_box_count t s (start t true) events
+      → lasts ≡ last_counts s processes waits k → boxes + lasts ≤ 2000 → IsPicture d t first last waits events text
+  pictured text boxes lasts made few are last_are less = (
     made
-        ∙ ap (λ (s : Scale). picture_with d t s processes ends events) known_scale
-        ∙ ap₂ (λ (p n : ℕ). picture_with d t (scale_of d t first last events) p n events) counted all,
+        ∙ ap (λ (s : Scale). picture_with d t s processes waits k events) known_scale
+        ∙ ap₂ (λ (p : ℕ) (k : Clocks). picture_with d t (scale_of d t first last events) p waits k events) counted
+        timed,
     max-le (subst (λ (s : Scale). ticks_in s ≤ 2000) known_scale few)
-        (subst (λ (s : Scale). all_box_count t s (start t true) events ≤ 2000) known_scale
-        (subst (λ n. n ≤ 2000) are less)),
+        (subst (λ n. n ≤ 2000) (known_boxes boxes lasts are last_are) less),
   )
 
 -- a network has few processes
@@ -51,7 +61,7 @@ of_audit may_give file trace steps first last other h = h
 -- so is one of an audited trace
 pub of_audited : (may_give : Loads) (file trace : List ℕ) (steps first last : ℕ) (audited : Audited)
     → IsAudited may_give file trace steps audited → (it : Refusal)
-    → IsNoPicture (size_for first last audited.document audited.trace) it
+    → IsNoPicture (size_for first last audited) it
     → IsRefusalOfPicture may_give file trace steps first last it
 of_audited may_give file trace steps first last audited is refusal.PictureWords h = (audited, is, h)
 of_audited may_give file trace steps first last audited is refusal.NoMemory h = tt

@@ -1,10 +1,14 @@
 -- The picture that `kpn timeline --svg` writes, in SVG. The processes stand below one another, and the ticks go from
--- left to right. A box is a get or put of one tick, or a wait, and a mark is the growth of a channel. All places are in
--- pixels from the upper left corner. Names need no escape, since they are letters, digits and `_`.
+-- left to right. A box is a get or put of one tick, or a wait, and a mark is the growth of a channel. A wait that the run
+-- ends with goes on for one tick behind the last one. All places are in pixels from the upper left corner. Names need no
+-- escape, since they are letters, digits and `_`.
 use Rattle.std.specs.Prelude.{ℕ, zero, suc, ◌+◌, ◌-◌, ◌*◌, ◌/◌, ◌%◌, min, max, true, nat_le, nat_eq, ◌&&◌, if◌then◌else◌, ℤ, List, [], ◌∷◌, ◌++◌, length, codes}
 use Rattle.std.specs.List.{concat}
 use Rattle.std.specs.Fmt.{decimal, signed_decimal}
+use Rattle.kpn_net.specs.declared.wait.Wait.{Wait}
+use Rattle.kpn_net.specs.declared.wait.Wait.TheVariants.{Nobody, Empty, Full}
 use Rattle.kpn_net.specs.Tables.{Tables}
+use Rattle.kpn_net.specs.Waits.{wait_at}
 use Rattle.kpn_run_history.specs.declared.event.Event.{Event}
 use Rattle.kpn_run_history.specs.declared.event.Event.TheVariants.{Get, Put, Grow}
 use Rattle.kpn_text_names.specs.Names.{name_at}
@@ -32,11 +36,13 @@ abbrev pub longest_below : (names : List (List ℕ)) (n : ℕ) → ℕ
 longest_below names zero = 0
 longest_below names (suc n) = max (longest_below names n) (length (name_at names n))
 
--- how ticks `first` to `last` of a run of this length are shown. Names have at most 32 bytes
+-- how ticks `first` to `last` of a run of this length are shown. If that goes beyond the last one, there is room for one
+-- tick behind it. Names have at most 32 bytes
 abbrev pub scale_for : (names : List (List ℕ)) (processes first last length : ℕ) → Scale
 scale_for names processes first last length = record {
   front = first - 1;
   back = min last length;
+  edge = min last (length + 1);
   left = 24 + 7 * min (longest_below names processes) 32;
   wide = tick_width (min last length - (first - 1));
 }
@@ -47,7 +53,11 @@ ticks_in s = s.back - s.front
 
 -- where a tick ends. What is not shown stands at the edge
 abbrev pub place_of : Scale → (tick : ℕ) → ℕ
-place_of s tick = s.left + s.wide * (min tick s.back - s.front)
+place_of s tick = s.left + s.wide * (min tick s.edge - s.front)
+
+-- where all that is shown ends
+abbrev pub right_of : Scale → ℕ
+right_of s = place_of s s.edge
 
 -- where the row of process p begins
 abbrev pub row_of : (p : ℕ) → ℕ
@@ -141,6 +151,30 @@ all_event_boxes names t s clocks [] = []
 all_event_boxes names t s clocks (event ∷ events) =
     event_boxes names t s clocks event ++ all_event_boxes names t s (after t clocks event) events
 
+-- the title of a wait that has not ended
+abbrev pub last_title : (what name : List ℕ) → (first : ℕ) → List ℕ
+last_title what name first =
+    concat
+    (codes "waits for " ∷ what ∷ codes " on " ∷ name ∷ codes " from tick " ∷ decimal first
+    ∷ codes " to the end</title></rect>\n" ∷ [])
+
+-- a wait of process p from behind its latest tick to the tick behind the last one
+abbrev pub last_wait_box : Scale → (p latest last : ℕ) (kind what name : List ℕ) → List ℕ
+last_wait_box s p latest last kind what name =
+    box s kind p latest (last + 1) (last_title what name (latest + 1)) name
+
+-- what is drawn of process p, which waits so at the end
+abbrev pub last_box : (names : List (List ℕ)) → Scale → Clocks → (p : ℕ) → Wait → List ℕ
+last_box names s clocks p Nobody = []
+last_box names s clocks p (Empty c) =
+    last_wait_box s p (latest_of clocks p) clocks.last (codes "empty") (codes "an item") (name_at names c)
+last_box names s clocks p (Full c) =
+    last_wait_box s p (latest_of clocks p) clocks.last (codes "full") (codes "room") (name_at names c)
+
+-- what is drawn of so many processes, which wait so at the end
+abbrev pub last_boxes : (names : List (List ℕ)) → Scale → (processes : ℕ) → List Wait → Clocks → List ℕ
+last_boxes names s processes waits clocks = each_below processes (λ p. last_box names s clocks p (wait_at waits p))
+
 -- ---- how many boxes
 
 -- 1 if something is shown between the ends of these ticks, else 0
@@ -166,6 +200,16 @@ all_box_count t s clocks [] = 0
 all_box_count t s clocks (event ∷ events) =
     box_count t s clocks event + all_box_count t s (after t clocks event) events
 
+-- how many boxes are drawn of process p, which waits so at the end
+abbrev pub last_count : Scale → Clocks → (p : ℕ) → Wait → ℕ
+last_count s clocks p Nobody = 0
+last_count s clocks p wait = shown_between s (latest_of clocks p) (clocks.last + 1)
+
+-- the same of the first n processes
+abbrev pub last_counts : Scale → (n : ℕ) → List Wait → Clocks → ℕ
+last_counts s zero waits clocks = 0
+last_counts s (suc n) waits clocks = last_counts s n waits clocks + last_count s clocks n (wait_at waits n)
+
 -- ---- the rows and the axis
 
 abbrev pub row_band : (x y wide : ℕ) → List ℕ
@@ -183,7 +227,7 @@ row_name x y name =
 -- the row of process p, with its name
 abbrev pub row : (names : List (List ℕ)) → Scale → (p : ℕ) → List ℕ
 row names s p =
-    row_band s.left (row_of p + 2) (place_of s s.back - s.left)
+    row_band s.left (row_of p + 2) (right_of s - s.left)
     ++ row_name (s.left - 8) (row_of p + 20) (name_at names p)
 
 -- a line at the end of a tick, which stands here, down to the last row, with the number of the tick
@@ -214,7 +258,8 @@ style_text =
 
 abbrev pub caption_text : (first last length : ℕ) → List ℕ
 caption_text first last length =
-    if nat_eq first last
+    if nat_eq length 0 then codes "<text x=\"12\" y=\"16\">no ticks</text>\n"
+    else if nat_eq first last
     then concat
     (codes "<text x=\"12\" y=\"16\">tick " ∷ decimal first ∷ codes " of " ∷ decimal length ∷ codes "</text>\n" ∷ [])
     else concat
@@ -223,7 +268,7 @@ caption_text first last length =
 
 abbrev pub head_text : Scale → (processes length : ℕ) → List ℕ
 head_text s processes length =
-    size_text (max (place_of s s.back + 24) 500) (row_of processes + 48) ++ style_text
+    size_text (max (right_of s + 24) 500) (row_of processes + 48) ++ style_text
     ++ caption_text (s.front + 1) s.back length
 
 abbrev pub legend_front : (y : ℕ) → List ℕ
@@ -250,19 +295,30 @@ abbrev pub scale_of : Document → Tables → (first last : ℕ) → List Event 
 scale_of d t first last events =
     scale_for d.names.instances (length t.instances) first last (clocks_after t true events).last
 
--- the picture at a scale, with so many processes and of a run of this length
-abbrev pub picture_with : Document → Tables → Scale → (processes length : ℕ) → List Event → List ℕ
-picture_with d t s processes length events =
-    head_text s processes length ++ grid_text d.names.instances s processes
-    ++ all_event_boxes d.names.channels t s (start t true) events ++ legend processes
+-- the boxes and marks at a scale, of so many processes, with these clocks at the end
+abbrev pub boxes_text : Document → Tables → Scale → (processes : ℕ) → List Wait → Clocks → List Event → List ℕ
+boxes_text d t s processes waits ends events =
+    all_event_boxes d.names.channels t s (start t true) events
+    ++ last_boxes d.names.channels s processes waits ends
 
--- the picture of ticks `first` to `last` of these events of the network
-abbrev pub picture : Document → Tables → (first last : ℕ) → List Event → List ℕ
-picture d t first last events =
-    picture_with d t (scale_of d t first last events) (length t.instances) (clocks_after t true events).last events
+-- the picture at a scale, with so many processes and these clocks at the end
+abbrev pub picture_with : Document → Tables → Scale → (processes : ℕ) → List Wait → Clocks → List Event → List ℕ
+picture_with d t s processes waits ends events =
+    head_text s processes ends.last ++ grid_text d.names.instances s processes
+    ++ boxes_text d t s processes waits ends events ++ legend processes
+
+-- the picture of ticks `first` to `last` of these events of the network, behind which its processes wait so
+abbrev pub picture : Document → Tables → (first last : ℕ) → List Wait → List Event → List ℕ
+picture d t first last waits events =
+    picture_with d t (scale_of d t first last events) (length t.instances) waits (clocks_after t true events) events
+
+-- how many boxes and marks are drawn at a scale, of so many processes, with these clocks at the end
+abbrev pub boxes_in : Tables → Scale → (processes : ℕ) → List Wait → Clocks → List Event → ℕ
+boxes_in t s processes waits ends events =
+    all_box_count t s (start t true) events + last_counts s processes waits ends
 
 -- how many ticks it has, or boxes and marks, whichever are more
-abbrev pub picture_size : Document → Tables → (first last : ℕ) → List Event → ℕ
-picture_size d t first last events =
+abbrev pub picture_size : Document → Tables → (first last : ℕ) → List Wait → List Event → ℕ
+picture_size d t first last waits events =
     let s = scale_of d t first last events in
-    max (ticks_in s) (all_box_count t s (start t true) events)
+    max (ticks_in s) (boxes_in t s (length t.instances) waits (clocks_after t true events) events)

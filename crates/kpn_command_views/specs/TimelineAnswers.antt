@@ -13,9 +13,9 @@ use Rattle.kpn_command_base.specs.Audited.{IsToldOf, IsTextFor, IsRefusalOfAudit
 use Rattle.kpn_command_views.specs.TimelineText.{timeline}
 use Rattle.kpn_command_views.specs.Sent.{IsUnsent}
 
--- this is the timeline of a legal history
+-- this is the timeline of a legal history, with the waits that it ends with
 abbrev pub IsTimelineOf : Document → Trace Global → Audit Global → (text : List ℕ) → Type 0
-IsTimelineOf d trace audit text = text ≡ timeline d (tables_for d.tables trace) (history_in d.tables trace)
+IsTimelineOf d trace audit text = text ≡ timeline d (tables_for d.tables trace) audit.waits (history_in d.tables trace)
 
 -- the one file spells a network, the other a trace, and this is the text and the status for it
 abbrev pub IsTimeline : (may_give : Loads) (file trace : List ℕ) (steps : ℕ) → (text : List ℕ) (status : ℕ) → Type 0

@@ -4,7 +4,10 @@
 use Rattle.std.specs.Prelude.{ℕ, ◌+◌, ◌-◌, true, nat_lt, if◌then◌else◌, ℤ, List, [], ◌∷◌, ◌++◌, length, map, codes, take, drop}
 use Rattle.std.specs.List.{concat, range_with_len}
 use Rattle.std.specs.Fmt.{decimal, signed_decimal}
+use Rattle.kpn_net.specs.declared.wait.Wait.{Wait}
+use Rattle.kpn_net.specs.declared.wait.Wait.TheVariants.{Nobody, Empty, Full}
 use Rattle.kpn_net.specs.Tables.{Tables}
+use Rattle.kpn_net.specs.Waits.{wait_at}
 use Rattle.kpn_run_history.specs.declared.event.Event.{Event}
 use Rattle.kpn_run_history.specs.declared.event.Event.TheVariants.{Get, Put, Grow}
 use Rattle.kpn_text_names.specs.Names.{name_at}
@@ -77,6 +80,12 @@ all_event_lines names t s [] = []
 all_event_lines names t s (event ∷ events) =
     event_lines names t s event ++ all_event_lines names t (after t s event) events
 
+-- what is drawn of process p, which waits so at the end: its wait goes on for one tick behind the last one
+abbrev pub last_wait : (names : List (List ℕ)) → Clocks → (p : ℕ) → Wait → List ℕ
+last_wait names s p Nobody = []
+last_wait names s p (Empty c) = wait_slice p (latest_of s p) (s.last + 2) (name_at names c) []
+last_wait names s p (Full c) = wait_slice p (latest_of s p) (s.last + 2) (name_at names c) (codes " full")
+
 -- ---- the counters
 
 -- what stands between the tick and the number of items of a channel
@@ -121,10 +130,15 @@ abbrev pub channel_counters : (names : List (List ℕ)) → Clocks → (c : ℕ)
 channel_counters names s c =
     counter_lines (counter_label (name_at names c)) 0 (written_of s c) (read_of s c)
 
--- the timeline of these events of the network
-abbrev pub timeline : Document → Tables → List Event → List ℕ
-timeline d t events =
+-- what is drawn of so many processes, which wait so at the end
+abbrev pub last_waits : (names : List (List ℕ)) → (processes : ℕ) → List Wait → Clocks → List ℕ
+last_waits names processes waits s = each_below processes (λ p. last_wait names s p (wait_at waits p))
+
+-- the timeline of these events of the network, behind which its processes wait so
+abbrev pub timeline : Document → Tables → List Wait → List Event → List ℕ
+timeline d t waits events =
     head ++ each_below (length t.instances) (λ p. track_line p (name_at d.names.instances p))
     ++ all_event_lines d.names.channels t (start t true) events
+    ++ last_waits d.names.channels (length t.instances) waits (clocks_after t true events)
     ++ each_below (length t.channels) (channel_counters d.names.channels (clocks_after t true events))
     ++ codes "]}\n"

@@ -5,12 +5,12 @@ ghost use Rattle.kpn_net.specs.Tables.{Tables};
 ghost use Rattle.kpn_text_names.specs.Names.{name_at};
 ghost use Rattle.kpn_ticks.specs.Ticks.{latest_of, get_tick, put_tick};
 ghost use Rattle.kpn_ticks.specs.Shown.{shown, AreClocks};
-ghost use Rattle.kpn_command_views.specs.PictureText.{row_of, box_front, item_title, wait_title, name_text, box_name, whole_box, item_box, wait_box, move_boxes, growth_text, growth_mark, event_boxes, shown_between, move_count, growth_count, box_count};
+ghost use Rattle.kpn_command_views.specs.PictureText.{row_of, box_front, item_title, wait_title, name_text, box_name, whole_box, item_box, wait_box, move_boxes, growth_text, growth_mark, event_boxes, last_title, last_wait_box, last_box, shown_between, move_count, growth_count, box_count, last_count};
 ghost use Rattle.kpn_command_views.specs.Drawable.{IsDrawable};
 
 use crate::scale::Scale;
 use kpn_command_base::Pushed;
-use kpn_net::Network;
+use kpn_net::{Network, Wait};
 use kpn_run_history::Event;
 use kpn_text::Document;
 use kpn_ticks::Clocks;
@@ -104,6 +104,52 @@ fn push_put(
     push_move(
         text, scale, p, latest, tick, "put", "full", "room", name, item,
     )
+}
+
+/// What is drawn of process `p`, which waits so at the end.
+pub(crate) fn push_last(
+    text: &mut String,
+    document: &Document,
+    scale: Scale,
+    clocks: &Clocks,
+    p: usize,
+    wait: Wait,
+) -> Pushed
+    requires drawable { IsDrawable scale }
+    requires clocks { (t : Tables) × AreClocks t (shown clocks.now) }
+    requires fits { (shown clocks.now).last + 1 < 2 ^ 64 }
+    requires row { p < 2 ^ 16 }
+    ensures { Adds result text.old text.new
+        (last_box document.now.names.channels scale (shown clocks.now) p wait) }
+{
+    let latest = clocks.latest_of(p);
+    let last = clocks.last();
+    match wait {
+        Wait::Empty(c) => {
+            let name = document.channel_name(c);
+            push_last_wait(text, scale, p, latest, last, "empty", "an item", name)
+        }
+        Wait::Full(c) => {
+            let name = document.channel_name(c);
+            push_last_wait(text, scale, p, latest, last, "full", "room", name)
+        }
+        Wait::Nobody => Ok(()),
+    }
+}
+
+/// How many boxes are drawn of process `p`, which waits so at the end.
+pub(crate) fn last_count(scale: Scale, clocks: &Clocks, p: usize, wait: Wait) -> usize
+    requires drawable { IsDrawable scale }
+    requires fits { (shown clocks.now).last + 1 < 2 ^ 64 }
+    ensures exact { result ≡ last_count scale (shown clocks.now) p wait }
+    ensures few { result ≤ 1 }
+{
+    match wait {
+        Wait::Nobody => 0,
+        Wait::Empty(_) | Wait::Full(_) => {
+            shown_between(scale, clocks.latest_of(p), clocks.last() + 1)
+        }
+    }
 }
 
 /// How many boxes and marks are drawn of the next event.
@@ -210,6 +256,33 @@ fn push_wait(
     }
 }
 
+// A wait from behind the latest tick to the one behind the last one, if something of it is shown.
+fn push_last_wait(
+    text: &mut String,
+    scale: Scale,
+    p: usize,
+    latest: usize,
+    last: usize,
+    kind: &str,
+    what: &str,
+    name: &str,
+) -> Pushed
+    requires drawable { IsDrawable scale }
+    requires row { p < 2 ^ 16 }
+    requires fits { latest + 1 < 2 ^ 64 }
+    requires ends { last + 1 < 2 ^ 64 }
+    ensures { Adds result text.old text.new
+        (last_wait_box scale p latest last kind.now what.now name.now) }
+{
+    let x = scale.place_of(latest);
+    let wide = scale.place_of(last + 1).saturating_sub(x);
+    if wide == 0 {
+        Ok(())
+    } else {
+        push_last_wait_box(text, x, row_of(p), wide, kind, what, name, latest + 1)
+    }
+}
+
 // A get or put, if it is shown.
 fn push_item(
     text: &mut String,
@@ -251,6 +324,27 @@ fn push_wait_box(
 {
     push_front(text, kind, x, row + 6, wide)?;
     push_wait_title(text, what, name, first, last)?;
+    push_name(text, kind, x, row + 19, wide, name)?;
+    Ok(())
+}
+
+// A wait from this tick on, in a row that begins here.
+fn push_last_wait_box(
+    text: &mut String,
+    x: usize,
+    row: usize,
+    wide: usize,
+    kind: &str,
+    what: &str,
+    name: &str,
+    first: usize,
+) -> Pushed
+    requires { x + row + wide < 2 ^ 32 }
+    ensures { Adds result text.old text.new (whole_box kind.now x row wide
+        (last_title what.now name.now first) name.now) }
+{
+    push_front(text, kind, x, row + 6, wide)?;
+    push_last_title(text, what, name, first)?;
     push_name(text, kind, x, row + 19, wide, name)?;
     Ok(())
 }
@@ -309,6 +403,15 @@ fn push_wait_title(text: &mut String, what: &str, name: &str, first: usize, last
             "waits for {what} on {name}, ticks {first} to {last}</title></rect>\n"
         )
     }
+}
+
+fn push_last_title(text: &mut String, what: &str, name: &str, first: usize) -> Pushed
+    ensures { Adds result text.old text.new (last_title what.now name.now first) }
+{
+    write!(
+        text,
+        "waits for {what} on {name} from tick {first} to the end</title></rect>\n"
+    )
 }
 
 // The name of the channel, if the box is wide enough.

@@ -18,7 +18,7 @@ pub(crate) fn push_head(text: &mut String, scale: Scale, processes: usize, lengt
     requires fits { scale.front + 1 < 2 ^ 64 }
     ensures { Adds result text.old text.new (head_text scale processes length) }
 {
-    let wide = (scale.place_of(scale.back) + 24).max(500);
+    let wide = (scale.right() + 24).max(500);
     push_size(text, wide, row_of(processes) + 48)?;
     text.push_str(style_text())?;
     push_caption(text, scale.front + 1, scale.back, length)?;
@@ -37,7 +37,9 @@ fn push_size(text: &mut String, wide: usize, high: usize) -> Pushed
 fn push_caption(text: &mut String, first: usize, last: usize, length: usize) -> Pushed
     ensures { Adds result text.old text.new (caption_text first last length) }
 {
-    if first == last {
+    if length == 0 {
+        text.push_str("<text x=\"12\" y=\"16\">no ticks</text>\n")
+    } else if first == last {
         write!(
             text,
             "<text x=\"12\" y=\"16\">tick {first} of {length}</text>\n"
@@ -96,7 +98,7 @@ fn push_row(text: &mut String, document: &Document, scale: Scale, p: usize) -> P
     requires row { p < 2 ^ 16 }
     ensures { Adds result text.old text.new (spec.row document.now.names.instances scale p) }
 {
-    let wide = scale.place_of(scale.back).saturating_sub(scale.left);
+    let wide = scale.right().saturating_sub(scale.left);
     push_row_band(text, scale.left, row_of(p) + 2, wide)?;
     let name = document.instance_name(p);
     push_row_name(text, scale.left.saturating_sub(8), row_of(p) + 20, name)?;

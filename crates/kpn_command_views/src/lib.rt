@@ -20,10 +20,10 @@ mod slices;
 mod stats;
 mod stats_text;
 mod svg_command;
-mod table;
 mod timeline;
 mod timelines;
 mod times;
+mod waits;
 
 pub use draw::draw_command;
 pub use stats::stats_command;

@@ -1,16 +1,19 @@
 //! The picture of a run in time.
-ghost use Rattle.std.specs.Prelude.{◌≡◌, ◌+◌, ◌<◌, ◌≤◌, ◌^◌, ◌++◌, true, length, IfOk, IfErr, OnOk};
+ghost use Rattle.std.specs.Prelude.{◌≡◌, ◌+◌, ◌*◌, ◌<◌, ◌≤◌, ◌^◌, ◌++◌, true, length, IfOk, IfErr, OnOk};
 ghost use Rattle.kpn_command_base.specs.Added.{Adds};
+ghost use Rattle.kpn_net.specs.Tables.{Tables};
 ghost use Rattle.kpn_ticks.specs.Ticks.{start};
-ghost use Rattle.kpn_command_views.specs.PictureText.{all_event_boxes, all_box_count, picture_with, picture_size};
+ghost use Rattle.kpn_ticks.specs.Shown.{shown, AreClocks};
+ghost use Rattle.kpn_command_views.specs.PictureText.{all_event_boxes, last_boxes, all_box_count, last_counts, boxes_text, picture_with, picture_size};
 ghost use Rattle.kpn_command_views.specs.Drawable.{IsDrawable};
 ghost use Rattle.kpn_command_views.specs.PictureAnswers.{IsPicture, IsNoPicture};
 
-use crate::boxes::{box_count, push_event};
+use crate::boxes::{box_count, last_count, push_event, push_last};
 use crate::frame::{push_grid, push_head, push_legend};
 use crate::scale::Scale;
+use crate::waits::wait_at;
 use kpn_command_base::{Pushed, Refusal};
-use kpn_net::Network;
+use kpn_net::{Network, Wait};
 use kpn_run_history::Event;
 use kpn_text::Document;
 use kpn_ticks::{Clocks, clocks_after};
@@ -19,8 +22,8 @@ use std::alloc::{AllocError, Global};
 /// The most ticks of a picture, and the most boxes and marks.
 const MOST: usize = 2_000;
 
-/// The picture of ticks `first` to `last` of these events of the network, which has the names of the document. It
-/// refuses one of more than 2,000 ticks, or boxes and marks.
+/// The picture of ticks `first` to `last` of these events of the network, which has the names of the document, and of
+/// the waits behind them. It refuses one of more than 2,000 ticks, or boxes and marks.
 #[tactic(auto, using(crate::proofs::Pictured::few_rows))]
 pub(crate) fn picture_of(
     alloc: Global,
@@ -28,25 +31,28 @@ pub(crate) fn picture_of(
     network: &Network,
     first: usize,
     last: usize,
+    waits: &[Wait],
     events: &[Event],
 ) -> Result<Vec<u8>, Refusal>
     ensures ok { IfOk result
-        (λ text. IsPicture document.now network.now first last events.now text.items) }
+        (λ text. IsPicture document.now network.now first last waits.now events.now text.items) }
     ensures refused { IfErr result
-        (IsNoPicture (picture_size document.now network.now first last events.now)) }
+        (IsNoPicture (picture_size document.now network.now first last waits.now events.now)) }
 {
     network.known();
-    let length = clocks_after(alloc, network, true, events)?.last();
+    let ends = clocks_after(alloc, network, true, events)?;
     let processes = network.instances();
-    let scale = Scale::new(document, processes, first, last, length);
+    let scale = Scale::new(document, processes, first, last, ends.last());
     if scale.ticks() > MOST {
         return Err(Refusal::PictureWords);
     }
     let boxes = count_boxes(alloc, network, scale, events)?;
-    if boxes > MOST {
+    if boxes + count_last(scale, processes, waits, &ends) > MOST {
         return Err(Refusal::PictureWords);
     }
-    let text = text_of(alloc, document, network, scale, processes, length, events)?;
+    let text = text_of(
+        alloc, document, network, scale, processes, waits, &ends, events,
+    )?;
     Ok(text)
 }
 
@@ -58,8 +64,9 @@ fn count_boxes(
     events: &[Event],
 ) -> Result<usize, AllocError>
     requires { IsDrawable scale }
-    ensures { IfOk result (λ count. count
+    ensures exact { IfOk result (λ count. count
         ≡ all_box_count network.now scale (start network.now true) events.now) }
+    ensures few { IfOk result (λ count. count ≤ 2 * length events.now) }
 {
     let mut clocks = Clocks::new(alloc, network, true)?;
     let mut count = 0;
@@ -70,28 +77,71 @@ fn count_boxes(
     Ok(count)
 }
 
-// The picture at this scale of events that take so many ticks.
+// How many boxes are drawn of the waits of these processes at the end.
+fn count_last(scale: Scale, processes: usize, waits: &[Wait], ends: &Clocks) -> usize
+    requires drawable { IsDrawable scale }
+    requires fits { (shown ends.now).last + 1 < 2 ^ 64 }
+    ensures exact { result ≡ last_counts scale processes waits.now (shown ends.now) }
+    ensures few { result ≤ processes }
+{
+    let mut count = 0;
+    for p in 0..processes {
+        count += last_count(scale, ends, p, wait_at(waits, p));
+    }
+    count
+}
+
+// The picture at this scale of events that end with these clocks.
 fn text_of(
     alloc: Global,
     document: &Document,
     network: &Network,
     scale: Scale,
     processes: usize,
-    length: usize,
+    waits: &[Wait],
+    ends: &Clocks,
     events: &[Event],
 ) -> Result<Vec<u8>, AllocError>
     requires drawable { IsDrawable scale }
     requires rows { processes < 2 ^ 16 }
     requires fits { scale.front + 1 < 2 ^ 64 }
+    requires clocks { (t : Tables) × AreClocks t (shown ends.now) }
+    requires ends { (shown ends.now).last + 1 < 2 ^ 64 }
     ensures { IfOk result (λ text. text.items ≡ picture_with document.now network.now scale
-        processes length events.now) }
+        processes waits.now (shown ends.now) events.now) }
 {
     let mut text = String::new(alloc);
-    push_head(&mut text, scale, processes, length)?;
+    push_head(&mut text, scale, processes, ends.last())?;
     push_grid(&mut text, document, scale, processes)?;
-    push_events(alloc, &mut text, document, network, scale, events)?;
+    push_boxes(
+        alloc, &mut text, document, network, scale, processes, waits, ends, events,
+    )?;
     push_legend(&mut text, processes)?;
     Ok(text.into_bytes())
+}
+
+// All boxes and marks.
+fn push_boxes(
+    alloc: Global,
+    text: &mut String,
+    document: &Document,
+    network: &Network,
+    scale: Scale,
+    processes: usize,
+    waits: &[Wait],
+    ends: &Clocks,
+    events: &[Event],
+) -> Pushed
+    requires drawable { IsDrawable scale }
+    requires rows { processes < 2 ^ 16 }
+    requires clocks { (t : Tables) × AreClocks t (shown ends.now) }
+    requires ends { (shown ends.now).last + 1 < 2 ^ 64 }
+    ensures { Adds result text.old text.new (boxes_text document.now network.now scale
+        processes waits.now (shown ends.now) events.now) }
+{
+    push_events(alloc, text, document, network, scale, events)?;
+    push_last_waits(text, document, scale, processes, waits, ends)?;
+    Ok(())
 }
 
 // What is drawn of each event.
@@ -111,6 +161,28 @@ fn push_events(
     for k in 0..events.len() {
         push_event(text, document, network, scale, &clocks, events[k])?;
         clocks.count(network, events[k])?;
+    }
+    Ok(())
+}
+
+// The waits that these processes end with.
+fn push_last_waits(
+    text: &mut String,
+    document: &Document,
+    scale: Scale,
+    processes: usize,
+    waits: &[Wait],
+    ends: &Clocks,
+) -> Pushed
+    requires drawable { IsDrawable scale }
+    requires rows { processes < 2 ^ 16 }
+    requires clocks { (t : Tables) × AreClocks t (shown ends.now) }
+    requires ends { (shown ends.now).last + 1 < 2 ^ 64 }
+    ensures { Adds result text.old text.new (last_boxes document.now.names.channels scale
+        processes waits.now (shown ends.now)) }
+{
+    for p in 0..processes {
+        push_last(text, document, scale, ends, p, wait_at(waits, p))?;
     }
     Ok(())
 }

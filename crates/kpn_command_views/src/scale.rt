@@ -1,6 +1,6 @@
 //! Which ticks a picture shows, and where they stand.
 ghost use Rattle.std.specs.Prelude.{◌≡◌, ◌+◌, ◌-◌, ◌*◌, ◌≤◌, ◌<◌, ◌^◌, min, length};
-ghost use Rattle.kpn_command_views.specs.PictureText.{tick_width, tick_step, longest_below, scale_for, ticks_in, place_of};
+ghost use Rattle.kpn_command_views.specs.PictureText.{tick_width, tick_step, longest_below, scale_for, ticks_in, place_of, right_of};
 ghost use Rattle.kpn_command_views.specs.Drawable.{IsDrawable};
 
 use kpn_text::Document;
@@ -12,6 +12,8 @@ pub(crate) struct Scale {
     pub front: usize,
     /// The last tick.
     pub back: usize,
+    /// The last tick that there is room for: the one behind the last of the run, if that is shown.
+    pub edge: usize,
     /// Where the first tick begins.
     pub left: usize,
     /// How wide a tick is.
@@ -27,6 +29,7 @@ impl Scale {
         last: usize,
         length: usize,
     ) -> Scale
+        requires { length + 1 < 2 ^ 64 }
         ensures { result ≡ scale_for document.now.names.instances processes first last length }
     {
         let front = first.saturating_sub(1);
@@ -34,6 +37,7 @@ impl Scale {
         Scale {
             front,
             back,
+            edge: last.min(length + 1),
             left: 24 + 7 * longest_name(document, processes).min(32),
             wide: tick_width(back.saturating_sub(front)),
         }
@@ -52,7 +56,16 @@ impl Scale {
         ensures exact { result ≡ place_of self tick }
         ensures below { result < 100000 }
     {
-        self.left + self.wide * tick.min(self.back).saturating_sub(self.front)
+        self.left + self.wide * tick.min(self.edge).saturating_sub(self.front)
+    }
+
+    /// Where all that is shown ends.
+    pub(crate) fn right(self) -> usize
+        requires { IsDrawable self }
+        ensures exact { result ≡ right_of self }
+        ensures below { result < 100000 }
+    {
+        self.place_of(self.edge)
     }
 
     /// How many ticks there are from one number of the axis to the next.

@@ -2,12 +2,13 @@
 ghost use Rattle.std.specs.Prelude.{◌≡◌, ◌+◌, ◌<◌, ◌^◌, ◌-◌, ◌++◌, ℕ, codes};
 ghost use Rattle.std.specs.Fmt.{signed_decimal};
 ghost use Rattle.kpn_command_base.specs.Added.{Adds};
+ghost use Rattle.kpn_net.specs.Tables.{Tables};
 ghost use Rattle.kpn_ticks.specs.Shown.{shown, AreClocks};
-ghost use Rattle.kpn_command_views.specs.TimelineText.{slice_front, get_words, put_words, item_end, item_slice, move_lines, wait_end, wait_slice, growth_line, event_lines};
+ghost use Rattle.kpn_command_views.specs.TimelineText.{slice_front, get_words, put_words, item_end, item_slice, move_lines, wait_end, wait_slice, growth_line, event_lines, last_wait};
 
 use crate::digits::{push_digits, push_signed};
 use kpn_command_base::Pushed;
-use kpn_net::Network;
+use kpn_net::{Network, Wait};
 use kpn_run_history::Event;
 use kpn_text::Document;
 use kpn_ticks::Clocks;
@@ -52,6 +53,29 @@ pub(crate) fn push_event(
             push_growth(text, p.into(), latest, document.channel_name(c.into()))
         }
         _ => Ok(()),
+    }
+}
+
+/// What is drawn of process `p`, which waits so at the end. Its wait goes on for one tick behind the last one.
+pub(crate) fn push_last_wait(
+    text: &mut String,
+    document: &Document,
+    clocks: &Clocks,
+    p: usize,
+    wait: Wait,
+) -> Pushed
+    requires process { p + 1 < 2 ^ 64 }
+    requires clocks { (t : Tables) × AreClocks t (shown clocks.now) }
+    requires fits { (shown clocks.now).last + 2 < 2 ^ 64 }
+    ensures { Adds result text.old text.new
+        (last_wait document.now.names.channels (shown clocks.now) p wait) }
+{
+    let latest = clocks.latest_of(p);
+    let end = clocks.last() + 2;
+    match wait {
+        Wait::Empty(c) => push_wait(text, p, latest, end, document.channel_name(c), ""),
+        Wait::Full(c) => push_wait(text, p, latest, end, document.channel_name(c), " full"),
+        Wait::Nobody => Ok(()),
     }
 }
 

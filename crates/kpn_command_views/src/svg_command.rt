@@ -8,7 +8,7 @@ ghost use Rattle.kpn_command_views.specs.PictureAnswers.{IsPictured, IsPicture, 
 
 use crate::picture::picture_of;
 use kpn_command_base::{Audited, Conclusion, Finding, Refusal, load_audited};
-use kpn_net::{Growth, Policy};
+use kpn_net::{Growth, Policy, Wait};
 use kpn_run_history::{Event, Version};
 use kpn_shelf::Shelf;
 use kpn_text::Document;
@@ -48,13 +48,15 @@ fn conclusion_of(
     ensures ok { IfOk result (Tells (IsTextFor
         (IsPictureOf first last audited.now.document audited.now.trace) audited.now.finding)) }
     ensures refused { IfErr result
-        (IsNoPicture (size_for first last audited.now.document audited.now.trace)) }
+        (IsNoPicture (size_for first last audited.now)) }
 {
     match &audited.finding {
-        Finding::Legal(_) => {
+        Finding::Legal(audit) => {
             let trace = &audited.trace;
             let events = trace.events.as_slice();
-            match picture_under(alloc, &audited.document, trace.version, events, first, last) {
+            let waits = audit.waits.as_slice();
+            let (document, version) = (&audited.document, trace.version);
+            match picture_under(alloc, document, version, waits, events, first, last) {
                 Ok(text) => Ok(Conclusion {
                     text,
                     status: 0,
@@ -75,21 +77,22 @@ fn picture_under(
     alloc: Global,
     document: &Document,
     version: Version,
+    waits: &[Wait],
     events: &[Event],
     first: usize,
     last: usize,
 ) -> Result<Vec<u8>, Refusal>
     ensures ok { let t = audited_under version document.now.tables in
-        IfOk result (λ text. IsPicture document.now t first last events.now text.items) }
+        IfOk result (λ text. IsPicture document.now t first last waits.now events.now text.items) }
     ensures refused { let t = audited_under version document.now.tables in
-        IfErr result (IsNoPicture (picture_size document.now t first last events.now)) }
+        IfErr result (IsNoPicture (picture_size document.now t first last waits.now events.now)) }
 {
     let network = document.network();
     match version {
         Version::One => {
             let plain = network.under(Policy::Cycles, Growth::One)?;
-            picture_of(alloc, document, &plain, first, last, events)
+            picture_of(alloc, document, &plain, first, last, waits, events)
         }
-        Version::Two => picture_of(alloc, document, network, first, last, events),
+        Version::Two => picture_of(alloc, document, network, first, last, waits, events),
     }
 }

@@ -1,37 +1,42 @@
 //! The text of a timeline goes out while it is made.
 ghost use Rattle.std.specs.Prelude.{◌≡◌, ◌+◌, ◌<◌, ◌^◌, ◌++◌, codes, true, IfOk, OnOk, string_bytes};
 ghost use Rattle.std.specs.Io.KnownBytes.{Appends};
+ghost use Rattle.kpn_net.specs.Tables.{Tables};
 ghost use Rattle.kpn_text_names.specs.Names.{name_at};
 ghost use Rattle.kpn_command_base.specs.Added.{Adds};
 ghost use Rattle.kpn_ticks.specs.Ticks.{start, clocks_after};
-ghost use Rattle.kpn_ticks.specs.Shown.{shown};
+ghost use Rattle.kpn_ticks.specs.Shown.{shown, AreClocks};
 ghost use Rattle.kpn_command_views.specs.Sent.{Sends};
-ghost use Rattle.kpn_command_views.specs.TimelineText.{head, track_line, each_below, all_event_lines, counter_label, channel_counters, timeline};
+ghost use Rattle.kpn_command_views.specs.TimelineText.{head, track_line, each_below, all_event_lines, last_waits, counter_label, channel_counters, timeline};
 
 use crate::counters::send_counters;
 use crate::sending::{SendFault, send_if_long, send_last};
-use crate::slices::push_event;
+use crate::slices::{push_event, push_last_wait};
+use crate::waits::wait_at;
 use kpn_command_base::Pushed;
-use kpn_net::Network;
+use kpn_net::{Network, Wait};
 use kpn_run_history::Event;
 use kpn_text::Document;
 use kpn_ticks::Clocks;
 use std::alloc::{AllocError, Global};
 use std::io::Write;
 
-/// Sends the timeline of these events of the network, which has the names of the document.
+/// Sends the timeline of these events of the network, which has the names of the document. Behind them its processes
+/// wait so.
 pub(crate) fn send_timeline<W: Write>(
     alloc: Global,
     document: &Document,
     network: &Network,
+    waits: &[Wait],
     events: &[Event],
     out: &mut W,
 ) -> Result<(), SendFault>
     ensures { OnOk result (Appends (W.contents out.old) (W.contents out.new)
-        (timeline document.now network.now events.now)) }
+        (timeline document.now network.now waits.now events.now)) }
 {
     let mut text = first_lines(alloc, document, network.instances())?;
     let clocks = send_events(alloc, out, &mut text, document, network, events)?;
+    push_last_waits(&mut text, document, network.instances(), waits, &clocks)?;
     send_channels(alloc, out, &mut text, document, network.channels(), &clocks)?;
     push_end(&mut text)?;
     send_last(out, text.as_bytes())?;
@@ -104,6 +109,25 @@ fn send_events<W: Write>(
         send_if_long(out, text)?;
     }
     Ok(clocks)
+}
+
+// The waits that these processes end with.
+fn push_last_waits(
+    text: &mut String,
+    document: &Document,
+    processes: usize,
+    waits: &[Wait],
+    clocks: &Clocks,
+) -> Pushed
+    requires clocks { (t : Tables) × AreClocks t (shown clocks.now) }
+    requires fits { (shown clocks.now).last + 2 < 2 ^ 64 }
+    ensures { Adds result text.old text.new
+        (last_waits document.now.names.channels processes waits.now (shown clocks.now)) }
+{
+    for p in 0..processes {
+        push_last_wait(text, document, clocks, p, wait_at(waits, p))?;
+    }
+    Ok(())
 }
 
 // A counter for each channel.

@@ -10,7 +10,7 @@ ghost use Rattle.kpn_command_views.specs.TimelineAnswers.{HasGoneOut, IsTimeline
 use crate::sending::{SendFault, send_last};
 use crate::timeline::send_timeline;
 use kpn_command_base::{Audited, Finding, Flaw, Refusal, load_audited};
-use kpn_net::{Growth, Policy};
+use kpn_net::{Growth, Policy, Wait};
 use kpn_run_history::{Event, Version};
 use kpn_shelf::Shelf;
 use kpn_text::Document;
@@ -56,10 +56,11 @@ fn told<W: Write>(alloc: Global, audited: &Audited, out: &mut W) -> Result<u8, S
         (HasGoneOut (IsToldTimeline audited.now) (W.contents out.old) (W.contents out.new)) }
 {
     match &audited.finding {
-        Finding::Legal(_) => {
+        Finding::Legal(audit) => {
             let trace = &audited.trace;
             let events = trace.events.as_slice();
-            send_under(alloc, &audited.document, trace.version, events, out)?;
+            let waits = audit.waits.as_slice();
+            send_under(alloc, &audited.document, trace.version, waits, events, out)?;
             Ok(0)
         }
         Finding::NotLegal(flaw) => send_flaw(alloc, *flaw, out),
@@ -81,18 +82,20 @@ fn send_under<W: Write>(
     alloc: Global,
     document: &Document,
     version: Version,
+    waits: &[Wait],
     events: &[Event],
     out: &mut W,
 ) -> Result<(), SendFault>
     ensures { OnOk result (Appends (W.contents out.old) (W.contents out.new)
-        (timeline document.now (audited_under version document.now.tables) events.now)) }
+        (timeline document.now (audited_under version document.now.tables) waits.now
+        events.now)) }
 {
     let network = document.network();
     match version {
         Version::One => {
             let plain = network.under(Policy::Cycles, Growth::One)?;
-            send_timeline(alloc, document, &plain, events, out)
+            send_timeline(alloc, document, &plain, waits, events, out)
         }
-        Version::Two => send_timeline(alloc, document, network, events, out),
+        Version::Two => send_timeline(alloc, document, network, waits, events, out),
     }
 }

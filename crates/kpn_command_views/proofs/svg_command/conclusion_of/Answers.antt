@@ -1,5 +1,6 @@
--- The events of the trace have the picture of its history.
-use Rattle.std.proofs.Common.{◌≤◌, List, refl, ap, subst, ◌∙◌}
+-- The events of the trace have the picture of its history, with the waits that the audit finds.
+use Rattle.std.proofs.Common.{◌≤◌, List, refl, ap₂, subst, ◌∙◌}
+use Rattle.kpn_net.specs.declared.wait.Wait.{Wait}
 use Rattle.kpn_run_history.specs.declared.event.Event.{Event}
 use Rattle.kpn_audit.specs.Stored.{tables_for}
 use Rattle.kpn_command_views.specs.PictureText.{picture, picture_size}
@@ -13,17 +14,19 @@ returns-in-Ok-clause-ok c =
     let d = a.audited.now.document in
     let trace = a.audited.now.trace in
     let t = tables_for d.tables trace in
-    let events = c.as_slice-events.ensures in
+    let audit = c.in-Legal.audit in
     let made = c.in-Ok.ensures.ok in
     rw c.in-Legal.is (
       (
         (
           made.0
-              ∙ ap (λ (es : List Event). picture d t a.first a.last es) events
-              ∙ same_picture d t a.first a.last trace.version trace.events,
+              ∙ ap₂ (λ (ws : List Wait) (es : List Event). picture d t a.first a.last ws es) c.as_slice-waits.ensures
+              c.as_slice-events.ensures
+              ∙ same_picture d t a.first a.last audit.waits trace.version trace.events,
           subst (λ n. n ≤ 2000)
-              (ap (λ (es : List Event). picture_size d t a.first a.last es) events
-              ∙ same_size d t a.first a.last trace.version trace.events) made.1,
+              (ap₂ (λ (ws : List Wait) (es : List Event). picture_size d t a.first a.last ws es)
+              c.as_slice-waits.ensures c.as_slice-events.ensures
+              ∙ same_size d t a.first a.last audit.waits trace.version trace.events) made.1,
         ),
         refl,
       ),
@@ -36,6 +39,9 @@ returns-in-Err-clause-refused c =
     let d = a.audited.now.document in
     let trace = a.audited.now.trace in
     let t = tables_for d.tables trace in
-    subst (λ n. IsNoPicture n c.in-Err.refusal)
-    (ap (λ (es : List Event). picture_size d t a.first a.last es) c.as_slice-events.ensures
-    ∙ same_size d t a.first a.last trace.version trace.events) c.in-Err.ensures.refused
+    let audit = c.in-Legal.audit in
+    rw c.in-Legal.is
+    (subst (λ n. IsNoPicture n c.in-Err.refusal)
+    (ap₂ (λ (ws : List Wait) (es : List Event). picture_size d t a.first a.last ws es) c.as_slice-waits.ensures
+    c.as_slice-events.ensures
+    ∙ same_size d t a.first a.last audit.waits trace.version trace.events) c.in-Err.ensures.refused)

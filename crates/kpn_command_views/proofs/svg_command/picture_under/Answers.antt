@@ -13,7 +13,7 @@ returns-in_ok-plain-in-One-clause-ok c =
     let a = c.args in
     rw c.in-One.is
     (subst (λ (t : Tables). IfOk c.picture_of.result
-    (λ text. IsPicture a.document.now t a.first a.last a.events.now text.items))
+    (λ text. IsPicture a.document.now t a.first a.last a.waits.now a.events.now text.items))
     (c.in_ok-plain-in-One.ensures ∙ ap (under Cycles growth.One) c.network-network.ensures) c.picture_of.ensures.ok)
 
 pub returns-in_ok-plain-in-One-clause-refused : goal.returns-in_ok-plain-in-One-clause-refused
@@ -21,7 +21,7 @@ returns-in_ok-plain-in-One-clause-refused c =
     let a = c.args in
     rw c.in-One.is
     (subst (λ (t : Tables). IfErr c.picture_of.result
-    (IsNoPicture (picture_size a.document.now t a.first a.last a.events.now)))
+    (IsNoPicture (picture_size a.document.now t a.first a.last a.waits.now a.events.now)))
     (c.in_ok-plain-in-One.ensures ∙ ap (under Cycles growth.One) c.network-network.ensures)
     c.picture_of.ensures.refused)
 
@@ -30,7 +30,7 @@ returns-in-Two-clause-ok c =
     let a = c.args in
     rw c.in-Two.is
     (subst (λ (t : Tables). IfOk c.picture_of-in-Two.result
-    (λ text. IsPicture a.document.now t a.first a.last a.events.now text.items)) c.network-network.ensures
+    (λ text. IsPicture a.document.now t a.first a.last a.waits.now a.events.now text.items)) c.network-network.ensures
     c.picture_of-in-Two.ensures.ok)
 
 pub returns-in-Two-clause-refused : goal.returns-in-Two-clause-refused
@@ -38,5 +38,5 @@ returns-in-Two-clause-refused c =
     let a = c.args in
     rw c.in-Two.is
     (subst (λ (t : Tables). IfErr c.picture_of-in-Two.result
-    (IsNoPicture (picture_size a.document.now t a.first a.last a.events.now))) c.network-network.ensures
+    (IsNoPicture (picture_size a.document.now t a.first a.last a.waits.now a.events.now))) c.network-network.ensures
     c.picture_of-in-Two.ensures.refused)

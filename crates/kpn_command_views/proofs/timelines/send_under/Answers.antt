@@ -13,7 +13,7 @@ returns-in-Two g c =
     rw c.in-Two.is
     (subst (λ (t : Tables). OnOk c.send_timeline-in-Two.result
     (Appends (contents c.args.out.now) (contents c.send_timeline-in-Two.new.out)
-    (timeline c.args.document.now t c.args.events.now)))
+    (timeline c.args.document.now t c.args.waits.now c.args.events.now)))
     c.network-network.ensures c.send_timeline-in-Two.ensures)
 
 pub returns-in_ok-plain-in-One : goal.returns-in_ok-plain-in-One
@@ -23,5 +23,5 @@ returns-in_ok-plain-in-One g c =
     let contents = g.W.Write.contents in
     rw c.in-One.is
     (subst (λ (t : Tables). OnOk c.send_timeline.result
-    (Appends (contents c.args.out.now) (contents c.send_timeline.new.out) (timeline d t events)))
+    (Appends (contents c.args.out.now) (contents c.send_timeline.new.out) (timeline d t c.args.waits.now events)))
     (c.in_ok-plain-in-One.ensures ∙ ap (under Cycles growth.One) c.network-network.ensures) c.send_timeline.ensures)

@@ -1,6 +1,7 @@
 -- The events of the trace have the timeline of its history.
-use Rattle.std.proofs.Common.{List, refl, ap, ◌∙◌, subst}
+use Rattle.std.proofs.Common.{List, refl, ap₂, ◌∙◌, subst}
 use Rattle.std.specs.Io.KnownBytes.{Appends}
+use Rattle.kpn_net.specs.declared.wait.Wait.{Wait}
 use Rattle.kpn_run_history.specs.declared.event.Event.{Event}
 use Rattle.kpn_audit.specs.Stored.{tables_for}
 use Rattle.kpn_command_views.specs.TimelineText.{timeline}
@@ -18,8 +19,9 @@ returns-in_ok-send_under-in-Legal g c =
       right = (refl, refl);
       sent =
           subst (Appends (contents c.args.out.now) (contents c.send_under.new.out))
-          (ap (λ (events : List Event). timeline a.document t events) c.as_slice-events.ensures
-          ∙ of_history a.document a.trace)
+          (ap₂ (λ (waits : List Wait) (events : List Event). timeline a.document t waits events)
+          c.as_slice-waits.ensures c.as_slice-events.ensures
+          ∙ of_history a.document a.trace c.in-Legal.audit.waits)
           c.in_ok-send_under-in-Legal.ensures;
     })
 
