@@ -1,0 +1,3 @@
+pub mod Joining
+pub mod TwoParts
+pub mod RingLeast

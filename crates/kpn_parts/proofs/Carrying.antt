@@ -1,0 +1,170 @@
+-- What links carry, event by event.
+use Rattle.std.proofs.Common.{◌≡◌, ◌↔◌, ℕ, ◌+◌, ◌<◌, ◌≤◌, Bool, true, false, ℤ, List, [], ◌∷◌, ◌++◌, length, get_or, set, Option, Some, None, refl, sym, ap, ◌∙◌, subst, inl, inr, arith}
+use Rattle.std.proofs.lemmas.Bool.{cases_eq, both_ways}
+use Rattle.std.proofs.lemmas.List.{get_or_default, length-set, get_or-set_same, get_or-set_other}
+use Rattle.std.proofs.Math.ListN.{get_or-append}
+use Rattle.std.proofs.Math.Seq.{get_or-append_seam}
+use Rattle.kpn_lang.proofs.Prefixes.{IsPrefix-refl, length_of_prefix}
+use Rattle.kpn_parts.specs.declared.order.PartEvent.{PartEvent}
+use Rattle.kpn_parts.specs.declared.link.Link.{Link}
+use Rattle.kpn_parts.specs.declared.joining.Carried.{Carried}
+use Rattle.kpn_parts.specs.Links.{put_on, fed_on, IsSentOn, AreSent, IsCarriedOn, IsCarried, AreCarried, CarryNothing, CarryMore, FedAtMost, MayCome, items_on, items_of, IsNext}
+use Rattle.kpn_parts.proofs.Sending.{sent_start, sent_next, next_if_sent}
+
+-- ---- one link and one event
+
+-- a feed of the next item keeps the link sent, and no other
+pub next_exactly : (link : Link) (order : List PartEvent) (e : PartEvent) (items : List ℤ) (fed : ℕ)
+    (put feed : Option ℤ) → IsCarriedOn link order items fed → items_on link.writer link.sink e ≡ items_of put
+    → items_on link.reader link.source e ≡ items_of feed
+    → IsNext (items ++ items_of put) fed feed ↔ IsSentOn (order ++ e ∷ []) link
+next_exactly link order e items fed put feed carried puts feeds = (
+  λ next. by_feed feed feeds next,
+  λ sent. next_if_sent link order e items fed put feed (items ++ items_of put) carried puts feeds refl sent,
+)
+  where
+    by_feed : (feed' : Option ℤ) → items_on link.reader link.source e ≡ items_of feed'
+        → IsNext (items ++ items_of put) fed feed' → IsSentOn (order ++ e ∷ []) link
+    by_feed None is next =
+        (sent_next link order e items fed put None (items ++ items_of put) carried puts is refl fed refl).sent
+    by_feed (Some v) is next =
+        (sent_next link order e items fed put (Some v) (items ++ items_of put) carried puts is refl (fed + 1)
+        (refl, next)).sent
+
+pub fed_at_most : (link : Link) (order : List PartEvent) (items : List ℤ) (fed : ℕ) → IsCarriedOn link order items fed
+    → fed ≤ length items
+fed_at_most link order items fed h =
+    let long = length_of_prefix (fed_on order link) (put_on order link) (h.sent order (IsPrefix-refl order)) in
+    let a = h.count in let b = ap length h.put in omega (arith, long, a, b)
+
+-- ---- all links
+
+pub carried_start : (links : List Link) (carried : List Carried) → CarryNothing carried (length links)
+    → AreCarried links [] carried
+carried_start links carried h =
+    record {
+      same = h.count;
+      each = λ l x d below.
+          let none = h.each l d below in
+          sent_start (get_or links l x) [] (get_or carried l d).items.items (get_or carried l d).fed refl none.0 none.1;
+    }
+
+pub are_fed_at_most : (links : List Link) (order : List PartEvent) (carried : List Carried)
+    → AreCarried links order carried → FedAtMost carried
+are_fed_at_most [] order carried h l d below = let none = h.same in absurd omega (arith, none, below)
+are_fed_at_most (x ∷ links) order carried h l d below =
+    fed_at_most (get_or (x ∷ links) l x) order (get_or carried l d).items.items (get_or carried l d).fed
+    (h.each l x d (subst (λ n. l < n) h.same below))
+
+pub carried_next : (links : List Link) (order : List PartEvent) (e : PartEvent) (old new : List Carried)
+    → AreCarried links order old → MayCome links order e → CarryMore links e old new (length links)
+    → AreCarried links (order ++ e ∷ []) new
+carried_next links order e old new h may more =
+    record {
+      same = more.same ∙ h.same;
+      each = λ l x d below. more.below l x d below order (h.each l x d below) (may l x below);
+    }
+
+pub carried_sent : (links : List Link) (order : List PartEvent) (carried : List Carried)
+    → AreCarried links order carried → AreSent links order
+carried_sent links order [] h l x below = let none = h.same in absurd omega (arith, none, below)
+carried_sent links order (c ∷ carried) h l x below = (h.each l x c below).sent
+
+-- ---- the loops
+
+pub more_start : (links : List Link) (e : PartEvent) (carried : List Carried) → CarryMore links e carried carried 0
+more_start links e carried =
+    record {
+      same = refl;
+      below = λ l x d below. absurd omega (arith, below);
+      above = λ l d past. refl;
+    }
+
+pub more_next : (links : List Link) (e : PartEvent) (old new : List Carried) (n : ℕ) (y : Link) (c b : Carried)
+    → CarryMore links e old new n → n < length links → n < length old → c ≡ get_or new n b → (after : Carried)
+    → ((order : List PartEvent) → IsCarried (get_or links n y) order c
+    → IsSentOn (order ++ e ∷ []) (get_or links n y) → IsCarried (get_or links n y) (order ++ e ∷ []) after)
+    → CarryMore links e old (set new n after) (n + 1)
+more_next links e old new n y c b h below there at after step =
+    let inside = subst (λ k. n < k) (sym h.same) there in
+    record {
+      same = length-set new n after ∙ h.same;
+      below = λ l x d less order was sent. elim (cases_eq l n) [
+        | inl same ↦
+            subst (λ k. IsCarried (get_or links k x) (order ++ e ∷ []) (get_or (set new n after) k d)) (sym same)
+            (subst (IsCarried (get_or links n x) (order ++ e ∷ [])) (sym (get_or-set_same new n after d inside))
+            (subst (λ z. IsCarried z (order ++ e ∷ []) after) (get_or_default links n y x below)
+            (step order
+            (subst (IsCarried (get_or links n y) order)
+            (sym (at ∙ get_or_default new n b d inside ∙ h.above n d (omega arith)))
+            (subst (λ z. IsCarried z order (get_or old n d)) (get_or_default links n x y below)
+            (subst (λ k. IsCarried (get_or links k x) order (get_or old k d)) same was)))
+            (subst (IsSentOn (order ++ e ∷ [])) (get_or_default links n x y below)
+            (subst (λ k. IsSentOn (order ++ e ∷ []) (get_or links k x)) same sent)))))
+        | inr differ ↦
+            subst (IsCarried (get_or links l x) (order ++ e ∷ [])) (sym (get_or-set_other new n l after d differ))
+            (h.below l x d (omega (arith, less, differ)) order was sent)
+      ];
+      above = λ l d past.
+          get_or-set_other new n l after d (λ same. omega (arith, same, past)) ∙ h.above l d (omega (arith, past));
+    }
+
+pub nothing_next : (carried : List Carried) (n : ℕ) (c : Carried) → CarryNothing carried n → c.items.items ≡ []
+    → c.fed ≡ 0 → CarryNothing (carried ++ c ∷ []) (n + 1)
+nothing_next carried n c h none zero' =
+    record {
+      count = length_push carried c ∙ ap (λ k. k + 1) h.count;
+      each = λ l d below. elim (cases_eq l n) [
+        | inl same ↦
+            subst
+            (λ k. ((get_or (carried ++ c ∷ []) k d).items.items ≡ []) × ((get_or (carried ++ c ∷ []) k d).fed ≡ 0))
+            (h.count ∙ sym same)
+            (subst (λ x. (x.items.items ≡ []) × (x.fed ≡ 0)) (sym (get_or-append_seam carried c [] d)) (none, zero'))
+        | inr differ ↦
+            subst (λ x. (x.items.items ≡ []) × (x.fed ≡ 0))
+            (sym (get_or-append carried (c ∷ []) d l (subst (λ k. l < k) (sym h.count) (omega (arith, below, differ)))))
+            (h.each l d (omega (arith, below, differ)))
+      ];
+    }
+  where
+    length_push : (xs : List Carried) (x : Carried) → length (xs ++ x ∷ []) ≡ length xs + 1
+    length_push [] x = refl
+    length_push (y ∷ xs) x = let e = length_push xs x in omega (arith, e)
+
+-- ---- the test of an event
+
+-- one link more
+links_next : (order : List PartEvent) (links : List Link) (l : ℕ) (d : Link)
+    → ((j : ℕ) (x : Link) → j < l → IsSentOn order (get_or links j x)) → l < length links
+    → IsSentOn order (get_or links l d) → (j : ℕ) (x : Link) → j < l + 1 → IsSentOn order (get_or links j x)
+links_next order links l d before below now j x h =
+    elim (cases_eq j l) [
+      | inl same ↦
+          subst (λ k. IsSentOn order (get_or links k x)) (sym same)
+          (subst (IsSentOn order) (get_or_default links l d x below) now)
+      | inr differ ↦ before j x (omega arith)
+    ]
+
+-- what the test of one link shows
+abbrev pub Tests : Link → Carried → PartEvent → Bool → Type 0
+Tests link carried e result =
+    (order : List PartEvent) → IsCarried link order carried → ((result ≡ true) ↔ IsSentOn (order ++ e ∷ []) link)
+
+pub refused : (links : List Link) (carried : List Carried) (e : PartEvent) (l : ℕ) (y : Link) (b one : Carried)
+    (result : Bool) → l < length links → one ≡ get_or carried l b → Tests (get_or links l y) one e result
+    → result ≡ false → (order : List PartEvent) → AreCarried links order carried → MayCome links order e → ⊥
+refused links carried e l y b one result below at tests fails order h may =
+    let is =
+    (tests order (subst (IsCarried (get_or links l y) order) (sym at) (h.each l y b below))).1 (may l y below) in
+    both_ways result fails is
+
+pub accepted : (links : List Link) (carried : List Carried) (e : PartEvent) (l : ℕ) (y : Link) (b one : Carried)
+    (result : Bool) → l < length links → one ≡ get_or carried l b → Tests (get_or links l y) one e result
+    → result ≡ true
+    → ((order : List PartEvent) → AreCarried links order carried → (j : ℕ) (x : Link) → j < l
+    → IsSentOn (order ++ e ∷ []) (get_or links j x))
+    → (order : List PartEvent) → AreCarried links order carried → (j : ℕ) (x : Link) → j < l + 1
+    → IsSentOn (order ++ e ∷ []) (get_or links j x)
+accepted links carried e l y b one result below at tests is before order h =
+    links_next (order ++ e ∷ []) links l y (before order h) below
+    ((tests order (subst (IsCarried (get_or links l y) order) (sym at) (h.each l y b below))).0 is)

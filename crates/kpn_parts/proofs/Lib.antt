@@ -1,0 +1,16 @@
+pub mod Spoken
+pub mod Least
+pub mod Renaming
+pub mod Ends
+pub mod Orders
+pub mod Whole
+pub mod Below
+pub mod Ended
+pub mod Rest
+pub mod Complete
+pub mod Agree
+pub mod Links
+pub mod Sending
+pub mod Carrying
+pub mod Stuck
+pub mod Merging

@@ -1,0 +1,178 @@
+-- The whole at rest. If it is quiet, its journals contain what each process puts on them, so they are the least
+-- solution. It is quiet if each part is and nothing is on the way.
+use Rattle.std.proofs.Common.{◌≡◌, ◌⊎◌, ℕ, ◌<◌, true, cond, eqb, List, length, drop, refl, sym, ap, ◌∙◌, subst, inl, inr, arith, length-drop}
+use Rattle.std.specs.Option.{option_map}
+use Rattle.std.proofs.lemmas.Bool.{cases_Bool, eqb-true, both_ways}
+use Rattle.kpn_lang.specs.Prefix.{IsPrefix}
+use Rattle.kpn_lang.specs.Alone.{put_at}
+use Rattle.kpn_lang.proofs.Prefixes.{IsPrefix-trans, IsPrefix-same, same_from_prefix}
+use Rattle.kpn_lang.proofs.Talks.{put_at-prefix}
+use Rattle.kpn_net.specs.declared.tables.End.{End}
+use Rattle.kpn_net.specs.declared.tables.End.TheVariants.{Process, Source, Sink}
+use Rattle.kpn_net.specs.declared.wait.Wait.TheVariants.{Nobody, Empty}
+use Rattle.kpn_net.specs.Tables.{Tables, channel_at, is_source, writer_of}
+use Rattle.kpn_net.specs.Faults.{IsNetwork}
+use Rattle.kpn_net.specs.Process.{Family, talk_on}
+use Rattle.kpn_net.specs.Iteration.{written_by, iterate, AgreeOnSources, IsClosed, IsLeast}
+use Rattle.kpn_net.proofs.Monotone.{closed_below-IsLeast, IsPrefixOnSources-refl, IsPrefixOnSources-agree, round-depends_on_sources}
+use Rattle.kpn_net.proofs.Networks.{Writes-writer_of, Reads-below}
+use Rattle.kpn_run_history.specs.declared.event.Event.{Event}
+use Rattle.kpn_run_history.specs.Talks.{talk_of, last_event, has_ended}
+use Rattle.kpn_run_history.specs.Channels.{written_on, read_on, unread_on, fed, is_empty}
+use Rattle.kpn_run_history.specs.Waiting.{wait_of, wait_of_last}
+use Rattle.kpn_run_history.specs.Ends.{WaitsOnEmpty, IsQuiet}
+use Rattle.kpn_run_history.proofs.Below.{fed-source}
+use Rattle.kpn_run_history.proofs.Above.{empty_wait, IsStarved-last}
+use Rattle.kpn_parts.specs.declared.order.PartEvent.{PartEvent}
+use Rattle.kpn_parts.specs.Cut.{Part, whole_process, whole_channel, part_at, IsCut, IsCutSource}
+use Rattle.kpn_parts.specs.Joined.{events_of, in_whole, whole_history, IsJoined, HasAll, IsDelivered, AreQuiet}
+use Rattle.kpn_parts.proofs.Spoken.{SaysAll, written_on-put}
+use Rattle.kpn_parts.proofs.Ends.{part_of, by_reader}
+use Rattle.kpn_parts.proofs.Whole.{journal_same, read_same}
+use Rattle.kpn_parts.proofs.Ended.{last_same, ended_same, says_all}
+use Rattle.kpn_parts.proofs.Below.{below_least}
+
+-- ---- lists of events in which each process has said all
+
+module _ (t : Tables) (network : IsNetwork t) (H : List Event) (says : SaysAll t H) where
+  -- on an empty channel all was read
+  pub all_read : (c : ℕ) → is_empty H c ≡ true → read_on H c ≡ written_on H c
+  all_read c empty =
+      let none : length (unread_on H c) ≡ 0 = eqb-true _ _ empty in
+      let rest = length-drop (length (read_on H c)) (written_on H c) in
+      same_from_prefix (read_on H c) (written_on H c) (says.spoken.in_order c) (omega arith)
+
+  said_all : IsQuiet t H → (p : ℕ) → p < length t.instances → (n : ℕ)
+      → IsPrefix (talk_on t p n (written_on H)) (talk_of H p)
+  said_all quiet p below n =
+      elim (quiet.each p below) [
+        | inl ended ↦ (says.ended p below ended).whole n (written_on H) says.spoken.in_order
+        | inr waits ↦
+            let w = empty_wait t H (last_event H p) waits.channel waits.blocked in
+            (says.starved p w.process waits.channel below w.is).whole n (written_on H) says.spoken.in_order
+            (sym (all_read waits.channel w.empty))
+      ]
+
+  IsClosed-quiet : IsQuiet t H → IsClosed t (fed t H) (written_on H)
+  IsClosed-quiet quiet =
+      record {
+        fed = λ c source. sym (fed-source t H c source);
+        contains = λ n c other. by_writer n c (writer_of t c) refl;
+      }
+    where
+      by_writer : (n c : ℕ) (end : End) → writer_of t c ≡ end
+          → IsPrefix (written_by t n (written_on H) c end) (written_on H c)
+      by_writer n c (Process p) w =
+          IsPrefix-trans _ (put_at (talk_of H p) c) (written_on H c)
+          (put_at-prefix (talk_on t p n (written_on H)) (talk_of H p) c
+          (said_all quiet p (Writes-writer_of t p c w).process n))
+          (IsPrefix-same _ _ (sym (written_on-put t network c p w H says.spoken.own)))
+      by_writer n c Source w = tt
+      by_writer n c Sink w = tt
+
+-- ---- the whole
+
+module _ (t : Tables) (network : IsNetwork t) (cut : List Part) (is : IsCut t cut) (order : List PartEvent)
+    (joined : IsJoined t cut order) where
+  least_if_quiet_fed : IsQuiet t (whole_history t cut order) → (c : ℕ)
+      → IsLeast t (fed t (whole_history t cut order)) c (written_on (whole_history t cut order) c)
+  least_if_quiet_fed quiet =
+      let W = whole_history t cut order in
+      closed_below-IsLeast t (fed t W) (written_on W)
+      (IsClosed-quiet t network W (says_all t network cut is order joined) quiet)
+      (below_least t network cut is (fed t W) order joined (IsPrefixOnSources-refl t (fed t W)))
+
+  pub least_if_quiet : IsQuiet t (whole_history t cut order) → (given : Family)
+      → AgreeOnSources t (fed t (whole_history t cut order)) given → (c : ℕ)
+      → IsLeast t given c (written_on (whole_history t cut order) c)
+  least_if_quiet quiet given agree c =
+      let W = whole_history t cut order in
+      record {
+        below = below_least t network cut is given order joined (IsPrefixOnSources-agree t (fed t W) given agree) c;
+        above = λ n.
+            IsPrefix-trans (iterate t given n c) (iterate t (fed t W) n c) (written_on W c)
+            (IsPrefix-same _ _ (sym (round-depends_on_sources t (fed t W) given agree n n c)))
+            ((least_if_quiet_fed quiet c).above n);
+      }
+
+  -- ---- it is quiet if the parts are
+
+  -- a channel on which a part has all that was put
+  written_same : (r c : ℕ) → c < length (part_at cut r).tables.channels
+      → (IsCutSource t (part_at cut r) c → HasAll t cut order r c)
+      → written_on (whole_history t cut order) (whole_channel (part_at cut r) c) ≡ written_on (events_of r order) c
+  written_same r c there delivered =
+      elim (cases_Bool (is_source (channel_at (part_at cut r).tables c))) [
+        | inl source ↦ elim (cases_Bool (is_source (channel_at t (whole_channel (part_at cut r) c)))) [
+          | inl outside ↦
+              journal_same t network cut is r c there
+              (λ h. both_ways (is_source (channel_at t (whole_channel (part_at cut r) c))) h.cut outside) order
+              joined.legal
+          | inr other ↦ sym (delivered (record { source = source; cut = other }))
+        ]
+        | inr inner ↦
+            journal_same t network cut is r c there
+            (λ h. both_ways (is_source (channel_at (part_at cut r).tables c)) inner h.source) order joined.legal
+      ]
+
+  -- a process that waits in its part waits in the whole, if its part was fed all that was put there
+  pub wait_in_whole : (r p c : ℕ) → p < length (part_at cut r).tables.instances
+      → wait_of (part_at cut r).tables (events_of r order) p ≡ Empty c
+      → (IsCutSource t (part_at cut r) c → HasAll t cut order r c)
+      → wait_of t (whole_history t cut order) (whole_process (part_at cut r) p)
+      ≡ Empty (whole_channel (part_at cut r) c)
+  wait_in_whole r p c below waits delivered =
+      let part = part_at cut r in
+      let x = whole_channel part c in
+      let H = events_of r order in
+      let W = whole_history t cut order in
+      let w = empty_wait part.tables H (last_event H p) c waits in
+      let reads =
+      (IsStarved-last part.tables (part_of t cut is r).network p H (joined.legal r) w.process c w.is).reads in
+      let there = Reads-below part.tables (part_of t cut is r).network p c reads in
+      let empty : is_empty W x ≡ true =
+      ap (λ xs. eqb (length (drop (length xs) (written_on W x))) 0)
+      (read_same t network cut is r c (by_reader p reads) order joined.legal)
+      ∙ ap (λ ys. eqb (length (drop (length (read_on H c)) ys)) 0) (written_same r c there delivered)
+      ∙ w.empty in
+      ap (wait_of_last t W)
+      (last_same t network cut is r p below order joined.legal ∙ ap (option_map (in_whole part)) w.is)
+      ∙ ap (λ b. cond b (Empty x) Nobody) empty
+
+  pub quiet_whole : AreQuiet cut order → IsDelivered t cut order → IsQuiet t (whole_history t cut order)
+  quiet_whole quiet delivered =
+      let W = whole_history t cut order in
+      record {
+        each = λ p below.
+            let home = is.home p below in
+            let q = whole_process (part_at cut home.part) home.process in
+            subst (λ x. (has_ended W x ≡ true) ⊎ WaitsOnEmpty t W x) home.is
+            (elim ((quiet home.part).each home.process home.there)
+            as (λ _. (has_ended W q ≡ true) ⊎ WaitsOnEmpty t W q) [
+              | inl ended ↦
+                  inl (ended_same t network cut is home.part home.process home.there order joined.legal ∙ ended)
+              | inr waits ↦
+                  inr
+                  (record {
+                    channel = whole_channel (part_at cut home.part) waits.channel;
+                    blocked =
+                        wait_in_whole home.part home.process waits.channel home.there waits.blocked
+                        (delivered.each home.part waits.channel);
+                  })
+            ]);
+      }
+
+  pub least_at_rest : AreQuiet cut order → IsDelivered t cut order → (given : Family)
+      → AgreeOnSources t (fed t (whole_history t cut order)) given → (c : ℕ)
+      → IsLeast t given c (written_on (whole_history t cut order) c)
+  least_at_rest quiet delivered = least_if_quiet (quiet_whole quiet delivered)
+
+  -- the journals of the parts
+  pub part_least_at_rest : AreQuiet cut order → IsDelivered t cut order → (given : Family)
+      → AgreeOnSources t (fed t (whole_history t cut order)) given
+      → (r c : ℕ) → c < length (part_at cut r).tables.channels
+      → IsLeast t given (whole_channel (part_at cut r) c) (written_on (events_of r order) c)
+  part_least_at_rest quiet delivered given agree r c there =
+      subst (IsLeast t given (whole_channel (part_at cut r) c))
+      (written_same r c there (delivered.each r c))
+      (least_at_rest quiet delivered given agree (whole_channel (part_at cut r) c))

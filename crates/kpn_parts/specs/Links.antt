@@ -1,0 +1,147 @@
+-- Links: channels between two parts. They say what a join has to know of a cut.
+use Rattle.std.specs.Prelude.{◌≡◌, ℕ, ◌+◌, ◌<◌, ◌≤◌, true, ℤ, List, [], ◌∷◌, ◌++◌, length, take, slice_get, slice_index_or, Contains, All, Option, Some, None}
+use Rattle.std.specs.List.{flat_map}
+use Rattle.kpn_lang.specs.Prefix.{IsPrefix}
+use Rattle.kpn_net.specs.Tables.{Tables, channel_at, is_sink}
+use Rattle.kpn_run_history.specs.declared.event.Event.{Event}
+use Rattle.kpn_run_history.specs.Channels.{written_in, written_on}
+use Rattle.kpn_parts.specs.declared.order.PartEvent.{PartEvent}
+use Rattle.kpn_parts.specs.declared.link.Link.{Link}
+use Rattle.kpn_parts.specs.declared.joining.Carried.{Carried}
+use Rattle.kpn_parts.specs.Cut.{Part, whole_channel, part_at, IsCutSource}
+use Rattle.kpn_parts.specs.Joined.{event_of, events_of}
+
+-- what the one part put on the link
+abbrev pub put_on : List PartEvent → Link → List ℤ
+put_on order link = written_on (events_of link.writer order) link.sink
+
+-- what the other part was fed on it
+abbrev pub fed_on : List PartEvent → Link → List ℤ
+fed_on order link = written_on (events_of link.reader order) link.source
+
+-- at each moment, what the one part was fed on the link begins what the other put
+abbrev pub IsSentOn : List PartEvent → Link → Type 0
+IsSentOn order link =
+    (begun : List PartEvent) → IsPrefix begun order → IsPrefix (fed_on begun link) (put_on begun link)
+
+-- the same on each of these links
+abbrev pub AreSent : List Link → List PartEvent → Type 0
+AreSent links order = All (IsSentOn order) links
+
+-- the link ends in source c of part r, and begins in the sink of a part that is the same channel of the whole
+pub record EndsIn (cut : List Part) (link : Link) (r c : ℕ) : Type 0 where
+  pub reader : link.reader ≡ r
+  pub source : link.source ≡ c
+  pub sink : is_sink (channel_at (part_at cut link.writer).tables link.sink) ≡ true
+  pub same : whole_channel (part_at cut link.writer) link.sink ≡ whole_channel (part_at cut r) c
+
+pub record HasLink (cut : List Part) (links : List Link) (r c : ℕ) : Type 0 where
+  pub link : Link
+  pub among : Contains links link
+  pub ends : EndsIn cut link r c
+
+-- these are the links of a cut: one ends in each cut source
+pub record AreLinks (t : Tables) (cut : List Part) (links : List Link) : Type 0 where
+  pub each : (r c : ℕ) → IsCutSource t (part_at cut r) c → HasLink cut links r c
+
+-- ---- joins of histories
+
+abbrev pub history_at : List (List Event) → ℕ → List Event
+history_at histories r = slice_index_or histories r []
+
+-- an order of all events of these histories, in which what each part was fed on a link was put there before
+pub record IsJoinOf (histories : List (List Event)) (links : List Link) (order : List PartEvent) : Type 0 where
+  pub whole : (r : ℕ) → events_of r order ≡ history_at histories r
+  pub sent : AreSent links order
+
+-- ---- scaffolding: what the code keeps
+
+-- these items were put on the link, so many were fed, and all was put before
+pub record IsCarriedOn (link : Link) (order : List PartEvent) (items : List ℤ) (fed : ℕ) : Type 0 where
+  pub put : items ≡ put_on order link
+  pub count : fed ≡ length (fed_on order link)
+  pub sent : IsSentOn order link
+
+abbrev pub IsCarried : Link → List PartEvent → Carried → Type 0
+IsCarried link order carried = IsCarriedOn link order carried.items.items carried.fed
+
+-- the same of each link
+pub record AreCarried (links : List Link) (order : List PartEvent) (carried : List Carried) : Type 0 where
+  pub same : length carried ≡ length links
+  pub each : (l : ℕ) (x : Link) (d : Carried) → l < length links
+      → IsCarried (slice_index_or links l x) order (slice_index_or carried l d)
+
+-- nothing was put on so many links
+pub record CarryNothing (carried : List Carried) (n : ℕ) : Type 0 where
+  pub count : length carried ≡ n
+  pub each : (l : ℕ) (d : Carried) → l < n
+      → ((slice_index_or carried l d).items.items ≡ []) × ((slice_index_or carried l d).fed ≡ 0)
+
+-- with this event behind the order all is still put before
+abbrev pub MayCome : List Link → List PartEvent → PartEvent → Type 0
+MayCome links order placed = AreSent links (order ++ placed ∷ [])
+
+-- no more items were fed than put
+abbrev pub FedAtMost : List Carried → Type 0
+FedAtMost carried =
+    (l : ℕ) (d : Carried) → l < length carried
+    → (slice_index_or carried l d).fed ≤ length (slice_index_or carried l d).items.items
+
+-- the links below n carry what they did and this event, if it may come, and the others what they did
+pub record CarryMore (links : List Link) (placed : PartEvent) (old new : List Carried) (n : ℕ) : Type 0 where
+  pub same : length new ≡ length old
+  pub below : (l : ℕ) (x : Link) (d : Carried) → l < n → (order : List PartEvent)
+      → IsCarried (slice_index_or links l x) order (slice_index_or old l d)
+      → IsSentOn (order ++ placed ∷ []) (slice_index_or links l x)
+      → IsCarried (slice_index_or links l x) (order ++ placed ∷ []) (slice_index_or new l d)
+  pub above : (l : ℕ) (d : Carried) → n ≤ l → slice_index_or new l d ≡ slice_index_or old l d
+
+-- the order has so many events of each part, from the first on, and the links carry what it says
+pub record SoFar (histories : List (List Event)) (links : List Link) (at : List ℕ) (order : List PartEvent)
+    (carried : List Carried) : Type 0 where
+  pub parts : length at ≡ length histories
+  pub each : (r : ℕ) → events_of r order ≡ take (slice_index_or at r 0) (history_at histories r)
+  pub on_links : AreCarried links order carried
+
+-- the next event of part r may not come
+abbrev pub StandsStill : List (List Event) → List Link → (at : List ℕ) → List PartEvent → (r : ℕ) → Type 0
+StandsStill histories links at order r =
+    (d : Event) → slice_index_or at r 0 < length (history_at histories r)
+    → ¬ MayCome links order (record {
+      part = r;
+      event = slice_index_or (history_at histories r) (slice_index_or at r 0) d;
+    })
+
+-- no event of any part may come
+abbrev pub IsStuck : List (List Event) → List Link → (at : List ℕ) → List PartEvent → Type 0
+IsStuck histories links at order = (r : ℕ) → StandsStill histories links at order r
+
+-- the order has all events, or lacks one
+abbrev pub UsesAll : List (List Event) → List ℕ → Type 0
+UsesAll histories at = (r : ℕ) → length (history_at histories r) ≤ slice_index_or at r 0
+
+abbrev pub LacksOne : List (List Event) → List ℕ → Type 0
+LacksOne histories at = (r : ℕ) × (slice_index_or at r 0 < length (history_at histories r))
+
+-- what an event of a part writes on channel c of part r
+abbrev pub items_on : (r c : ℕ) → PartEvent → List ℤ
+items_on r c placed = flat_map (written_in c) (event_of r placed)
+
+abbrev pub items_of : Option ℤ → List ℤ
+items_of None = []
+items_of (Some v) = v ∷ []
+
+-- so many items are fed after this feed
+abbrev pub fed_after : (fed : ℕ) → Option ℤ → ℕ
+fed_after fed None = fed
+fed_after fed (Some v) = fed + 1
+
+-- the feed, if there is one, feeds the item at this place
+abbrev pub IsNext : List ℤ → (place : ℕ) → Option ℤ → Type 0
+IsNext items place None = Unit {0}
+IsNext items place (Some v) = slice_get items place ≡ Some v
+
+-- so many of these items are fed after this feed, which feeds the next one
+abbrev pub Feeds : List ℤ → (fed : ℕ) → Option ℤ → (now : ℕ) → Type 0
+Feeds items fed None now = now ≡ fed
+Feeds items fed (Some v) now = (now ≡ fed + 1) × (slice_get items fed ≡ Some v)

@@ -1,0 +1,13 @@
+//! Networks that are cut into parts, each of which runs on its own: what holds of the whole. Whoever runs the parts
+//! moves the items of cut channels from part to part.
+#![tactic(auto)]
+
+mod items;
+mod joining;
+pub mod laws;
+mod link;
+mod order;
+
+pub use joining::join;
+pub use link::Link;
+pub use order::PartEvent;
