@@ -1,0 +1,64 @@
+/* What all parts of kpn-mpi use: lists of words, texts that grow, and the end of all ranks at once. */
+#ifndef KPN_MPI_COMMON_H
+#define KPN_MPI_COMMON_H
+
+#include <stdbool.h>
+#include <stddef.h>
+#include <stdint.h>
+
+/* A list of words of 64 bits. */
+typedef struct {
+  int64_t *at;
+  size_t count, room;
+} words;
+
+/* A text that grows. It ends with a 0, which its length does not count. */
+typedef struct {
+  char *at;
+  size_t length, room;
+} text;
+
+/* The statuses that docs/ERRORS.md has, and those of kpn-mpi alone. */
+enum {
+  STATUS_REFUSED = 1,
+  STATUS_USAGE = 2,
+  STATUS_CLOGGED = 3,
+  STATUS_JAMMED = 4,
+  STATUS_STOPPED = 5,
+  STATUS_NO_MEMORY = 6,
+  STATUS_RANK_DIED = 10, /* another rank has died, or the run was ended from outside */
+  STATUS_SILENT = 11,    /* nothing was heard of a rank for the time of --timeout */
+  STATUS_WRONG = 70      /* a call of libkpn has returned a fault that it can't have here */
+};
+
+/* Ends this rank and all others with a status. The program says how. */
+extern void (*end_all)(int status);
+
+/* Writes a line to standard error, and ends all ranks. */
+_Noreturn void give_up(int status, const char *format, ...);
+
+/* Called now and then by what takes long. The program says what that does. */
+extern void (*still_here)(void);
+
+/* Ends all ranks if a call of libkpn has returned a fault. */
+void expect(uint32_t fault, const char *call);
+
+/* Memory that is there: all ranks end if there is none. */
+void *memory(size_t size);
+
+/* Makes a list longer by so many words, and returns the place of the first one. */
+int64_t *extend(words *list, size_t count);
+void append(words *list, int64_t word);
+void empty(words *list);
+void free_words(words *list);
+
+/* Makes a text longer by so many bytes, and returns the place of the first one. */
+char *extend_text(text *into, size_t count);
+void print_to(text *into, const char *format, ...);
+void free_text(text *of);
+
+/* Writes a number where there is room for MOST_DIGITS bytes, and returns the place behind it. */
+enum { MOST_DIGITS = 20 };
+char *print_number(char *at, int64_t number);
+
+#endif

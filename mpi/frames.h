@@ -1,0 +1,36 @@
+/* The frames of which messages consist: a kind, a number and a count, and then so many words. */
+#ifndef KPN_MPI_FRAMES_H
+#define KPN_MPI_FRAMES_H
+
+#include "common.h"
+
+enum {
+  FRAME_TEXT,    /* rank 0 to others: the description as bytes in words; the number is its length */
+  FRAME_CUT,     /* rank 0 to others: the file of --cut, likewise */
+  FRAME_READY,   /* to rank 0: the inputs were read, or which option is refused and why */
+  FRAME_GO,      /* rank 0 to others: the number is a status; 0: go */
+  FRAME_ITEMS,   /* writer's rank to reader's: items of the channel with this number */
+  FRAME_CREDIT,  /* reader's rank to writer's: how many items of the channel were got in all */
+  FRAME_LEFT,    /* likewise, and nobody reads it any more */
+  FRAME_REPORT,  /* to rank 0: what the chief judges; the number is 1 if the rank is at rest */
+  FRAME_ENOUGH,  /* to rank 0: each sink there has as many items as are wanted */
+  FRAME_STOPPED, /* to rank 0: the last commit was made */
+  FRAME_GROW,    /* rank 0 to others: the channel gets the capacity behind */
+  FRAME_STOP,    /* rank 0 to others: the number is the outcome */
+  FRAME_SINK,    /* to rank 0: items of the sink with this number */
+  FRAME_END,     /* each to each: the last frame; the number is the status of what was stored */
+  FRAME_BEAT     /* nothing: the rank is there */
+};
+
+enum { HEAD = 3 };
+
+/* Appends a frame with room for so many words, and returns the place of the first one. */
+static inline int64_t *add_frame(words *message, int64_t kind, int64_t number, size_t count) {
+  int64_t *at = extend(message, HEAD + count);
+  at[0] = kind;
+  at[1] = number;
+  at[2] = (int64_t)count;
+  return at + HEAD;
+}
+
+#endif

@@ -1,0 +1,140 @@
+/* The program kpn-mpi: a network over the ranks of MPI, or the plan of one. README.md says how to start it. */
+#define _POSIX_C_SOURCE 200809L
+#include <sched.h>
+#include <signal.h>
+#include <stdio.h>
+#include <stdlib.h>
+#include <string.h>
+#include <time.h>
+#include <unistd.h>
+
+#include "frames.h"
+#include "run.h"
+#include "transport_mpi.h"
+
+/* A rank that has done nothing for some rounds leaves the processor to others, and after many it naps. */
+enum { ROUNDS_BEFORE_YIELD = 100, ROUNDS_BEFORE_NAP = 2000, NAP_IN_NANOSECONDS = 50000 };
+
+/* MPI ends the other ranks by this signal if one has died. */
+static void tell_of_end(int signal) {
+  static const char line[] = "kpn-mpi: the run was ended from outside: a rank has died, or somebody has ended it\n";
+  (void)signal;
+  if (write(STDERR_FILENO, line, sizeof line - 1) < 0) _exit(STATUS_RANK_DIED);
+  _exit(STATUS_RANK_DIED);
+}
+
+static void rest(int *rounds) {
+  static const struct timespec nap = {0, NAP_IN_NANOSECONDS};
+  if (++*rounds > ROUNDS_BEFORE_NAP)
+    nanosleep(&nap, NULL);
+  else if (*rounds > ROUNDS_BEFORE_YIELD)
+    sched_yield();
+}
+
+/* ---- the texts, from rank 0 to the others */
+
+static void add_text(words *message, int64_t kind, const text *of) {
+  int64_t *at = add_frame(message, kind, (int64_t)of->length, (of->length + 7) / 8);
+  if (!of->length) return;
+  at[(of->length - 1) / 8] = 0; /* no byte is unset */
+  memcpy(at, of->at, of->length);
+}
+
+static void send_texts(transport *over, const plan *of, int ranks, bool is_refused) {
+  for (int other = 1; other < ranks; other++) {
+    words message = {0};
+    if (is_refused)
+      add_frame(&message, FRAME_GO, 1, 0);
+    else
+      add_text(&message, FRAME_TEXT, &of->description), add_text(&message, FRAME_CUT, &of->cut_lines);
+    over->send(over, other, &message);
+    free_words(&message);
+  }
+}
+
+static void read_text(text *into, const int64_t *frame) {
+  const size_t length = (size_t)frame[1];
+  into->at = memory(length + 1);
+  memcpy(into->at, frame + HEAD, length);
+  into->length = length;
+}
+
+/* Waits for the texts. Returns false if rank 0 has refused them. */
+static bool hear_texts(transport *over, plan *into) {
+  words message = {0};
+  int from, rounds = 0;
+  while (!over->receive(over, &from, &message)) rest(&rounds);
+  const bool is_right = message.at[0] == FRAME_TEXT;
+  if (is_right) {
+    read_text(&into->description, message.at);
+    read_text(&into->cut_lines, message.at + HEAD + message.at[2]);
+  }
+  free_words(&message);
+  return is_right;
+}
+
+/* ---- the run */
+
+static rank *only; /* in this process */
+
+static void beat_here(void) {
+  beat(only);
+}
+
+static int run_place(const plan *of, int number, transport *over) {
+  int rounds = 0;
+  place *made = memory(sizeof *made);
+  only = &made->rank;
+  still_here = beat_here;
+  open_place(made, of, number, over);
+  while (made->rank.phase == STARTING || made->rank.phase == WORKING) {
+    if (make_round(&made->rank))
+      rounds = 0;
+    else
+      rest(&rounds);
+  }
+  if (made->rank.phase == ENDING) store_place(made);
+  while (made->rank.phase == ENDING && !is_over(&made->rank))
+    if (!make_round(&made->rank)) rest(&rounds);
+  const int status = number ? 0 : report_run(made);
+  close_place(made);
+  free(made);
+  return status;
+}
+
+static int run(int count, char **given) {
+  int number, ranks;
+  options asked;
+  plan *made = memory(sizeof *made);
+  transport *over = open_transport(&count, &given, &number, &ranks);
+  int status = read_options(count, given, number == 0, &asked) ? 0 : STATUS_USAGE;
+  if (!status && ranks > MOST_RANKS) {
+    if (!number) fprintf(stderr, "kpn: usage: at most %d ranks\n", MOST_RANKS);
+    status = STATUS_USAGE;
+  }
+  signal(SIGTERM, tell_of_end);
+  if (!status) {
+    asked.ranks = ranks;
+    made->options = &asked;
+    if (number == 0) {
+      status = load_plan(made, &asked);
+      send_texts(over, made, ranks, status != 0);
+    } else if (!hear_texts(over, made)) {
+      status = STATUS_REFUSED;
+    }
+  }
+  if (!status) {
+    lay_out(made, ranks);
+    status = run_place(made, number, over);
+  }
+  /* The run is over. A status of rank 0 makes Open MPI end the others, if they are slower to go. */
+  signal(SIGTERM, SIG_IGN);
+  close_transport(over);
+  free_plan(made);
+  free_options(&asked);
+  return number ? 0 : status;
+}
+
+int main(int count, char **given) {
+  return count > 1 && !strcmp(given[1], "plan") ? show_plan(count, given) : run(count, given);
+}

@@ -1,0 +1,42 @@
+/* A part of a network: a session of libkpn with the processes of one rank. A cut channel is a sink of the part of its
+   writer and a source of the part of its reader. */
+#ifndef KPN_MPI_PART_H
+#define KPN_MPI_PART_H
+
+#include "../include/kpn.h"
+#include "cut.h"
+
+enum { NOWHERE = -1 };
+
+typedef struct {
+  const network *net;
+  const cut *cut;
+  int rank;
+  bool keeps;                        /* whether it keeps its history, which a growth and a trace want */
+  size_t channels[MOST_CHANNELS];    /* its channels by their numbers in the whole */
+  size_t instances[MOST_INSTANCES];
+  size_t channel_count, instance_count;
+  int local[MOST_CHANNELS];          /* the number in the part by the one in the whole, or NOWHERE */
+  size_t caps[MOST_CHANNELS];        /* the capacities at which the session was opened, by number in the whole */
+  kpn_session session;
+} part;
+
+/* Opens the part of a rank. */
+void open_part(part *made, const network *net, const cut *of, int rank, bool keeps);
+void close_part(part *of);
+
+/* Whether the part writes this sink: one of the network or a cut channel. */
+bool is_sink_of(const part *of, size_t channel);
+
+/* The part as a description. */
+void print_part(const part *of, text *into);
+
+/* What has happened in the part, as `kpn audit` reads it. The part has to keep its history. */
+void print_trace(part *of, text *into);
+
+/* Gives a channel more room: opens the part anew at the capacities of now, and does all again that the outside had
+   done, each thing only once the part has put on its sinks and got from its sources as much as it had before. So nobody
+   outside can tell. */
+void grow_part(part *of, size_t channel, size_t cap);
+
+#endif

@@ -1,0 +1,136 @@
+"""Runs over ranks: the audit that joins the traces of parts, and how `net.run` starts ranks, without MPI."""
+import contextlib
+import io
+import os
+import pathlib
+import tempfile
+import unittest
+from unittest import mock
+
+from support import PROGRAM, kpn
+
+from kpn import mpi, ranks
+
+COPY = 'process copy(in i; out o) {\n  while 1 {\n    read i x;\n    write o x;\n  }\n}\n'
+RING = COPY + 'network {\n  channel c cap 1;\n  channel d cap 1;\n  a = copy(d; c);\n  b = copy(c; d);\n}\n'
+ROW = COPY + 'network {\n  source x;\n  channel c cap 1;\n  sink y cap 1;\n  a = copy(x; c);\n  b = copy(c; y);\n}\n'
+# In place of `mpirun`: what comes behind the number of ranks and the program is for `kpn run`.
+STARTER = '#!/bin/sh\n[ "$1 $2" = "-n 3" ] || exit 9\nshift 3\nexec "{program}" run "$@"\n'
+
+
+class Ranks(unittest.TestCase):
+    def setUp(self):
+        folder = tempfile.TemporaryDirectory()
+        self.addCleanup(folder.cleanup)
+        self.folder = pathlib.Path(folder.name)
+
+    def audit(self, text, *traces):
+        """The audit of a network whose instances `a` and `b` are at ranks 0 and 1."""
+        (self.folder / 'net.kpn').write_text(text)
+        (self.folder / 'cut').write_text('a=0\nb=1\n')
+        (self.folder / 'ranks').write_text('2\n')
+        for rank, events in enumerate(traces):
+            lines = ['kpn-trace 2', 'policy cycles grow one', *events, '']
+            (self.folder / f'rank-{rank}.trace').write_text('\n'.join(lines))
+        net = mpi.read_description(self.folder / 'net.kpn')
+        for rank in range(2):
+            part = mpi.part_of(net, {'a': 0, 'b': 1}, rank, False)
+            (self.folder / f'rank-{rank}.kpn').write_text(part.text())
+        return self.audit_again()
+
+    def audit_again(self):
+        """The status and what the command writes."""
+        with contextlib.redirect_stdout(io.StringIO()) as out, contextlib.redirect_stderr(out):
+            status = mpi.main(['audit', str(self.folder / 'net.kpn'), str(self.folder)])
+        return status, out.getvalue().splitlines()
+
+    def test_parts_that_vouch_for_each_other_do_not_join(self):
+        # Each trace is legal and exact by itself, and each part feeds the other an item that nobody has made.
+        legal = [f'rank {rank}: legal, exact yes' for rank in (0, 1)]
+        found = self.audit(RING, ['feed 1 7', 'get 0 1 7', 'put 0 0 7', 'take 0 7', 'wait-empty 0 1'],
+                           ['feed 0 7', 'get 0 0 7', 'put 0 1 7', 'take 1 7', 'wait-empty 0 0'])
+        self.assertEqual(found, (1, [*legal, 'not joined: event 0 of rank 0 is `feed d 7`, and nothing more was put '
+                                             'there before']))
+        self.assertEqual(self.audit(RING, ['wait-empty 0 1'], ['wait-empty 0 0']),
+                         (0, [*legal, 'joined: 2 events', 'exact yes']))
+
+    def row(self, *fed):
+        """The audit of a row in which the second part was fed these items of the one that was put."""
+        first = ['feed 0 4', 'close 0', 'get 0 0 4', 'put 0 1 4', 'take 1 4', 'wait-empty 0 0']
+        second = [line for it in fed for line in (f'feed 0 {it}', f'get 0 0 {it}', f'put 0 1 {it}', f'take 1 {it}')]
+        status, lines = self.audit(ROW, first, [*second, 'wait-empty 0 0'])
+        return status, lines[2:]
+
+    def test_an_item_comes_once_and_as_it_was_put(self):
+        self.assertEqual(self.row(4), (0, ['joined: 11 events', 'exact yes']))
+        self.assertEqual(self.row(), (0, ['joined: 7 events', 'exact no']))
+        self.assertEqual(self.row(4, 4), (1, ['not joined: event 4 of rank 1 is `feed c 4`, and nothing more was put '
+                                              'there before']))
+        self.assertEqual(self.row(5), (1, ['not joined: event 0 of rank 1 is `feed c 5`, and 4 was put there']))
+
+    def test_the_parts_are_those_of_the_description(self):
+        rests = ['wait-empty 0 0']
+        self.assertEqual(self.audit(ROW, rests, ['put 0 1 4', *rests]),
+                         (1, ['rank 0: legal, exact yes', 'rank 1: illegal at 0']))
+        # A part may have grown, but for other capacities it is made anew.
+        self.audit(ROW, rests, rests)
+        part = self.folder / 'rank-0.kpn'
+        part.write_text(part.read_text().replace('write o x', 'write o 4').replace('sink c cap 1', 'sink c cap 2'))
+        self.assertEqual(self.audit_again()[0], 0)
+        part.write_text(part.read_text().replace('sink c cap 2', 'sink c cap 0'))
+        status, lines = self.audit_again()
+        self.assertEqual(status, 1)
+        self.assertIn('has the capacity 0', lines[0])
+        (self.folder / 'cut').write_text('a=0\n')
+        status, lines = self.audit_again()
+        self.assertEqual(status, 1)
+        self.assertIn('not a line for each instance', lines[0])
+
+    def test_the_traces_are_those_of_one_run(self):
+        rests = ['wait-empty 0 0']
+        self.assertEqual(self.audit(ROW, rests, rests)[0], 0)
+        for name in ('rank-2.trace', 'rank-2.kpn'):
+            (self.folder / name).write_text('')
+            status, lines = self.audit_again()
+            self.assertEqual((status, len(lines)), (1, 1))
+            self.assertIn(f'{name} is of another run: the run had 2 ranks', lines[0])
+            (self.folder / name).unlink()
+        self.assertEqual(self.audit_again()[0], 0)
+        for told, why in (('3', 'rank-2.kpn is not there: the run had 3 ranks'), ('two', 'has no number of ranks'),
+                          ('1', 'rank-1.kpn is of another run: the run had 1 ranks'), ('0', 'has no number of ranks')):
+            (self.folder / 'ranks').write_text(f'{told}\n')
+            status, lines = self.audit_again()
+            self.assertEqual((status, len(lines)), (1, 1))
+            self.assertIn(why, lines[0])
+        (self.folder / 'ranks').unlink()
+        self.assertEqual(self.audit_again()[0], 1)
+
+    def start(self, **options):
+        """A run over three ranks by a program in the place of `mpirun`."""
+        starter = self.folder / 'mpirun'
+        starter.write_text(STARTER.format(program=PROGRAM))
+        starter.chmod(0o755)
+        found = {'PATH': f'{self.folder}:{os.environ["PATH"]}', 'KPN_MPI': PROGRAM}
+        with mock.patch.dict(os.environ, found):
+            return kpn.Network.from_text(ROW).run([1, 2, 3], ranks=3, **options)
+
+    def test_a_run_over_ranks_gives_a_result(self):
+        result = self.start(take=2)
+        self.assertEqual((result.outcome, result['y']), ('enough', [1, 2]))
+        self.assertEqual(self.start().waits, [kpn.Wait('a', 'x', False), kpn.Wait('b', 'c', False)])
+
+    def test_what_a_run_over_ranks_does_not_have_is_refused(self):
+        for options in ({'workers': 2}, {'trace': True}):
+            with self.assertRaisesRegex(kpn.KpnError, 'a run over ranks has no workers'):
+                self.start(**options)
+        with self.assertRaisesRegex(kpn.KpnError, '`ranks` is 0'):
+            kpn.Network().run(ranks=0)
+        with self.assertRaisesRegex(kpn.KpnError, 'a compiled network'):
+            kpn.running.run(kpn.Network(), ranks=2, runner=('a', []))
+        self.assertEqual(kpn.running.words_of_ranks(None, 'traces', False), ['--traces', os.path.abspath('traces')])
+        with mock.patch.dict(os.environ, {'PATH': ''}), self.assertRaisesRegex(kpn.KpnError, '`mpirun`'):
+            ranks.runner_of(2, 'net.kpn')
+
+
+if __name__ == '__main__':
+    unittest.main()
