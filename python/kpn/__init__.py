@@ -17,7 +17,8 @@ from .room import least_capacities
 from .result import Result, Stats, Wait
 from .running import run
 from .trace import Event, Trace, read_trace
+from .wav import Wav
 
 __all__ = ['Compiled', 'Deadlock', 'Event', 'GrowthWarning', 'KpnError', 'Live', 'Network', 'Place', 'Process', 'Q',
-           'Range', 'Rate', 'Result', 'Stats', 'Stream', 'Trace', 'Wait', 'find_program', 'least_capacities', 'parts',
-           'read_trace', 'run']
+           'Range', 'Rate', 'Result', 'Stats', 'Stream', 'Trace', 'Wait', 'Wav', 'find_program', 'least_capacities',
+           'parts', 'read_trace', 'run']

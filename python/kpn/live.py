@@ -21,7 +21,7 @@ from typing import TypeVar, Union, cast
 
 from .errors import KpnError, seconds, whole
 from .program import Program, environment, find_program, words_of
-from .result import Report, Result, report_of
+from .result import Report, Result, counted_in, report_of
 from .running import lines_of, refusal
 
 if TYPE_CHECKING:
@@ -227,9 +227,10 @@ class Live:
     """
 
     def __init__(self, layout: Layout, *, take: Optional[int] = None, max_commits: Optional[int] = None,
-                 timeout: Optional[float] = None, program: Program = None):
+                 timeout: Optional[float] = None, program: Program = None, stats: bool = False):
         self._layout, self._timeout, self._program = layout, seconds(timeout), program
         self._words, self._most = words_of(take=take, max_commits=max_commits), max_commits
+        self._words += ['--stats'] if stats else []
         self._sources: Dict[str, Source] = {}
         self._sinks: Dict[str, Sink] = {}
         self._process: Optional[subprocess.Popen[bytes]] = None
@@ -334,7 +335,8 @@ class Live:
     def finish(self, timeout: Optional[float] = None) -> Result:
         """Closes all sources, waits for the end of the run, and gives its result with the items not read before.
 
-        The outcome is None if all sinks were left before there was one. Raises TimeoutError if the run does not end in
+        The outcome is None if all sinks were left before there was one. `stats` of the result has what each channel and
+        process did, if `net.stream` was given `stats=True`. Raises TimeoutError if the run does not end in
         time, and KpnError if the program fails.
         """
         with self._used():
@@ -344,8 +346,11 @@ class Live:
             sinks = self._sinks.items()
             # Nobody has the items that came to a sink after it was left.
             complete = {name: report.sinks[name] == (it.came, True) for name, it in sinks}
-            return Result(self._layout, report, {name: it.unread(it.came) for name, it in sinks}, self._program,
-                          complete, [name for name, it in sinks if it.is_left], self._most)
+            result = Result(self._layout, report, {name: it.unread(it.came) for name, it in sinks}, self._program,
+                            complete, [name for name, it in sinks if it.is_left], self._most)
+            if '--stats' in self._words:
+                result.keep_counted(counted_in(self._told.text()))
+            return result
 
     @contextlib.contextmanager
     def _used(self) -> Iterator[None]:

@@ -442,8 +442,9 @@ class Network:
     def stream(self, **options: Any) -> Live:
         """A `Live` run by `kpn stream`, which is fed and read while it goes on.
 
-        Its words are `take=`, `max_commits=`, `timeout=` and `program=`. Raises KpnError for a wrong one, and for a
-        network with more of something than the language allows. What else is wrong is told by the calls of the run.
+        Its words are `take=`, `max_commits=`, `timeout=`, `program=` and `stats=`. Raises KpnError for a wrong one, and
+        for a network with more of something than the language allows. What else is wrong is told by the calls of the
+        run.
         """
         self.check_limits()
         return Live(self.layout(), **options)

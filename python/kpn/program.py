@@ -11,6 +11,7 @@ import tempfile
 from typing import Callable, Dict, List, Mapping, NoReturn, Optional, Sequence, Union
 
 from .errors import KpnError, Spot, whole
+from .ranks import SETTINGS
 
 # The path of the program `kpn`; None stands for the one that is found.
 Program = Union[None, str, 'os.PathLike[str]']
@@ -50,8 +51,8 @@ def find_program(given: Program = None) -> str:
 
 def environment() -> Dict[str, str]:
     """The environment of the program, as the launcher sets it: huge pages make long runs some tenth shorter, and lists
-    that grow in maps of their own leave no holes."""
-    return {'GLIBC_TUNABLES': TUNABLES, **os.environ}
+    that grow in maps of their own leave no holes. Runs over ranks have some settings more."""
+    return {'GLIBC_TUNABLES': TUNABLES, **SETTINGS, **os.environ}
 
 
 def main() -> NoReturn:

@@ -11,12 +11,14 @@ import warnings
 import weakref
 from typing import TYPE_CHECKING, Any, Dict, Iterator, List, Mapping, NamedTuple, Optional, Sequence, Tuple, Union
 
+from .arrays import array_of
 from .errors import GrowthWarning, KpnError
 from .program import Program, call, failure, words_of
 from .rates import Rate, rates_of
 from .rings import deadlock_of, rings_of
 from .trace import Trace
 from .view import page, stats_of
+from .wav import Path, write_wav
 
 if TYPE_CHECKING:
     from .network import Layout
@@ -35,6 +37,8 @@ LINE = re.compile(r'fault (\w+) (overflow|zero-divisor)|waits (\w+) (\w+)( full)
 # The lines that are read of `kpn stats` and of `kpn timeline`.
 ADVICE = re.compile(r'(\w+): (?:cap )?(\d+)\b')
 LENGTH = re.compile(r'length (\d+) ticks')
+# What stands between two columns of a table.
+COLUMNS = re.compile(' {2,}')
 PUT = re.compile(r'"ts":(\d+),"dur":1,"name":"put (\w+)"')
 
 
@@ -47,7 +51,8 @@ class Wait(NamedTuple):
 
 
 class Stats(NamedTuple):
-    """The tables of `kpn stats`: a row for each channel and for each process, by the names of the columns."""
+    """The tables of `kpn stats`, or of `kpn stream --stats`, which has fewer columns: a row for each channel and for
+    each process, by the names of the columns."""
 
     channels: List[Dict[str, Union[int, str]]]
     processes: List[Dict[str, Union[int, str]]]
@@ -115,6 +120,8 @@ class Result(collections.abc.Mapping):  # type: ignore[type-arg]
         self._trace: Optional[str] = None
         self._tables: Optional[Dict[str, Any]] = None
         self._look: Optional[Look] = None
+        # Of a live run, the tables that it has told.
+        self._counted: Optional[Stats] = None
 
     @property
     def layout(self) -> Layout:
@@ -125,6 +132,29 @@ class Result(collections.abc.Mapping):  # type: ignore[type-arg]
         if sink not in self._sinks:
             raise KeyError(f'the network has no sink `{sink}`: it has {", ".join(self._sinks) or "none"}')
         return self._sinks[sink]
+
+    def array(self, sink: str, dtype: Any = 'int64', scale: int = 1) -> Any:
+        """The items of a sink as an array of NumPy of one dimension.
+
+        `dtype` is `int8` to `int64` or `uint8`. Of `float32` and `float64` each item is divided by `scale`, a power of
+        two from 1 to 2^62, and is the nearest such number. Raises KpnError for another one, for an item that it does
+        not have, with its place, and if NumPy is not there.
+        """
+        return array_of(sink, self[sink], dtype, scale)
+
+    def wav(self, sinks: Union[str, Sequence[str]], path: Path, rate: int = 48_000, bits: int = 16, clip: bool = False
+            ) -> None:
+        """Writes the items of a sink as a WAV file; of several sinks, one after the other, as its channels.
+
+        `rate` is how many samples a second has, whose bytes are less than 2^32 for all channels. There are at most
+        32,767 channels of 16 bits, and 21,845 of 24. Samples of 16 bits are from -32,768 to 32,767, and those of 24
+        bits from -8,388,608 to 8,388,607. With `clip` an item beyond becomes the nearest sample. Raises KpnError for
+        such an item without it, with its place, for other numbers, and for sinks with unequally many items, and OSError
+        if the file can't be written. Then an old file stays as it is,
+        if its folder takes another one.
+        """
+        names = [sinks] if isinstance(sinks, str) else list(sinks)
+        write_wav(path, names, [self[name] for name in names], rate, bits, clip)
 
     def __iter__(self) -> Iterator[str]:
         return iter(self._sinks)
@@ -225,7 +255,16 @@ class Result(collections.abc.Mapping):  # type: ignore[type-arg]
 
     @property
     def stats(self) -> Stats:
-        """What the run did on each channel and in each process, by `kpn stats`: two lists of a dict for each row."""
+        """What the run did on each channel and in each process, by `kpn stats`: two lists of a dict for each row.
+
+        A live run with `stats=True` has it without a trace. Its channels have `channel`, `put`, `read`, `unread` and
+        `most`, the most items that were unread while the channel's reader was there, and its processes `process` and
+        `end`.
+        """
+        if self._counted:
+            return self._counted
+        if self._told is not None and not self._trace:
+            raise KpnError('the run has no trace and no tables: give `stats=True` to `net.stream`')
         tables = [self._told_stats()[table] for table in Stats._fields]
         return Stats(*([dict(zip(table['columns'], row)) for row in table['rows']] for table in tables))
 
@@ -312,6 +351,10 @@ class Result(collections.abc.Mapping):  # type: ignore[type-arg]
         """Keeps the folder with the text, and the file of the trace, if it is not there."""
         self._folder, self._trace = folder, trace
 
+    def keep_counted(self, tables: Stats) -> None:
+        """Keeps the tables that a live run has told."""
+        self._counted = tables
+
     def keep_look(self, wanted: Look) -> None:
         """Keeps what a look for channels that grow takes."""
         self._look = wanted
@@ -336,6 +379,21 @@ def advice_in(stats: Mapping[str, Any]) -> Dict[str, int]:
     """The capacities that `kpn stats` advises, from what it writes, read back."""
     found = [ADVICE.match(line) for line in stats['advice']]
     return {it[1]: int(it[2]) for it in found if it}
+
+
+def counted_in(told: str) -> Stats:
+    """The tables in what `kpn stream --stats` has told: at its end, each behind its headings, two spaces between two
+    columns."""
+    tables: Dict[str, List[Dict[str, Union[int, str]]]] = {'channel': [], 'process': []}
+    headings: List[str] = []
+    for line in told.splitlines():
+        cells = COLUMNS.split(line)
+        if cells[0] in tables and len(cells) > 1 and cells[-1] in ('most', 'end'):
+            headings = cells
+        elif headings and len(cells) == len(headings):
+            values = [int(it) if it.isdigit() else it for it in cells[1:]]
+            tables[headings[0]].append(dict(zip(headings, [cells[0], *values])))
+    return Stats(tables['channel'], tables['process'])
 
 
 def report_of(told: str) -> Report:

@@ -221,6 +221,17 @@ class Endings(unittest.TestCase):
                                 {'y': (3, False), 'z': (0, True)}))
         self.assertIsNone(report_of('waits q c\nhas ended\n').outcome)
 
+    def test_what_channels_and_processes_did(self):
+        with doubling().stream(stats=True) as live:
+            live.feed([1, 2, 3])
+            result = live.finish(LONG)
+        self.assertEqual(result['y'], [2, 4, 6])
+        self.assertEqual(result.stats.channels, [{'channel': name, 'put': 3, 'read': 3, 'unread': 0, 'most': 1}
+                                                 for name in ('x', 'y')])
+        self.assertEqual(result.stats.processes, [{'process': 'gain', 'end': 'waits x'}])
+        with doubling().stream() as live, self.assertRaisesRegex(kpn.KpnError, 'no trace'):
+            live.finish(LONG).stats
+
     def test_more_than_a_pipe_holds_and_no_open_sink(self):
         for net, leaves in ((kpn.Network.from_text('process p(in i) { while 1 { read i x; } } network { source x; '
                                                    'p = p(x;); }'), ()), (swallowing(), ('y',))):

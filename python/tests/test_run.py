@@ -6,6 +6,7 @@ import json
 import os
 import pathlib
 import pickle
+import re
 import stat
 import sys
 import tempfile
@@ -76,6 +77,17 @@ class Inputs(unittest.TestCase):
         self.refused('whole numbers', doubling(), [1.5], error=TypeError)
         self.refused('whole numbers', doubling(), 'text', error=TypeError)
         self.refused('out of range', doubling(), [2**63])
+        self.refused('the source `x` have to be whole numbers, and not 2.5', doubling(), 2.5, error=TypeError)
+
+    def test_rows(self):
+        class Row(list):
+            """A row of an array of NumPy has this method, and none of the arrays but a single number is an index."""
+
+            def __index__(self):
+                raise TypeError('only integer scalar arrays can be converted to a scalar index')
+        for row in ([1, 2], Row([1, 2])):
+            self.refused('item 1 of the source `x` is [1, 2], and items have to be whole numbers', doubling(), [1, row],
+                         error=TypeError)
 
     def test_wrong_options(self):
         for word, given, said in (('workers', 17, '`workers` is 17: it has to be from 1 to 16'),
@@ -176,12 +188,33 @@ class Traced(unittest.TestCase):
         for svg in (result.svg(), result.svg(1, 3), result._repr_svg_()):
             self.assertTrue(xml.etree.ElementTree.fromstring(svg).tag.endswith('svg'))
 
+    def test_waits_that_never_end_are_drawn(self):
+        result = example('deadlock').run(trace=True)
+        slices = [(it['ts'], it['dur'], it['name']) for it in json.loads(result.timeline())['traceEvents']
+                  if it['ph'] == 'X']
+        self.assertEqual(slices, [(0, 1, 'waits x'), (0, 1, 'waits y')])
+        titles = re.findall('<title>(.*?)</title>', result.svg())
+        self.assertEqual(titles, [f'waits for an item on {name} from tick 1 to the end' for name in 'xy'])
+
+    def test_an_explanation_shows_few_items(self):
+        for count, last in ((20, '20'), (21, '.. 1 more'), (1021, '.. 1,001 more')):
+            net = kpn.Network()
+            net.sink('y', parts.scale(net.source('x'), 1))
+            lines = net.run(range(1, count + 1), trace=True).explain().splitlines()
+            self.assertTrue(lines[2].startswith('x: 1 2 3 ') and lines[2].endswith(f' {last}'), lines[2])
+            self.assertEqual(len(lines[2].split(' ..')[0].split()), 21)
+
     def test_without_a_trace(self):
         result = example('two').run()
         for call in (lambda: result.stats, result.explain, result.dot, result.trace, result.timeline,
                      result.svg):
             self.assertRaisesRegex(kpn.KpnError, 'give `trace=True`', call)
         self.assertIsNone(result._repr_svg_())
+
+    def test_a_stream_without_tables(self):
+        with doubling().stream(timeout=60) as live:
+            result = live.finish()
+        self.assertRaisesRegex(kpn.KpnError, 'and no tables: give `stats=True` to `net.stream`', lambda: result.stats)
 
     def test_the_folder_goes_with_the_result(self):
         result = example('two').run(trace=True)

@@ -197,7 +197,8 @@ class Pages(unittest.TestCase):
         moves = [k for k, line in enumerate(it.lines) if line.split()[0] in ('get', 'put')]
         self.assertEqual([told['ticks'][k] for k in moves], timing.ticks)
         shares = timing.shares()
-        told_shares = [its['bounds'] for its in table_rows(it, 'processes')]
+        rows = table_rows(it, 'processes')
+        told_shares = [its['bounds'] for its in rows]
         self.assertEqual(told_shares, [shares[p] for p in range(len(network.instances))])
         self.assertEqual(told['shares'], told_shares)
         for p, slices in enumerate(told['slices']):
@@ -208,6 +209,10 @@ class Pages(unittest.TestCase):
             places = [0, *(end for _, end, _, _ in slices)]
             self.assertEqual([begin for begin, _, _, _ in slices], places[:-1])
             self.assertEqual(places[-1], told['span'])
+            # A wait that the run ends with goes on behind the last tick, also if there is none.
+            if rows[p]['end'].startswith('waits '):
+                self.assertEqual(slices[-1][2], 'full' if rows[p]['end'].endswith(' full') else 'empty')
+                self.assertGreater(slices[-1][1], timing.length)
 
 
 def table_rows(stored, name):
