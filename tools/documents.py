@@ -16,7 +16,8 @@ import re
 import sys
 
 TOP = pathlib.Path(__file__).resolve().parent.parent
-OTHERS = [TOP / name for name in ('README.md', 'bench/RESULTS.md', 'python/README.md', 'editors/README.md')]
+OTHERS = [TOP / name for name in ('README.md', 'bench/RESULTS.md', 'python/README.md', 'editors/README.md',
+                                   'mpi/README.md')]
 DOCUMENTS = [*OTHERS, *sorted((TOP / 'docs').glob('*.md'))]
 COLUMNS = 120
 KINDS = ('.rt', '.antt', '.py', '.rs', '.c', '.h', '.kpn', '.edit')
@@ -41,7 +42,7 @@ ELSEWHERE = set("""share/kpn/editors rt go awk clap arrayvec indexmap itoa linke
 
 
 def files_of_project():
-    for folder in ('crates', 'bench', 'tools', 'docs', 'python', 'c', 'include', 'editors', '.ci'):
+    for folder in ('crates', 'bench', 'tools', 'docs', 'python', 'c', 'include', 'editors', 'mpi', '.ci'):
         for file in (TOP / folder).rglob('*'):
             if 'out' not in file.relative_to(TOP).parts and '__pycache__' not in file.parts:
                 yield file

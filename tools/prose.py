@@ -21,24 +21,24 @@ LONG = 25
 # The most words of each document, and of all.
 BUDGETS = {
     'README.md': 1_940,
-    'docs/ARCHITECTURE.md': 3_140,
+    'docs/ARCHITECTURE.md': 3_160,
     'docs/COMPILED.md': 1_690,
-    'docs/DECISIONS.md': 2_810,
-    'docs/DEFINITIONS.md': 2_410,
+    'docs/DECISIONS.md': 2_990,
+    'docs/DEFINITIONS.md': 2_440,
     'docs/ERRORS.md': 1_170,
-    'docs/GUARANTEES.md': 6_250,
+    'docs/GUARANTEES.md': 6_480,
     'docs/GUIDE.md': 1_020,
     'docs/LANGUAGE.md': 1_510,
-    'docs/LIBRARY.md': 2_210,
-    'docs/PROVING.md': 2_800,
-    'docs/RUNS.md': 2_020,
-    'docs/STREAMS.md': 1_140,
+    'docs/LIBRARY.md': 2_240,
+    'docs/PROVING.md': 2_830,
+    'docs/RUNS.md': 2_040,
+    'docs/STREAMS.md': 1_270,
     'docs/TRACES.md': 850,
-    'docs/VIEWS.md': 2_050,
-    'python/README.md': 960,
-    'bench/RESULTS.md': 2_370,
+    'docs/VIEWS.md': 2_080,
+    'python/README.md': 1_020,
+    'bench/RESULTS.md': 2_390,
 }
-BUDGET = 36_000
+BUDGET = 36_900
 POINT = re.compile(r'\s*(?:[-*+]|\d+\.)\s+')
 END = re.compile(r'(?<=[.!?])["\')*]*\s+(?=["\'(*]*[A-Z0-9`])')
 WORD = re.compile(r"[^\s]*\w[^\s]*")

@@ -934,6 +934,73 @@ def an_input_that_a_signal_interrupts(folder):
     expect((out, told), (b'sink z: 1 2 3\nwaits c s\nended\n', b''))
 
 
+# ---- words for a person
+
+JAMMED = str(DATA / 'jammed.kpn')
+JAMMED_REPORT = b'waits p a full\nwaits q b\njammed\n'
+
+
+def kpn(folder, *words, **how):
+    """What a command writes on standard output, and its status."""
+    done = subprocess.run([PROGRAM, *words], cwd=folder, timeout=60, stdout=subprocess.PIPE, **how)
+    return done.stdout, done.returncode
+
+
+def read_all(terminal):
+    """What was written on the other side of a terminal, which is closed there."""
+    told = b''
+    while True:
+        try:
+            told += os.read(terminal, 65_536)
+        except OSError:
+            os.close(terminal)
+            return told.replace(b'\r\n', b'\n')
+
+
+@case
+def words_on_a_terminal(folder):
+    missing = b'kpn: 26 Read\n', b"`none` can't be read: there is no such file\n", (b'', 1)
+    jammed = b'', b'jammed: processes wait for one another', (JAMMED_REPORT, 4)
+    for words, has_words in (((), True), (('--words', 'never'), False), (('--words', 'terminal'), True),
+                             (('--words', 'always'), True)):
+        for file, (line, said, wanted) in (('none', missing), (JAMMED, jammed)):
+            outer, inner = os.openpty()
+            expect(kpn(folder, *words, 'run', file, stderr=inner), wanted)
+            os.close(inner)
+            told = read_all(outer)
+            expect((told[:len(line)], said in told, len(told) > len(line)), (line, has_words, has_words))
+
+
+@case
+def words_only_where_faults_go(folder):
+    outer, inner = os.openpty()
+    done = subprocess.run([PROGRAM, 'run', JAMMED], timeout=60, stdin=inner, stdout=inner, stderr=subprocess.PIPE)
+    os.close(inner)
+    expect((read_all(outer), done.stderr, done.returncode), (JAMMED_REPORT, b'', 4))
+
+
+@case
+def words_that_nobody_takes(folder):
+    """A place for faults that is closed, full, or a pipe whose reader has gone."""
+    words = '--words', 'always', 'run', JAMMED
+    expect(kpn(folder, *words, preexec_fn=lambda: os.close(2)), (JAMMED_REPORT, 4))
+    with open('/dev/full', 'wb') as full:
+        expect(kpn(folder, *words, stderr=full), (JAMMED_REPORT, 4))
+        expect(kpn(folder, '--words', 'always', 'run', 'none', stderr=full), (b'', 1))
+    taken, given = os.pipe()
+    os.close(taken)
+    expect(kpn(folder, *words, stderr=given), (JAMMED_REPORT, 4))
+    os.close(given)
+
+
+@case
+def words_about_a_pipe(folder):
+    """What was read from a pipe is not read again, so no words are about it."""
+    done = subprocess.run([PROGRAM, '--words', 'always', 'run', '/dev/stdin'], input=b'network', timeout=60,
+                          capture_output=True)
+    expect((done.stdout, done.stderr, done.returncode), (b'', b'kpn: 21 Grammar at 7\n', 1))
+
+
 def main():
     for test in cases:
         with tempfile.TemporaryDirectory(prefix='kpn-files-') as name:
