@@ -161,7 +161,7 @@ fn a_gate_is_asked_unless_it_lets_all_through(rt: HostRuntime) -> Result<(), Fai
 fn others_go_on_while_one_is_held(rt: HostRuntime) -> Result<(), Fail> {
     let held = Held {
         process: Some(0),
-        until: 300,
+        until: 30,
     };
     let gate = TestGate::holds(held, true);
     let commits = commits_of(
@@ -170,7 +170,7 @@ fn others_go_on_while_one_is_held(rt: HostRuntime) -> Result<(), Fail> {
         RING_AND_SPIN,
         2,
         &gate,
-        &limits_of(5_000, 10),
+        &limits_of(300_000, 10),
     )?;
     assert!(rt; commits.is_some());
     assert!(rt; gate.have_met());
