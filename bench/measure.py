@@ -3,6 +3,7 @@ import argparse
 import os
 import pathlib
 import re
+import shutil
 import subprocess
 import sys
 import tempfile
@@ -76,6 +77,25 @@ def parts():
     folder = TOP / 'crates/bench_parts'
     subprocess.run(['rt', 'run'], cwd=folder, input='frames 1\n', text=True, check=True, capture_output=True)
     return folder / 'out/bench_parts'
+
+
+def built(folder, source, uses):
+    """The program whose root file is this source, in a copy of the tree with a crate more, which uses these libraries.
+    The build is optimised, and not proved. No .rt file may stand outside of a crate that the gate proves."""
+    tree, program = folder / 'tree', folder / 'program'
+    shutil.copytree(TOP / 'crates', tree / 'crates', symlinks=True, ignore=shutil.ignore_patterns('out'))
+    (tree / 'tools').mkdir()
+    for name in ('HANDLES', 'crates.txt', 'tools/unproved.py', 'tools/prover.py'):
+        shutil.copy(TOP / name, tree / name)
+    with open(tree / 'crates.txt', 'a') as crates:
+        crates.write(f'bench_program: {uses}\n')
+    (tree / 'crates/bench_program/src').mkdir(parents=True)
+    shutil.copy(source, tree / 'crates/bench_program/src/main.rt')
+    words = [sys.executable, tree / 'tools/unproved.py', program, 'bench_program']
+    done = subprocess.run(words, stdin=subprocess.DEVNULL, capture_output=True, text=True)
+    if done.returncode != 0:
+        sys.exit(done.stdout + done.stderr)
+    return program
 
 
 def plain(source, folder):

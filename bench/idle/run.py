@@ -3,8 +3,7 @@
 
 One process copies the items of a source to a sink. A thread of its own feeds an item after each pause, and the calling
 thread sleeps until it can take one. The program makes only public calls of `kpn_pool`. Its source is main.rt.txt,
-since the gate wants each .rt file in a crate that it proves. The build is that of tools/unproved.py, in a copy of the tree:
-optimised, and not proved. Beside it is a plain Rust program of three threads, which hand the items on by channels of
+since the gate wants each .rt file in a crate that it proves. The build is optimised, and not proved. Beside it is a plain Rust program of three threads, which hand the items on by channels of
 std. It prints for 1, 4 and 16 workers
 
 - the processor time of a whole run in which the only item comes after two seconds, and of one in which it comes at
@@ -17,9 +16,7 @@ and some runs then seem to take far more. It is no part of the gate. Words: the 
 """
 import os
 import pathlib
-import shutil
 import statistics
-import subprocess
 import sys
 import tempfile
 
@@ -29,29 +26,11 @@ sys.path.append(str(HERE.parent))
 
 import measure
 
-CRATE, USES = 'bench_idle', 'kpn_limits kpn_book kpn_pool kpn_text anyhow'
+USES = 'kpn_limits kpn_book kpn_pool kpn_text anyhow'
 WORKERS, RUNS = (1, 4, 16), 9
 
 # the pauses in microseconds: of a wait, and between items
 WAIT, PAUSE = 2_000_000, 1_000
-
-
-def built(folder):
-    """The program, built in a copy of the tree with a crate more."""
-    tree, program = folder / 'tree', folder / 'idle'
-    shutil.copytree(measure.TOP / 'crates', tree / 'crates', symlinks=True, ignore=shutil.ignore_patterns('out'))
-    (tree / 'tools').mkdir()
-    for name in ('HANDLES', 'crates.txt', 'tools/unproved.py', 'tools/prover.py'):
-        shutil.copy(measure.TOP / name, tree / name)
-    with open(tree / 'crates.txt', 'a') as crates:
-        crates.write(f'{CRATE}: {USES}\n')
-    (tree / 'crates' / CRATE / 'src').mkdir(parents=True)
-    shutil.copy(HERE / 'main.rt.txt', tree / 'crates' / CRATE / 'src/main.rt')
-    words = [sys.executable, tree / 'tools/unproved.py', program, CRATE]
-    done = subprocess.run(words, stdin=subprocess.DEVNULL, capture_output=True, text=True)
-    if done.returncode != 0:
-        sys.exit(done.stdout + done.stderr)
-    return program
 
 
 def load():
@@ -91,7 +70,8 @@ def main():
     asked = measure.asked(__doc__, {'items': 10_000}, {'program': ''})
     with tempfile.TemporaryDirectory(prefix='kpn-idle-') as name:
         folder = pathlib.Path(name)
-        program = pathlib.Path(asked.program).resolve() if asked.program else built(folder)
+        given = pathlib.Path(asked.program).resolve() if asked.program else None
+        program = given or measure.built(folder, HERE / 'main.rt.txt', USES)
         ways = [Way(f'workers {workers:2}', program, workers) for workers in WORKERS]
         ways.append(Way('plain Rust', measure.plain(HERE / 'plain.rs', folder)))
         for way in ways:

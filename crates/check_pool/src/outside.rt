@@ -139,7 +139,8 @@ fn answered<J: Job, R: Wait>(
 }
 
 /// What is seen is what the whole run did, and what was fed and taken is in the seats and in the run. The seat is then
-/// a stranger to another network, and to another run of the same network, which has not been fed.
+/// a stranger to another network, and to another run of the same network, which has not been fed. Once it is told to
+/// forget, it has only what it feeds from then on, and is given no snapshot.
 #[test]
 fn snapshot_shows_own_feeds_alone(rt: HostRuntime) -> Result<(), Fail> {
     let alloc = rt.alloc();
@@ -154,5 +155,11 @@ fn snapshot_shows_own_feeds_alone(rt: HostRuntime) -> Result<(), Fail> {
         let refusals = answered::<Brand, HostRuntime>(&rt, alloc, blank, network, &mut seat)?;
         assert_eq!(rt; refusals, (Some(SnapFault::Foreign), fed, fed));
     }
+    seat.forget();
+    assert!(rt; seat.fed().is_empty());
+    let blank = Blank::new(1);
+    let refusals = answered::<Brand, HostRuntime>(&rt, alloc, blank, &network, &mut seat)?;
+    assert_eq!(rt; refusals, (Some(SnapFault::Forgotten), None, None));
+    assert!(rt; seat.fed() == [4].as_slice());
     Ok(())
 }

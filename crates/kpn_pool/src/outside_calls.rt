@@ -51,6 +51,7 @@ pub fn feed_all<J: Job, A: Allocator + Copy, B: Allocator, R: Wait>(
     ensures channel { seat.new.channel ≡ seat.old.channel }
     ensures fed { OnOk result (seat.new.items ≡ seat.old.items ++ items.now) }
     ensures before { IsPrefix seat.old.items seat.new.items }
+    ensures kept { seat.new.forgotten ≡ seat.old.forgotten }
     ensures source { OnOk result (0 < length items.now
         → is_source (channel_at J.network seat.old.channel) ≡ true) }
     ensures refused { IfErr result (λ cause. FeedsUntil items.now seat.old seat.new (λ item.
@@ -201,6 +202,7 @@ pub fn feed_when_room<J: Job, A: Allocator + Copy, B: Allocator, R: Wait + Clock
     ensures fed { IfOk result (λ count. (count ≤ length items.now)
         × (seat.new.items ≡ seat.old.items ++ take count items.now)) }
     ensures before { IsPrefix seat.old.items seat.new.items }
+    ensures kept { seat.new.forgotten ≡ seat.old.forgotten }
     ensures source { OnOk result (0 < length items.now
         → is_source (channel_at J.network seat.old.channel) ≡ true) }
     ensures refused { IfErr result (λ cause. FeedsUntil items.now seat.old seat.new (λ item.

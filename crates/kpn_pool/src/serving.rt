@@ -78,6 +78,7 @@ fn feed_and_take<J: Job, R: Wait + Clock>(
     }
     take_each(rt, shared, sinks)?;
     for _ in rt.forever() {
+        forget_each(sinks);
         if shared.look(rt).desk().has_enough(wanted) || !take_when_due(rt, shared, sinks)? {
             return Ok(());
         }
@@ -85,7 +86,8 @@ fn feed_and_take<J: Job, R: Wait + Clock>(
     unreachable!()
 }
 
-/// Feeds a source its list and closes it. After each batch the sinks are emptied, so that none holds the workers up.
+/// Feeds a source its list and closes it. After each batch the sinks are emptied, so that none holds the workers up. The
+/// seats forget what the book has.
 fn feed_list<J: Job, R: Wait>(
     rt: &R,
     shared: &Shared<'_, J>,
@@ -95,7 +97,16 @@ fn feed_list<J: Job, R: Wait>(
 ) -> Result<(), Refused> {
     for items in list.chunks(BATCH) {
         feed_all(rt, shared, seat, items, usize::MAX)?;
+        seat.forget();
         take_each(rt, shared, sinks)?;
+        forget_each(sinks);
     }
     close(rt, shared, seat)
+}
+
+/// These seats forget what they took.
+fn forget_each(seats: &mut [SinkSeat]) {
+    for seat in seats {
+        seat.forget();
+    }
 }

@@ -147,7 +147,7 @@ impl<'n, J: Job, A: Allocator> Shared<'n, J, A> {
     /// The run as it is seen at one moment, or `None` if the lock is taken: a legal history, of the network that was
     /// handed to `new`, that owes no growth agrees with it; each journal is a prefix of the least solution for what was
     /// fed, and is that solution if each process has ended or waits on an empty channel. The error is that memory
-    /// ran out.
+    /// ran out, or that the run does not keep all journals.
     pub fn try_snapshot<B: Allocator + Copy>(&self, alloc: B) -> Result<Option<View<B>>, AllocError>
         ensures run { IfOk result (λ found. IfSome found (λ view. ShowsARun J.network view)) }
         ensures below { IfOk result (λ found.
@@ -158,7 +158,9 @@ impl<'n, J: Job, A: Allocator> Shared<'n, J, A> {
         let Some(desk) = self.try_lock(TRIES_OUTSIDE) else {
             return Ok(None);
         };
-        let view = desk.snapshot(alloc)?;
+        let Ok(view) = desk.snapshot(alloc) else {
+            return Err(AllocError);
+        };
         Ok(Some(view))
     }
 

@@ -1,5 +1,5 @@
 -- What a worker does with several processes, one turn after the other.
-use Rattle.std.proofs.Common.{◌≡◌, ℕ, zero, suc, ◌+◌, ◌-◌, ◌<◌, ◌≤◌, Option, Some, List, [], ◌∷◌, ◌++◌, length, take, drop, get_or, inl, inr, refl, sym, ap, ◌∙◌, subst, arith, IfSome}
+use Rattle.std.proofs.Common.{◌≡◌, ℕ, zero, suc, ◌+◌, ◌-◌, ◌<◌, Option, Some, List, [], ◌∷◌, ◌++◌, length, take, drop, get_or, inl, inr, refl, sym, ap, ◌∙◌, subst, arith, IfSome}
 use Rattle.std.specs.Prelude.{slice_set, slice_get}
 use Rattle.std.proofs.lemmas.Bool.{cases_order}
 use Rattle.std.proofs.lemmas.List.{take_more, take_more_set}
@@ -9,7 +9,7 @@ use Rattle.kpn_step.specs.Stops.{advanced_of}
 use Rattle.kpn_run_state.specs.Book.{Book}
 use Rattle.kpn_pool_desk.specs.declared.seat.Why.{Why}
 use Rattle.kpn_pool_desk.specs.declared.turn.Stepped.{Stepped}
-use Rattle.kpn_pool_desk.specs.Desk.{Desk}
+use Rattle.kpn_pool_desk.specs.Desk.{Desk, with_book, with_commit, with_total}
 use Rattle.kpn_pool_desk.specs.declared.gate.Go.{Go}
 use Rattle.kpn_pool_desk.specs.declared.gate.Go.TheVariants.{On, Abandon}
 use Rattle.kpn_pool_desk.specs.Batch.{Turn, Batch, IsTurnOf, made_of, steps_of, CommitsOrDrops, PutsBack, InTurn, IsEnd, Settles, claimed_by}
@@ -87,22 +87,50 @@ pub let_all : (may : ℕ → Go → Type 0) (processes : List ℕ) (held : ℕ)
     → ((j q : ℕ) → j < held → slice_get processes j ≡ Some q → may q On) → LetsThrough may held held processes
 let_all may processes held all = record { through = all; next = λ q less at. absurd (omega (arith, less)) }
 
+-- ---- the desk
+
+-- a commit changes the book and the total, and a note changes nothing
+pub commit_alone : (before done after : Desk) → done ≡ with_commit done.book before → after ≡ done
+    → after ≡ with_total after.book after.total before
+commit_alone before done after same is =
+    subst (λ (d : Desk). d ≡ with_total d.book d.total before) (sym is)
+    (same ∙ ap (λ n. with_total done.book n before) (sym (ap (λ (d : Desk). d.total) same)))
+
+pub commits_on : (first before after : Desk) → before ≡ with_total before.book before.total first
+    → after ≡ with_total after.book after.total before → after ≡ with_total after.book after.total first
+commits_on first before after so_far same = same ∙ ap (λ (d : Desk). with_total after.book after.total d) so_far
+
+-- turns that were committed, and others that were put back
+pub keeps_halts : (before between after : Desk) → between ≡ with_total between.book between.total before
+    → after ≡ with_book after.book between → after.halts ≡ before.halts
+keeps_halts before between after one two = ap (λ (d : Desk). d.halts) two ∙ ap (λ (d : Desk). d.halts) one
+
 -- ---- a batch
 
 pub settled : (b : Batch) (why : Option Why) (before between after end : Desk) (turns : List Turn) (committed : ℕ)
     → turns ≡ b.turns
     → InTurn CommitsOrDrops (take committed (take b.passed turns)) before.book between.book
     → InTurn PutsBack (take (b.held - committed) (drop committed turns)) between.book after.book
-    → end.book ≡ after.book → IsEnd committed b end why → Settles b why before end
-settled b why before between after end turns committed same commits back book ends = record {
+    → between ≡ with_total between.book between.total before → after ≡ with_book after.book between
+    → end ≡ record after { halts = end.halts } → IsEnd committed b before end why → Settles b why before end
+settled b why before between after end turns committed same commits back one two is ends = record {
   committed = committed;
   between = between.book;
   commits =
       subst (λ xs. InTurn CommitsOrDrops (take committed (take b.passed xs)) before.book between.book) same commits;
   back =
-      subst (λ x. InTurn PutsBack (take (b.held - committed) (drop committed b.turns)) between.book x) (sym book)
+      subst (λ x. InTurn PutsBack (take (b.held - committed) (drop committed b.turns)) between.book x)
+      (sym (ap (λ (d : Desk). d.book) is))
       (subst (λ xs. InTurn PutsBack (take (b.held - committed) (drop committed xs)) between.book after.book) same back);
   end = ends;
+  keeps = record {
+    takers =
+        ap (λ (d : Desk). d.takers) is ∙ ap (λ (d : Desk). d.takers) two ∙ ap (λ (d : Desk). d.takers) one;
+    workers =
+        ap (λ (d : Desk). d.workers) is ∙ ap (λ (d : Desk). d.workers) two ∙ ap (λ (d : Desk). d.workers) one;
+    working =
+        ap (λ (d : Desk). d.working) is ∙ ap (λ (d : Desk). d.working) two ∙ ap (λ (d : Desk). d.working) one;
+  };
 }
 
 -- ---- the steps of a turn

@@ -126,6 +126,7 @@ first_unread c v a b takes =
 pub none_taken : (s : EndSeat) (b : Book) → TakesFirst s s b b
 none_taken s b = record {
   channel = refl;
+  forgotten = refl;
   recorded = record { more = []; items = sym (append-nil s.items); events = refl };
   first = refl;
 }
@@ -136,6 +137,7 @@ taken_once None s t a b is takes =
     subst (λ x. TakesFirst s x a b) (sym is) (subst (λ x. TakesFirst s s a x) (sym takes.takes.1) (none_taken s a))
 taken_once (Some v) s t a b is takes = record {
   channel = ap (λ (e : EndSeat). e.channel) is;
+  forgotten = ap (λ (e : EndSeat). e.forgotten) is;
   recorded = record {
     more = v ∷ [];
     items = ap (λ (e : EndSeat). e.items) is;
@@ -150,6 +152,7 @@ taken_then r s t a b c first rest =
     let ys : List ℤ = rest.recorded.more in
     record {
       channel = rest.channel ∙ first.channel;
+      forgotten = rest.forgotten ∙ first.forgotten;
       recorded = record {
         more = first.recorded.more ++ rest.recorded.more;
         items = items_more r s t xs ys first.recorded.items rest.recorded.items;

@@ -1,6 +1,7 @@
 -- The seats of the outside, channel by channel, and item by item.
-use Rattle.std.proofs.Common.{◌≡◌, ◌≢◌, ℕ, ◌+◌, ◌<◌, ◌≤◌, true, ℤ, pos, Bool, cond, List, [], ◌∷◌, ◌++◌, length, map, take, get_or, zero, suc, refl, sym, ap, ◌∙◌, subst, arith}
-use Rattle.std.specs.Prelude.{slice_set}
+use Rattle.std.proofs.Common.{◌≡◌, ◌≢◌, ℕ, ◌+◌, ◌<◌, ◌≤◌, true, false, ℤ, pos, Bool, cond, List, [], ◌∷◌, ◌++◌, length, map, take, drop, get_or, zero, suc, refl, sym, ap, ◌∙◌, subst, arith}
+use Rattle.std.specs.Prelude.{nat_lt, slice_set}
+use Rattle.std.proofs.lemmas.Bool.{ltb-false}
 use Rattle.std.proofs.lemmas.List.{take_more, take_all, append_assoc}
 use Rattle.std.proofs.lemmas.List.Elements.{All-more}
 use Rattle.std.proofs.lemmas.Option.{slice_get-get_or}
@@ -9,7 +10,7 @@ use Rattle.std.proofs.lemmas.List.FromFn.{filter_of_map_range_with_len_more}
 use Rattle.kpn_pool_desk.specs.Desk.{Desk, with_book}
 use Rattle.kpn_net.specs.Tables.{Tables, channel_at, is_sink}
 use Rattle.kpn_run_state.specs.declared.answers.Refused.{Refused}
-use Rattle.kpn_pool_desk.specs.OutsideSeats.{EndSeat, new_end, with_item, HasNoSeat, TakesMore, HaveTaken, AreSinks, MayRefuseTake, MayRefuseTakes}
+use Rattle.kpn_pool_desk.specs.OutsideSeats.{EndSeat, kept_by, new_end, with_item, HasNoSeat, TakesMore, HaveTaken, AreSinks, MayRefuseTake, MayRefuseTakes}
 use Rattle.kpn_lang.proofs.Prefixes.{IsPrefix-refl, IsPrefix-trans}
 
 -- one channel more is looked at
@@ -38,18 +39,27 @@ fed_more before s now items k v channel so_far there is fed = (
 pub still_with_book : (a b d : Desk) → b ≡ with_book b.book a → d ≡ with_book d.book b → d ≡ with_book d.book a
 still_with_book a b d first then = then ∙ ap (with_book d.book) first
 
+-- ---- a seat that has forgotten nothing
+
+zero_of : (n : ℕ) → nat_lt 0 n ≡ false → n ≡ 0
+zero_of n none = let most = ltb-false 0 n none in omega (arith, most)
+
+pub kept_all : (seat : EndSeat) → nat_lt 0 seat.forgotten ≡ false → kept_by seat ≡ seat.items
+kept_all seat none = ap (λ n. drop n seat.items) (zero_of seat.forgotten none)
+
 -- ---- many seats
 
 pub takes_more : (a b c : EndSeat) → TakesMore a b → TakesMore b c → TakesMore a c
 takes_more a b c first rest = record {
   channel = rest.channel ∙ first.channel;
   items = IsPrefix-trans a.items b.items c.items first.items rest.items;
+  forgotten = rest.forgotten ∙ first.forgotten;
 }
 
 -- nothing is taken yet
 pub none_taken : (seats : List EndSeat) → HaveTaken seats seats
 none_taken [] = tt
-none_taken (s ∷ seats) = (record { channel = refl; items = IsPrefix-refl s.items }, none_taken seats)
+none_taken (s ∷ seats) = (record { channel = refl; items = IsPrefix-refl s.items; forgotten = refl }, none_taken seats)
 
 -- one seat takes more
 pub taken_at : (before seats : List EndSeat) (i : ℕ) (s d : EndSeat) → i < length seats → HaveTaken before seats

@@ -1,5 +1,5 @@
 -- What a worker does with several processes in one hold of the lock, one after the other.
-use Rattle.std.specs.Prelude.{◌≡◌, ℕ, zero, suc, ◌<◌, ◌≤◌, ◌-◌, ◌⊎◌, true, List, [], ◌∷◌, map, take, drop, slice_get, Option, Some, None, IfSome, IsTrue}
+use Rattle.std.specs.Prelude.{◌≡◌, ℕ, ◌<◌, ◌-◌, ◌⊎◌, true, List, [], ◌∷◌, map, take, drop, Option, Some, None, IfSome, IsTrue}
 use Rattle.kpn_lang.specs.Parts.{Parts}
 use Rattle.kpn_step.specs.declared.stop.Stop.{Stop}
 use Rattle.kpn_step.specs.Frame.{Frame, fits}
@@ -14,7 +14,7 @@ use Rattle.kpn_pool_desk.specs.declared.seat.Why.TheVariants.{Abandoned, NoMemor
 use Rattle.kpn_pool_desk.specs.declared.gate.Go.{Go}
 use Rattle.kpn_pool_desk.specs.declared.phases.Next.{Next}
 use Rattle.kpn_pool_desk.specs.declared.phases.Next.TheVariants as next
-use Rattle.kpn_pool_desk.specs.Desk.{Desk, EndsFor}
+use Rattle.kpn_pool_desk.specs.Desk.{Desk, EndsFor, KeepsWorkers}
 use Rattle.kpn_pool_desk.specs.Rows.{GoesInRows}
 
 -- the process that was claimed last, if one was, with its frame, and the steps from there, if they are made
@@ -88,11 +88,12 @@ InTurn Does (turn ∷ turns) before after = (between : Book) × Does turn before
 
 -- why a worker ends that has committed so many of the turns that it holds: memory is wanted for the next one, and all
 -- workers shall end; or the gate did not let the next one through
-abbrev pub IsEnd : (committed : ℕ) → Batch → Desk → Option Why → Type 0
-IsEnd committed b after None = committed ≡ b.held
-IsEnd committed b after (Some Abandoned) = (committed ≡ b.passed) × (b.passed < b.held)
-IsEnd committed b after (Some NoMemory) = (committed < b.passed) × (after.halts ≡ true)
-IsEnd committed b after (Some why) = ⊥
+abbrev pub IsEnd : (committed : ℕ) → Batch → (before after : Desk) → Option Why → Type 0
+IsEnd committed b before after None = (committed ≡ b.held) × (after.halts ≡ before.halts)
+IsEnd committed b before after (Some Abandoned) =
+    (committed ≡ b.passed) × (b.passed < b.held) × (after.halts ≡ before.halts)
+IsEnd committed b before after (Some NoMemory) = (committed < b.passed) × (after.halts ≡ true)
+IsEnd committed b before after (Some why) = ⊥
 
 -- the first turns of a batch are committed in order, and then the others that are held are put back in order
 pub record Settles (b : Batch) (why : Option Why) (before after : Desk) : Type 0 where
@@ -100,7 +101,8 @@ pub record Settles (b : Batch) (why : Option Why) (before after : Desk) : Type 0
   pub between : Book
   pub commits : InTurn CommitsOrDrops (take committed (take b.passed b.turns)) before.book between
   pub back : InTurn PutsBack (take (b.held - committed) (drop committed b.turns)) between after.book
-  pub end : IsEnd committed b after why
+  pub end : IsEnd committed b before after why
+  pub keeps : KeepsWorkers before after
 
 -- ---- a worker that is back
 

@@ -78,6 +78,12 @@ halted d = record d { halts = true }
 abbrev pub without_worker : Desk → Desk
 without_worker d = record d { working = d.working - 1 }
 
+-- who takes, how many workers there are and how many have not ended stay as they are
+pub record KeepsWorkers (before after : Desk) : Type 0 where
+  pub takers : after.takers ≡ before.takers
+  pub workers : after.workers ≡ before.workers
+  pub working : after.working ≡ before.working
+
 -- ---- why a worker ends
 
 -- the run goes on: the workers do not have to end, and something can still happen

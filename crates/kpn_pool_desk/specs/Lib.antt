@@ -6,3 +6,4 @@ pub mod Invariant
 pub mod OutsideSeats
 pub mod Batch
 pub mod Waiting
+pub mod Recent

@@ -1,33 +1,37 @@
 -- What a seat that feeds a source, or takes from a sink, knows of its own calls.
-use Rattle.std.specs.Prelude.{◌≡◌, ◌≢◌, ℕ, zero, suc, ℤ, Bool, true, false, List, [], ◌∷◌, ◌++◌, map, take, slice_get, slice_set, Option, Some, None, IsTrue}
+use Rattle.std.specs.Prelude.{◌≡◌, ◌≢◌, ◌⊎◌, ◌<◌, ℕ, zero, suc, ℤ, Bool, true, false, List, [], ◌∷◌, ◌++◌, length, map, take, drop, slice_get, slice_set, Option, Some, None, IsTrue}
 use Rattle.std.specs.List.{filter, remove, All}
 use Rattle.kpn_lang.specs.Prefix.{IsPrefix}
 use Rattle.kpn_net.specs.declared.tables.ChannelSpec.{ChannelSpec}
 use Rattle.kpn_net.specs.Tables.{Tables, channel_at, is_sink}
 use Rattle.kpn_net.specs.Faults.{channel_numbers}
 use Rattle.kpn_chan.specs.Channel.{unread}
+use Rattle.kpn_chan.specs.declared.unread.Unread.{Unread}
+use Rattle.kpn_chan.specs.declared.unread.Unread.TheVariants as unread_as
 use Rattle.kpn_run_history.specs.declared.event.Event.{Event}
 use Rattle.kpn_run_history.specs.declared.event.Event.TheVariants as event
-use Rattle.kpn_run_configuration.specs.Configuration.{channel_in}
+use Rattle.kpn_run_configuration.specs.Configuration.{channel_in, AreKept}
 use Rattle.kpn_run_state.specs.Book.{Book}
 use Rattle.kpn_run_state.specs.Appending.{AllHappen}
 use Rattle.kpn_run_state.specs.Refusals.{RefusesTake}
 use Rattle.kpn_pool_desk.specs.declared.outside_seats.SnapFault.{SnapFault}
 use Rattle.kpn_pool_desk.specs.declared.outside_seats.SnapFault.TheVariants as snap_fault
-use Rattle.kpn_pool_desk.specs.declared.outside_seats.SnapFault.TheVariants.{Foreign}
+use Rattle.kpn_pool_desk.specs.declared.outside_seats.SnapFault.TheVariants.{Foreign, Forgotten}
 use Rattle.kpn_run_state.specs.declared.answers.Refused.{Refused}
 use Rattle.kpn_run_state.specs.declared.answers.Refused.TheVariants.{NoMemory, NoSuchEnd, SourceClosed, Full, SinkLeft}
 
 -- ---- a seat
 
--- the number of the channel, and the items that were fed or taken, in order
+-- the number of the channel, the items that were fed or taken, in order, and how many of them, from the first one on,
+-- the seat has forgotten
 pub record EndSeat : Type 0 where
   pub channel : ℕ
   pub items : List ℤ
+  pub forgotten : ℕ
 
 -- nothing was fed or taken yet
 abbrev pub new_end : ℕ → EndSeat
-new_end channel = record { channel = channel; items = [] }
+new_end channel = record { channel = channel; items = []; forgotten = 0 }
 
 -- one for each channel of a network that is a source, or a sink, in order of number
 abbrev pub new_ends : (ChannelSpec → Bool) → Tables → List EndSeat
@@ -41,6 +45,14 @@ with_item item s = record s { items = s.items ++ item ∷ [] }
 abbrev pub with_taken : Option ℤ → EndSeat → EndSeat
 with_taken None s = s
 with_taken (Some item) s = with_item item s
+
+-- the items that the seat can still tell: all of them, if it was never told to forget
+abbrev pub kept_by : EndSeat → List ℤ
+kept_by s = drop s.forgotten s.items
+
+-- the seat has forgotten all its items
+abbrev pub forgetful : EndSeat → EndSeat
+forgetful s = record s { forgotten = length s.items }
 
 -- the seat of this channel is one of these, and the others stay in their order
 pub record GivesSeat (channel : ℕ) (seat : EndSeat) (before after : List EndSeat) : Type 0 where
@@ -71,14 +83,16 @@ pub record FeedsUntil (items : List ℤ) (before after : EndSeat) (refuses : ℤ
   pub next : slice_get items count ≡ Some item
   pub refused : refuses item
 
--- the same channel, and the items that the seat had, perhaps followed by more
+-- the same channel, and the items that the seat had, perhaps followed by more; it has forgotten no more of them
 pub record TakesMore (before after : EndSeat) : Type 0 where
   pub channel : after.channel ≡ before.channel
   pub items : IsPrefix before.items after.items
+  pub forgotten : after.forgotten ≡ before.forgotten
 
--- the items that the seat has more than before were the first unread ones of its sink
+-- the items that the seat has more than before were the first unread ones of its sink; it has forgotten no more of them
 pub record TakesFirst (before after : EndSeat) (b b_after : Book) : Type 0 where
   pub channel : after.channel ≡ before.channel
+  pub forgotten : after.forgotten ≡ before.forgotten
   pub recorded : AreRecorded AllHappen event.Take before after b b_after
   pub first : unread (channel_in b.configuration before.channel)
       ≡ recorded.more ++ unread (channel_in b_after.configuration before.channel)
@@ -159,4 +173,14 @@ HasFed seat b =
 -- has no such source
 abbrev pub MayRefuseSnapshot : (is_there : Bool) → (fed : List ℤ) → SnapFault → Type 0
 MayRefuseSnapshot is_there fed Foreign = is_there ≡ true → fed ≢ []
+MayRefuseSnapshot is_there fed Forgotten = is_there ≡ true
 MayRefuseSnapshot is_there fed snap_fault.NoMemory = is_there ≡ true
+
+-- the fault of a snapshot for which a run can't be read for this reason
+abbrev pub fault_of : Unread → SnapFault
+fault_of unread_as.Forgotten = Forgotten
+fault_of unread_as.NoMemory = snap_fault.NoMemory
+
+-- the seat has forgotten something, or the journal of a channel is not kept
+abbrev pub IsForgotten : EndSeat → Book → Type 0
+IsForgotten seat b = (0 < seat.forgotten) ⊎ (¬ AreKept b.configuration)

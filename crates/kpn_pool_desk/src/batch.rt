@@ -3,7 +3,7 @@ ghost use Rattle.std.specs.Prelude.{◌≡◌, ◌↔◌, ◌+◌, ◌<◌, ◌�
 ghost use Rattle.kpn_run_state.specs.Stepping.{ClaimsNobody};
 ghost use Rattle.kpn_pool_desk.specs.Batch.{InTurn, Claims, CommitsOrDrops, PutsBack, Settles, claimed_by, ComesBack};
 ghost use Rattle.kpn_pool_desk.specs.Gate.{LetsThrough, LetsAll};
-ghost use Rattle.kpn_pool_desk.specs.Desk.{share_in, with_book};
+ghost use Rattle.kpn_pool_desk.specs.Desk.{share_in, with_book, with_total};
 
 use crate::crew::BATCH;
 use crate::desk::Desk;
@@ -208,6 +208,7 @@ fn commit_each<'n, J: Job, A: Allocator + Copy>(
     turns: &[Turn<'n, J>],
 ) -> usize
     ensures commits { InTurn CommitsOrDrops (take result turns.now) desk.old.book desk.new.book }
+    ensures same { desk.new ≡ with_total desk.new.book desk.new.total desk.old }
     ensures count { result ≤ length turns.now }
     ensures number { seat.new.number ≡ seat.old.number }
     ensures counted { seat.old.commits ≤ seat.new.commits }
@@ -223,7 +224,8 @@ fn commit_each<'n, J: Job, A: Allocator + Copy>(
 
 /// Puts the process of each turn back.
 fn put_back_each<'n, J: Job, A: Allocator>(desk: &mut Desk<'n, J, A>, turns: &[Turn<'n, J>])
-    ensures { InTurn PutsBack turns.now desk.old.book desk.new.book }
+    ensures back { InTurn PutsBack turns.now desk.old.book desk.new.book }
+    ensures same { desk.new ≡ with_book desk.new.book desk.old }
 {
     'turns: for i in 0..turns.len() {
         turns[i].put_back(desk);

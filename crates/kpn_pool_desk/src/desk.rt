@@ -1,6 +1,8 @@
 //! What lies under the lock of a run: each change of it is a call that is lent it.
-ghost use Rattle.std.specs.Prelude.{◌≡◌, ◌<◌, true, false, length, IfOk, IfSome};
+ghost use Rattle.std.specs.Prelude.{◌≡◌, ◌<◌, true, false, length, IfOk, IfErr, IfSome};
 ghost use Rattle.std.specs.List.{sum_by};
+ghost use Rattle.kpn_chan.specs.declared.unread.Unread.TheVariants.{Forgotten};
+ghost use Rattle.kpn_run_configuration.specs.Configuration.{AreKept};
 ghost use Rattle.kpn_run_history.specs.declared.state.Counts.{Counts as Tally};
 ghost use Rattle.kpn_run_history.specs.Views.{Agrees, AreCounts};
 ghost use Rattle.kpn_run_state.specs.Kept.{IsBook};
@@ -17,6 +19,7 @@ use crate::job::Job;
 use crate::outside_seats::SinkSeat;
 use crate::rows::Takers;
 use crate::seat::{Why, WorkerSeat};
+use kpn_chan::Unread;
 use kpn_net::Network;
 use kpn_run_state::laws::{a_quiet_book, growths, journals, the_history};
 use kpn_run_state::{Book, Counts, Done, Event, Keeping, Refused, View};
@@ -162,9 +165,9 @@ impl<'n, J: Job, A: Allocator> Desk<'n, J, A> {
 
     /// The run as it is seen at this moment: a legal history that owes no growth agrees with it; each journal is a
     /// prefix of the least solution for what was fed, and is that solution if each process has ended or waits on an
-    /// empty channel. The error is that memory ran out.
+    /// empty channel. A journal that is not kept is an error.
     #[tactic(auto, using(kpn_run_state::proofs::Snapshots::run_of, kpn_run_state::proofs::Snapshots::below_of, kpn_run_state::proofs::Snapshots::shows_journals))]
-    pub fn snapshot<B: Allocator + Copy>(&self, alloc: B) -> Result<View<B>, AllocError>
+    pub fn snapshot<B: Allocator + Copy>(&self, alloc: B) -> Result<View<B>, Unread>
         ensures agrees { IfOk result (λ view.
             Agrees self.now.book.tables self.now.book.history view) }
         ensures states { IfOk result (λ view. view.states ≡ self.now.book.schedule.states) }
@@ -172,14 +175,16 @@ impl<'n, J: Job, A: Allocator> Desk<'n, J, A> {
         ensures journals { IfOk result (λ view. ShowsJournals self.now.book view) }
         ensures below { IfOk result (λ view. IsBelowKahn J.network view) }
         ensures quiet { IfOk result (λ view. IsKahnAtRest J.network view) }
+        ensures forgotten { IfErr result (λ why.
+            why ≡ Forgotten → ¬ AreKept self.now.book.configuration) }
     {
         the_history();
         journals();
         self.book.known();
-        let Ok(view) = self.book.snapshot(alloc) else {
-            return Err(AllocError);
-        };
-        Ok(view)
+        match self.book.snapshot(alloc) {
+            Ok(view) => Ok(view),
+            Err(why) => Err(why),
+        }
     }
 
     /// Why a worker ends here instead of a claim, if `most` commits are allowed: it has to; else nothing more can

@@ -11,6 +11,7 @@ mod job;
 mod opening;
 mod outside_seats;
 mod phases;
+mod recent;
 mod rows;
 mod seat;
 mod turn;

@@ -1,5 +1,5 @@
 //! The seats of the outside, which feeds sources and takes from sinks.
-ghost use Rattle.std.specs.Prelude.{◌≡◌, ◌≢◌, ◌<◌, ◌≤◌, ℤ, true, false, [], ◌++◌, length, take, Some, Err, IfOk, IfErr, OnErr, OnOk, IsTrue};
+ghost use Rattle.std.specs.Prelude.{◌≡◌, ◌≢◌, ◌<◌, ◌≤◌, ℤ, true, false, [], ◌++◌, length, take, nat_lt, Some, Err, IfOk, IfErr, OnErr, OnOk, IsTrue};
 ghost use Rattle.kpn_lang.specs.Prefix.{IsPrefix};
 ghost use Rattle.kpn_net.specs.Tables.{channel_at, is_source, is_sink};
 ghost use Rattle.kpn_chan.specs.Channel.{unread};
@@ -12,15 +12,17 @@ ghost use Rattle.kpn_pool_desk.specs.Desk.{with_book};
 ghost use Rattle.kpn_run_state.specs.Snapshot.{ShowsARun, shown_on, IsBelowKahn, IsKahnAtRest};
 ghost use Rattle.kpn_run_state.specs.declared.answers.Refused.TheVariants.{Full};
 ghost use Rattle.kpn_pool_desk.specs.declared.crew.Awaited.TheVariants.{There, Ended};
-ghost use Rattle.kpn_pool_desk.specs.declared.outside_seats.SnapFault.TheVariants.{Foreign, NoMemory};
+ghost use Rattle.kpn_pool_desk.specs.declared.outside_seats.SnapFault.TheVariants.{Foreign, Forgotten, NoMemory};
 ghost use Rattle.kpn_pool_desk.specs.Waiting.{IsFullSource};
-ghost use Rattle.kpn_pool_desk.specs.OutsideSeats.{with_item, with_taken, HaveTaken, TakesMore, new_end, AreRecorded, FeedsUntil, TakesFirst, MayRefuseFeed, MayRefuseEnd, MayRefuseTake, MayRefuseTakes, MayRefuseSnapshot, HasFed, AreSinks, TakeInTurn, TakeUntil};
+ghost use Rattle.kpn_pool_desk.specs.OutsideSeats.{with_item, with_taken, kept_by, forgetful, HaveTaken, TakesMore, new_end, AreRecorded, FeedsUntil, TakesFirst, MayRefuseFeed, MayRefuseEnd, MayRefuseTake, MayRefuseTakes, MayRefuseSnapshot, HasFed, IsForgotten, fault_of, AreSinks, TakeInTurn, TakeUntil};
 
 use crate::crew::Awaited;
 use crate::desk::Desk;
 use crate::job::Job;
+use crate::recent::Recent;
+use kpn_chan::Unread;
 use kpn_run_state::{Refused, View};
-use std::alloc::{AllocError, Allocator, Global};
+use std::alloc::{Allocator, Global};
 use std::marker::Model;
 use thiserror::Error;
 
@@ -30,16 +32,22 @@ pub enum SnapFault {
     /// 47: there is no such source, or what the seat fed does not begin its journal: the seat is one of another run.
     #[error("the seat is one of another run")]
     Foreign,
+    /// The seat was told to forget what it fed, or the run does not keep all journals.
+    #[error("it was not kept")]
+    Forgotten,
     /// 42: memory ran out.
     #[error("memory ran out")]
     NoMemory,
 }
 
-impl From<AllocError> for SnapFault {
-    ghost from_gives = { λ _ fault. fault ≡ NoMemory };
+impl From<Unread> for SnapFault {
+    ghost from_gives = { λ why fault. fault ≡ fault_of why };
 
-    fn from(_error: AllocError) -> SnapFault {
-        SnapFault::NoMemory
+    fn from(why: Unread) -> SnapFault {
+        match why {
+            Unread::Forgotten => SnapFault::Forgotten,
+            Unread::NoMemory => SnapFault::NoMemory,
+        }
     }
 }
 
@@ -47,7 +55,7 @@ impl From<AllocError> for SnapFault {
 #[derive(Drop)]
 pub struct SourceSeat<A: Allocator = Global> {
     channel: usize,
-    fed: Vec<i64, A>,
+    fed: Recent<A>,
 }
 
 impl<A: Allocator> Model for SourceSeat<A> {
@@ -55,7 +63,11 @@ impl<A: Allocator> Model for SourceSeat<A> {
 
     ghost Value = { EndSeat };
 
-    ghost view = { λ s. record { channel = s.channel; items = s.fed.items } };
+    ghost view = { λ s. record {
+      channel = s.channel;
+      items = s.fed.items;
+      forgotten = s.fed.forgotten;
+    } };
 }
 
 impl<A: Allocator> SourceSeat<A> {
@@ -65,7 +77,7 @@ impl<A: Allocator> SourceSeat<A> {
     {
         SourceSeat {
             channel,
-            fed: Vec::new(alloc),
+            fed: Recent::new(alloc),
         }
     }
 
@@ -76,11 +88,19 @@ impl<A: Allocator> SourceSeat<A> {
         self.channel
     }
 
-    /// What this seat fed, in order.
+    /// What this seat fed, in order; only what it fed since it was told to forget, if it was.
     pub fn fed(&self) -> &[i64]
-        ensures { result.now ≡ self.now.items }
+        ensures kept { result.now ≡ kept_by self.now }
+        ensures within { self.now.forgotten ≤ length self.now.items }
     {
-        self.fed.as_slice()
+        self.fed.items()
+    }
+
+    /// Forgets what this seat fed so far. A run that has no end may call it after each feed.
+    pub fn forget(&mut self)
+        ensures { self.new ≡ forgetful self.old }
+    {
+        self.fed.forget();
     }
 
     /// Feeds an item to the source. It is refused as the book refuses it; memory is wanted for the seat's own list too.
@@ -102,7 +122,7 @@ impl<A: Allocator> SourceSeat<A> {
             MayRefuseFeed (is_source (channel_at J.network self.old.channel)) item cause) }
         ensures as_before { OnErr result ((self.new ≡ self.old) × (desk.new ≡ desk.old)) }
     {
-        let Ok(()) = self.fed.reserve(1) else {
+        let Ok(()) = self.fed.reserve_one() else {
             let fault = desk.book.feed_fault(self.channel, item, bound);
             return Err(fault.unwrap_or(Refused::NoMemory));
         };
@@ -124,6 +144,7 @@ impl<A: Allocator> SourceSeat<A> {
         ensures channel { self.new.channel ≡ self.old.channel }
         ensures fed { OnOk result (self.new.items ≡ self.old.items ++ items.now) }
         ensures before { IsPrefix self.old.items self.new.items }
+        ensures kept { self.new.forgotten ≡ self.old.forgotten }
         ensures recorded { AreRecorded AppendsAll event.Feed
             self.old self.new desk.old.book desk.new.book }
         ensures source { OnOk result (0 < length items.now
@@ -155,6 +176,7 @@ impl<A: Allocator> SourceSeat<A> {
         ensures fed { IfOk result (λ count. (count ≤ length items.now)
             × (self.new.items ≡ self.old.items ++ take count items.now)) }
         ensures before { IsPrefix self.old.items self.new.items }
+        ensures kept { self.new.forgotten ≡ self.old.forgotten }
         ensures none { IfOk result (λ count. (count ≡ 0) → 0 < length items.now
             → desk.old.working ≡ 0) }
         ensures recorded { AreRecorded AppendsAll event.Feed
@@ -173,6 +195,13 @@ impl<A: Allocator> SourceSeat<A> {
             Ok(()) | Err(Refused::Full(_)) => Ok(self.fed().len() - before),
             Err(refused) => Err(refused),
         }
+    }
+
+    /// Whether this seat was told to forget something.
+    fn has_forgotten(&self) -> bool
+        ensures { result ≡ nat_lt 0 self.now.forgotten }
+    {
+        self.fed.has_forgotten()
     }
 
     /// Closes the source. A second time it changes nothing.
@@ -212,10 +241,15 @@ impl<A: Allocator> SourceSeat<A> {
         ensures foreign { IfErr result (λ fault. (fault ≡ Foreign)
             → IsTrue (is_source (channel_at J.network self.now.channel))
             → ¬ (HasFed self.now desk.now.book)) }
+        ensures forgotten { IfErr result (λ fault. (fault ≡ Forgotten)
+            → IsForgotten self.now desk.now.book) }
     {
         let source = self.channel();
         if !desk.book.network().is_source(source) {
             return Err(SnapFault::Foreign);
+        }
+        if self.has_forgotten() {
+            return Err(SnapFault::Forgotten);
         }
         if !self.fed().is_empty() && !desk.book.journal_begins(source, self.fed()) {
             return Err(SnapFault::Foreign);
@@ -228,7 +262,7 @@ impl<A: Allocator> SourceSeat<A> {
 #[derive(Drop)]
 pub struct SinkSeat<A: Allocator = Global> {
     channel: usize,
-    taken: Vec<i64, A>,
+    taken: Recent<A>,
 }
 
 impl<A: Allocator> Model for SinkSeat<A> {
@@ -236,7 +270,11 @@ impl<A: Allocator> Model for SinkSeat<A> {
 
     ghost Value = { EndSeat };
 
-    ghost view = { λ s. record { channel = s.channel; items = s.taken.items } };
+    ghost view = { λ s. record {
+      channel = s.channel;
+      items = s.taken.items;
+      forgotten = s.taken.forgotten;
+    } };
 }
 
 impl<A: Allocator> SinkSeat<A> {
@@ -246,7 +284,7 @@ impl<A: Allocator> SinkSeat<A> {
     {
         SinkSeat {
             channel,
-            taken: Vec::new(alloc),
+            taken: Recent::new(alloc),
         }
     }
 
@@ -257,11 +295,19 @@ impl<A: Allocator> SinkSeat<A> {
         self.channel
     }
 
-    /// What this seat took, in order.
+    /// What this seat took, in order; only what it took since it was told to forget, if it was.
     pub fn taken(&self) -> &[i64]
-        ensures { result.now ≡ self.now.items }
+        ensures kept { result.now ≡ kept_by self.now }
+        ensures within { self.now.forgotten ≤ length self.now.items }
     {
-        self.taken.as_slice()
+        self.taken.items()
+    }
+
+    /// Forgets what this seat took so far. A run that has no end may call it once it has used what came.
+    pub fn forget(&mut self)
+        ensures { self.new ≡ forgetful self.old }
+    {
+        self.taken.forget();
     }
 
     /// Takes the next item from the sink, or none if nothing is unread. It is refused as the book refuses it; memory is
@@ -283,7 +329,7 @@ impl<A: Allocator> SinkSeat<A> {
         ensures as_before { OnErr result ((self.new ≡ self.old) × (desk.new ≡ desk.old)) }
     {
         let sink = self.channel;
-        let has_room = self.taken.reserve(1).is_ok();
+        let has_room = self.taken.reserve_one().is_ok();
         if !has_room && desk.book.network().is_sink(sink) && desk.book.has_item(sink) {
             return Err(Refused::NoMemory);
         }

@@ -1,7 +1,7 @@
 //! What a worker does with one process between two holds of the lock: its claim, its steps, and their commit.
 ghost use Rattle.std.specs.Prelude.{◌≡◌, ◌+◌, ◌≤◌, true, false, None};
 ghost use Rattle.kpn_run_state.specs.Stepping.{ClaimsNobody};
-ghost use Rattle.kpn_pool_desk.specs.Desk.{with_book};
+ghost use Rattle.kpn_pool_desk.specs.Desk.{with_book, with_total};
 ghost use Rattle.kpn_pool_desk.specs.Batch.{Claims, MayCommit, CommitsOrDrops, PutsBack};
 
 use crate::desk::Desk;
@@ -110,6 +110,7 @@ impl<'n, J: Job> Turn<'n, J> {
     ) -> bool
         ensures commits { (result ≡ true) → CommitsOrDrops self.now desk.old.book desk.new.book }
         ensures refused { (result ≡ false) → MayCommit self.now desk.old.book × (desk.new ≡ desk.old) }
+        ensures same { desk.new ≡ with_total desk.new.book desk.new.total desk.old }
         ensures number { seat.new.number ≡ seat.old.number }
         ensures counted { seat.old.commits ≤ seat.new.commits }
         ensures most { seat.new.commits ≤ seat.old.commits + 1 }

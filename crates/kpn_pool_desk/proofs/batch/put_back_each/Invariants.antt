@@ -1,6 +1,10 @@
-use Rattle.std.proofs.Common.{take}
+use Rattle.std.proofs.Common.{◌≡◌, take}
+use Rattle.kpn_pool_desk.specs.Desk.{with_book}
 use Rattle.kpn_pool_desk.specs.Batch.{PutsBack, InTurn}
 use Rattle.kpn_pool_desk.proofs.batch.put_back_each.Given as goal
 
 abbrev pub invariant-turns : goal.invariant-turns
-invariant-turns g l = InTurn PutsBack (take l.i l.turns) l.fn.desk.book l.desk.book
+invariant-turns g l = record {
+  back : InTurn PutsBack (take l.i l.turns) l.fn.desk.book l.desk.book;
+  same : l.desk ≡ with_book l.desk.book l.fn.desk;
+}

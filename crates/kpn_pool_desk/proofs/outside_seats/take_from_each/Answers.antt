@@ -21,7 +21,11 @@ seats-preserved g c =
       taken =
           taken_at c.args.seats.now c.seats.seats c.seats.i c.take_all.new.self c.index-seats-i.result below
           c.seats.invariant.taken
-          (record { channel = c.take_all.ensures.channel; items = c.take_all.ensures.taken });
+          (record {
+            channel = c.take_all.ensures.channel;
+            items = c.take_all.ensures.taken;
+            forgotten = c.take_all.ensures.first.forgotten;
+          });
       turns =
           turn_more c.seats.i c.args.seats.now c.seats.seats c.take_all.new.self c.index-seats-i.result
           c.args.desk.now.book c.seats.desk.book c.take_all.new.desk.book below c.seats.invariant.turns
@@ -39,7 +43,11 @@ returns-in_err-take_all-clause-seats g c =
     let below : c.seats.i < length c.seats.seats = search rules in
     taken_at c.args.seats.now c.seats.seats c.seats.i c.take_all.new.self c.index-seats-i.result below
     c.seats.invariant.taken
-    (record { channel = c.take_all.ensures.channel; items = c.take_all.ensures.taken })
+    (record {
+      channel = c.take_all.ensures.channel;
+      items = c.take_all.ensures.taken;
+      forgotten = c.take_all.ensures.first.forgotten;
+    })
 
 pub returns-in_err-take_all-clause-may_refuse : goal.returns-in_err-take_all-clause-may_refuse
 returns-in_err-take_all-clause-may_refuse g c =

@@ -1,4 +1,4 @@
-use Rattle.std.proofs.Common.{◌≡◌, ◌+◌, ◌≤◌, Some, None, refl, ap, ◌∙◌, arith}
+use Rattle.std.proofs.Common.{◌≡◌, Some, None, refl, ap, ◌∙◌, arith}
 use Rattle.kpn_pool_desk.proofs.InARow.{no_rows, one_row_on, served_on}
 use Rattle.kpn_pool_desk.proofs.rows.make_rows.Goals as goal
 

@@ -1,11 +1,11 @@
-use Rattle.std.proofs.Common.{◌≡◌, true, ℤ, pos, get_or, subst, rules, w64, SFits, arith}
+use Rattle.std.proofs.Common.{◌≡◌, true, ℤ, pos, get_or, ap, ◌∙◌, subst, rules, w64, SFits, arith}
 use Rattle.std.proofs.lemmas.Int.{to_z-of_z}
 use Rattle.std.proofs.lemmas.Result.{err_from_is_err_and}
 use Rattle.kpn_net.specs.Tables.{channel_at, is_source}
 use Rattle.kpn_run_history.specs.declared.event.Event.TheVariants as event
 use Rattle.kpn_run_state.specs.Appending.{AppendsAll}
 use Rattle.kpn_run_state.specs.Refusals.{RefusesFeed}
-use Rattle.kpn_pool_desk.specs.OutsideSeats.{AreRecorded, MayRefuseFeed}
+use Rattle.kpn_pool_desk.specs.OutsideSeats.{EndSeat, AreRecorded, MayRefuseFeed}
 use Rattle.kpn_pool_desk.proofs.Recording.{as_before, fed_then, fed_until}
 use Rattle.kpn_pool_desk.proofs.Seating.{fed_more, still_with_book}
 use Rattle.kpn_pool_desk.proofs.outside_seats.SourceSeat.feed_all.Goals as goal
@@ -21,6 +21,7 @@ items-preserved g c =
     record {
       channel = seat.0;
       fed = seat.1;
+      kept = ap (λ (s : EndSeat). s.forgotten) c.in_ok-feed.ensures.fed ∙ so_far.kept;
       recorded =
           fed_then c.args.self.now c.items.self c.feed.new.self c.args.desk.now.book c.items.desk.book
           c.feed.new.desk.book _ so_far.channel c.in_ok-feed.ensures.fed so_far.recorded

@@ -6,6 +6,7 @@ use Rattle.kpn_net.specs.Tables.{channel_at, is_source}
 use Rattle.kpn_run_configuration.specs.Configuration.{channel_in}
 use Rattle.kpn_run_state.specs.Snapshot.{shown_on}
 use Rattle.kpn_run_state.proofs.Snapshots.{begins_shown}
+use Rattle.kpn_pool_desk.proofs.Seating.{kept_all}
 use Rattle.kpn_pool_desk.proofs.outside_seats.SourceSeat.snapshot.Goals as goal
 use Rattle.kpn_pool_desk.proofs.outside_seats.SourceSeat.snapshot.Goals.{else-not-is_empty-via-then-not-is_empty+else-not-journal_begins, else-not-is_empty-via-else-not-is_empty}
 
@@ -15,6 +16,7 @@ returns-clause-fresh g c =
     let b = c.args.desk.now.book in
     let shown = shown_on c.in_ok-snapshot.field-0 seat.channel in
     let same : c.desk.inside.book ≡ b = ap (λ d. d.book) c.desk.view_is in
+    let all = kept_all seat (sym c.has_forgotten.ensures ∙ c.if-has_forgotten.false) in
     elim c.else-not-is_empty.branch [
       | else-not-is_empty-via-then-not-is_empty+else-not-journal_begins w ↦
           let source : is_source (channel_at b.tables seat.channel) ≡ true = search rules in
@@ -25,6 +27,6 @@ returns-clause-fresh g c =
       | else-not-is_empty-via-else-not-is_empty w ↦
           let empty : c.is_empty.result ≡ true = search rules in
           let zero : length c.fed.result.now ≡ 0 = eqb-true _ _ (sym c.is_empty.ensures ∙ empty) in
-          let none = nil_from_length seat.items (ap length (sym c.fed.ensures) ∙ zero) in
+          let none = nil_from_length seat.items (ap length (sym (c.fed.ensures.kept ∙ all)) ∙ zero) in
           subst (λ (l : List ℤ). IsPrefix l shown) (sym none) tt
     ]

@@ -1,4 +1,4 @@
-use Rattle.std.proofs.Common.{◌≡◌, ◌≤◌, max, None, refl, ap, ◌∙◌, subst, arith}
+use Rattle.std.proofs.Common.{None, refl, ap, ◌∙◌, subst, arith}
 use Rattle.std.specs.Result.{result_unwrap_or}
 use Rattle.kpn_pool_desk.specs.Desk.{Desk, with_total}
 use Rattle.kpn_pool_desk.specs.Rows.{MakesRow}

@@ -1,4 +1,4 @@
-use Rattle.std.proofs.Common.{◌≡◌, Some, sym, ap, ◌∙◌, subst, inl}
+use Rattle.std.proofs.Common.{sym, ap, ◌∙◌, subst, inl}
 use Rattle.kpn_net.specs.Tables.{program_of}
 use Rattle.kpn_step.specs.Stops.{advanced_of}
 use Rattle.kpn_run_state.specs.Book.{IsHeld}
@@ -6,7 +6,7 @@ use Rattle.kpn_run_state.specs.Commits.{IsOwnAdvance, Commits}
 use Rattle.kpn_run_state.specs.declared.answers.Refused.TheVariants.{NoMemory}
 use Rattle.kpn_run_state.specs.Refusals.{RefusesCommit}
 use Rattle.kpn_pool_desk.specs.Desk.{Desk}
-use Rattle.kpn_pool_desk.proofs.Batches.{steps_made}
+use Rattle.kpn_pool_desk.proofs.Batches.{commit_alone, steps_made}
 use Rattle.kpn_pool_desk.proofs.turn.Turn.commit.Goals as goal
 
 pub returns-in-Ok-clause-commits : goal.returns-in-Ok-clause-commits
@@ -27,6 +27,10 @@ returns-in-Ok-clause-commits g c yes_made =
           (subst (λ p. Commits p x c.in-Ok.done c.args.desk.now.book c.commit.new.desk.book)
           (ap (λ t. t.process) c.self.view_is) c.in-Ok.ensures.done),
     )
+
+pub returns-in-Ok-clause-same : goal.returns-in-Ok-clause-same
+returns-in-Ok-clause-same g c =
+    commit_alone c.args.desk.now c.commit.new.desk c.note.new.self c.in-Ok.ensures.total c.note.ensures
 
 pub returns-in-Err-NoMemory-clause-refused : goal.returns-in-Err-NoMemory-clause-refused
 returns-in-Err-NoMemory-clause-refused g c none_made =
