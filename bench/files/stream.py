@@ -10,6 +10,7 @@ import itertools
 import os
 import pathlib
 import resource
+import shutil
 import signal
 import struct
 import subprocess
@@ -174,6 +175,58 @@ def samples_in_pieces(folder):
         text = struct.pack(b'<6%s' % code, 0, 1, -1, most - 1, -most, 258)
         for length in (1, 2, 3, 5, 100):
             expect(in_pieces(folder, text, length, '--format', form), (text, 0))
+
+
+def chunk(name, body):
+    """A chunk of a WAV file, behind which the next one begins at an even place."""
+    return name + struct.pack('<I', len(body)) + body + b'\0' * (len(body) % 2)
+
+
+def wav(width, numbers, *more):
+    """A WAV file with an odd chunk before its samples and what is `more` behind them."""
+    kind = struct.pack('<HHIIHH', 1, 1, 8000, 8000 * width, width, 8 * width)
+    samples = b''.join(number.to_bytes(width, 'little', signed=width > 1) for number in numbers)
+    chunks = chunk(b'note', b'odd') + chunk(b'fmt ', kind) + chunk(b'data', samples)
+    return chunk(b'RIFF', b'WAVE' + chunks) + b''.join(more)
+
+
+@case
+def wav_files_cut_anywhere(folder):
+    for width, numbers in ((1, [0, 255, 128]), (2, [-2**15, 2**15 - 1, 258]), (3, [-2**23, 2**23 - 1, 65_794])):
+        file = wav(width, numbers, chunk(b'LIST', b'what no sample is'))
+        start = file.index(b'data') + 8
+        for end in range(len(file) + 1):
+            out, err, status = stream(folder, '--format', 's=wav', input=file[:end])
+            count, rest = divmod(min(max(end - start, 0), 3 * width), width)
+            expect(out, lines(numbers[:count]))
+            told = b'55 BadHead at %d' % end if end < start else b'29 CutSample' if rest else b''
+            expect((b'kpn: ' + told in err, status), (bool(told), bool(told)))
+
+
+@case
+def wav_files_in_pieces(folder):
+    for width, word in ((2, 'wav'), (2, 'wav16'), (3, 'wav24')):
+        file = wav(width, [1, -1, 300, -300])
+        for length in (1, 2, 3, 5, 100):
+            out, status = in_pieces(folder, file, length, '--format', word, '--rate', '8000')
+            expect((out[:4], out[8:12], out[12:36], status), (b'RIFF', b'WAVE', file[24:48], 0))
+            expect((out[36:40], out[44:]), (b'data', file[-4 * width:]))
+
+
+@case
+def wav_files_of_sox(folder):
+    if not shutil.which('sox'):
+        return
+    sounds = ['synth', '1', 'sine', '440', 'sine', '660']
+    for bits, word in ((16, 'wav'), (24, 'wav24')):
+        made = ['sox', '-n', '-r', '44100', '-c', '2', '-b', str(bits), '-t', 'wav', '-', *sounds]
+        file = subprocess.run(made, capture_output=True).stdout
+        out, err, status = stream(folder, '--format', 's=wav', '--format', f'z={word}', '--rate', '44100',
+                                  '--channels', '2', '--quiet', input=file)
+        expect((err, status), (b'', 0))
+        read = ['sox', '-t', 'wav', '-', '-t', 'raw', '-']
+        first, back = (subprocess.run(read, input=it, capture_output=True) for it in (file, out))
+        expect((back.stdout == first.stdout, back.stderr), (True, b''))
 
 
 @case

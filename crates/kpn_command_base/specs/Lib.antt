@@ -15,6 +15,7 @@ pub mod Inputs
 pub mod FaultLine
 pub mod Told
 pub mod Refusal
+pub mod Stored
 -- What the contracts of this crate speak of: the outputs of a run, and the text of its report.
 pub mod Outputs
 pub mod ReportText

@@ -47,4 +47,4 @@ pub use sources::{Ends, FileOption, NamedEnd, ends_of, file_for, options_of};
 pub use stream_request::StreamRequest;
 pub use table::{Row, Table};
 pub use tables::StatsTables;
-pub use trace_bytes::trace_of;
+pub use trace_bytes::{store_trace, trace_of};

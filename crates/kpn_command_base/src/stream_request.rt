@@ -15,6 +15,10 @@ pub struct StreamRequest<'a> {
     pub formats: Vec<&'a str>,
     /// Whether a sink gets the nearest item that fits its format for one that does not.
     pub clips: bool,
+    /// How many items of each channel a second of a WAV file has, if not the usual number.
+    pub rate: Option<u32>,
+    /// How many channels a WAV file has, if not one.
+    pub channels: Option<u16>,
     /// The most commits, if there is a limit.
     pub commits: Option<u64>,
     /// How many items the stream wants of each sink.
@@ -39,6 +43,8 @@ impl<'a> Model for StreamRequest<'a> {
       sinks = map (λ word. word.now) r.sinks.items;
       formats = map (λ word. word.now) r.formats.items;
       clips = r.clips;
+      rate = r.rate;
+      channels = r.channels;
       commits = r.commits;
       take = r.take;
       trace = option_map (λ name. name.now) r.trace;

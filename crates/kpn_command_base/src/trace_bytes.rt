@@ -1,10 +1,12 @@
-//! The text of the trace of a run.
+//! The text of the trace of a run, and its file.
 ghost use Rattle.std.specs.Prelude.{◌≡◌, IfOk, IfErr};
 ghost use Rattle.kpn_trace.specs.TraceText.{trace_text};
+ghost use Rattle.kpn_command_base.specs.Stored.{Stores};
 
 use crate::refusal::Refusal;
 use kpn_net::Network;
 use kpn_run_history::{History, Version};
+use kpn_shelf::Shelf;
 use kpn_trace::write_trace;
 use std::alloc::Global;
 
@@ -23,5 +25,29 @@ pub fn trace_of(alloc: Global, network: &Network, history: &History) -> Result<V
     match write_trace(&mut text, network.policy(), network.growth(), history) {
         Ok(()) => Ok(text),
         Err(_) => Err(Refusal::NoMemory),
+    }
+}
+
+/// Stores the text of a trace under this name.
+pub fn store_trace<S: Shelf>(
+    alloc: Global,
+    name: &str,
+    network: &Network,
+    history: &History,
+    shelf: &mut S,
+) -> Result<(), Refusal>
+    ensures { let t = network.now in Stores S.may_give
+        (record {
+          name = name.now;
+          bytes = trace_text Version.Two t.policy t.growth history.now.events;
+        }) shelf.old shelf.new result }
+{
+    let bytes = match trace_of(alloc, network, history) {
+        Ok(bytes) => bytes,
+        Err(refusal) => return Err(refusal),
+    };
+    match shelf.store(name, &bytes) {
+        Ok(()) => Ok(()),
+        Err(fault) => Err(Refusal::Output(fault)),
     }
 }

@@ -131,6 +131,7 @@ Gives given (Stream stream) =
     (text_for (codes "FILE") given ≡ Some stream.file) × (texts_for (codes "SOURCE") given ≡ stream.sources)
     × (texts_for (codes "SINK") given ≡ stream.sinks) × (texts_for (codes "FORMAT") given ≡ stream.formats)
     × (is_set (codes "CLIP") given ≡ stream.clips)
+    × (number_for 32 (codes "RATE") given ≡ stream.rate) × (number_for 16 (codes "CHANNELS") given ≡ stream.channels)
     × (number_for 64 (codes "MAX_COMMITS") given ≡ stream.commits) × (number_for 64 (codes "K") given ≡ stream.take)
     × (text_for (codes "TRACE") given ≡ stream.trace) × (is_set (codes "QUIET") given ≡ stream.quiet)
     × (is_set (codes "STATS") given ≡ stream.stats)

@@ -86,6 +86,15 @@ format_option = record (option (codes "FORMAT") (codes "format")) { action = Som
 abbrev pub clip_flag : Rule
 clip_flag = flag (codes "CLIP") (codes "clip")
 
+-- 1 to 1,000,000
+abbrev pub rate_option : Rule
+rate_option = record (option (codes "RATE") (codes "rate")) { parser = Some (parser.Signed (pos 1) (pos 1000000)) }
+
+-- 1 to 1,000
+abbrev pub channels_option : Rule
+channels_option =
+    record (option (codes "CHANNELS") (codes "channels")) { parser = Some (parser.Signed (pos 1) (pos 1000)) }
+
 abbrev pub quiet_flag : Rule
 quiet_flag = flag (codes "QUIET") (codes "quiet")
 
@@ -126,8 +135,8 @@ run_words =
 abbrev pub stream_words : App
 stream_words =
     command (codes "stream")
-    (file_word ∷ source_option ∷ sink_option ∷ format_option ∷ clip_flag ∷ take_option ∷ commits_option ∷ trace_option
-    ∷ quiet_flag ∷ stats_flag ∷ [])
+    (file_word ∷ source_option ∷ sink_option ∷ format_option ∷ clip_flag ∷ rate_option ∷ channels_option ∷ take_option
+    ∷ commits_option ∷ trace_option ∷ quiet_flag ∷ stats_flag ∷ [])
 
 abbrev pub audit_words : App
 audit_words = command (codes "audit") (file_word ∷ trace_word ∷ steps_option ∷ [])
@@ -185,4 +194,6 @@ timeline_inputs = command (codes "timeline") (file_word ∷ trace_word ∷ steps
 
 -- the words of `stream` for the network, its sources and sinks, and how the items are written
 abbrev pub stream_ends : App
-stream_ends = command (codes "stream") (file_word ∷ source_option ∷ sink_option ∷ format_option ∷ clip_flag ∷ [])
+stream_ends =
+    command (codes "stream")
+    (file_word ∷ source_option ∷ sink_option ∷ format_option ∷ clip_flag ∷ rate_option ∷ channels_option ∷ [])

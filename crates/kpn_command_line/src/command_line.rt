@@ -11,7 +11,7 @@ ghost use Rattle.kpn_command_line.specs.CommandLine.{file_word, rounds_word, sou
 ghost use Rattle.kpn_command_line.specs.CommandLine.{workers_option, steps_option, items_flag, quiet_flag, svg_flag};
 ghost use Rattle.kpn_command_line.specs.CommandLine.{format_option, from_option, stats_flag, to_option, trace_word};
 ghost use Rattle.kpn_command_line.specs.CommandLine.{run_inputs, stream_ends, timeline_inputs, bare_command_line, flag};
-ghost use Rattle.kpn_command_line.specs.CommandLine.{across_flag};
+ghost use Rattle.kpn_command_line.specs.CommandLine.{across_flag, channels_option, rate_option};
 
 use clap::builder::ValueParser;
 use clap::{Arg, ArgAction, Command};
@@ -55,6 +55,10 @@ pub(crate) const TO: &str = "TO";
 pub(crate) const FORMAT: &str = "FORMAT";
 
 pub(crate) const CLIP: &str = "CLIP";
+
+pub(crate) const RATE: &str = "RATE";
+
+pub(crate) const CHANNELS: &str = "CHANNELS";
 
 pub(crate) const QUIET: &str = "QUIET";
 
@@ -348,9 +352,11 @@ source and sink has to be named.
 --format FORMAT is for all sources and sinks, --format NAME=FORMAT for one of them. lines, the usual one,
 has an item on each line: an optional `-` and 1 to 19 digits. u8 has a byte for an item, of 0 to 255. s8,
 s16le, s24le, s32le and s64le have samples of 8 to 64 bits in two's complement, the lowest byte first.
-f32le has floats of 32 bits: the item n is n / 32768, rounded to the nearest, and to the even one of two;
-what is no number, infinite or 2^48 and more is a bad item. An item of a sink that does not fit its format
-ends the stream; with --clip the nearest one that fits is written.
+f32le has floats of 32 bits: the item n is n / 32768, or n / 2^P for f32le:P with P of 0 to 62, rounded to
+the nearest, and to the even one of two; what is no number, infinite or too large is a bad item. wav is a
+WAV file, also in a pipe: a source may have samples of 8, 16 or 24 bits, those of the channels in turn; a
+sink gets 16, or 24 for wav24. An item of a sink that does not fit its format ends the stream; with --clip
+the nearest one that fits is written.
 
 A bad item, or a read or write that fails, ends the run. All that was computed before is written, and
 standard error names the source or sink. A sink whose reader has gone is left. At the end standard error
@@ -394,7 +400,7 @@ fn format_word<'a>(alloc: Global) -> Arg<'a>
     ensures { IsArg format_option result }
 {
     let help =
-        "How items are written, or by NAME=FORMAT those of an end: lines, u8, s8, s16le, s24le, s32le, s64le or f32le";
+        "How items are written, or by NAME=FORMAT those of an end: lines, u8, s8, s16le, s24le, s32le, s64le, f32le, f32le:P, wav, wav16 or wav24";
     option(alloc, FORMAT, "format", "FORMAT", help).action(ArgAction::Append)
 }
 
@@ -411,7 +417,29 @@ fn stream_ends<'a>(alloc: Global) -> Result<Command<'a>, AllocError>
     let words = and(words, source_word(alloc, "NAME=IN", source));
     let words = and(words, sink_word(alloc, sink));
     let words = and(words, format_word(alloc));
-    and(words, flag(alloc, CLIP, "clip", clip))
+    let words = and(words, flag(alloc, CLIP, "clip", clip));
+    let words = and(words, rate_word(alloc));
+    and(words, channels_word(alloc))
+}
+
+// The `--rate` option of `kpn stream`.
+fn rate_word<'a>(alloc: Global) -> Arg<'a>
+    ensures { IsArg rate_option result }
+{
+    let help =
+        "The samples that each channel of a WAV file has in a second: 1 to 1000000; 48000 without it";
+    let rates = ValueParser::Signed(1, 1_000_000);
+    option(alloc, RATE, "rate", "N", help).value_parser(rates)
+}
+
+// The `--channels` option of `kpn stream`.
+fn channels_word<'a>(alloc: Global) -> Arg<'a>
+    ensures { IsArg channels_option result }
+{
+    let help =
+        "The channels of a WAV file that is written, whose samples take turns: 1 to 1000; 1 without it";
+    let counts = ValueParser::Signed(1, 1_000);
+    option(alloc, CHANNELS, "channels", "N", help).value_parser(counts)
 }
 
 const AUDIT_HELP: &str = "\

@@ -10,8 +10,8 @@ ghost use Rattle.kpn_command_line.specs.Asked.{text_for, texts_for, number_for, 
 ghost use Rattle.kpn_command_line.specs.Asked.{is_across};
 
 use crate::command_line::{
-    ACROSS, CLIP, FILE, FORMAT, FROM, ITEMS, MAX_COMMITS, NAME, QUIET, ROUNDS, SINK, SOURCE, STATS,
-    STEPS, SVG, TABLE, TAKE, TO, TRACE, WORKERS, program,
+    ACROSS, CHANNELS, CLIP, FILE, FORMAT, FROM, ITEMS, MAX_COMMITS, NAME, QUIET, RATE, ROUNDS,
+    SINK, SOURCE, STATS, STEPS, SVG, TABLE, TAKE, TO, TRACE, WORKERS, program,
 };
 use crate::request::{Request, WordsFault};
 use clap::error::ErrorKind;
@@ -189,6 +189,8 @@ fn stream_request<'a>(
         sinks: texts_of(alloc, stream, SINK)?,
         formats: texts_of(alloc, stream, FORMAT)?,
         clips: is_set(stream, CLIP),
+        rate: number_of(stream, RATE),
+        channels: few_of(stream, CHANNELS),
         commits: count_of(stream, MAX_COMMITS),
         take: count_of(stream, TAKE),
         trace: text_of(stream, TRACE),
@@ -315,6 +317,13 @@ fn number_of(matches: &ArgMatches<'_>, id: &str) -> Option<u32>
     ensures { number_for 32 id.now (rows_in matches.now) ≡ result }
 {
     matches.get_one::<u32>(id)
+}
+
+// The number of 16 bits for an option, if there is one.
+fn few_of(matches: &ArgMatches<'_>, id: &str) -> Option<u16>
+    ensures { number_for 16 id.now (rows_in matches.now) ≡ result }
+{
+    matches.get_one::<u16>(id)
 }
 
 // The count of items, commits or steps for an option, if there is one.

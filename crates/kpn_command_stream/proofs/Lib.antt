@@ -2,3 +2,4 @@ pub mod Listing
 pub mod Keeping
 pub mod Ringed
 pub mod Counted
+pub mod Worded

@@ -1,14 +1,17 @@
 -- Lists of places and of sinks, one more at a time.
-use Rattle.std.proofs.Common.{◌≡◌, ℕ, Bool, zero, suc, ◌+◌, ◌<◌, ◌≤◌, List, [], ◌∷◌, ◌++◌, map, take, length, get_or, slice_set, All, length-append, take_all, le_refl, Some, Result, Ok, Err, sym, ap, ◌∙◌, subst, arith, inl, inr, Option, None}
-use Rattle.std.specs.List.{AllZip}
+use Rattle.std.proofs.Common.{◌≡◌, ℕ, zero, suc, ◌+◌, ◌<◌, ◌≤◌, List, [], ◌∷◌, ◌++◌, map, take, length, get_or, slice_set, All, length-append, take_all, le_refl, Some, Result, Ok, Err, sym, ap, ◌∙◌, subst, arith, inl, inr, Option, None}
+use Rattle.std.specs.List.{AllPairs, AllZip}
 use Rattle.std.proofs.lemmas.Bool.{cases_lt}
 use Rattle.std.proofs.lemmas.List.{map-append, take_more, take_more_set, get_or_append_left}
-use Rattle.std.proofs.lemmas.List.Elements.{All-push, All-same}
+use Rattle.std.proofs.lemmas.List.Elements.{All-nil, All-push, All-same}
+use Rattle.std.proofs.lemmas.List.Quantifiers.{all_pairs_push}
 use Rattle.std.proofs.Math.Seq.{get_or-append_seam}
 use Rattle.kpn_text.specs.Document.{Document}
 use Rattle.kpn_command_base.specs.declared.sources.Ends.{Ends}
 use Rattle.kpn_command_base.specs.declared.sources.NamedEnd.{NamedEnd}
+use Rattle.kpn_command_base.specs.Outputs.{FileWords, AreAllApart}
 use Rattle.kpn_command_base.specs.Sources.{is_end, ends_named}
+use Rattle.kpn_command_base.specs.StreamRequest.{StreamRequest}
 use Rattle.kpn_stream.specs.Ending.{end_numbers}
 use Rattle.kpn_text_items.proofs.FileLemmas.{AllZip-push}
 use Rattle.kpn_stream.specs.declared.faults.SinkFault.{SinkFault}
@@ -16,7 +19,7 @@ use Rattle.kpn_stream.specs.declared.faults.SinkFault.TheVariants.{Gone, NoSampl
 use Rattle.kpn_command_stream.specs.declared.places.Place.{Place}
 use Rattle.kpn_command_stream.specs.declared.running.Lost.{Lost}
 use Rattle.kpn_stream_devices.specs.declared.outputs.Output.{Output}
-use Rattle.kpn_command_stream.specs.Command.{HandedOn, IsOutputFor, IsOutputOf, KeepsName, one_more, losses}
+use Rattle.kpn_command_stream.specs.Command.{AreOutputsApart, HandedOn, IsOutputFor, IsOutputOf, KeepsName, one_more, losses}
 use Rattle.kpn_command_stream.specs.Places.{name_for, HasFormat, ArePlaced, AllPlaced, ArePlaces}
 
 -- one place more
@@ -77,7 +80,41 @@ placed_by ends d names others files others_files words others_words places same 
     (subst (λ fs. ArePlaces ends d names fs others_words places) same_files
     (subst (λ ws. ArePlaces ends d names files ws places) same_words are))
 
+-- what holds of the first places holds of one more
+pub all_next : (P : Place → Type 0) (places : List Place) (i : ℕ) (d : Place) → i < length places
+    → All P (take i places) → P (get_or places i d) → All P (take (i + 1) places)
+all_next P places i d below before more =
+    subst (All P) (sym (take_more places i d below)) (All-push P (take i places) (get_or places i d) before more)
+
+pub pairs_next : (R : Place → Place → Type 0) (places : List Place) (i : ℕ) (d : Place) → i < length places
+    → AllPairs R (take i places) → All (λ earlier. R earlier (get_or places i d)) (take i places)
+    → AllPairs R (take (i + 1) places)
+pairs_next R places i d below pairs all =
+    subst (AllPairs R) (sym (take_more places i d below))
+    (all_pairs_push R (take i places) (get_or places i d) pairs all)
+
 -- ---- outputs
+
+-- outputs that are apart, whatever is known of inputs
+pub apart_by : (asked : FileWords) (request : StreamRequest) → asked.file ≡ request.file
+    → asked.sinks ≡ request.sinks → asked.trace ≡ request.trace → AreAllApart asked → AreOutputsApart request
+apart_by asked request file sinks trace is =
+    let alone : AreAllApart (record asked { sources = [] }) = record {
+      cut = is.cut;
+      apart = record {
+        no_inputs = λ k d below. ((is.apart.no_inputs k d below).0, All-nil _);
+        each_other = is.apart.each_other;
+      };
+    } in
+    subst
+    (λ (name : List ℕ).
+    AreAllApart (record { file = name; sources = []; sinks = request.sinks; trace = request.trace })) file
+    (subst
+    (λ (words : List (List ℕ)).
+    AreAllApart (record { file = asked.file; sources = []; sinks = words; trace = request.trace })) sinks
+    (subst
+    (λ (name : Option (List ℕ)).
+    AreAllApart (record { file = asked.file; sources = []; sinks = asked.sinks; trace = name })) trace alone))
 
 -- each output stays one for its place if one of them is changed so that it does
 pub zipped_set : {A B : Type 0} (R : A → B → Type 0) (xs : List A) (ys : List B) (i : ℕ) (d y : B) → AllZip R xs ys
@@ -90,10 +127,10 @@ zipped_set R (x ∷ xs) (z ∷ ys) (suc i) d y are below same =
     (are.0, zipped_set R xs ys i d y are.1 (omega arith) same)
 
 -- an output whose file keeps its name stays one for its place
-pub still_for : {G : Type 0} (goes_to : G → List ℕ) (clips : Bool) (place : Place) (old new : Output G)
+pub still_for : {G : Type 0} (goes_to : G → List ℕ) (request : StreamRequest) (place : Place) (old new : Output G)
     → new.channel ≡ old.channel → new.format ≡ old.format → new.bytes ≡ old.bytes
-    → KeepsName goes_to old.file new.file → IsOutputFor goes_to clips place old → IsOutputFor goes_to clips place new
-still_for {G} goes_to clips place old new channel format bytes name is = record {
+    → KeepsName goes_to old.file new.file → IsOutputFor goes_to request place old → IsOutputFor goes_to request place new
+still_for {G} goes_to request place old new channel format bytes name is = record {
   channel = channel ∙ is.channel;
   format = format ∙ is.format;
   file = named old.file new.file name is.file;

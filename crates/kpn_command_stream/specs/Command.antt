@@ -11,7 +11,9 @@ use Rattle.kpn_run_state.specs.Kept.{IsBook}
 use Rattle.kpn_book.specs.declared.outcome.Limits.{Limits}
 use Rattle.kpn_command_base.specs.StreamRequest.{StreamRequest}
 use Rattle.kpn_command_base.specs.declared.refusal.Refusal.{Refusal}
-use Rattle.kpn_shelf.specs.Shelf.{Loads, KeepsOthers}
+use Rattle.kpn_command_base.specs.Outputs.{AreAllApart}
+use Rattle.kpn_command_base.specs.Stored.{Stores}
+use Rattle.kpn_shelf.specs.Shelf.{Loads}
 use Rattle.kpn_command_base.specs.declared.sources.Ends.TheVariants.{Sources, Sinks}
 use Rattle.kpn_command_base.specs.Description.{IsDescribed}
 use Rattle.kpn_command_base.specs.Sources.{name_in, file_in}
@@ -24,6 +26,8 @@ use Rattle.kpn_stream_devices.specs.declared.inputs.Input.{Input}
 use Rattle.kpn_stream_devices.specs.declared.inputs.Inputs.{Inputs}
 use Rattle.kpn_stream_devices.specs.declared.outputs.Output.{Output}
 use Rattle.kpn_stream_devices.specs.declared.outputs.Outputs.{Outputs}
+use Rattle.kpn_stream_devices.specs.Formats.{head_bytes}
+use Rattle.kpn_stream_devices.specs.declared.formats.ItemFormat.{ItemFormat}
 use Rattle.kpn_stream_devices.specs.Window.{fresh}
 use Rattle.kpn_stream_devices.specs.Inputs.{InputsGive, InputsLook, IsAtHand}
 use Rattle.kpn_stream_devices.specs.Outputs.{OutputsTake, OutputsFlush}
@@ -35,14 +39,16 @@ use Rattle.kpn_command_stream.specs.declared.running.Lost.{Lost}
 use Rattle.kpn_command_stream.specs.declared.refusal.StreamRefusal.{StreamRefusal}
 use Rattle.kpn_command_stream.specs.Refusal.{refusal_status, ending_fault, lost_fault, trace_fault}
 use Rattle.kpn_command_stream.specs.Refusal.{summary_fault, first_of}
-use Rattle.kpn_command_stream.specs.Places.{standard, ArePlaces}
+use Rattle.kpn_command_stream.specs.Formats.{AreForEnds, SaysFormat}
+use Rattle.kpn_command_stream.specs.Places.{standard, ArePlaces, HaveOwnInputs}
 use Rattle.kpn_command_stream.specs.Summary.{stream_status}
 use Rattle.kpn_command_stream.specs.Ending.{IsOver}
 
 -- ---- what is known of devices
 
--- by which names files were opened
-pub record Names (F G : Type 0) : Type 0 where
+-- which two names are those of two inputs, and by which names files were opened
+pub record Names (S F G : Type 0) : Type 1 where
+  pub are_two_inputs : S → List ℕ → List ℕ → Type 0
   pub comes_from : F → List ℕ
   pub goes_to : G → List ℕ
 
@@ -53,8 +59,9 @@ pub record Known (I F O G : Type 0) : Type 0 where
   pub holds : O → Option (List ℕ)
   pub holds_in : G → Option (List ℕ)
 
-abbrev pub names_of : {F G : Type 0} → (F → List ℕ) → (G → List ℕ) → Names F G
-names_of comes_from goes_to = record { comes_from = comes_from; goes_to = goes_to }
+abbrev pub names_of : {S F G : Type 0} → (S → List ℕ → List ℕ → Type 0) → (F → List ℕ) → (G → List ℕ) → Names S F G
+names_of are_two_inputs comes_from goes_to =
+    record { are_two_inputs = are_two_inputs; comes_from = comes_from; goes_to = goes_to }
 
 abbrev pub known_of : {I F O G : Type 0} → (I → Option (List ℕ)) → (F → Option (List ℕ)) → (O → Option (List ℕ))
     → (G → Option (List ℕ)) → Known I F O G
@@ -83,18 +90,23 @@ pub record IsInputFor {F : Type 0} (may_give : Loads) (comes_from : F → List �
   pub window : input.window ≡ fresh
   pub failed : input.failed ≡ None
 
--- the output of a place, which clips or does not: nothing is kept
-pub record IsOutputFor {G : Type 0} (goes_to : G → List ℕ) (clips : Bool) (place : Place) (output : Output G) : Type 0
-  where
-    pub channel : output.channel ≡ place.channel
-    pub format : output.format ≡ record { items = place.format; clips = clips }
-    pub file : IsOutputOf goes_to place.name.now output.file
-    pub bytes : output.bytes.items ≡ []
+-- what an output begins with: a head tells 48,000 samples a second and one channel, unless an option says others
+abbrev pub first_bytes : ItemFormat → StreamRequest → List ℕ
+first_bytes format request = head_bytes format (unwrap_or request.rate 48000) (unwrap_or request.channels 1)
+
+-- the output of a place, as the request asks for: only what it begins with is kept
+pub record IsOutputFor {G : Type 0} (goes_to : G → List ℕ) (request : StreamRequest) (place : Place) (output : Output G)
+    : Type 0 where
+  pub channel : output.channel ≡ place.channel
+  pub format : output.format ≡ record { items = place.format; clips = request.clips }
+  pub file : IsOutputOf goes_to place.name.now output.file
+  pub bytes : output.bytes.items ≡ first_bytes place.format request
 
 -- each output stays the one of its place
 abbrev pub StayOutputs : {G : Type 0} → (goes_to : G → List ℕ) → List Place → (before after : List (Output G)) → Type 0
 StayOutputs goes_to places before after =
-    (clips : Bool) → AllZip (IsOutputFor goes_to clips) places before → AllZip (IsOutputFor goes_to clips) places after
+    (request : StreamRequest) → AllZip (IsOutputFor goes_to request) places before
+    → AllZip (IsOutputFor goes_to request) places after
 
 -- its file, if it has one, holds nothing
 abbrev pub IsEmptied : {G : Type 0} → (holds_in : G → Option (List ℕ)) → Output G → Type 0
@@ -175,13 +187,13 @@ abbrev pub sinks_of : Places → List ℕ
 sinks_of places = map (λ place. place.channel) places.sinks.items
 
 -- the same, over standard input and output and the files of these places
-pub record RanAt {I F O G : Type 0} (may_give : Loads) (names : Names F G) (known : Known I F O G)
+pub record RanAt {S I F O G : Type 0} (may_give : Loads) (names : Names S F G) (known : Known I F O G)
     (request : StreamRequest) (t : Tables) (places : Places) (input read : I) (out written : O) (ending : Ending)
     (b : Book) (lost : List Lost) : Type 0 where
   pub inputs : List (Input F)
   pub are_inputs : AllZip (IsInputFor may_give names.comes_from known.left_in) places.sources.items inputs
   pub outputs : List (Output G)
-  pub are_outputs : AllZip (IsOutputFor names.goes_to request.clips) places.sinks.items outputs
+  pub are_outputs : AllZip (IsOutputFor names.goes_to request) places.sinks.items outputs
   pub are_emptied : All (IsEmptied known.holds_in) outputs
   pub ran : Ran known request t (sinks_of places) inputs outputs input read out written ending b lost
 
@@ -191,10 +203,9 @@ pub record RanAt {I F O G : Type 0} (may_give : Loads) (names : Names F G) (know
 abbrev pub IsTraceKept : {S : Type 0} → (may_give : S → Loads) (trace : Option (List ℕ)) → Tables → Over
     → (shelf kept : S) → Result (Unit {0}) Refusal → Type 0
 IsTraceKept may_give None t over shelf kept stored = (kept ≡ shelf) × (stored ≡ Ok tt)
-IsTraceKept may_give (Some name) t over shelf kept (Ok done) =
-    may_give kept name (Ok (trace_text version.Two t.policy t.growth over.history.events))
-    × KeepsOthers (may_give shelf) (may_give kept) name
-IsTraceKept may_give (Some name) t over shelf kept (Err refusal) = KeepsOthers (may_give shelf) (may_give kept) name
+IsTraceKept may_give (Some name) t over shelf kept stored =
+    Stores may_give
+    (record { name = name; bytes = trace_text version.Two t.policy t.growth over.history.events }) shelf kept stored
 
 -- The status at the end: that of the first fault that is told. They are told in this order: what has ended the stream,
 -- what outputs have lost, the trace that could not be stored, the summary if there was no memory for it. Without a
@@ -225,14 +236,21 @@ pub record AreAskedFor (request : StreamRequest) (d : Document) (places : Places
       places.sources.items
   pub sinks : ArePlaces Sinks d (map name_in request.sinks) (map file_in request.sinks) request.formats
       places.sinks.items
+  pub formats : AreForEnds d request.formats
+
+-- no two outputs have one name, and none has that of the description
+abbrev pub AreOutputsApart : StreamRequest → Type 0
+AreOutputsApart request =
+    AreAllApart (record { file = request.file; sources = []; sinks = request.sinks; trace = request.trace })
 
 -- A stream of this network. Given are the shelf, standard input and standard output, each as it was and as it is
 -- afterwards.
-pub record IsStreamedOf {S I F O G : Type 0} (may_give : S → Loads) (names : Names F G) (known : Known I F O G)
+pub record IsStreamedOf {S I F O G : Type 0} (may_give : S → Loads) (names : Names S F G) (known : Known I F O G)
     (request : StreamRequest)
     (d : Document) (shelf kept : S) (input read : I) (out written : O) (status : ℕ) : Type 0 where
   pub places : Places
   pub asked_for : AreAskedFor request d places
+  pub own_inputs : HaveOwnInputs (names.are_two_inputs shelf) places.sources.items
   pub ending : Ending
   pub book : Book
   pub lost : List Lost
@@ -240,12 +258,14 @@ pub record IsStreamedOf {S I F O G : Type 0} (may_give : S → Loads) (names : N
   pub concluded : IsConcluded may_give request d.tables ending book lost shelf kept status
 
 -- A stream of what is asked for.
-pub record IsStreamed {S I F O G : Type 0} (may_give : S → Loads) (names : Names F G) (known : Known I F O G)
+pub record IsStreamed {S I F O G : Type 0} (may_give : S → Loads) (names : Names S F G) (known : Known I F O G)
     (request : StreamRequest)
     (shelf kept : S) (input read : I) (out written : O) (status : ℕ) : Type 0 where
   pub document : Document
   pub described : IsDescribed (may_give shelf) request.file document
+  pub apart : AreOutputsApart request
   pub trace : IfSome request.trace (λ name. name ≢ standard)
+  pub formats : All SaysFormat request.formats
   pub streamed : IsStreamedOf may_give names known request document shelf kept input read out written status
 
 -- nothing was begun: the shelf, standard input and standard output are as they were
@@ -255,7 +275,7 @@ pub record NothingBegun {S I O : Type 0} (shelf kept : S) (input read : I) (out 
   pub same_output : written ≡ out
 
 -- A stream; or nothing is begun, and the refusal gives the status.
-pub data Streams {S I F O G : Type 0} (may_give : S → Loads) (names : Names F G) (known : Known I F O G)
+pub data Streams {S I F O G : Type 0} (may_give : S → Loads) (names : Names S F G) (known : Known I F O G)
     (request : StreamRequest)
     (shelf kept : S) (input read : I) (out written : O) (status : ℕ) : Type 0 where
   streamed : IsStreamed may_give names known request shelf kept input read out written status →

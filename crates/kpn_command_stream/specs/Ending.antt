@@ -1,31 +1,19 @@
 -- What a stream has come to.
-use Rattle.std.specs.Prelude.{◌≡◌, Bool, true, false, Option, Some, None}
-use Rattle.kpn_run_history.specs.declared.event.Event.{Event}
-use Rattle.kpn_run_history.specs.declared.event.Event.TheVariants.{Close, Grow}
+use Rattle.std.specs.Prelude.{◌≡◌, Bool, Option, Some, None}
 use Rattle.kpn_run_history.specs.Waiting.{waits_of}
 use Rattle.kpn_ring.specs.Told.{AreRings}
 use Rattle.kpn_run_state.specs.Book.{Book}
 use Rattle.kpn_book.specs.declared.outcome.Limits.{Limits}
 use Rattle.kpn_book.specs.declared.outcome.Outcome.{Outcome}
 use Rattle.kpn_book.specs.Outcomes.{IsOutcome}
-use Rattle.kpn_stream.specs.Streaming.{HappensBesides}
+use Rattle.kpn_stream.specs.Closing.{AreClosed}
 use Rattle.kpn_stream.specs.declared.ending.Ending.{Ending}
 use Rattle.kpn_stream.specs.declared.ending.Ending.TheVariants as ending
 use Rattle.kpn_command_stream.specs.declared.ending.Over.{Over}
 use Rattle.kpn_command_stream.specs.Summary.{AreSinkEnds}
 use Rattle.kpn_command_stream.specs.Counters.{AreCountsIf}
 
--- an event that is neither the close of a source nor a growth
-abbrev pub is_no_close : Event → Bool
-is_no_close (Close c) = false
-is_no_close (Grow p d n) = false
-is_no_close e = true
-
--- sources were closed, and nothing else happened but growths that follow from that
-abbrev pub AreClosed : (before after : Book) → Type 0
-AreClosed before after = HappensBesides is_no_close before after
-
--- the outcome of a stream, and its book then: if it rests, its sources are closed before
+-- the outcome of a stream, and its book then: if it rests, all its sources are closed before
 abbrev pub IsOutcomeAt : Limits → Ending → (before : Book) → Option Outcome → (after : Book) → Type 0
 IsOutcomeAt limits (ending.Outcome outcome) before told after = (told ≡ Some outcome) × (after ≡ before)
 IsOutcomeAt limits ending.Resting before told after =

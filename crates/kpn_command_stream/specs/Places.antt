@@ -1,12 +1,13 @@
 -- Which input each source of a network gets, and which output each sink.
 use Rattle.std.specs.Prelude.{◌≡◌, ℕ, ◌<◌, nat_eq, if◌then◌else◌, List, map, length, get_or, take, All, Option, Some, None, Ok, codes}
+use Rattle.std.specs.List.{AllPairs}
 use Rattle.kpn_text.specs.Document.{Document}
 use Rattle.kpn_command_base.specs.declared.sources.Ends.{Ends}
 use Rattle.kpn_command_base.specs.declared.sources.NamedEnd.{NamedEnd}
 use Rattle.kpn_command_base.specs.Sources.{file_for, is_end, ends_named}
 use Rattle.kpn_text_names.specs.Names.{name_at}
 use Rattle.kpn_stream.specs.Ending.{end_numbers}
-use Rattle.kpn_stream_devices.specs.Formats.{format_name}
+use Rattle.kpn_stream_devices.specs.Formats.{Names}
 use Rattle.kpn_command_stream.specs.Formats.{format_word}
 use Rattle.kpn_command_stream.specs.declared.places.Place.{Place}
 
@@ -24,7 +25,7 @@ name_for named number count = name_or_standard (file_for named number) count
 
 -- the items of a place are written as the words behind `--format` say of its end
 abbrev pub HasFormat : Document → (words : List (List ℕ)) → Place → Type 0
-HasFormat d words place = format_word words (name_at d.names.channels place.channel) ≡ format_name place.format
+HasFormat d words place = Names (format_word words (name_at d.names.channels place.channel)) place.format
 
 -- The places of such ends in order of their channels, by the names in the options, the inputs or outputs there, and the
 -- words behind `--format`.
@@ -37,6 +38,11 @@ pub record ArePlaces (ends : Ends) (d : Document) (names files words : List (Lis
     pub each : (number : ℕ) (place : Place) → number < length places
         → name_for named number (length places) ≡ Some (get_or places number place).name.now
     pub formats : All (HasFormat d words) places
+
+-- of each two of these places, each input has all that is there: no item goes to one of them alone
+abbrev pub HaveOwnInputs : (are_two_inputs : List ℕ → List ℕ → Type 0) → List Place → Type 0
+HaveOwnInputs are_two_inputs places =
+    AllPairs (λ (earlier later : Place). are_two_inputs earlier.name.now later.name.now) places
 
 -- ---- scaffolding
 

@@ -1,9 +1,10 @@
 //! The command: it opens the inputs and the outputs, runs the network over them, and concludes.
-ghost use Rattle.std.specs.Prelude.{◌≡◌, ◌≢◌, false, map, option_map, IfOk, IfSome, OnErr};
+ghost use Rattle.std.specs.Prelude.{◌≡◌, ◌≢◌, false, map, option_map, IfOk, IfSome, OnErr, OnOk};
 ghost use Rattle.kpn_command_base.specs.declared.sources.Ends.TheVariants as ends;
 ghost use Rattle.kpn_command_base.specs.Sources.{name_in, file_in};
-ghost use Rattle.kpn_command_stream.specs.Places.{ArePlaces, standard};
-ghost use Rattle.kpn_command_stream.specs.Command.{AreWordsOf, IsStreamed, IsStreamedOf, NothingBegun, Streams, known_of, names_of};
+ghost use Rattle.kpn_command_stream.specs.Formats.{AreForEnds};
+ghost use Rattle.kpn_command_stream.specs.Places.{ArePlaces, HaveOwnInputs, standard};
+ghost use Rattle.kpn_command_stream.specs.Command.{AreOutputsApart, AreWordsOf, IsStreamed, IsStreamedOf, NothingBegun, Streams, known_of, names_of};
 
 use crate::concluding::conclude;
 use crate::formats::{are_for_ends, are_formats};
@@ -18,7 +19,8 @@ use kpn_text::Document;
 use std::alloc::{AllocError, Global};
 use std::io::Write;
 
-/// What `kpn stream FILE` does. It returns the status of the program.
+/// What `kpn stream FILE` does. It returns the status of the program. What it would tell of the end if it were not to be
+/// quiet is added to `unsaid`, as far as there is memory for it.
 pub fn stream_command<S: Shelf + Ports, I: Look, O: Write, E: Write>(
     alloc: Global,
     request: &StreamRequest<'_>,
@@ -26,12 +28,13 @@ pub fn stream_command<S: Shelf + Ports, I: Look, O: Write, E: Write>(
     input: &mut I,
     out: &mut O,
     err: &mut E,
+    unsaid: &mut Vec<u8>,
 ) -> u8
-    ensures { Streams S.may_give (names_of S.comes_from S.goes_to)
+    ensures { Streams S.may_give (names_of S.are_two_inputs S.comes_from S.goes_to)
         (known_of I.remaining S.Input.remaining O.contents S.Output.contents) request.now
         shelf.old shelf.new input.old input.new out.old out.new result }
 {
-    match carry_out(alloc, request, shelf, input, out, err) {
+    match carry_out(alloc, request, shelf, input, out, err, unsaid) {
         Ok(status) => status,
         Err(refusal) => refusal.report(err),
     }
@@ -45,8 +48,9 @@ fn carry_out<S: Shelf + Ports, I: Look, O: Write, E: Write>(
     input: &mut I,
     out: &mut O,
     err: &mut E,
+    unsaid: &mut Vec<u8>,
 ) -> Result<u8, StreamRefusal>
-    ensures streamed { IfOk result (IsStreamed S.may_give (names_of S.comes_from S.goes_to)
+    ensures streamed { IfOk result (IsStreamed S.may_give (names_of S.are_two_inputs S.comes_from S.goes_to)
         (known_of I.remaining S.Input.remaining O.contents S.Output.contents) request.now
         shelf.old shelf.new input.old input.new out.old out.new) }
     ensures refused { OnErr result
@@ -57,7 +61,9 @@ fn carry_out<S: Shelf + Ports, I: Look, O: Write, E: Write>(
     }
     let words = check_words(alloc, request, shelf)?;
     let document = load_document(alloc, shelf, request.file)?;
-    stream_document(alloc, request, &words, &document, shelf, input, out, err)
+    stream_document(
+        alloc, request, &words, &document, shelf, input, out, err, unsaid,
+    )
 }
 
 /// Streams a network between the inputs and outputs that these words name, and concludes.
@@ -71,9 +77,10 @@ fn stream_document<S: Shelf + Ports, I: Look, O: Write, E: Write>(
     input: &mut I,
     out: &mut O,
     err: &mut E,
+    unsaid: &mut Vec<u8>,
 ) -> Result<u8, StreamRefusal>
     requires { AreWordsOf request.now words.now }
-    ensures streamed { IfOk result (IsStreamedOf S.may_give (names_of S.comes_from S.goes_to)
+    ensures streamed { IfOk result (IsStreamedOf S.may_give (names_of S.are_two_inputs S.comes_from S.goes_to)
         (known_of I.remaining S.Input.remaining O.contents S.Output.contents) request.now
         document.now shelf.old shelf.new input.old input.new out.old out.new) }
     ensures refused { OnErr result
@@ -86,7 +93,7 @@ fn stream_document<S: Shelf + Ports, I: Look, O: Write, E: Write>(
         alloc, request, document, &places, shelf, input, out, &mut lost,
     )?;
     Ok(conclude(
-        alloc, request, document, streamed, &lost, &places, shelf, err,
+        alloc, request, document, streamed, &lost, &places, shelf, err, unsaid,
     ))
 }
 
@@ -103,7 +110,8 @@ fn check_words<'a, S: Shelf>(
     request: &StreamRequest<'a>,
     shelf: &S,
 ) -> Result<Words<'a>, Refusal>
-    ensures { IfOk result (AreWordsOf request.now) }
+    ensures words { IfOk result (AreWordsOf request.now) }
+    ensures apart { OnOk result (AreOutputsApart request.now) }
 {
     if is_dash_asked(request.trace) {
         return Err(Refusal::TraceWord);
@@ -144,7 +152,9 @@ fn sources_of<'a>(
 
 /// The words that name files. Standard input is no file.
 fn asked_of<'w, 'a>(request: &'w StreamRequest<'a>, files: &'w [&'a str]) -> FileWords<'w, 'a>
-    ensures { result.sinks ≡ request.now.sinks }
+    ensures file { result.file ≡ request.now.file }
+    ensures sinks { result.sinks ≡ request.now.sinks }
+    ensures trace { result.trace ≡ request.now.trace }
 {
     FileWords {
         file: request.file,
@@ -187,6 +197,9 @@ fn places_for<'a, S: Ports>(
     ensures sinks { IfOk result (λ places. ArePlaces ends.Sinks document.now
         (map (λ o. o.name.now) words.now.sinks.items)
         (map (λ o. o.file.now) words.now.sinks.items) request.now.formats places.sinks.items) }
+    ensures own_inputs { IfOk result (λ places.
+        HaveOwnInputs (S.are_two_inputs shelf.now) places.sources.items) }
+    ensures formats { IfOk result (λ _. AreForEnds document.now request.now.formats) }
 {
     let formats = &request.formats;
     let sources = places_of(alloc, document, Ends::Sources, &words.sources, formats)?;

@@ -1,5 +1,5 @@
 //! The end of a stream: what is told of it, its trace, and the status.
-ghost use Rattle.std.specs.Prelude.{◌≡◌, Bool, Some, unwrap_or, Result as Answer};
+ghost use Rattle.std.specs.Prelude.{◌≡◌, Bool, unwrap_or, Result as Answer};
 ghost use Rattle.kpn_command_base.specs.declared.refusal.Refusal.{Refusal as Cause};
 ghost use Rattle.kpn_command_stream.specs.Command.{IsConcluded, IsTraceKept, end_status};
 ghost use Rattle.kpn_command_stream.specs.Summary.{stream_status};
@@ -11,7 +11,7 @@ use crate::refusal::{report_memory, report_sink, report_source};
 use crate::running::{Lost, limits_of};
 use crate::stats::tables_of;
 use crate::summary::{stream_status, summary_of};
-use kpn_command_base::{Refusal, StreamRequest, trace_of};
+use kpn_command_base::{Refusal, StreamRequest, store_trace};
 use kpn_net::Network;
 use kpn_shelf::Shelf;
 use kpn_stream::{Ending, Streamed};
@@ -29,6 +29,7 @@ pub(crate) fn conclude<S: Shelf, E: Write>(
     places: &Places<'_>,
     shelf: &mut S,
     err: &mut E,
+    unsaid: &mut Vec<u8>,
 ) -> u8
     ensures { IsConcluded S.may_give request.now document.now.tables
         streamed.entry.ending streamed.entry.book lost.now shelf.old shelf.new result }
@@ -36,7 +37,7 @@ pub(crate) fn conclude<S: Shelf, E: Write>(
     let ending = streamed.ending;
     match over_of(alloc, streamed, &limits_of(request), request.stats) {
         Ok(over) => conclude_over(
-            alloc, request, document, ending, lost, &over, places, shelf, err,
+            alloc, request, document, ending, lost, &over, places, shelf, err, unsaid,
         ),
         Err(_) => conclude_untold(document, ending, lost, places, err),
     }
@@ -53,15 +54,16 @@ fn conclude_over<S: Shelf, E: Write>(
     places: &Places<'_>,
     shelf: &mut S,
     err: &mut E,
+    unsaid: &mut Vec<u8>,
 ) -> u8
     ensures { let t = document.now.tables in
         (stored : Answer (Unit {0}) Cause) × (is_told : Bool)
         × IsTraceKept S.may_give request.now.trace t over.now shelf.old shelf.new stored
         × (result ≡ end_status ending lost.now stored is_told over.now) }
 {
-    let is_told = tell(alloc, request, document, over, err);
+    let is_told = tell(alloc, request, document, over, err, unsaid);
     let failed = report_failed(ending, document, lost, places, err);
-    let stored = store_trace(alloc, request, document.network(), over, shelf);
+    let stored = keep_trace(alloc, request, document.network(), over, shelf);
     let unstored = report_trace(&stored, err);
     let untold = report_summary(is_told, err);
     let status = first_of(failed, first_of(unstored, untold));
@@ -93,7 +95,7 @@ fn conclude_untold<E: Write>(
 }
 
 /// Stores the trace, if one was asked for.
-fn store_trace<S: Shelf>(
+fn keep_trace<S: Shelf>(
     alloc: Global,
     request: &StreamRequest<'_>,
     network: &Network,
@@ -106,46 +108,28 @@ fn store_trace<S: Shelf>(
     let Some(name) = request.trace else {
         return Ok(());
     };
-    store_under(alloc, name, network, over, shelf)
+    store_trace(alloc, name, network, &over.history, shelf)
 }
 
-/// Stores the trace under this name.
-fn store_under<S: Shelf>(
-    alloc: Global,
-    name: &str,
-    network: &Network,
-    over: &Over,
-    shelf: &mut S,
-) -> Result<(), Refusal>
-    ensures { IsTraceKept S.may_give (Some name.now) network.now over.now
-        shelf.old shelf.new result }
-{
-    let bytes = match trace_of(alloc, network, &over.history) {
-        Ok(bytes) => bytes,
-        Err(refusal) => return Err(refusal),
-    };
-    match shelf.store(name, &bytes) {
-        Ok(()) => Ok(()),
-        Err(fault) => Err(Refusal::Output(fault)),
-    }
-}
-
-/// Tells how the stream has ended, if it is not to be quiet, and the tables, if they are asked for. If it can't, memory
-/// ran out.
+/// Tells how the stream has ended, and the tables, if they are asked for. If it can't, memory ran out. If the stream is
+/// to be quiet, how it has ended is only kept.
 fn tell<E: Write>(
     alloc: Global,
     request: &StreamRequest<'_>,
     document: &Document,
     over: &Over,
     err: &mut E,
+    unsaid: &mut Vec<u8>,
 ) -> bool {
     let states = over.states.as_slice();
     let rings = over.rings.as_slice();
-    let is_told = request.quiet
-        || write_text(
-            summary_of(alloc, document, &over.sinks, states, rings, over.outcome),
-            err,
-        );
+    let summary = summary_of(alloc, document, &over.sinks, states, rings, over.outcome);
+    let is_told = if request.quiet {
+        keep_text(summary, unsaid);
+        true
+    } else {
+        write_text(summary, err)
+    };
     let has_tables = !request.stats
         || write_text(
             tables_of(alloc, document, &over.channels, states, request.quiet),
@@ -162,6 +146,13 @@ fn write_text<E: Write>(text: Result<String, AllocError>, err: &mut E) -> bool {
             true
         }
         Err(_) => false,
+    }
+}
+
+/// Keeps a text, if there was memory for it.
+fn keep_text(text: Result<String, AllocError>, unsaid: &mut Vec<u8>) {
+    if let Ok(text) = text {
+        let _ = unsaid.extend_from_slice(text.as_bytes());
     }
 }
 

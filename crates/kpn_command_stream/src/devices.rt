@@ -1,14 +1,17 @@
 //! The devices of a stream, opened.
 ghost use Rattle.std.specs.Prelude.{◌≡◌, [], All, IfOk, IfSome, OnOk};
 ghost use Rattle.std.specs.List.{AllZip};
-ghost use Rattle.kpn_command_stream.specs.Command.{IsEmptied, IsInputFor, IsInputOf, IsOutputFor, IsOutputOf, KeepsName, StayOutputs};
+ghost use Rattle.kpn_command_stream.specs.Command.{first_bytes, IsEmptied, IsInputFor, IsInputOf, IsOutputFor, IsOutputOf, KeepsName, StayOutputs};
 
 use crate::places::{Place, Places, is_dash};
-use kpn_command_base::Refusal;
+use kpn_command_base::{Refusal, StreamRequest};
 use kpn_shelf::Ports;
-use kpn_stream_devices::{Input, Output, OutputFormat, Window};
+use kpn_stream_devices::{Input, ItemFormat, Output, OutputFormat, Window, head_bytes};
 use kpn_text_items::{ItemFault, WriteFault};
-use std::alloc::Global;
+use std::alloc::{AllocError, Global};
+
+/// So many samples of each channel are in a second of a WAV file, if no option says another number.
+const USUAL_RATE: u32 = 48_000;
 
 /// An input for each source.
 pub(crate) fn open_inputs<S: Ports>(
@@ -60,21 +63,20 @@ fn open_input<S: Ports>(shelf: &S, name: &str) -> Result<Option<S::Input>, ItemF
     Ok(Some(shelf.open_input(name)?))
 }
 
-/// An output for each sink, which is to take so many items at most, and clips or does not. Files keep what they hold until all are open.
+/// An output for each sink, as the request asks for. Files keep what they hold until all are open.
 pub(crate) fn open_outputs<S: Ports>(
     alloc: Global,
     shelf: &S,
     places: &Places<'_>,
-    wanted: Option<u64>,
-    clips: bool,
+    request: &StreamRequest<'_>,
 ) -> Result<Vec<Output<S::Output>>, Refusal>
     ensures { IfOk result (λ outputs.
-        AllZip (IsOutputFor S.goes_to clips) places.now.sinks.items outputs.items) }
+        AllZip (IsOutputFor S.goes_to request.now) places.now.sinks.items outputs.items) }
 {
     let mut outputs = Vec::new(alloc);
     for i in 0..places.sinks.len() {
         let place = places.sinks[i];
-        let output = output_for(alloc, shelf, place, wanted, clips)?;
+        let output = output_for(alloc, shelf, place, request)?;
         outputs.push(output)?;
     }
     Ok(outputs)
@@ -84,24 +86,36 @@ fn output_for<S: Ports>(
     alloc: Global,
     shelf: &S,
     place: Place<'_>,
-    wanted: Option<u64>,
-    clips: bool,
+    request: &StreamRequest<'_>,
 ) -> Result<Output<S::Output>, Refusal>
-    ensures { IfOk result (IsOutputFor S.goes_to clips place.entry) }
+    ensures { IfOk result (IsOutputFor S.goes_to request.now place.entry) }
 {
+    let bytes = first_bytes(alloc, place.format, request)?;
     match open_output(shelf, place.name) {
         Ok(file) => Ok(Output {
             channel: place.channel,
             format: OutputFormat {
                 items: place.format,
-                clips,
+                clips: request.clips,
             },
             file,
-            bytes: Vec::new(alloc),
-            wanted,
+            bytes,
+            wanted: request.take,
         }),
         Err(fault) => Err(Refusal::Output(fault)),
     }
+}
+
+/// What an output of this format begins with.
+fn first_bytes(
+    alloc: Global,
+    format: ItemFormat,
+    request: &StreamRequest<'_>,
+) -> Result<Vec<u8>, AllocError>
+    ensures { IfOk result (λ bytes. bytes.items ≡ first_bytes format request.now) }
+{
+    let rate = request.rate.unwrap_or(USUAL_RATE);
+    head_bytes(alloc, format, rate, request.channels.unwrap_or(1))
 }
 
 /// The file of this name, if it is not standard output.

@@ -1,7 +1,7 @@
 //! What a stream has come to: its sinks, its channels if they are asked for, its outcome, the states of its processes,
 //! its rings, and its history.
 ghost use Rattle.std.specs.Prelude.{◌≡◌, IfOk};
-ghost use Rattle.kpn_command_stream.specs.Ending.{AreClosed, IsOutcomeAt, IsOver};
+ghost use Rattle.kpn_command_stream.specs.Ending.{IsOutcomeAt, IsOver};
 
 use crate::counters::{ChannelCounts, counts_if};
 use crate::summary::{SinkEnd, sink_ends};
@@ -10,7 +10,7 @@ use kpn_lang::Sequence;
 use kpn_ring::rings_among;
 use kpn_run_history::{History, State};
 use kpn_run_state::Book;
-use kpn_stream::{Ending, Limits, Outcome, Streamed, end_numbers_of};
+use kpn_stream::{Ending, Limits, Outcome, Streamed, close_sources};
 use std::alloc::{AllocError, Global};
 
 /// What a stream has come to.
@@ -37,7 +37,7 @@ pub(crate) fn over_of(
     let Streamed { ending, mut book } = streamed;
     let sinks = sink_ends(alloc, &book)?;
     let channels = counts_if(alloc, stats, &book)?;
-    let outcome = outcome_at(alloc, ending, &mut book, limits)?;
+    let outcome = outcome_at(ending, &mut book, limits)?;
     book.known();
     let network = book.network();
     let (states, history) = book.into_states(alloc)?;
@@ -54,7 +54,6 @@ pub(crate) fn over_of(
 
 /// The outcome of a stream, if it has one.
 fn outcome_at(
-    alloc: Global,
     ending: Ending,
     book: &mut Book<'_>,
     limits: &Limits,
@@ -65,29 +64,9 @@ fn outcome_at(
     match ending {
         Ending::Outcome(outcome) => Ok(Some(outcome)),
         Ending::Resting => {
-            close_all(alloc, book)?;
+            close_sources(book)?;
             Ok(outcome_of(book, limits))
         }
         _ => Ok(None),
-    }
-}
-
-/// Closes the sources that are open.
-fn close_all(alloc: Global, book: &mut Book<'_>) -> Result<(), AllocError>
-    ensures { IfOk result (λ _. AreClosed book.old book.new) }
-{
-    let ends = end_numbers_of(alloc, book.network())?;
-    for i in 0..ends.sources.len() {
-        close(book, ends.sources[i])?;
-    }
-    Ok(())
-}
-
-fn close(book: &mut Book<'_>, c: usize) -> Result<(), AllocError>
-    ensures { IfOk result (λ _. AreClosed book.old book.new) }
-{
-    match book.close_source(c) {
-        Ok(()) => Ok(()),
-        Err(_) => Err(AllocError),
     }
 }

@@ -1,7 +1,9 @@
 //! The words behind `--format`: each is a format for all ends, or `NAME=FORMAT` for one.
-ghost use Rattle.std.specs.Prelude.{◌≡◌, map, option_map, MatchOption};
-ghost use Rattle.kpn_stream_devices.specs.Formats.{format_name, IsNoFormat};
-ghost use Rattle.kpn_command_stream.specs.Formats.{common_format, first_that, format_word, named_format};
+ghost use Rattle.std.specs.Prelude.{◌≡◌, ◌≢◌, false, All, IsTrue, map, option_map, MatchOption};
+ghost use Rattle.std.specs.List.{AllPairs};
+ghost use Rattle.kpn_stream_devices.specs.Formats.{IsNoFormat, Names};
+ghost use Rattle.kpn_command_stream.specs.Formats.{common_format, end_in, first_that, format_in, format_word, is_end_at, IsForEnd, named_format, SaysFormat};
+ghost use Rattle.kpn_text_names.specs.Names.{number_of};
 
 use kpn_stream_devices::ItemFormat;
 use kpn_text::Document;
@@ -9,24 +11,46 @@ use kpn_text::Document;
 /// The word for ends of which no option says anything.
 const USUAL: &str = "lines";
 
-/// Whether each of these words names a format.
-pub(crate) fn are_formats(words: &[&str]) -> bool {
-    words.iter().all(|word| is_format(word))
+/// Whether each of these words says a format.
+pub(crate) fn are_formats(words: &[&str]) -> bool
+    ensures { IsTrue result → All (λ word. SaysFormat word.now) words.now }
+{
+    for word in words {
+        if !is_format(word) {
+            return false;
+        }
+    }
+    true
 }
 
-/// Whether a word names a format.
-fn is_format(word: &str) -> bool {
-    let name = match word.split_once('=') {
+/// Whether a word says a format.
+fn is_format(word: &str) -> bool
+    ensures { IsTrue result → SaysFormat word.now }
+{
+    ItemFormat::of_word(format_in(word)).is_some()
+}
+
+/// The format that a word says.
+fn format_in(word: &str) -> &str
+    ensures { result.now ≡ format_in word.now }
+{
+    match word.split_once('=') {
         Some((_, format)) => format,
         None => word,
-    };
-    ItemFormat::of_word(name).is_some()
+    }
 }
 
 /// Whether each of these words is for all ends or for one that the network has, and no two are for the same.
-pub(crate) fn are_for_ends(words: &[&str], document: &Document) -> bool {
+pub(crate) fn are_for_ends(words: &[&str], document: &Document) -> bool
+    ensures ends { IsTrue result → All (λ word. IsForEnd document.now word.now) words.now }
+    ensures apart { IsTrue result
+        → AllPairs (λ word later. end_in word.now ≢ end_in later.now) words.now }
+{
     for i in 0..words.len() {
-        if !is_for_end(words[i], document) || is_said(&words[..i], words[i]) {
+        if !is_for_end(words[i], document) {
+            return false;
+        }
+        if is_said(&words[..i], words[i]) {
             return false;
         }
     }
@@ -34,7 +58,9 @@ pub(crate) fn are_for_ends(words: &[&str], document: &Document) -> bool {
 }
 
 /// Whether a word is for all ends or for one that the network has.
-fn is_for_end(word: &str, document: &Document) -> bool {
+fn is_for_end(word: &str, document: &Document) -> bool
+    ensures { IsTrue result → IsForEnd document.now word.now }
+{
     match word.split_once('=') {
         Some((name, _)) => is_end(document, name),
         None => true,
@@ -42,7 +68,10 @@ fn is_for_end(word: &str, document: &Document) -> bool {
 }
 
 /// Whether a network has a source or a sink of this name.
-fn is_end(document: &Document, name: &str) -> bool {
+fn is_end(document: &Document, name: &str) -> bool
+    ensures { result ≡ is_end_at document.now.tables
+        (number_of document.now.names.channels name.now) }
+{
     match document.find_channel(name) {
         Some(channel) => {
             document.network().is_source(channel) || document.network().is_sink(channel)
@@ -52,12 +81,29 @@ fn is_end(document: &Document, name: &str) -> bool {
 }
 
 /// Whether one of these words is for the same ends.
-fn is_said(words: &[&str], word: &str) -> bool {
-    words.iter().any(|before| name_in(before) == name_in(word))
+fn is_said(words: &[&str], word: &str) -> bool
+    ensures { result ≡ false
+        → All (λ before. end_in before.now ≢ end_in word.now) words.now }
+{
+    for before in words {
+        if are_for_same(before, word) {
+            return true;
+        }
+    }
+    false
+}
+
+/// Whether two words are for the same ends.
+fn are_for_same(word: &str, other: &str) -> bool
+    ensures { result ≡ false → end_in word.now ≢ end_in other.now }
+{
+    end_in(word) == end_in(other)
 }
 
 /// The name of the end that a word is for, or nothing if it is for all.
-fn name_in(word: &str) -> &str {
+fn end_in(word: &str) -> &str
+    ensures { result.now ≡ end_in word.now }
+{
     match word.split_once('=') {
         Some((name, _)) => name,
         None => "",
@@ -72,13 +118,13 @@ pub fn has_lines(words: &[&str], name: &str) -> bool {
 /// The format of the end of this name.
 pub(crate) fn format_for(words: &[&str], name: &str) -> Option<ItemFormat>
     ensures { let word = format_word (map (λ word. word.now) words.now) name.now in
-        MatchOption result (IsNoFormat word) (λ format. word ≡ format_name format) }
+        MatchOption result (IsNoFormat word) (Names word) }
 {
     ItemFormat::of_word(word_for(words, name))
 }
 
 /// The word for the end of this name: the one that names it, or else the one for all.
-fn word_for<'a>(words: &[&'a str], name: &str) -> &'a str
+pub fn word_for<'a>(words: &[&'a str], name: &str) -> &'a str
     ensures { result.now ≡ format_word (map (λ word. word.now) words.now) name.now }
 {
     match word_named(words, name) {

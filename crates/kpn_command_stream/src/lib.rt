@@ -14,4 +14,4 @@ mod stats;
 mod summary;
 
 pub use command::stream_command;
-pub use formats::has_lines;
+pub use formats::word_for;

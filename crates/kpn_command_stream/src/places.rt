@@ -1,8 +1,8 @@
 //! Which input and which output each end of a network gets.
-ghost use Rattle.std.specs.Prelude.{◌≡◌, ◌↔◌, map, option_map, IfOk, IsTrue};
+ghost use Rattle.std.specs.Prelude.{◌≡◌, ◌↔◌, false, map, option_map, All, IfOk, IsTrue};
 ghost use Rattle.kpn_command_base.specs.Sources.{is_end};
 ghost use Rattle.kpn_stream.specs.Ending.{end_numbers};
-ghost use Rattle.kpn_command_stream.specs.Places.{AllPlaced, ArePlaces, name_for, standard};
+ghost use Rattle.kpn_command_stream.specs.Places.{AllPlaced, ArePlaces, HaveOwnInputs, name_for, standard};
 
 use crate::formats::format_for;
 use crate::refusal::StreamRefusal;
@@ -139,7 +139,9 @@ pub(crate) fn place_of<'a>(places: &[Place<'a>], channel: usize) -> Place<'a> {
 }
 
 /// Whether two sources have one input that is no plain file.
-pub(crate) fn share_an_input<S: Ports>(shelf: &S, places: &[Place<'_>]) -> bool {
+pub(crate) fn share_an_input<S: Ports>(shelf: &S, places: &[Place<'_>]) -> bool
+    ensures { result ≡ false → HaveOwnInputs (S.are_two_inputs shelf.now) places.now }
+{
     for i in 0..places.len() {
         if has_input(shelf, &places[..i], places[i].name) {
             return true;
@@ -149,7 +151,10 @@ pub(crate) fn share_an_input<S: Ports>(shelf: &S, places: &[Place<'_>]) -> bool 
 }
 
 /// Whether one of these has the input of this name, and that is no plain file.
-fn has_input<S: Ports>(shelf: &S, places: &[Place<'_>], name: &str) -> bool {
+fn has_input<S: Ports>(shelf: &S, places: &[Place<'_>], name: &str) -> bool
+    ensures { result ≡ false
+        → All (λ place. S.are_two_inputs shelf.now place.name.now name.now) places.now }
+{
     for place in places {
         if shelf.is_one_input(place.name, name) {
             return true;

@@ -12,7 +12,8 @@ use std::io;
 use std::io::Write;
 
 /// The formats of `--format`.
-const FORMATS: &str = "lines, u8, s8, s16le, s24le, s32le, s64le or f32le";
+const FORMATS: &str =
+    "lines, u8, s8, s16le, s24le, s32le, s64le, f32le, f32le:POWER, wav, wav16 or wav24";
 
 /// Why a stream is not begun.
 #[derive(Drop)]
@@ -123,6 +124,10 @@ pub(crate) fn report_source<E: Write>(
         SourceFault::NoMemory => Refusal::Input(ItemFault::NoMemory).report(err),
         SourceFault::CutSample => {
             let _ = writeln!(err, "kpn: 29 CutSample");
+            1
+        }
+        SourceFault::BadHead(byte) => {
+            let _ = writeln!(err, "kpn: 55 BadHead at {byte}");
             1
         }
     };

@@ -56,7 +56,7 @@ pub(crate) fn run<'n, S: Shelf + Ports, I: Look, O: Write>(
     requires none { lost.old.items ≡ [] }
     requires room { length places.now.sinks.items ≤ vec_capacity lost.old }
     ensures ran { IfOk result (λ streamed. RanAt (S.may_give shelf.now)
-        (names_of S.comes_from S.goes_to)
+        (names_of S.are_two_inputs S.comes_from S.goes_to)
         (known_of I.remaining S.Input.remaining O.contents S.Output.contents) request.now
         document.now.tables places.now input.old input.new out.old out.new
         streamed.ending streamed.book lost.new.items) }
@@ -64,7 +64,7 @@ pub(crate) fn run<'n, S: Shelf + Ports, I: Look, O: Write>(
     ensures output { OnErr result (out.new ≡ out.old) }
 {
     let mut inputs = open_inputs(alloc, shelf, places)?;
-    let mut outputs = open_outputs(alloc, shelf, places, request.take, request.clips)?;
+    let mut outputs = open_outputs(alloc, shelf, places, request)?;
     empty_outputs(shelf, places, &mut outputs)?;
     run_between(
         alloc,

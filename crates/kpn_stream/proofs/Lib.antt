@@ -1,3 +1,4 @@
+pub mod Closes
 pub mod Going
 pub mod Handling
 pub mod Listing

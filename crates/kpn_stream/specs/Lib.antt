@@ -2,3 +2,4 @@ pub mod Devices
 pub mod Ending
 pub mod Lists
 pub mod Streaming
+pub mod Closing

@@ -14,6 +14,9 @@ pub enum SourceFault {
     /// The input ends within a sample.
     #[error("the input ends within a sample")]
     CutSample,
+    /// The head of the input is wrong from this byte on, counted from 0.
+    #[error("byte {0} of the head is wrong")]
+    BadHead(u64),
     /// Memory ran out.
     #[error("out of memory")]
     NoMemory,

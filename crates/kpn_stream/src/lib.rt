@@ -2,6 +2,7 @@
 //! their items as they come.
 #![tactic(auto)]
 
+mod closing;
 mod devices;
 mod ending;
 mod ends;
@@ -13,6 +14,7 @@ mod running;
 mod stepping;
 mod taking;
 
+pub use closing::close_sources;
 pub use devices::{Look, Sinks, Sources};
 pub use ending::{Ending, Streamed};
 pub use ends::{EndNumbers, end_numbers_of};

@@ -13,7 +13,7 @@ use Rattle.kpn_run_history.proofs.Legality.{Legal-before}
 use Rattle.kpn_run_history.proofs.OneMore.{item_here}
 use Rattle.kpn_run_history.proofs.Ownership.{IsOwn-last}
 use Rattle.kpn_stream.specs.declared.faults.SourceFault.{SourceFault}
-use Rattle.kpn_stream.specs.declared.faults.SourceFault.TheVariants.{Read, BadItem, CutSample, NoMemory}
+use Rattle.kpn_stream.specs.declared.faults.SourceFault.TheVariants.{Read, BadItem, CutSample, BadHead, NoMemory}
 use Rattle.kpn_stream.specs.Devices.{is_of_source, Fed, at_first, by_others, by_look, by_item, by_end, by_fault, by_no_memory}
 use Rattle.kpn_stream_devices.specs.declared.inputs.Input.{Input}
 use Rattle.kpn_stream_devices.specs.declared.inputs.Inputs.{Inputs}
@@ -195,6 +195,7 @@ module _ {I F : Type 0} (left : I → Option (List ℕ)) (left_in : F → Option
       by_bad s line Read is = cc
       by_bad s line (BadItem other) is = (ap source_in is, ap BadItem (ap line_in is))
       by_bad s line CutSample is = cc
+      by_bad s line (BadHead at) is = cc
       by_bad s line NoMemory is = cc
 
       bad_so_far : {H : List Event} {failed : Option (ℕ × SourceFault)} {now : Inputs I F} (line : ℕ)

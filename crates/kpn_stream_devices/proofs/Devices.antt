@@ -1,11 +1,11 @@
 -- What reads and writes do to inputs and outputs.
-use Rattle.std.proofs.Common.{◌≡◌, ℕ, ◌≤◌, false, List, [], ◌++◌, length, take, length-take, Option, Some, None, Result, Ok, Err, refl, sym, ap, ◌∙◌, subst, arith, append_assoc}
+use Rattle.std.proofs.Common.{◌≡◌, ℕ, ◌≤◌, false, List, [], ◌++◌, length, take, length-take, Option, Some, None, Result, Ok, Err, refl, sym, ap, ◌∙◌, subst, arith, append_assoc, inl, inr}
 use Rattle.std.specs.Prelude.{ℤ}
 use Rattle.std.specs.Io.KnownBytes.{Keeps, Consumes, Appends, prepend_known, append_known}
 use Rattle.std.proofs.KnownBytes.{Keeps-trans, Keeps-refl, Appends-kept, append_known-grown}
 use Rattle.std.proofs.lemmas.Bool.{true≢false}
 use Rattle.kpn_stream_devices.specs.declared.formats.ItemFormat.{ItemFormat}
-use Rattle.kpn_stream_devices.specs.declared.formats.ItemFormat.TheVariants.{Lines, Samples}
+use Rattle.kpn_stream_devices.specs.declared.formats.ItemFormat.TheVariants.{Lines, Samples, Wav}
 use Rattle.kpn_stream_devices.specs.declared.formats.OutputFormat.{OutputFormat}
 use Rattle.kpn_stream.specs.declared.faults.SourceFault.{SourceFault}
 use Rattle.kpn_stream.specs.declared.faults.SourceFault.TheVariants.{Read, NoMemory}
@@ -13,7 +13,11 @@ use Rattle.kpn_stream.specs.declared.faults.SinkFault.{SinkFault}
 use Rattle.kpn_stream.specs.declared.faults.SinkFault.TheVariants.{Gone, NoSample, Write}
 use Rattle.kpn_stream.specs.declared.faults.SinkFault.TheVariants as sink_fault
 use Rattle.kpn_stream_devices.specs.Formats.{HasText, item_bytes, text_of, written_item}
-use Rattle.kpn_stream_devices.specs.Window.{Window, FormatGives, Counts, IfKnown, Gives, IsEndKnown, NeedsMore, Tells, left_of}
+use Rattle.kpn_stream_devices.specs.Window.{Window, FormatGives, WavGives, Counts, IfKnown, Gives, IsEndKnown, NeedsMore, Tells, left_of}
+use Rattle.kpn_stream_devices.specs.declared.head.Wav.{Wav as Left}
+use Rattle.kpn_stream_devices.specs.declared.head.Head.{Head}
+use Rattle.kpn_stream_devices.specs.declared.head.Head.TheVariants.{Open, Bad, Whole}
+use Rattle.kpn_stream_devices.specs.Head.{head_at}
 use Rattle.kpn_stream_devices.specs.declared.inputs.Input.{Input}
 use Rattle.kpn_stream_devices.specs.Inputs.{device_left, InputGives, IsAsked, HaveMoved, FailsToRead, ReadsOnly, Waits, kept_fault}
 use Rattle.kpn_stream_devices.specs.declared.inputs.Failed.{Failed}
@@ -26,6 +30,7 @@ use Rattle.kpn_stream_devices.specs.Outputs.{HandsOn, TakesItem}
 pub needs_open : (format : ItemFormat) (w : Window) → NeedsMore format w → w.is_over ≡ false
 needs_open Lines w needs = needs.0
 needs_open (Samples sample) w needs = needs.0
+needs_open (Wav written) w needs = needs.0
 
 -- nothing is said of the device of an open input
 pub not_over : (w : Window) (device : Option (List ℕ)) → w.is_over ≡ false → IsEndKnown w device
@@ -54,11 +59,13 @@ if_after P (Some xs) (Some ys) (Some zs) kept known = subst (λ bs. P bs zs) kep
 
 -- the answer is right for the input as it was before some bytes moved
 pub gives_after : (format : ItemFormat) (first w after : Window) (device between read : Option (List ℕ))
-    (answer : Result (Option ℤ) SourceFault) → Keeps (left_of first device) (left_of w between)
+    (answer : Result (Option ℤ) SourceFault) → w.wav ≡ first.wav → Keeps (left_of first device) (left_of w between)
     → Gives format w between answer after read → Gives format first device answer after read
-gives_after format first w after device between read answer kept given =
-    if_after (λ left rest. FormatGives format left rest answer) (left_of first device) (left_of w between)
-    (left_of after read) kept given
+gives_after format first w after device between read answer same kept given =
+    if_after (λ left rest. FormatGives format first.wav left after.wav rest answer) (left_of first device)
+    (left_of w between) (left_of after read) kept
+    (subst (λ (wav : Option Left). IfKnown (left_of w between) (left_of after read)
+    (λ left rest. FormatGives format wav left after.wav rest answer)) same given)
 
 -- the count goes on from those that were used before some bytes moved
 counts_after : (answer : Result (Option ℤ) SourceFault) (first used now : ℕ) → used ≡ first → Counts answer used now
@@ -72,12 +79,27 @@ if_kept P all (Some xs) None kept = absurd kept
 if_kept P all (Some xs) (Some ys) kept = all xs ys
 
 -- of a fault of a device or of memory nothing is said
-pub fault_any : (format : ItemFormat) (failed : Failed) (xs ys : List ℕ)
-    → FormatGives format xs ys (Err (kept_fault failed))
-fault_any Lines look_fault.Read xs ys = tt
-fault_any Lines look_fault.NoMemory xs ys = tt
-fault_any (Samples sample) look_fault.Read xs ys = tt
-fault_any (Samples sample) look_fault.NoMemory xs ys = tt
+wav_any : (head : Head) (failed : Failed) (after : Option Left) (xs ys : List ℕ)
+    → WavGives head xs after ys (Err (kept_fault failed))
+wav_any Open look_fault.Read after xs ys = tt
+wav_any Open look_fault.NoMemory after xs ys = tt
+wav_any (Bad at) look_fault.Read after xs ys = tt
+wav_any (Bad at) look_fault.NoMemory after xs ys = tt
+wav_any (Whole count wav) look_fault.Read after xs ys = (tt, tt)
+wav_any (Whole count wav) look_fault.NoMemory after xs ys = (tt, tt)
+
+pub fault_any : (format : ItemFormat) (failed : Failed) (before after : Option Left) (xs ys : List ℕ)
+    → FormatGives format before xs after ys (Err (kept_fault failed))
+fault_any Lines look_fault.Read before after xs ys = tt
+fault_any Lines look_fault.NoMemory before after xs ys = tt
+fault_any (Samples sample) look_fault.Read before after xs ys = tt
+fault_any (Samples sample) look_fault.NoMemory before after xs ys = tt
+fault_any (Wav written) failed before after xs ys = wav_any (head_at before xs) failed after xs ys
+
+-- a fault is kept as one thing
+abbrev kept_of : Option Failed → SourceFault
+kept_of None = Read
+kept_of (Some failed) = kept_fault failed
 
 -- it uses nothing
 pub fault_counts : (failed : Failed) (used now : ℕ) → now ≡ used → Counts (Err (kept_fault failed)) used now
@@ -89,8 +111,8 @@ pub device_fails : (format : ItemFormat) (failed : Failed) (first after : Window
     → Keeps (left_of first device) (left_of after read)
     → Gives format first device (Err (kept_fault failed)) after read
 device_fails format failed first after device read kept =
-    if_kept (λ left rest. FormatGives format left rest (Err (kept_fault failed))) (fault_any format failed)
-    (left_of first device) (left_of after read) kept
+    if_kept (λ left rest. FormatGives format first.wav left after.wav rest (Err (kept_fault failed)))
+    (fault_any format failed first.wav after.wav) (left_of first device) (left_of after read) kept
 
 if_some : (P : List ℕ → List ℕ → Type 0) → ((xs ys : List ℕ) → P xs ys) → (us vs ws bytes : List ℕ)
     (device between read : Option (List ℕ)) → Keeps (prepend_known us device) (prepend_known vs between)
@@ -99,6 +121,13 @@ if_some P all us vs ws bytes None between read kept took = tt
 if_some P all us vs ws bytes (Some ds) None read kept took = absurd kept
 if_some P all us vs ws bytes (Some ds) (Some es) None kept took = absurd took
 if_some P all us vs ws bytes (Some ds) (Some es) (Some fs) kept took = all (us ++ ds) (ws ++ fs)
+
+-- an input does not wait for its device once a look has failed
+pub none_is_some : (failed : Failed) → ◌≡◌ {A = Option Failed} None (Some failed) → ⊥
+none_is_some failed same = absurd cc
+
+not_waiting : {F : Type 0} (input : Input F) (failed : Failed) → input.failed ≡ Some failed → Waits input → ⊥
+not_waiting input failed is waits = none_is_some failed (sym waits.1 ∙ is)
 
 module _ {I F : Type 0} (left : I → Option (List ℕ)) (left_in : F → Option (List ℕ)) where
   -- a call reads only the device of an input, and so do two calls
@@ -126,6 +155,8 @@ module _ {I F : Type 0} (left : I → Option (List ℕ)) (left_in : F → Option
     at_hand = λ some. (refl, refl);
     known = λ known. known;
     given = λ format. device_fails format failed input.window input.window _ _ (Keeps-refl _);
+    failed = refl;
+    told = λ other also. ap kept_of (sym is ∙ also);
   }
 
   module _ (first : I) (input : Input F) where
@@ -137,8 +168,10 @@ module _ {I F : Type 0} (left : I → Option (List ℕ)) (left_in : F → Option
         format = refl;
         only = reads_none first input.file;
         used = refl;
+        wav = refl;
         kept = Keeps-refl _;
         known = λ known. known;
+        failed = refl;
       };
       at_hand = λ at_hand. (refl, refl);
     }
@@ -154,18 +187,23 @@ module _ {I F : Type 0} (left : I → Option (List ℕ)) (left_in : F → Option
         only = so_far.moved.only;
         counted = counts_after answer _ _ _ so_far.moved.used tells.counted;
         known = λ known over. so_far.moved.known known (sym same ∙ over);
-        given = λ known. gives_after input.format input.window moved.window w _ _ _ answer so_far.moved.kept
+        given = λ known. gives_after input.format input.window moved.window w _ _ _ answer so_far.moved.wav
+            so_far.moved.kept
             (subst
             (λ (f : ItemFormat). Gives f moved.window (device_left left left_in between moved.file) answer w
             (device_left left left_in between moved.file)) so_far.moved.format
             (tells.given _ (so_far.moved.known known)));
         at_hand = λ at_hand.
             let is = so_far.at_hand at_hand in (is.0, ap (λ (i : Input F). i.file) is.1);
+        failed = so_far.moved.failed;
+        told = λ failed is.
+            let same = (so_far.at_hand (not_waiting input failed is)).1 in
+            inr (subst (λ (i : Input F). Tells i.format i.window answer w) same tells);
       }
 
       -- after too many reads
-      pub fails_at_last : InputGives left left_in first input (Err Read) between moved
-      fails_at_last = record {
+      pub fails_at_last : input.failed ≡ None → InputGives left left_in first input (Err Read) between moved
+      fails_at_last unfailed = record {
         channel = so_far.moved.channel;
         format = so_far.moved.format;
         only = so_far.moved.only;
@@ -174,6 +212,8 @@ module _ {I F : Type 0} (left : I → Option (List ℕ)) (left_in : F → Option
         given = λ known. device_fails input.format look_fault.Read input.window moved.window _ _ so_far.moved.kept;
         at_hand = λ at_hand.
             let is = so_far.at_hand at_hand in (is.0, ap (λ (i : Input F). i.file) is.1);
+        failed = so_far.moved.failed;
+        told = λ failed is. absurd (none_is_some failed (sym unfailed ∙ is));
       }
 
       -- the bytes tell nothing yet
@@ -195,8 +235,10 @@ module _ {I F : Type 0} (left : I → Option (List ℕ)) (left_in : F → Option
                 format = next.format ∙ so_far.moved.format;
                 only = reads_more first between read input.file moved.file after.file so_far.moved.only next.only;
                 used = next.used ∙ so_far.moved.used;
+                wav = next.wav ∙ so_far.moved.wav;
                 kept = Keeps-trans _ _ _ so_far.moved.kept next.kept;
                 known = λ known. next.known (so_far.moved.known known);
+                failed = next.failed ∙ so_far.moved.failed;
               };
               at_hand = λ at_hand.
                   absurd (needed at_hand (subst (λ (i : Input F). i.failed ≡ None) (so_far.at_hand at_hand).1 none));
@@ -215,12 +257,14 @@ module _ {I F : Type 0} (left : I → Option (List ℕ)) (left_in : F → Option
               counted = counts_after (Err fault) _ _ _ so_far.moved.used last.counted;
               known = λ known. last.known (so_far.moved.known known);
               given = λ known. gives_after input.format input.window moved.window after.window _ _ _ (Err fault)
-                  so_far.moved.kept (last.given input.format);
+                  so_far.moved.wav so_far.moved.kept (last.given input.format);
               at_hand = λ at_hand.
                   let is = so_far.at_hand at_hand in
                   let none = last.at_hand
                   (λ none. needed at_hand (subst (λ (i : Input F). i.failed ≡ None) is.1 none)) in
                   (none.0 ∙ is.0, ap (λ (i : Input F). i.file) (none.1 ∙ is.1));
+              failed = last.failed ∙ so_far.moved.failed;
+              told = λ failed is. inl (ap (λ (f : SourceFault). Err f) (last.told failed (so_far.moved.failed ∙ is)));
             }
 
 -- and so may memory
@@ -228,8 +272,8 @@ pub memory_fails : (format : ItemFormat) (first w after : Window) (device betwee
     (bytes : List ℕ) → Keeps (left_of first device) (left_of w between) → Consumes between read bytes
     → Gives format first device (Err NoMemory) after read
 memory_fails format first w after device between read bytes kept took =
-    if_some (λ left rest. FormatGives format left rest (Err NoMemory)) (fault_any format look_fault.NoMemory)
-    first.unused w.unused after.unused bytes device between read kept took
+    if_some (λ left rest. FormatGives format first.wav left after.wav rest (Err NoMemory))
+    (fault_any format look_fault.NoMemory first.wav after.wav) first.unused w.unused after.unused bytes device between read kept took
 
 -- a read that gave nothing has come to the end
 pub none_taken : (count : ℕ) (chunk : List ℕ) → count ≤ length chunk → take count chunk ≡ [] → count ≡ 0
@@ -256,3 +300,9 @@ handed format item written before kept after (Err (NoSample other)) bytes has is
 pub kept_more : (device : Option (List ℕ)) (old new bytes : List ℕ) → new ≡ old ++ bytes
     → Appends (append_known device old) (append_known device new) bytes
 kept_more device old new bytes is = append_known-grown (append_known device old) device old new bytes (Keeps-refl _) is
+
+-- one more piece was put
+pub joined : (old before so_far after value piece : List ℕ) → before ≡ old ++ so_far → value ≡ piece
+    → after ≡ before ++ value → after ≡ old ++ (so_far ++ piece)
+joined old before so_far after value piece is same more =
+    more ∙ ap (λ bs. bs ++ value) is ∙ append_assoc old so_far value ∙ ap (λ bs. old ++ (so_far ++ bs)) same

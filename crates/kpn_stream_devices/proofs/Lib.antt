@@ -6,3 +6,6 @@ pub mod Firsts
 pub mod Putting
 pub mod Counting
 pub mod Flushing
+pub mod Heads
+pub mod Wavs
+pub mod ReadBack

@@ -8,7 +8,7 @@ use Rattle.std.proofs.Math.Nat.{div-add-mod, mod-lt, mul-div-mul_right, mul-lt-m
 use Rattle.kpn_stream_devices.specs.Floats.{rounded, size_of}
 
 -- what rounding adds to a quotient, by the rest
-abbrev adds : (unit rest whole : ℕ) → ℕ
+abbrev pub adds : (unit rest whole : ℕ) → ℕ
 adds unit rest whole =
     if nat_lt unit (2 * rest) then 1 else (if nat_eq (2 * rest) unit then whole % 2 else 0)
 
@@ -24,14 +24,14 @@ adds_even unit rest whole half =
 not_equal : (a b : ℕ) → a < b → nat_eq a b ≡ false
 not_equal a b less = grind arith
 
-adds_none : (unit rest whole : ℕ) → 2 * rest < unit → adds unit rest whole ≡ 0
+pub adds_none : (unit rest whole : ℕ) → 2 * rest < unit → adds unit rest whole ≡ 0
 adds_none unit rest whole less =
     ap (λ b. if b then 1 else (if nat_eq (2 * rest) unit then whole % 2 else 0))
     (le-ltb unit (2 * rest) (omega (arith, less)))
     ∙ ap (λ b. if b then whole % 2 else 0) (not_equal (2 * rest) unit less)
 
 -- one at most
-adds_few : (unit rest whole : ℕ) → adds unit rest whole ≤ 1
+pub adds_few : (unit rest whole : ℕ) → adds unit rest whole ≤ 1
 adds_few unit rest whole = elim (cases_lt unit (2 * rest)) [
   | inl more ↦ omega (arith, adds_one unit rest whole more)
   | inr least ↦ elim (cases_eq (2 * rest) unit) [
@@ -104,8 +104,8 @@ down_is number power unit rest is at less =
 
 -- ---- sizes
 
-abbrev scaled : (significand exponent : ℕ) → ℕ
-scaled significand exponent = rounded (significand * 2 ^ exponent) (2 ^ 135)
+abbrev pub scaled : (significand exponent : ℕ) → ℕ
+scaled significand exponent = rounded (significand * 2 ^ exponent) (2 ^ 150)
 
 by_one : (a : ℕ) → rounded a 1 ≡ a
 by_one a =
@@ -120,54 +120,61 @@ at_least_one zero some = absurd (some refl)
 at_least_one (suc n) some = omega arith
 
 -- the size of a float that is not too small for a whole significand
-pub size_is : (exponent fraction significand : ℕ) → (exponent ≡ 0 → ⊥) → significand ≡ fraction + 2 ^ 23
-    → scaled significand exponent ≡ size_of exponent fraction
-size_is exponent fraction significand some is =
-    ap (λ (n : ℕ). scaled n exponent) is
-    ∙ sym (ap (λ b. rounded ((if b then fraction else fraction + 2 ^ 23) * 2 ^ max exponent 1) (2 ^ 135))
+pub size_is : (power exponent fraction significand scale : ℕ) → (exponent ≡ 0 → ⊥) → significand ≡ fraction + 2 ^ 23
+    → scale ≡ exponent + power → scaled significand scale ≡ size_of power exponent fraction
+size_is power exponent fraction significand scale some is sum =
+    ap (λ (n : ℕ). scaled n scale) is ∙ ap (scaled (fraction + 2 ^ 23)) sum
+    ∙ sym (ap (λ b. rounded ((if b then fraction else fraction + 2 ^ 23) * 2 ^ (max exponent 1 + power)) (2 ^ 150))
     (some_exponent exponent some)
-    ∙ ap (λ (n : ℕ). rounded ((fraction + 2 ^ 23) * 2 ^ n) (2 ^ 135)) (at_least_one exponent some))
+    ∙ ap (λ (n : ℕ). scaled (fraction + 2 ^ 23) (n + power)) (at_least_one exponent some))
 
 -- from 2^135 on nothing is rounded
-pub scaled_up : (significand exponent : ℕ) → 135 ≤ exponent
-    → scaled significand exponent ≡ significand * 2 ^ (exponent - 135)
+pub scaled_up : (significand exponent : ℕ) → 150 ≤ exponent
+    → scaled significand exponent ≡ significand * 2 ^ (exponent - 150)
 scaled_up significand exponent large =
-    let sum : exponent ≡ exponent - 135 + 135 = omega (arith, large) in
-    let power : 2 ^ exponent ≡ 2 ^ (exponent - 135) * 2 ^ 135 =
-    ap (λ (n : ℕ). 2 ^ n) sum ∙ pow-add 2 (exponent - 135) 135 in
-    let whole : significand * 2 ^ exponent ≡ significand * 2 ^ (exponent - 135) * 2 ^ 135 =
-    ap (λ (n : ℕ). significand * n) power ∙ sym (mul_assoc significand (2 ^ (exponent - 135)) (2 ^ 135)) in
-    ap (λ (n : ℕ). rounded n (2 ^ 135)) whole
-    ∙ rounded_same (significand * 2 ^ (exponent - 135)) 1 (2 ^ 135) (omega arith) (pow_pos 135)
-    ∙ by_one (significand * 2 ^ (exponent - 135))
+    let sum : exponent ≡ exponent - 150 + 150 = omega (arith, large) in
+    let power : 2 ^ exponent ≡ 2 ^ (exponent - 150) * 2 ^ 150 =
+    ap (λ (n : ℕ). 2 ^ n) sum ∙ pow-add 2 (exponent - 150) 150 in
+    let whole : significand * 2 ^ exponent ≡ significand * 2 ^ (exponent - 150) * 2 ^ 150 =
+    ap (λ (n : ℕ). significand * n) power ∙ sym (mul_assoc significand (2 ^ (exponent - 150)) (2 ^ 150)) in
+    ap (λ (n : ℕ). rounded n (2 ^ 150)) whole
+    ∙ rounded_same (significand * 2 ^ (exponent - 150)) 1 (2 ^ 150) (omega arith) (pow_pos 150)
+    ∙ by_one (significand * 2 ^ (exponent - 150))
 
 -- below it is
-pub scaled_down : (significand exponent : ℕ) → exponent < 135
-    → scaled significand exponent ≡ rounded significand (2 ^ (135 - exponent))
+pub scaled_down : (significand exponent : ℕ) → exponent < 150
+    → scaled significand exponent ≡ rounded significand (2 ^ (150 - exponent))
 scaled_down significand exponent small =
-    let sum : 135 ≡ 135 - exponent + exponent = omega (arith, small) in
-    let power : 2 ^ 135 ≡ 2 ^ (135 - exponent) * 2 ^ exponent =
-    ap (λ (n : ℕ). 2 ^ n) sum ∙ pow-add 2 (135 - exponent) exponent in
+    let sum : 150 ≡ 150 - exponent + exponent = omega (arith, small) in
+    let power : 2 ^ 150 ≡ 2 ^ (150 - exponent) * 2 ^ exponent =
+    ap (λ (n : ℕ). 2 ^ n) sum ∙ pow-add 2 (150 - exponent) exponent in
     ap (λ (n : ℕ). rounded (significand * 2 ^ exponent) n) power
-    ∙ rounded_same significand (2 ^ (135 - exponent)) (2 ^ exponent) (pow_pos (135 - exponent)) (pow_pos exponent)
+    ∙ rounded_same significand (2 ^ (150 - exponent)) (2 ^ exponent) (pow_pos (150 - exponent)) (pow_pos exponent)
 
 -- and far below nothing is left
-pub scaled_none : (significand exponent : ℕ) → significand < 2 ^ 24 → exponent < 109 → scaled significand exponent ≡ 0
+pub scaled_none : (significand exponent : ℕ) → significand < 2 ^ 24 → exponent < 124 → scaled significand exponent ≡ 0
 scaled_none significand exponent few small =
-    let large : 2 ^ 25 ≤ 2 ^ (135 - exponent) = pow-le-pow_right {n = 2} (omega arith) {i = 25} {j = 135 - exponent} (omega (arith, small)) in
-    let below : significand < 2 ^ (135 - exponent) = omega (arith, few, large) in
-    let whole : significand / 2 ^ (135 - exponent) ≡ 0 = div-eq_of_lt below in
-    let rest : significand % 2 ^ (135 - exponent) ≡ significand = mod-eq_of_lt below in
-    let none : adds (2 ^ (135 - exponent)) (significand % 2 ^ (135 - exponent)) (significand / 2 ^ (135 - exponent)) ≡ 0 =
-    adds_none (2 ^ (135 - exponent)) (significand % 2 ^ (135 - exponent)) (significand / 2 ^ (135 - exponent)) (omega (arith, rest, few, large)) in
+    let large : 2 ^ 25 ≤ 2 ^ (150 - exponent) = pow-le-pow_right {n = 2} (omega arith) {i = 25} {j = 150 - exponent} (omega (arith, small)) in
+    let below : significand < 2 ^ (150 - exponent) = omega (arith, few, large) in
+    let whole : significand / 2 ^ (150 - exponent) ≡ 0 = div-eq_of_lt below in
+    let rest : significand % 2 ^ (150 - exponent) ≡ significand = mod-eq_of_lt below in
+    let none : adds (2 ^ (150 - exponent)) (significand % 2 ^ (150 - exponent)) (significand / 2 ^ (150 - exponent)) ≡ 0 =
+    adds_none (2 ^ (150 - exponent)) (significand % 2 ^ (150 - exponent)) (significand / 2 ^ (150 - exponent)) (omega (arith, rest, few, large)) in
     scaled_down significand exponent (omega (arith, small)) ∙ omega (arith, whole, none)
 
 -- far above it is too large
-pub scaled_large : (significand exponent : ℕ) → 2 ^ 23 ≤ significand → 175 < exponent → 2 ^ 64 ≤ scaled significand exponent
+pub scaled_large : (significand exponent : ℕ) → 2 ^ 23 ≤ significand → 190 < exponent → 2 ^ 64 ≤ scaled significand exponent
 scaled_large significand exponent many large =
-    let power : 2 ^ 41 ≤ 2 ^ (exponent - 135) = pow-le-pow_right {n = 2} (omega arith) {i = 41} {j = exponent - 135} (omega (arith, large)) in
-    let product : 2 ^ 23 * 2 ^ 41 ≤ significand * 2 ^ (exponent - 135) = mul-le-mul many power in
+    let power : 2 ^ 41 ≤ 2 ^ (exponent - 150) = pow-le-pow_right {n = 2} (omega arith) {i = 41} {j = exponent - 150} (omega (arith, large)) in
+    let product : 2 ^ 23 * 2 ^ 41 ≤ significand * 2 ^ (exponent - 150) = mul-le-mul many power in
     omega (arith, product, scaled_up significand exponent (omega (arith, large)))
+
+-- nor is anything left of a float that has no whole significand
+pub small_is : (power exponent fraction : ℕ) → power ≤ 62 → fraction < 2 ^ 23 → exponent ≡ 0
+    → 0 ≡ size_of power exponent fraction
+small_is power exponent fraction low few none =
+    sym (ap (λ (n : ℕ). size_of power n fraction) none
+    ∙ scaled_none fraction (1 + power) (omega (arith, few)) (omega (arith, low)))
 
 -- ---- writing
 
@@ -199,11 +206,11 @@ shifted_is number size is small =
     mod-eq_of_lt {n = number * 2 ^ 23} {m = 2 ^ 128} (omega (arith, is, small)) ∙ ap (λ (n : ℕ). n * 2 ^ 23) is
 
 -- a significand of 24 places, shifted
-pub kept_is : (significand exponent : ℕ) → significand < 2 ^ 24 → exponent ≤ 175
-    → significand * 2 ^ (exponent - 135) % 2 ^ 64 ≡ significand * 2 ^ (exponent - 135)
+pub kept_is : (significand exponent : ℕ) → significand < 2 ^ 24 → exponent ≤ 190
+    → significand * 2 ^ (exponent - 150) % 2 ^ 64 ≡ significand * 2 ^ (exponent - 150)
 kept_is significand exponent few small =
-    let power : 2 ^ (exponent - 135) ≤ 2 ^ 40 =
-    pow-le-pow_right {n = 2} (omega arith) {i = exponent - 135} {j = 40} (omega (arith, small)) in
-    let product : significand * 2 ^ (exponent - 135) ≤ (2 ^ 24 - 1) * 2 ^ 40 =
-    mul-le-mul {n₁ = significand} {m₁ = 2 ^ (exponent - 135)} {n₂ = 2 ^ 24 - 1} {m₂ = 2 ^ 40} (omega (arith, few)) power in
-    mod-eq_of_lt {n = significand * 2 ^ (exponent - 135)} {m = 2 ^ 64} (omega (arith, product))
+    let power : 2 ^ (exponent - 150) ≤ 2 ^ 40 =
+    pow-le-pow_right {n = 2} (omega arith) {i = exponent - 150} {j = 40} (omega (arith, small)) in
+    let product : significand * 2 ^ (exponent - 150) ≤ (2 ^ 24 - 1) * 2 ^ 40 =
+    mul-le-mul {n₁ = significand} {m₁ = 2 ^ (exponent - 150)} {n₂ = 2 ^ 24 - 1} {m₂ = 2 ^ 40} (omega (arith, few)) power in
+    mod-eq_of_lt {n = significand * 2 ^ (exponent - 150)} {m = 2 ^ 64} (omega (arith, product))

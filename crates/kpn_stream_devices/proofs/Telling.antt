@@ -28,7 +28,7 @@ module _ (left rest line : List ℕ) (first : lines left ≡ line ∷ lines rest
       subst (λ a. LineGives left rest a) (sym (none refl)) (line, lines rest, first, spells_none)
 
 -- one more was used
-counts : (used : ℕ) (item : Option ℤ) (answer : Result (Option ℤ) SourceFault)
+pub counts : (used : ℕ) (item : Option ℤ) (answer : Result (Option ℤ) SourceFault)
     → IfSome item (λ v. answer ≡ Ok (Some v)) → (item ≡ None → answer ≡ Err (BadItem (one_after used)))
     → Counts answer used (one_after used)
 counts used (Some v) answer given none = subst (λ a. Counts a used (one_after used)) (sym given) refl
@@ -103,7 +103,7 @@ signed_again : (width : ℕ) (us ds : List ℕ) → width ≤ length us
 signed_again width us ds within = ap (twos_complement width) (little_from-append width us ds within)
 
 -- and so does the item of a sample
-value_again : (sample : SampleFormat) (us ds : List ℕ) → sample_width sample ≤ length us
+pub value_again : (sample : SampleFormat) (us ds : List ℕ) → sample_width sample ≤ length us
     → sample_value sample (us ++ ds) ≡ sample_value sample us
 value_again U8 us ds within = ap (λ (n : ℕ). Some (pos n)) (little_from-append 1 us ds within)
 value_again S8 us ds within = ap Some (signed_again 1 us ds within)
@@ -111,11 +111,11 @@ value_again S16 us ds within = ap Some (signed_again 2 us ds within)
 value_again S24 us ds within = ap Some (signed_again 3 us ds within)
 value_again S32 us ds within = ap Some (signed_again 4 us ds within)
 value_again S64 us ds within = ap Some (signed_again 8 us ds within)
-value_again F32 us ds within = ap float_item (little_from-append 4 us ds within)
+value_again (F32 power) us ds within = ap (float_item power) (little_from-append 4 us ds within)
 
 -- what is told of the first sample of what is left
 module _ (sample : SampleFormat) (left rest : List ℕ) (within : sample_width sample ≤ length left) where
-  sample_gives : (number : ℕ) (item : Option ℤ) (answer : Result (Option ℤ) SourceFault)
+  pub sample_gives : (number : ℕ) (item : Option ℤ) (answer : Result (Option ℤ) SourceFault)
       → rest ≡ drop (sample_width sample) left → sample_value sample left ≡ item
       → IfSome item (λ v. answer ≡ Ok (Some v)) → (item ≡ None → answer ≡ Err (BadItem number))
       → SampleGives sample left rest answer

@@ -1,5 +1,5 @@
 -- The inputs of a stream, as the devices of its sources.
-use Rattle.std.specs.Prelude.{◌≡◌, ℕ, nat_eq, ℤ, List, position, get_or, slice_set, Option, Some, None, Result, Ok, Err, ⊤}
+use Rattle.std.specs.Prelude.{◌≡◌, ◌⊎◌, ℕ, nat_eq, ℤ, List, position, get_or, slice_set, Option, Some, None, Result, Ok, Err, ⊤}
 use Rattle.kpn_stream_devices.specs.declared.formats.ItemFormat.{ItemFormat}
 use Rattle.kpn_stream.specs.declared.faults.SourceFault.{SourceFault}
 use Rattle.kpn_stream.specs.declared.faults.SourceFault.TheVariants as source_fault
@@ -7,7 +7,7 @@ use Rattle.kpn_stream_devices.specs.declared.inputs.Failed.{Failed}
 use Rattle.kpn_stream_devices.specs.declared.inputs.Failed.TheVariants as look_fault
 use Rattle.kpn_stream_devices.specs.declared.inputs.Input.{Input}
 use Rattle.kpn_stream_devices.specs.declared.inputs.Inputs.{Inputs}
-use Rattle.kpn_stream_devices.specs.Window.{Gives, Counts, IsEndKnown, NeedsMore, left_of}
+use Rattle.kpn_stream_devices.specs.Window.{Gives, Counts, IsEndKnown, NeedsMore, Tells, left_of}
 use Rattle.std.specs.Io.KnownBytes.{Keeps}
 
 -- what a device has left: the file, or else standard input
@@ -26,6 +26,11 @@ ReadsOnly standard read file after = ⊥
 abbrev pub Waits : {F : Type 0} → Input F → Type 0
 Waits input = NeedsMore input.format input.window × (input.failed ≡ None)
 
+-- the fault that is told
+abbrev pub kept_fault : Failed → SourceFault
+kept_fault look_fault.Read = source_fault.Read
+kept_fault look_fault.NoMemory = source_fault.NoMemory
+
 -- What one input gives. Given are standard input and the input, each as it was and as it is afterwards.
 pub record InputGives {I F : Type 0} (left : I → Option (List ℕ)) (left_in : F → Option (List ℕ)) (standard : I)
     (input : Input F) (answer : Result (Option ℤ) SourceFault) (read : I) (after : Input F) : Type 0 where
@@ -41,6 +46,10 @@ pub record InputGives {I F : Type 0} (left : I → Option (List ℕ)) (left_in :
       after.window (device_left left left_in read after.file)
   -- no device is asked if the answer is at hand
   pub at_hand : (Waits input → ⊥) → (read ≡ standard) × (after.file ≡ input.file)
+  -- a fault that a look has met is never forgotten, and is told unless the bytes before it tell an answer
+  pub failed : after.failed ≡ input.failed
+  pub told : (failed : Failed) → input.failed ≡ Some failed
+      → (answer ≡ Err (kept_fault failed)) ⊎ Tells input.format input.window answer after.window
 
 -- which input is that of a source: the first for its channel
 abbrev pub input_of : {F : Type 0} → List (Input F) → (source : ℕ) → Option ℕ
@@ -67,18 +76,20 @@ IsAtHand {F = F} inputs source =
     → get_or inputs.each.now.items i input ≡ input → Waits input → ⊥
 
 -- What a look at an input does: what has come moves from the device to the window, and nothing else happens; or a fault
--- is kept, which the next call tells.
+-- is kept, which the next call tells. If the answer is at hand, no device is looked at, and a kept fault stays.
 pub record InputLooks {I F : Type 0} (left : I → Option (List ℕ)) (left_in : F → Option (List ℕ))
     (standard : I) (input : Input F) (read : I) (after : Input F) : Type 0 where
   pub channel : after.channel ≡ input.channel
   pub format : after.format ≡ input.format
   pub only : ReadsOnly standard read input.file after.file
   pub used : after.window.used ≡ input.window.used
+  pub wav : after.window.wav ≡ input.window.wav
   pub known : IsEndKnown input.window (device_left left left_in standard input.file)
       → IsEndKnown after.window (device_left left left_in read after.file)
   pub kept : after.failed ≡ None
       → Keeps (left_of input.window (device_left left left_in standard input.file))
       (left_of after.window (device_left left left_in read after.file))
+  pub at_hand : (Waits input → ⊥) → (read ≡ standard) × (after ≡ input)
 
 -- What a look at the input of a source does. It has an input, and the others stay as they were; or it has none, and
 -- nothing changes.
@@ -94,11 +105,6 @@ pub data InputsLook {I F : Type 0} (left : I → Option (List ℕ)) (left_in : F
 
 -- ---- scaffolding: what looks keep, and what reads do before the bytes tell
 
--- the fault that is told
-abbrev pub kept_fault : Failed → SourceFault
-kept_fault look_fault.Read = source_fault.Read
-kept_fault look_fault.NoMemory = source_fault.NoMemory
-
 -- bytes have moved from the device to the window, and no others
 pub record HaveMoved {I F : Type 0} (left : I → Option (List ℕ)) (left_in : F → Option (List ℕ))
     (standard : I) (input : Input F) (read : I) (after : Input F) : Type 0 where
@@ -106,10 +112,12 @@ pub record HaveMoved {I F : Type 0} (left : I → Option (List ℕ)) (left_in : 
   pub format : after.format ≡ input.format
   pub only : ReadsOnly standard read input.file after.file
   pub used : after.window.used ≡ input.window.used
+  pub wav : after.window.wav ≡ input.window.wav
   pub kept : Keeps (left_of input.window (device_left left left_in standard input.file))
       (left_of after.window (device_left left left_in read after.file))
   pub known : IsEndKnown input.window (device_left left left_in standard input.file)
       → IsEndKnown after.window (device_left left left_in read after.file)
+  pub failed : after.failed ≡ input.failed
 
 -- so far bytes have moved, and none if the answer was at hand
 pub record IsAsked {I F : Type 0} (left : I → Option (List ℕ)) (left_in : F → Option (List ℕ)) (standard : I)
@@ -129,3 +137,5 @@ pub record FailsToRead {I F : Type 0} (left : I → Option (List ℕ)) (left_in 
       → IsEndKnown after.window (device_left left left_in read after.file)
   pub given : (format : ItemFormat) → Gives format input.window (device_left left left_in standard input.file)
       (Err fault) after.window (device_left left left_in read after.file)
+  pub failed : after.failed ≡ input.failed
+  pub told : (failed : Failed) → input.failed ≡ Some failed → fault ≡ kept_fault failed

@@ -1,25 +1,32 @@
 -- The bytes of an input that were read and not yet used, and what an input gives.
-use Rattle.std.specs.Prelude.{◌≡◌, ℕ, zero, suc, ◌+◌, ◌<◌, ◌≤◌, ◌==◌, drop, position, ◌^◌, ◌-◌, min, ℤ, Bool, false, true, List, [], ◌∷◌, length, Option, Some, None, Result, Ok, Err, ⊤}
+use Rattle.std.specs.Prelude.{◌≡◌, ℕ, zero, suc, ◌+◌, ◌<◌, ◌≤◌, ◌==◌, nat_eq, if◌then◌else◌, take, drop, position, ◌^◌, ◌-◌, min, ℤ, Bool, false, true, List, [], ◌∷◌, length, Option, Some, None, Result, Ok, Err, ⊤}
 use Rattle.std.specs.Str.Lines.{lines}
 use Rattle.std.specs.Io.KnownBytes.{prepend_known, IsAtEnd}
 use Rattle.kpn_text_items.specs.ItemLine.{SpellsItem}
 use Rattle.kpn_stream_devices.specs.declared.formats.SampleFormat.{SampleFormat}
 use Rattle.kpn_stream_devices.specs.declared.formats.ItemFormat.{ItemFormat}
 use Rattle.kpn_stream_devices.specs.declared.formats.ItemFormat.TheVariants.{Lines, Samples}
+use Rattle.kpn_stream_devices.specs.declared.formats.ItemFormat.TheVariants as format
+use Rattle.kpn_stream_devices.specs.declared.formats.WavFormat.{WavFormat}
+use Rattle.kpn_stream_devices.specs.declared.head.Wav.{Wav}
+use Rattle.kpn_stream_devices.specs.declared.head.Head.{Head}
+use Rattle.kpn_stream_devices.specs.declared.head.Head.TheVariants.{Open, Bad, Whole}
 use Rattle.kpn_stream.specs.declared.faults.SourceFault.{SourceFault}
-use Rattle.kpn_stream.specs.declared.faults.SourceFault.TheVariants.{Read, BadItem, CutSample, NoMemory}
+use Rattle.kpn_stream.specs.declared.faults.SourceFault.TheVariants.{Read, BadItem, CutSample, BadHead, NoMemory}
 use Rattle.kpn_stream_devices.specs.Formats.{sample_width, sample_value}
+use Rattle.kpn_stream_devices.specs.Head.{head_at}
 
--- the bytes that were read and not used, whether the input has ended behind them, and how many lines or samples were
--- used
+-- the bytes that were read and not used, whether the input has ended behind them, how many lines or samples were used,
+-- and what is left of a WAV file of which samples were used
 pub record Window : Type 0 where
   pub unused : List ℕ
   pub is_over : Bool
   pub used : ℕ
+  pub wav : Option Wav
 
 -- nothing was read yet
 abbrev pub fresh : Window
-fresh = record { unused = []; is_over = false; used = 0 }
+fresh = record { unused = []; is_over = false; used = 0; wav = None }
 
 -- one more was used; the count stops at the largest number
 abbrev pub one_after : ℕ → ℕ
@@ -52,6 +59,7 @@ LineGives before after (Ok None) = before ≡ []
 LineGives before after (Err (BadItem number)) =
     (line : List ℕ) × (more : List (List ℕ)) × (lines before ≡ line ∷ more) × SpellsNone line
 LineGives before after (Err CutSample) = ⊥
+LineGives before after (Err (BadHead at)) = ⊥
 LineGives before after (Err Read) = ⊤
 LineGives before after (Err NoMemory) = ⊤
 
@@ -65,12 +73,50 @@ SampleGives sample before after (Ok None) = before ≡ []
 SampleGives sample before after (Err (BadItem number)) =
     (sample_width sample ≤ length before) × (sample_value sample before ≡ None)
 SampleGives sample before after (Err CutSample) = (0 < length before) × (length before < sample_width sample)
+SampleGives sample before after (Err (BadHead at)) = ⊥
 SampleGives sample before after (Err Read) = ⊤
 SampleGives sample before after (Err NoMemory) = ⊤
 
-abbrev pub FormatGives : ItemFormat → (before after : List ℕ) → Result (Option ℤ) SourceFault → Type 0
-FormatGives Lines before after answer = LineGives before after answer
-FormatGives (Samples sample) before after answer = SampleGives sample before after answer
+-- the samples behind a head
+abbrev pub data_of : Head → List ℕ → List ℕ
+data_of (Whole length wav) bytes = take wav.left (drop length bytes)
+data_of head bytes = []
+
+-- those that are left are of this kind
+abbrev pub HasSample : SampleFormat → Option Wav → Type 0
+HasSample sample (Some wav) = wav.sample ≡ sample
+HasSample sample None = ⊥
+
+-- they go on behind an item
+abbrev pub GoesOn : SampleFormat → Result (Option ℤ) SourceFault → (after : Option Wav) → Type 0
+GoesOn sample (Ok (Some item)) after = HasSample sample after
+GoesOn sample (Ok None) after = ⊤
+GoesOn sample (Err fault) after = ⊤
+
+-- the head is wrong from this byte on, and that is told, unless the device or memory fails
+abbrev pub TellsBad : (at : ℕ) → Result (Option ℤ) SourceFault → Type 0
+TellsBad at (Ok answer) = ⊥
+TellsBad at (Err (BadItem number)) = ⊥
+TellsBad at (Err CutSample) = ⊥
+TellsBad at (Err (BadHead byte)) = byte ≡ at
+TellsBad at (Err Read) = ⊤
+TellsBad at (Err NoMemory) = ⊤
+
+-- The samples behind the head are given as if nothing else were there, of which there are as many as it says, or fewer
+-- if the input ends before. Of one that is wrong, or that the input ends within, the place is told.
+abbrev pub WavGives : Head → (before : List ℕ) (after : Option Wav) (rest : List ℕ) → Result (Option ℤ) SourceFault
+    → Type 0
+WavGives Open before after rest answer = TellsBad (length before) answer
+WavGives (Bad at) before after rest answer = TellsBad at answer
+WavGives (Whole count wav) before after rest answer =
+    SampleGives wav.sample (data_of (Whole count wav) before) (data_of (head_at after rest) rest) answer
+    × GoesOn wav.sample answer after
+
+abbrev pub FormatGives : ItemFormat → (wav : Option Wav) (before : List ℕ) (after : Option Wav) (rest : List ℕ)
+    → Result (Option ℤ) SourceFault → Type 0
+FormatGives Lines wav before after rest answer = LineGives before rest answer
+FormatGives (Samples sample) wav before after rest answer = SampleGives sample before rest answer
+FormatGives (format.Wav written) wav before after rest answer = WavGives (head_at wav before) before after rest answer
 
 -- of an input whose bytes are known
 abbrev pub IfKnown : (before after : Option (List ℕ)) → (List ℕ → List ℕ → Type 0) → Type 0
@@ -82,7 +128,8 @@ IfKnown (Some before) (Some after) P = P before after
 abbrev pub Gives : ItemFormat → (before : Window) (device : Option (List ℕ)) → Result (Option ℤ) SourceFault
     → (after : Window) (read : Option (List ℕ)) → Type 0
 Gives format before device answer after read =
-    IfKnown (left_of before device) (left_of after read) (λ left rest. FormatGives format left rest answer)
+    IfKnown (left_of before device) (left_of after read)
+    (λ left rest. FormatGives format before.wav left after.wav rest answer)
 
 -- How many were used before an answer and are used then: an item is one more, and a line or a sample that has none is
 -- told by the number that it has, counted from 1.
@@ -106,15 +153,35 @@ LineNeedsMore w =
 abbrev pub SampleNeedsMore : SampleFormat → Window → Type 0
 SampleNeedsMore sample w = (w.is_over ≡ false) × (length w.unused < sample_width sample)
 
+-- nor the whole head of a WAV file and a sample behind it
+abbrev pub HeadNeedsMore : Head → List ℕ → Type 0
+HeadNeedsMore Open unused = ⊤
+HeadNeedsMore (Bad at) unused = ⊥
+HeadNeedsMore (Whole count wav) unused =
+    (length (drop count unused) < sample_width wav.sample) × (length (drop count unused) < wav.left)
+
+abbrev pub WavNeedsMore : Window → Type 0
+WavNeedsMore w = (w.is_over ≡ false) × HeadNeedsMore (head_at w.wav w.unused) w.unused
+
 abbrev pub NeedsMore : ItemFormat → Window → Type 0
 NeedsMore Lines w = LineNeedsMore w
 NeedsMore (Samples sample) w = SampleNeedsMore sample w
+NeedsMore (format.Wav written) w = WavNeedsMore w
 
--- ---- scaffolding: what the unused bytes alone tell
+-- ---- what the unused bytes alone tell
 
 -- an answer that holds whatever the device has left
 pub record Tells (format : ItemFormat) (before : Window) (answer : Result (Option ℤ) SourceFault) (after : Window)
     : Type 0 where
   pub counted : Counts answer before.used after.used
   pub given : (device : Option (List ℕ)) → IsEndKnown before device
-      → IfKnown (left_of before device) (left_of after device) (λ left rest. FormatGives format left rest answer)
+      → IfKnown (left_of before device) (left_of after device)
+      (λ left rest. FormatGives format before.wav left after.wav rest answer)
+
+-- the same of a WAV file
+abbrev pub WavTells : (before : Window) (answer : Result (Option ℤ) SourceFault) (after : Window) → Type 0
+WavTells before answer after = (written : WavFormat) → Tells (format.Wav written) before answer after
+
+-- the answer where no more bytes come than these, which are too few for a sample: all are used, or a part is left
+abbrev pub end_told : (count left : ℕ) → Result (Option ℤ) SourceFault
+end_told count left = if nat_eq count 0 then Ok None else if nat_eq left 0 then Ok None else Err CutSample

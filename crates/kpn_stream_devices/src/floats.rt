@@ -8,40 +8,45 @@ const ONE: u32 = 8_388_608;
 /// 2^63, the size of the least item.
 const HALF: u64 = 9_223_372_036_854_775_808;
 
-/// The item that a float with these bits writes.
-pub(crate) fn float_item(bits: u32) -> Option<i64>
-    ensures { result ≡ float_item bits }
+/// The greatest power of two.
+const MOST_POWER: u32 = 62;
+
+/// The item that a float with these bits writes, of 2^power for 1.
+pub(crate) fn float_item(power: u32, bits: u32) -> Option<i64>
+    ensures { result ≡ float_item power bits }
 {
     let exponent = bits / ONE % 256;
     let fraction = bits % ONE;
     if exponent == 255 {
         return None;
     }
-    let size = size_of(exponent, fraction)?;
+    let size = size_of(power.min(MOST_POWER), exponent, fraction)?;
     with_sign(bits >= 2_147_483_648, size)
 }
 
-/// The size of a float times 2^15, unless it has more than 64 bits.
-fn size_of(exponent: u32, fraction: u32) -> Option<u64>
+/// The size of a float times 2^power, unless it has more than 64 bits.
+fn size_of(power: u32, exponent: u32, fraction: u32) -> Option<u64>
+    requires power { power ≤ 62 }
     requires exponent { exponent < 255 }
     requires fraction { fraction < 2 ^ 23 }
-    ensures { MatchOption result (2 ^ 64 ≤ size_of exponent fraction)
-        (λ size. size ≡ size_of exponent fraction) }
+    ensures { MatchOption result (2 ^ 64 ≤ size_of power exponent fraction)
+        (λ size. size ≡ size_of power exponent fraction) }
 {
     if exponent == 0 {
         return Some(0);
     }
     let significand = u64::from(fraction + ONE);
-    if exponent > 175 {
+    let scale = exponent + power;
+    if scale > 190 {
         return None;
     }
-    if exponent >= 135 {
-        return Some(significand << (exponent - 135));
+    if scale >= 150 {
+        return Some(significand << (scale - 150));
     }
-    if exponent < 109 {
+    if scale < 124 {
         return Some(0);
     }
-    Some(rounded(u128::from(significand), 135 - exponent) as u64)
+    Some(rounded(u128::from(significand), 150 - scale) as u64)
 }
 
 /// The number of this size, if it has 64 bits.
@@ -76,17 +81,18 @@ fn rounded(number: u128, power: u32) -> u128
     }
 }
 
-/// The bits of the float that writes an item.
-pub(crate) fn float_bits(item: i64) -> u32
-    ensures { result ≡ float_bits item }
+/// The bits of the float that writes an item, of 2^power for 1.
+pub(crate) fn float_bits(power: u32, item: i64) -> u32
+    ensures { result ≡ float_bits power item }
 {
     let sign = if item < 0 { 2_147_483_648 } else { 0 };
-    sign + size_bits(item.unsigned_abs())
+    sign + size_bits(power.min(MOST_POWER), item.unsigned_abs())
 }
 
-/// The bits of a size / 2^15.
-fn size_bits(size: u64) -> u32
-    ensures value { result ≡ size_bits size }
+/// The bits of a size / 2^power.
+fn size_bits(power: u32, size: u64) -> u32
+    requires { power ≤ 62 }
+    ensures value { result ≡ size_bits power size }
     ensures bound { result < 2 ^ 31 }
 {
     if size == 0 {
@@ -94,5 +100,5 @@ fn size_bits(size: u64) -> u32
     }
     let highest = 63 - size.leading_zeros();
     let significand = rounded(u128::from(size) << 23, highest) as u32;
-    (highest + 111) * ONE + significand
+    (highest + 126 - power) * ONE + significand
 }

@@ -1,9 +1,18 @@
 //! How items are written in the inputs and outputs of a stream.
-ghost use Rattle.std.specs.Prelude.{◌≡◌, ◌≤◌, ◌↔◌, length, IsTrue, MatchOption};
-ghost use Rattle.kpn_stream_devices.specs.Formats.{sample_width, sample_value, least_item, greatest_item, least_sample, greatest_sample, HasItem, HasText, nearest_item, written_item, format_name, IsNoFormat};
+ghost use Rattle.std.specs.Prelude.{◌≡◌, ◌≤◌, ◌↔◌, ℕ, length, IsTrue, MatchOption};
+ghost use Rattle.kpn_stream_devices.specs.Formats.{sample_width, sample_value, wav_sample, least_item, greatest_item, least_sample, greatest_sample, HasItem, HasText, nearest_item, written_item, Names, NamesPower, IsNoFormat};
+ghost use Rattle.kpn_stream_devices.specs.declared.formats.SampleFormat.TheVariants.{F32};
+ghost use Rattle.kpn_stream_devices.specs.declared.formats.ItemFormat.TheVariants.{Samples};
 
 use crate::floats::float_item;
 use byteorder::{ByteOrder, LittleEndian};
+use kpn_text_items::item_of_line;
+
+/// The greatest item that is nearer to a float below 2^63 than to 2^63, which no item is.
+const LARGEST_FLOAT: i64 = 9_223_371_761_976_868_863;
+
+/// The power of two of floats without another.
+const USUAL_POWER: u32 = 15;
 
 /// How a sample writes an item.
 #[derive(Clone, Copy)]
@@ -20,8 +29,19 @@ pub enum SampleFormat {
     S32,
     /// 64 bits, likewise.
     S64,
-    /// A float of 32 bits, the lowest byte first: an item n is n / 2^15.
-    F32,
+    /// A float of 32 bits, the lowest byte first: an item n is n / 2^power. A power above 62 counts as 62.
+    F32(u32),
+}
+
+/// How many bits the samples of a WAV file have that is written. Its head says it of one that is read.
+#[derive(Clone, Copy)]
+pub enum WavFormat {
+    /// 16, as without a number.
+    Usual,
+    /// 16.
+    Bits16,
+    /// 24.
+    Bits24,
 }
 
 /// How items are written in an input or an output of a stream.
@@ -31,6 +51,8 @@ pub enum ItemFormat {
     Lines,
     /// Samples, one behind the other.
     Samples(SampleFormat),
+    /// A WAV file: samples behind a head.
+    Wav(WavFormat),
 }
 
 /// How an output writes items, and whether it writes for one that does not fit the nearest one that does.
@@ -42,7 +64,7 @@ pub struct OutputFormat {
 
 impl SampleFormat {
     /// How many bytes a sample has.
-    pub(crate) fn width(self) -> usize
+    pub fn width(self) -> usize
         ensures width { result ≡ sample_width self }
         ensures low { 1 ≤ result }
         ensures high { result ≤ 8 }
@@ -51,7 +73,7 @@ impl SampleFormat {
             SampleFormat::U8 | SampleFormat::S8 => 1,
             SampleFormat::S16 => 2,
             SampleFormat::S24 => 3,
-            SampleFormat::S32 | SampleFormat::F32 => 4,
+            SampleFormat::S32 | SampleFormat::F32(_) => 4,
             SampleFormat::S64 => 8,
         }
     }
@@ -68,7 +90,7 @@ impl SampleFormat {
             SampleFormat::S24 => Some(LittleEndian::read_int(bytes, 3)),
             SampleFormat::S32 => Some(LittleEndian::read_int(bytes, 4)),
             SampleFormat::S64 => Some(LittleEndian::read_int(bytes, 8)),
-            SampleFormat::F32 => float_item(LittleEndian::read_u32(bytes)),
+            SampleFormat::F32(power) => float_item(power, LittleEndian::read_u32(bytes)),
         }
     }
 
@@ -81,7 +103,7 @@ impl SampleFormat {
             SampleFormat::S16 => i64::from(i16::MIN),
             SampleFormat::S24 => -8_388_608,
             SampleFormat::S32 => i64::from(i32::MIN),
-            SampleFormat::S64 | SampleFormat::F32 => i64::MIN,
+            SampleFormat::S64 | SampleFormat::F32(_) => i64::MIN,
         }
     }
 
@@ -94,7 +116,20 @@ impl SampleFormat {
             SampleFormat::S16 => i64::from(i16::MAX),
             SampleFormat::S24 => 8_388_607,
             SampleFormat::S32 => i64::from(i32::MAX),
-            SampleFormat::S64 | SampleFormat::F32 => i64::MAX,
+            SampleFormat::S64 => i64::MAX,
+            SampleFormat::F32(_) => LARGEST_FLOAT,
+        }
+    }
+}
+
+impl WavFormat {
+    /// The samples that are written.
+    pub(crate) fn sample(self) -> SampleFormat
+        ensures { result ≡ wav_sample self }
+    {
+        match self {
+            WavFormat::Usual | WavFormat::Bits16 => SampleFormat::S16,
+            WavFormat::Bits24 => SampleFormat::S24,
         }
     }
 }
@@ -102,8 +137,7 @@ impl SampleFormat {
 impl ItemFormat {
     /// The format that a word behind `--format` names.
     pub fn of_word(word: &str) -> Option<ItemFormat>
-        ensures { MatchOption result (IsNoFormat word.now)
-            (λ format. word.now ≡ format_name format) }
+        ensures { MatchOption result (IsNoFormat word.now) (Names word.now) }
     {
         match word {
             "lines" => Some(ItemFormat::Lines),
@@ -113,31 +147,56 @@ impl ItemFormat {
             "s24le" => Some(ItemFormat::Samples(SampleFormat::S24)),
             "s32le" => Some(ItemFormat::Samples(SampleFormat::S32)),
             "s64le" => Some(ItemFormat::Samples(SampleFormat::S64)),
-            "f32le" => Some(ItemFormat::Samples(SampleFormat::F32)),
+            "f32le" => Some(ItemFormat::Samples(SampleFormat::F32(USUAL_POWER))),
+            "wav" => Some(ItemFormat::Wav(WavFormat::Usual)),
+            "wav16" => Some(ItemFormat::Wav(WavFormat::Bits16)),
+            "wav24" => Some(ItemFormat::Wav(WavFormat::Bits24)),
+            _ => ItemFormat::scaled(word),
+        }
+    }
+
+    /// The format that `f32le:POWER` names.
+    fn scaled(word: &str) -> Option<ItemFormat>
+        ensures { MatchOption result ((power : ℕ) → NamesPower word.now power → ⊥)
+            (λ format. (power : ℕ) × NamesPower word.now power
+            × (format ≡ Samples (F32 power))) }
+    {
+        let bytes = word.as_bytes();
+        if !bytes.starts_with(b"f32le:") {
+            return None;
+        }
+        match item_of_line(&bytes[6..]) {
+            Some(power) if 0 <= power && power <= 62 => {
+                Some(ItemFormat::Samples(SampleFormat::F32(power as u32)))
+            }
             _ => None,
         }
     }
 
-    fn least(self) -> i64
+    /// The least item for which the format has a text.
+    pub fn least(self) -> i64
         ensures { result ≡ least_item self }
     {
         match self {
             ItemFormat::Lines => i64::MIN,
             ItemFormat::Samples(sample) => sample.least(),
+            ItemFormat::Wav(wav) => wav.sample().least(),
         }
     }
 
-    fn greatest(self) -> i64
+    /// The greatest item for which it has one.
+    pub fn greatest(self) -> i64
         ensures { result ≡ greatest_item self }
     {
         match self {
             ItemFormat::Lines => i64::MAX,
             ItemFormat::Samples(sample) => sample.greatest(),
+            ItemFormat::Wav(wav) => wav.sample().greatest(),
         }
     }
 
     /// Whether the format has a text for an item.
-    fn has(self, item: i64) -> bool
+    pub fn has(self, item: i64) -> bool
         ensures { IsTrue result ↔ HasItem self item }
     {
         self.least() <= item && item <= self.greatest()

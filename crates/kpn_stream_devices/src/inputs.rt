@@ -89,7 +89,7 @@ fn input_of<F: Drop>(inputs: &[Input<F>], source: usize) -> Option<usize>
 /// Whether an input has an answer without its device.
 fn is_told<F: Drop>(input: &Input<F>) -> bool
     ensures told { Waits input.now → result ≡ false }
-    ensures open { result ≡ false → input.now.window.is_over ≡ false }
+    ensures waits { result ≡ false → Waits input.now }
 {
     input.failed.is_some() || input.window.is_at_hand(input.format)
 }
@@ -125,7 +125,7 @@ fn can_look<I: Look, F: Look + Drop>(input: &Input<F>, standard: &I) -> bool {
 /// Takes into the window what has come, and keeps the fault if that fails. It is apart since the chunk is large.
 #[inline(never)]
 fn take_in<I: Look, F: Look + Drop>(input: &mut Input<F>, standard: &mut I)
-    requires { input.old.window.is_over ≡ false }
+    requires { Waits input.old }
     ensures { InputLooks I.remaining F.remaining standard.old input.old standard.new input.new }
 {
     let mut chunk = [0; CHUNK];

@@ -1,5 +1,5 @@
 //! What follows from the clauses of the inputs and outputs, as contracts of functions that do nothing.
-ghost use Rattle.std.specs.Prelude.{◌≡◌, ℕ, ◌+◌, true, false, List, [], length, get_or, Contains, Option, Some};
+ghost use Rattle.std.specs.Prelude.{◌≡◌, ℕ, ℤ, ◌+◌, IsSome, true, false, List, [], length, get_or, Contains, Option, Some};
 ghost use Rattle.std.specs.Io.KnownBytes.{Appends};
 ghost use Rattle.kpn_net.specs.Tables.{Tables, channel_at, is_source, is_sink};
 ghost use Rattle.kpn_net.specs.Faults.{IsNetwork};
@@ -10,6 +10,10 @@ ghost use Rattle.kpn_stream.specs.declared.faults.SinkFault.{SinkFault};
 ghost use Rattle.kpn_stream.specs.declared.faults.SourceFault.TheVariants.{BadItem};
 ghost use Rattle.kpn_stream.specs.Devices.{AreFlushedLast, Fed, Served};
 ghost use Rattle.kpn_stream.specs.Ending.{end_numbers};
+ghost use Rattle.kpn_stream_devices.specs.Floats.{float_bits, float_item};
+ghost use Rattle.kpn_stream_devices.specs.Formats.{HasItem};
+ghost use Rattle.kpn_stream_devices.specs.declared.formats.ItemFormat.TheVariants.{Samples};
+ghost use Rattle.kpn_stream_devices.specs.declared.formats.SampleFormat.TheVariants.{F32};
 ghost use Rattle.kpn_stream_devices.specs.declared.inputs.Input.{Input as Source};
 ghost use Rattle.kpn_stream_devices.specs.declared.inputs.Inputs.{Inputs as Devices};
 ghost use Rattle.kpn_stream_devices.specs.Inputs.{InputsGive, InputsLook, input_of};
@@ -59,4 +63,10 @@ pub fn what_is_out<O: Write, G: Write + Drop>()
         (device_holds O.contents G.contents now.standard.now
         (get_or now.each.now.items i d).file)
         (text_of_all (get_or first.each.now.items i d).format (read_on H c)) }
+{}
+
+/// A float that was written for an item that fits its format is read again as an item.
+pub fn a_float_is_read_again()
+    ensures { (power : ℕ) (item : ℤ) → HasItem (Samples (F32 power)) item
+        → IsSome (float_item power (float_bits power item)) }
 {}

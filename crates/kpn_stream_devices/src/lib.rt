@@ -3,12 +3,14 @@
 
 mod floats;
 mod formats;
+mod head;
 mod inputs;
 pub mod laws;
 mod outputs;
 mod window;
 
-pub use formats::{ItemFormat, OutputFormat, SampleFormat};
+pub use formats::{ItemFormat, OutputFormat, SampleFormat, WavFormat};
+pub use head::{Head, Wav};
 pub use inputs::{Failed, Input, Inputs};
-pub use outputs::{Output, Outputs};
+pub use outputs::{Output, Outputs, head_bytes};
 pub use window::Window;

@@ -1,8 +1,9 @@
 //! The outputs of a stream, as the devices of its sinks.
-ghost use Rattle.std.specs.Prelude.{◌≡◌, ◌≤◌, ◌++◌, OnOk, OnErr, IfErr};
+ghost use Rattle.std.specs.Prelude.{◌≡◌, ◌≤◌, ◌*◌, ◌%◌, ◌^◌, ◌++◌, IfOk, OnOk, OnErr, IfErr};
+ghost use Rattle.std.specs.Int.{to_le_bytes, w16, w32};
 ghost use Rattle.std.specs.Io.KnownBytes.{Appends};
 ghost use Rattle.kpn_text_items.specs.ItemFile.{item_line};
-ghost use Rattle.kpn_stream_devices.specs.Formats.{item_bytes, number_bytes, sample_bytes};
+ghost use Rattle.kpn_stream_devices.specs.Formats.{head_bytes, item_bytes, number_bytes, sample_bytes, sample_width, wav_head};
 ghost use Rattle.kpn_stream_devices.specs.Outputs.{device_holds, output_of, was_put, TakesItem, HandsOn, IsOfDevice, WritesOnly};
 
 use crate::floats::float_bits;
@@ -10,12 +11,18 @@ use crate::formats::{ItemFormat, OutputFormat, SampleFormat};
 use byteorder::{ByteOrder, LittleEndian};
 use itoa::Buffer;
 use kpn_stream::{SinkFault, Sinks};
-use std::alloc::AllocError;
+use std::alloc::{AllocError, Global};
 use std::io;
 use std::io::{ErrorKind, Write};
 
 /// With so many bytes an output hands on what it kept.
 const FULL: usize = 8192;
+
+/// How the head of a WAV file begins, up to the tag of whole numbers, and how it ends. Nobody knows the sizes yet: they
+/// are those that `sox` takes for unknown.
+const OPENING: &[u8] = b"RIFF\x24\xf0\xff\x7fWAVEfmt \x10\0\0\0\x01\0";
+
+const CLOSING: &[u8] = b"data\x00\xf0\xff\x7f";
 
 /// The output of a sink: that of this file, or else standard output. And the bytes that it has not got yet, and how
 /// many items are still wanted, if there is such a number.
@@ -107,6 +114,7 @@ fn push(bytes: &mut Vec<u8>, format: ItemFormat, item: i64) -> Result<(), AllocE
     match format {
         ItemFormat::Lines => push_line(bytes, item),
         ItemFormat::Samples(sample) => push_sample(bytes, sample, item),
+        ItemFormat::Wav(wav) => push_sample(bytes, wav.sample(), item),
     }
 }
 
@@ -132,8 +140,73 @@ fn push_sample(bytes: &mut Vec<u8>, sample: SampleFormat, item: i64) -> Result<(
         SampleFormat::S24 => push_number(bytes, item, 3),
         SampleFormat::S32 => push_number(bytes, item, 4),
         SampleFormat::S64 => push_number(bytes, item, 8),
-        SampleFormat::F32 => push_number(bytes, i64::from(float_bits(item)), 4),
+        SampleFormat::F32(power) => push_number(bytes, i64::from(float_bits(power, item)), 4),
     }
+}
+
+/// What an output of this format begins with: the head of a WAV file, or nothing. It says that so many items of each
+/// channel are in a second, and that there are so many channels. How many items follow nobody knows yet.
+pub fn head_bytes(
+    alloc: Global,
+    format: ItemFormat,
+    rate: u32,
+    channels: u16,
+) -> Result<Vec<u8>, AllocError>
+    ensures { IfOk result (λ bytes. bytes.items ≡ head_bytes format rate channels) }
+{
+    let mut bytes = Vec::new(alloc);
+    if let ItemFormat::Wav(wav) = format {
+        push_head(&mut bytes, wav.sample(), rate, channels)?;
+    }
+    Ok(bytes)
+}
+
+fn push_head(
+    bytes: &mut Vec<u8>,
+    sample: SampleFormat,
+    rate: u32,
+    channels: u16,
+) -> Result<(), AllocError>
+    ensures { OnOk result
+        (bytes.new.items ≡ bytes.old.items ++ wav_head sample rate channels) }
+{
+    let frame = frame_of(sample, channels);
+    bytes.extend_from_slice(OPENING)?;
+    push_half(bytes, channels)?;
+    push_word(bytes, rate)?;
+    push_word(bytes, pace_of(rate, frame))?;
+    push_half(bytes, (frame % 65_536) as u16)?;
+    push_half(bytes, 8 * sample.width() as u16)?;
+    bytes.extend_from_slice(CLOSING)?;
+    Ok(())
+}
+
+/// How many bytes the samples of all channels have that belong together.
+fn frame_of(sample: SampleFormat, channels: u16) -> u32
+    ensures { result ≡ channels * sample_width sample }
+{
+    u32::from(channels) * sample.width() as u32
+}
+
+/// How many bytes a second has: its lowest 32 bits.
+fn pace_of(rate: u32, frame: u32) -> u32
+    ensures { result ≡ rate * frame % 2 ^ 32 }
+{
+    (u64::from(rate) * u64::from(frame) % 4_294_967_296) as u32
+}
+
+/// Puts a number of 16 bits behind these bytes.
+fn push_half(bytes: &mut Vec<u8>, number: u16) -> Result<(), AllocError>
+    ensures { OnOk result (bytes.new.items ≡ bytes.old.items ++ to_le_bytes w16 number) }
+{
+    bytes.extend_from_slice(&number.to_le_bytes())
+}
+
+/// Puts a number of 32 bits behind these bytes.
+fn push_word(bytes: &mut Vec<u8>, number: u32) -> Result<(), AllocError>
+    ensures { OnOk result (bytes.new.items ≡ bytes.old.items ++ to_le_bytes w32 number) }
+{
+    bytes.extend_from_slice(&number.to_le_bytes())
 }
 
 /// Puts the lowest bytes of an item behind these bytes, so many, the lowest of them first.

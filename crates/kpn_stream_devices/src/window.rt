@@ -1,10 +1,13 @@
 //! The bytes of an input that were read and not yet used, and the items that they spell.
-ghost use Rattle.std.specs.Prelude.{◌≡◌, ◌+◌, ◌<◌, ◌≤◌, ◌++◌, [], true, false, Ok, Err, Some, None, drop, length, vec_len, IfOk, OnOk, OnErr, IfSome, MatchOption, position, ◌==◌};
+ghost use Rattle.std.specs.Prelude.{◌≡◌, ◌+◌, ◌<◌, ◌≤◌, ◌++◌, [], true, false, Ok, Err, Some, None, drop, length, vec_len, IfOk, OnOk, OnErr, IfSome, MatchOption, position, ◌==◌, min};
 ghost use Rattle.kpn_stream_devices.specs.Formats.{sample_width};
-ghost use Rattle.kpn_stream_devices.specs.Window.{fresh, one_after, with_one, NeedsMore, LineNeedsMore, SampleNeedsMore, Tells};
+ghost use Rattle.kpn_stream_devices.specs.Head.{HasHead, head_at};
+ghost use Rattle.kpn_stream_devices.specs.Window.{end_told, fresh, one_after, with_one, NeedsMore, HeadNeedsMore, LineNeedsMore, SampleNeedsMore, Tells, WavNeedsMore, WavTells};
+ghost use Rattle.kpn_stream_devices.specs.declared.head.Head.TheVariants.{Whole};
 ghost use Rattle.kpn_stream_devices.specs.declared.formats.ItemFormat.TheVariants.{Lines, Samples};
 
 use crate::formats::{ItemFormat, SampleFormat};
+use crate::head::{Head, Wav, head_of};
 use kpn_stream::SourceFault;
 use kpn_text_items::{item_of_line, line_feed, without_carriage_return};
 use std::alloc::{AllocError, Global};
@@ -24,6 +27,8 @@ pub struct Window {
     start: usize,
     is_over: bool,
     used: u64,
+    // once samples of a WAV file were used
+    wav: Option<Wav>,
 }
 
 impl Model for Window {
@@ -36,6 +41,7 @@ impl Model for Window {
       unused = drop w.start w.bytes.items;
       is_over = w.is_over;
       used = w.used;
+      wav = w.wav;
     } };
 
     ghost invariant = { λ w. w.start ≤ length w.bytes.items };
@@ -51,6 +57,7 @@ impl Window {
             start: 0,
             is_over: false,
             used: 0,
+            wav: None,
         }
     }
 
@@ -65,6 +72,7 @@ impl Window {
     pub fn add(&mut self, bytes: &[u8]) -> Result<(), AllocError>
         ensures added { OnOk result (self.new.unused ≡ self.old.unused ++ bytes.now) }
         ensures used { self.new.used ≡ self.old.used }
+        ensures wav { self.new.wav ≡ self.old.wav }
         ensures over { self.new.is_over ≡ true → bytes.now ≡ [] }
     {
         if bytes.is_empty() {
@@ -106,19 +114,21 @@ impl Window {
         match format {
             ItemFormat::Lines => self.next_line(),
             ItemFormat::Samples(sample) => self.next_sample(sample),
+            ItemFormat::Wav(_) => self.next_of_wav(),
         }
     }
 
     /// Whether `next` needs no more bytes.
     pub fn is_at_hand(&self, format: ItemFormat) -> bool
         ensures told { NeedsMore format self.now → result ≡ false }
-        ensures open { result ≡ false → self.now.is_over ≡ false }
+        ensures needs { result ≡ false → NeedsMore format self.now }
     {
         let unused = self.unused();
         self.is_over
             || match format {
                 ItemFormat::Lines => unused.len() >= LONGEST || line_feed(unused).is_some(),
                 ItemFormat::Samples(sample) => unused.len() >= sample.width(),
+                ItemFormat::Wav(_) => self.is_wav_at_hand(),
             }
     }
 
@@ -212,6 +222,104 @@ impl Window {
         }
         Some(Err(SourceFault::CutSample))
     }
+
+    /// Where the samples of a WAV file go on.
+    fn head(&self) -> Head
+        ensures is { result ≡ head_at self.now.wav self.now.unused }
+        ensures within { HasHead result (length self.now.unused) }
+    {
+        match self.wav {
+            Some(wav) => Head::Whole(0, wav),
+            None => head_of(self.unused()),
+        }
+    }
+
+    fn is_wav_at_hand(&self) -> bool
+        ensures told { WavNeedsMore self.now → result ≡ false }
+        ensures needs { result ≡ false → let now = self.now in
+            HeadNeedsMore (head_at now.wav now.unused) now.unused }
+    {
+        match self.head() {
+            Head::Open => false,
+            Head::Bad(_) => true,
+            Head::Whole(start, wav) => {
+                let count = self.unused().len() - start;
+                count >= wav.sample.width() || count as u64 >= wav.left
+            }
+        }
+    }
+
+    /// The answer of a sample of a WAV file.
+    fn next_of_wav(&mut self) -> Option<Answer>
+        ensures told { IfSome result (λ answer. WavTells self.old answer self.new) }
+        ensures needs_more { result ≡ None → self.new ≡ self.old }
+        ensures needs { result ≡ None → WavNeedsMore self.old }
+        ensures over { self.new.is_over ≡ self.old.is_over }
+    {
+        match self.head() {
+            Head::Whole(start, wav) => self.next_behind(start, wav),
+            Head::Bad(at) => Some(Err(SourceFault::BadHead(at as u64))),
+            Head::Open if self.is_over => {
+                Some(Err(SourceFault::BadHead(self.unused().len() as u64)))
+            }
+            Head::Open => None,
+        }
+    }
+
+    /// The same behind so many bytes of the head.
+    fn next_behind(&mut self, start: usize, wav: Wav) -> Option<Answer>
+        requires head { head_at self.old.wav self.old.unused ≡ Whole start wav }
+        requires within { start ≤ length self.old.unused }
+        ensures told { IfSome result (λ answer. WavTells self.old answer self.new) }
+        ensures needs_more { result ≡ None → self.new ≡ self.old }
+        ensures needs { result ≡ None → WavNeedsMore self.old }
+        ensures over { self.new.is_over ≡ self.old.is_over }
+    {
+        let behind = &self.unused()[start..];
+        let width = wav.sample.width();
+        if behind.len() < width || wav.left < width as u64 {
+            return self.no_wav(start, wav);
+        }
+        let item = wav.sample.value(behind);
+        let number = self.pass(start + width);
+        self.wav = Some(Wav {
+            sample: wav.sample,
+            left: wav.left - width as u64,
+        });
+        Some(told(item, number))
+    }
+
+    /// The same if there are too few bytes for a sample.
+    fn no_wav(&self, start: usize, wav: Wav) -> Option<Answer>
+        requires head { head_at self.now.wav self.now.unused ≡ Whole start wav }
+        requires within { start ≤ length self.now.unused }
+        requires few { min wav.left (length (drop start self.now.unused))
+            < sample_width wav.sample }
+        ensures told { IfSome result (λ answer. WavTells self.now answer self.now) }
+        ensures needs { result ≡ None → WavNeedsMore self.now }
+    {
+        let count = self.unused().len() - start;
+        if count as u64 >= wav.left {
+            return Some(end_told(count, wav.left));
+        }
+        if self.is_over {
+            return Some(end_told(count, wav.left));
+        }
+        None
+    }
+}
+
+/// The answer where so many bytes are too few for a sample, or so few are left of the file, and no more come.
+fn end_told(count: usize, left: u64) -> Answer
+    ensures { result ≡ end_told count left }
+{
+    if count == 0 {
+        return Ok(None);
+    }
+    if left == 0 {
+        return Ok(None);
+    }
+    Err(SourceFault::CutSample)
 }
 
 /// The answer of a line or a sample, counted from 1, that spells this item, or none.

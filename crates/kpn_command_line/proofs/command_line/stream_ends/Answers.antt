@@ -1,7 +1,7 @@
 -- One word after the other is added.
 use Rattle.std.proofs.Common.{codes}
 use Rattle.clap.specs.Simple.{new_app}
-use Rattle.kpn_command_line.specs.CommandLine.{file_word, source_option, sink_option, format_option, clip_flag}
+use Rattle.kpn_command_line.specs.CommandLine.{file_word, source_option, sink_option, format_option, clip_flag, rate_option, channels_option}
 use Rattle.kpn_command_line.proofs.Adding.{word_added}
 use Rattle.kpn_command_line.proofs.command_line.stream_ends.Goals as goal
 
@@ -12,4 +12,6 @@ returns c =
     let two = c.and-words.ensures _ source_option one c.source_word.ensures in
     let three = c.and-words-2.ensures _ sink_option two c.sink_word.ensures in
     let four = c.and-words-3.ensures _ format_option three c.format_word.ensures in
-    c.and.ensures _ clip_flag four c.flag.ensures
+    let five = c.and-words-4.ensures _ clip_flag four c.flag.ensures in
+    let six = c.and-words-5.ensures _ rate_option five c.rate_word.ensures in
+    c.and.ensures _ channels_option six c.channels_word.ensures

@@ -17,7 +17,9 @@ returns-clause-streamed g c =
       asked_for = record {
         sources = placed_by Sources _ _ _ _ _ _ _ _ words.source_names words.source_files refl places.sources;
         sinks = placed_by Sinks _ _ _ _ _ _ _ _ words.sink_names words.sink_files refl places.sinks;
+        formats = places.formats;
       };
+      own_inputs = places.own_inputs;
       ending = ending;
       book = book;
       lost = c.run.new.lost.items;

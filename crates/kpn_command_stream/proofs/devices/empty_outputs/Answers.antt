@@ -10,13 +10,13 @@ loop-i-preserved g c =
     let below : c.loop-i.i < length outputs = search rules in
     let at : get_or outputs c.loop-i.i c.index_mut.result.now ≡ c.index_mut.result.now = search rules in
     let emptied = c.in_ok-empty_output.ensures in (
-      (λ clips are.
-          zipped_set (IsOutputFor g.S.Ports.goes_to clips) c.args.places.now.sinks.items outputs c.loop-i.i
-          c.index_mut.result.now c.empty_output.new.output (c.loop-i.invariant.0 clips are) below
+      (λ request are.
+          zipped_set (IsOutputFor g.S.Ports.goes_to request) c.args.places.now.sinks.items outputs c.loop-i.i
+          c.index_mut.result.now c.empty_output.new.output (c.loop-i.invariant.0 request are) below
           (λ place is.
-          still_for g.S.Ports.goes_to clips place c.index_mut.result.now c.empty_output.new.output emptied.channel
+          still_for g.S.Ports.goes_to request place c.index_mut.result.now c.empty_output.new.output emptied.channel
           emptied.format emptied.bytes emptied.name
-          (subst (λ output. IsOutputFor g.S.Ports.goes_to clips place output) at is))),
+          (subst (λ output. IsOutputFor g.S.Ports.goes_to request place output) at is))),
       all_more (IsEmptied g.S.Output.Write.contents) outputs c.loop-i.i c.empty_output.new.output c.loop-i.invariant.1
           below emptied.emptied,
     )

@@ -1,8 +1,5 @@
 -- The inputs and outputs, and the run between them.
-use Rattle.std.proofs.Common.{Bool, ap, subst}
-use Rattle.std.specs.List.{AllZip}
 use Rattle.std.proofs.lemmas.Result.{IfOk-weaker}
-use Rattle.kpn_command_stream.specs.Command.{IsOutputFor}
 use Rattle.kpn_command_stream.proofs.running.run.Goals as goal
 
 pub returns-clause-ran : goal.returns-clause-ran
@@ -12,12 +9,7 @@ returns-clause-ran g c =
       inputs = c.in_ok-inputs.inputs.items;
       are_inputs = c.in_ok-inputs.ensures;
       outputs = c.empty_outputs.new.outputs.items;
-      are_outputs =
-          c.in_ok-empty_outputs.ensures.outputs c.args.request.now.clips
-          (subst
-          (λ (clips : Bool).
-          AllZip (IsOutputFor g.S.Ports.goes_to clips) c.args.places.now.sinks.items c.in_ok-outputs.outputs.items)
-          (ap (λ r. r.clips) c.request.view_is) c.in_ok-outputs.ensures);
+      are_outputs = c.in_ok-empty_outputs.ensures.outputs c.args.request.now c.in_ok-outputs.ensures;
       are_emptied = c.in_ok-empty_outputs.ensures.emptied;
       ran = ran;
     })

@@ -1,0 +1,66 @@
+-- The words behind `--format`, one more at a time, and as the request has them.
+use Rattle.std.proofs.Common.{◌≡◌, ◌≢◌, ◌<◌, ◌+◌, ℕ, List, Bor, All, [], ◌∷◌, ◌++◌, map, length, length-append, get_or, take, sym, subst, ap, ◌∙◌, Some, inl, inr, arith}
+use Rattle.std.proofs.lemmas.Bool.{cases_lt}
+use Rattle.std.specs.List.{AllPairs}
+use Rattle.std.proofs.lemmas.List.{get_or-map, get_or_append_left, get_or_at, length-map, map-append, take_more}
+use Rattle.std.proofs.lemmas.List.Elements.{All-map, All-push}
+use Rattle.std.proofs.lemmas.List.Quantifiers.{all_pairs_push}
+use Rattle.kpn_text.specs.Document.{Document}
+use Rattle.kpn_command_base.specs.declared.sources.NamedEnd.{NamedEnd}
+use Rattle.kpn_command_stream.specs.declared.places.Place.{Place}
+use Rattle.kpn_command_stream.specs.Places.{ArePlaced, HasFormat, name_for}
+use Rattle.kpn_command_stream.specs.Formats.{AreForEnds, IsForEnd, end_in}
+
+-- one more word is for other ends than those before it
+pub pair_more : (R : Bor (List ℕ) → Bor (List ℕ) → Type 0) (words : List (Bor (List ℕ))) (i : ℕ) (word : Bor (List ℕ))
+    → i < length words → AllPairs R (take i words) → All (λ before. R before (get_or words i word)) (take i words)
+    → AllPairs R (take (i + 1) words)
+pair_more R words i word below before more =
+    subst (λ ws. AllPairs R ws) (sym (take_more words i word below))
+    (all_pairs_push R (take i words) (get_or words i word) before more)
+
+-- what holds of the words in pairs holds of their bytes
+pairs_map : {X Y : Type 0} (R : Y → Y → Type 0) (f : X → Y) (xs : List X) → AllPairs (λ x later. R (f x) (f later)) xs
+    → AllPairs R (map f xs)
+pairs_map R f [] apart i j d first within = absurd (omega (arith, within))
+pairs_map R f (x ∷ xs) apart i j d first within =
+    let below : j < length (x ∷ xs) = omega (arith, within, length-map (x ∷ xs) f) in
+    let earlier : i < length (x ∷ xs) = omega (arith, first, below) in
+    subst (λ y. R y (get_or (map f (x ∷ xs)) j d)) (sym (get_or-map f (x ∷ xs) i x d earlier))
+    (subst (λ y. R (f (get_or (x ∷ xs) i x)) y) (sym (get_or-map f (x ∷ xs) j x d below)) (apart i j x first below))
+
+-- the words of a request are for ends
+pub for_ends : (d : Document) (words : List (Bor (List ℕ))) → All (λ word. IsForEnd d word.now) words
+    → AllPairs (λ word later. end_in word.now ≢ end_in later.now) words → AreForEnds d (map (λ word. word.now) words)
+for_ends d words ends apart = record {
+  ends = All-map (IsForEnd d) (λ word. word.now) words ends;
+  apart = pairs_map (λ word later. end_in word ≢ end_in later) (λ word. word.now) words apart;
+}
+
+-- one more end has its place
+pub placed_more : (d : Document) (named : List NamedEnd) (words : List (List ℕ)) (ends : List ℕ) (number : ℕ)
+    (places : List Place) (place : Place) → ArePlaced d named words ends number places → number < length ends
+    → place.channel ≡ get_or ends number 0 → name_for named number (length ends) ≡ Some place.name.now
+    → HasFormat d words place → ArePlaced d named words ends (number + 1) (places ++ place ∷ [])
+placed_more d named words ends number places place before below channel name format = record {
+  channels =
+      map-append (λ (p : Place). p.channel) places (place ∷ [])
+      ∙ ap (λ (ns : List ℕ). ns ++ place.channel ∷ []) before.channels
+      ∙ ap (λ (n : ℕ). take number ends ++ n ∷ []) channel ∙ sym (take_more ends number 0 below);
+  count = omega (arith, length-append places (place ∷ []), before.count);
+  each = each;
+  formats = All-push (HasFormat d words) places place before.formats format;
+}
+  where
+    each : (k : ℕ) (any : Place) → k < length (places ++ place ∷ [])
+        → name_for named k (length ends) ≡ Some (get_or (places ++ place ∷ []) k any).name.now
+    each k any within = elim (cases_lt k (length places)) [
+      | inl less ↦
+          before.each k any less
+          ∙ ap (λ (p : Place). Some p.name.now) (sym (get_or_append_left places (place ∷ []) any k less))
+      | inr least ↦
+          let last : k ≡ number = omega (arith, least, within, length-append places (place ∷ []), before.count) in
+          ap (λ (n : ℕ). name_for named n (length ends)) last ∙ name
+          ∙ ap (λ (p : Place). Some p.name.now)
+          (sym (get_or_at places place [] any k (omega (arith, last, before.count))))
+    ]

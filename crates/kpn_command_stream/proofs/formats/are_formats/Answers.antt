@@ -1,0 +1,16 @@
+-- One more word says a format.
+use Rattle.std.proofs.Common.{List, Bor, ℕ, All, subst, arith}
+use Rattle.std.proofs.lemmas.List.{take_all}
+use Rattle.kpn_command_base.proofs.Apart.{one_more}
+use Rattle.kpn_command_stream.specs.Formats.{SaysFormat}
+use Rattle.kpn_command_stream.proofs.formats.are_formats.Goals as goal
+
+pub loop-word-preserved : goal.loop-word-preserved
+loop-word-preserved c =
+    one_more (λ word. SaysFormat word.now) c.args.words.now c.loop-word.word-index _ c.loop-word-test.true
+    c.loop-word.invariant (c.is_format.ensures c.if-not-is_format.false)
+
+pub returns : goal.returns
+returns c = λ _.
+    subst (λ (ws : List (Bor (List ℕ))). All (λ word. SaysFormat word.now) ws)
+    (take_all c.loop-word.word-index c.args.words.now (omega (arith, c.loop-word-test.false))) c.loop-word.invariant

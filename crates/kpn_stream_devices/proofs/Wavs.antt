@@ -1,0 +1,229 @@
+-- What the unused bytes of a window tell of a WAV file.
+use Rattle.std.proofs.Common.{◌≡◌, ℕ, ◌+◌, ◌-◌, ◌<◌, ◌≤◌, ◌⊎◌, true, List, [], ◌++◌, length, take, drop, length-append, length-take, length-drop, Option, Some, None, Result, Ok, Err, refl, sym, ap, ◌∙◌, subst, inl, inr, arith}
+use Rattle.std.specs.Prelude.{ℤ, IfSome, min, nat_eq, Bool, false, if◌then◌else◌}
+use Rattle.std.proofs.lemmas.Bool.{cases_eq, eq-eqb}
+use Rattle.std.proofs.lemmas.List.{append-nil, drop-append-le, drop-drop, drop-take, take-append-drop, take-append-le, drop_all, take_all}
+use Rattle.kpn_stream.specs.declared.faults.SourceFault.{SourceFault}
+use Rattle.kpn_stream.specs.declared.faults.SourceFault.TheVariants.{BadItem, BadHead, CutSample}
+use Rattle.kpn_stream_devices.specs.declared.formats.SampleFormat.{SampleFormat}
+use Rattle.kpn_stream_devices.specs.declared.formats.WavFormat.{WavFormat}
+use Rattle.kpn_stream_devices.specs.declared.formats.ItemFormat.{ItemFormat}
+use Rattle.kpn_stream_devices.specs.declared.formats.ItemFormat.TheVariants as item_format
+use Rattle.kpn_stream_devices.specs.declared.head.Wav.{Wav}
+use Rattle.kpn_stream_devices.specs.declared.head.Head.{Head}
+use Rattle.kpn_stream_devices.specs.declared.head.Head.TheVariants.{Open, Bad, Whole}
+use Rattle.kpn_stream_devices.specs.Formats.{sample_width, sample_value}
+use Rattle.kpn_stream_devices.specs.Head.{head_at}
+use Rattle.kpn_stream_devices.specs.Window.{Window, one_after, with_one, left_of, IfKnown, IsEndKnown, SampleGives, GoesOn, WavGives, WavTells, Tells, data_of, end_told}
+use Rattle.kpn_stream_devices.proofs.Heads.{head_at_again}
+use Rattle.kpn_stream_devices.proofs.Telling.{value_again, counts, sample_gives}
+
+-- the window once a sample was used: what is left of the file is this
+abbrev pub used_wav : (count : ℕ) → Wav → Window → Window
+used_wav count wav w = record (with_one (drop count w.unused) w) { wav = Some wav }
+
+abbrev pub shorter : Wav → (width : ℕ) → Wav
+shorter wav width = record wav { left = wav.left - width }
+
+-- the answer at the end, by what is none
+abbrev told_by : (is_used is_left : Bool) → Result (Option ℤ) SourceFault
+told_by is_used is_left = if is_used then Ok None else if is_left then Ok None else Err CutSample
+
+not_zero : (m : ℕ) → (m ≡ 0 → ⊥) → nat_eq m 0 ≡ false
+not_zero m some = grind arith
+
+-- ---- a head that is not there
+
+-- a wrong head is wrong whatever follows
+pub bad_tells : (w : Window) (at : ℕ) → head_at w.wav w.unused ≡ Bad at → WavTells w (Err (BadHead at)) w
+bad_tells w at is written = record { counted = refl; given = told }
+  where
+    told : (device : Option (List ℕ)) → IsEndKnown w device → IfKnown (left_of w device) (left_of w device)
+        (λ l r. WavGives (head_at w.wav l) l w.wav r (Err (BadHead at)))
+    told None over = tt
+    told (Some ds) over =
+        subst (λ (h : Head). WavGives h (w.unused ++ ds) w.wav (w.unused ++ ds) (Err (BadHead at)))
+        (sym (head_at_again w.wav w.unused ds (λ early. differs (sym is ∙ early)) ∙ is)) refl
+      where
+        differs : Bad at ≡ Open → ⊥
+        differs e = cc
+
+-- one within which the input ends is wrong there
+pub open_tells : (w : Window) → w.is_over ≡ true → head_at w.wav w.unused ≡ Open
+    → WavTells w (Err (BadHead (length w.unused))) w
+open_tells w over is written = record { counted = refl; given = told }
+  where
+    told : (device : Option (List ℕ)) → IsEndKnown w device → IfKnown (left_of w device) (left_of w device)
+        (λ l r. WavGives (head_at w.wav l) l w.wav r (Err (BadHead (length w.unused))))
+    told None known = tt
+    told (Some ds) known =
+        subst (λ (l : List ℕ). WavGives (head_at w.wav l) l w.wav (w.unused ++ ds) (Err (BadHead (length w.unused))))
+        (sym (ap (λ es. w.unused ++ es) (known over) ∙ append-nil w.unused))
+        (subst (λ (h : Head). WavGives h w.unused w.wav (w.unused ++ ds) (Err (BadHead (length w.unused)))) (sym is) refl)
+
+-- ---- samples
+
+-- the head is there, and this follows
+module _ (w : Window) (count : ℕ) (wav : Wav) (head : head_at w.wav w.unused ≡ Whole count wav)
+    (within : count ≤ length w.unused) where
+  -- the unused bytes behind the head
+  abbrev us : List ℕ
+  us = drop count w.unused
+
+  -- the head stays, whatever follows
+  head_stays : (ds : List ℕ) → head_at w.wav (w.unused ++ ds) ≡ Whole count wav
+  head_stays ds = head_at_again w.wav w.unused ds (λ early. differs (sym head ∙ early)) ∙ head
+    where
+      differs : Whole count wav ≡ Open → ⊥
+      differs e = cc
+
+  -- the samples of all that is left
+  data_is : (ds : List ℕ) → data_of (Whole count wav) (w.unused ++ ds) ≡ take wav.left (us ++ ds)
+  data_is ds = ap (take wav.left) (drop-append-le count w.unused ds within)
+
+  gives : (ds : List ℕ) (after : Option Wav) (rest : List ℕ) (answer : Result (Option ℤ) SourceFault)
+      → SampleGives wav.sample (take wav.left (us ++ ds)) (data_of (head_at after rest) rest) answer
+      → GoesOn wav.sample answer after → WavGives (head_at w.wav (w.unused ++ ds)) (w.unused ++ ds) after rest answer
+  gives ds after rest answer given goes_on =
+      subst (λ (h : Head). WavGives h (w.unused ++ ds) after rest answer) (sym (head_stays ds)) (
+        subst (λ (samples : List ℕ). SampleGives wav.sample samples (data_of (head_at after rest) rest) answer)
+            (sym (data_is ds)) given,
+        goes_on,
+      )
+
+  -- a sample does not depend on what follows it
+  first_is : (ds : List ℕ) → sample_width wav.sample ≤ length us → sample_width wav.sample ≤ wav.left
+      → sample_value wav.sample (take wav.left (us ++ ds)) ≡ sample_value wav.sample us
+  first_is ds some enough =
+      sym (value_again wav.sample (take wav.left (us ++ ds)) (drop wav.left (us ++ ds))
+      (omega (arith, some, enough, length-take wav.left (us ++ ds), length-append us ds)))
+      ∙ ap (sample_value wav.sample) (take-append-drop wav.left (us ++ ds))
+      ∙ value_again wav.sample us ds some
+
+  -- those behind it are left
+  rest_is : (width : ℕ) (ds : List ℕ) → width ≤ length us → width ≤ wav.left
+      → take (wav.left - width) (drop (count + width) w.unused ++ ds) ≡ drop width (take wav.left (us ++ ds))
+  rest_is width ds some enough =
+      let whole : wav.left ≡ width + (wav.left - width) = omega (arith, enough) in
+      ap (take (wav.left - width))
+      (ap (λ (es : List ℕ). es ++ ds) (sym (drop-drop width count w.unused))
+      ∙ sym (drop-append-le width us ds some))
+      ∙ sym (drop-take width (wav.left - width) (us ++ ds))
+      ∙ ap (λ (n : ℕ). drop width (take n (us ++ ds))) (sym whole)
+
+  goes_on : (wide : ℕ) (item : Option ℤ) (number : ℕ) (answer : Result (Option ℤ) SourceFault)
+      → IfSome item (λ v. answer ≡ Ok (Some v)) → (item ≡ None → answer ≡ Err (BadItem number))
+      → GoesOn wav.sample answer (Some (shorter wav wide))
+  goes_on wide (Some v) number answer given none =
+      subst (λ a. GoesOn wav.sample a (Some (shorter wav wide))) (sym given) refl
+  goes_on wide None number answer given none =
+      subst (λ a. GoesOn wav.sample a (Some (shorter wav wide))) (sym (none refl)) tt
+
+  -- a sample whose bytes were read
+  sample_told : (answer : Result (Option ℤ) SourceFault) → sample_width wav.sample ≤ length us
+      → sample_width wav.sample ≤ wav.left → IfSome (sample_value wav.sample us) (λ v. answer ≡ Ok (Some v))
+      → (sample_value wav.sample us ≡ None → answer ≡ Err (BadItem (one_after w.used)))
+      → WavTells w answer
+      (used_wav (count + sample_width wav.sample) (shorter wav (sample_width wav.sample)) w)
+  sample_told answer some enough given none written = record {
+    counted = counts w.used (sample_value wav.sample us) answer given none;
+    given = told;
+  }
+    where
+      told : (device : Option (List ℕ)) → IsEndKnown w device → IfKnown (left_of w device)
+          (left_of (used_wav (count + sample_width wav.sample) (shorter wav (sample_width wav.sample)) w) device)
+          (λ l r. WavGives (head_at w.wav l) l (Some (shorter wav (sample_width wav.sample))) r answer)
+      told None known = tt
+      told (Some ds) known =
+          gives ds (Some (shorter wav (sample_width wav.sample))) (drop (count + sample_width wav.sample) w.unused ++ ds)
+          answer
+          (sample_gives wav.sample (take wav.left (us ++ ds))
+          (take (wav.left - sample_width wav.sample) (drop (count + sample_width wav.sample) w.unused ++ ds))
+          (omega (arith, some, enough, length-take wav.left (us ++ ds), length-append us ds)) (one_after w.used)
+          (sample_value wav.sample us) answer (rest_is (sample_width wav.sample) ds some enough)
+          (first_is ds some enough) given none)
+          (goes_on (sample_width wav.sample) (sample_value wav.sample us) (one_after w.used) answer given none)
+
+  pub wav_tells : (after : Window) (item : Option ℤ) (answer : Result (Option ℤ) SourceFault) (width number : ℕ)
+      → width ≡ sample_width wav.sample → after ≡ used_wav (count + width) (shorter wav width) w → width ≤ length us
+      → width ≤ wav.left → item ≡ sample_value wav.sample us → number ≡ one_after w.used
+      → IfSome item (λ v. answer ≡ Ok (Some v)) → (item ≡ None → answer ≡ Err (BadItem number))
+      → WavTells w answer after
+  wav_tells after item answer width number wide is some enough value counted given none =
+      subst (λ (x : Window). WavTells w answer x)
+      (sym (is ∙ ap (λ (n : ℕ). used_wav (count + n) (shorter wav n) w) wide))
+      (sample_told answer (omega (arith, wide, some)) (omega (arith, wide, enough))
+      (subst (λ (i : Option ℤ). IfSome i (λ v. answer ≡ Ok (Some v))) value given)
+      (λ is_none. none (value ∙ is_none) ∙ ap (λ (n : ℕ). Err (BadItem n)) counted))
+
+  -- no more samples come: the input is over, or all of them were read
+  abbrev pub AllRead : Type 0
+  AllRead = (w.is_over ≡ true) ⊎ (wav.left ≤ length us)
+
+  all_read : (ds : List ℕ) → AllRead → (w.is_over ≡ true → ds ≡ []) → take wav.left (us ++ ds) ≡ take wav.left us
+  all_read ds (inl over) known = ap (λ (es : List ℕ). take wav.left (us ++ es)) (known over) ∙ ap (take wav.left) (append-nil us)
+  all_read ds (inr many) known = take-append-le wav.left us ds many
+
+  few_tells : (answer : Result (Option ℤ) SourceFault) → AllRead
+      → ((rest : List ℕ) → SampleGives wav.sample (take wav.left us) rest answer)
+      → ((after : Option Wav) → GoesOn wav.sample answer after)
+      → (device : Option (List ℕ)) → IsEndKnown w device → IfKnown (left_of w device) (left_of w device)
+      (λ l r. WavGives (head_at w.wav l) l w.wav r answer)
+  few_tells answer all given on None known = tt
+  few_tells answer all given on (Some ds) known =
+      gives ds w.wav (w.unused ++ ds) answer
+      (subst (λ (samples : List ℕ). SampleGives wav.sample samples (data_of (head_at w.wav (w.unused ++ ds)) (w.unused ++ ds)) answer)
+      (sym (all_read ds all known)) (given (data_of (head_at w.wav (w.unused ++ ds)) (w.unused ++ ds)))) (on w.wav)
+
+  nothing : (n : ℕ) (xs : List ℕ) → (length xs ≡ 0) ⊎ (n ≡ 0) → take n xs ≡ []
+  nothing n xs none = none_taken (take n xs) (none_long none)
+    where
+      none_long : (length xs ≡ 0) ⊎ (n ≡ 0) → length (take n xs) ≡ 0
+      none_long (inl none) = omega (arith, none, length-take n xs)
+      none_long (inr none) = omega (arith, none, length-take n xs)
+
+      none_taken : (ys : List ℕ) → length ys ≡ 0 → ys ≡ []
+      none_taken ys is = sym (take_all 0 ys (omega (arith, is)))
+
+  -- none is left
+  pub end_tells : AllRead → (length us ≡ 0) ⊎ (wav.left ≡ 0) → WavTells w (Ok None) w
+  end_tells all none written = record {
+    counted = refl;
+    given = few_tells (Ok None) all (λ rest. nothing wav.left us none) (λ after. tt);
+  }
+
+  -- or only a part of one
+  pub cut_tells : AllRead → 0 < length us → 0 < wav.left → min wav.left (length us) < sample_width wav.sample
+      → WavTells w (Err CutSample) w
+  cut_tells all some also few written = record {
+    counted = refl;
+    given = few_tells (Err CutSample) all
+        (λ rest. (omega (arith, some, also, length-take wav.left us), omega (arith, few, length-take wav.left us)))
+        (λ after. tt);
+  }
+
+  -- so the answer is right where no more come
+  pub few_tell : AllRead → (n : ℕ) → n ≡ length us → min wav.left (length us) < sample_width wav.sample
+      → WavTells w (end_told n wav.left) w
+  few_tell all n is few = elim (cases_eq n 0) [
+    | inl none ↦
+        subst (λ b. WavTells w (told_by b (nat_eq wav.left 0)) w) (sym (eq-eqb n 0 none))
+        (end_tells all (inl (omega (arith, is, none))))
+    | inr some ↦ elim (cases_eq wav.left 0) [
+      | inl none ↦
+          subst (λ b. WavTells w (told_by b (nat_eq wav.left 0)) w) (sym (not_zero n some))
+          (subst (λ b. WavTells w (told_by false b) w) (sym (eq-eqb wav.left 0 none)) (end_tells all (inr none)))
+      | inr also ↦
+          subst (λ b. WavTells w (told_by b (nat_eq wav.left 0)) w) (sym (not_zero n some))
+          (subst (λ b. WavTells w (told_by false b) w) (sym (not_zero wav.left also))
+          (cut_tells all (omega (arith, is, some)) (omega (arith, also)) few))
+    ]
+  ]
+
+-- the answer of any WAV file
+pub any_tells : (result : Option (Result (Option ℤ) SourceFault)) (format : ItemFormat) (written : WavFormat)
+    (before after : Window) → format ≡ item_format.Wav written → IfSome result (λ a. WavTells before a after)
+    → IfSome result (λ a. Tells format before a after)
+any_tells None format written before after is told = tt
+any_tells (Some answer) format written before after is told =
+    subst (λ (f : ItemFormat). Tells f before answer after) (sym is) (told written)
