@@ -276,7 +276,7 @@ def main():
     given.folder.mkdir(parents=True, exist_ok=True)
     browser = Browser()
     with tempfile.TemporaryDirectory() as folder:
-        for name, (net, items) in {'3': small(), '60': bank(15), '250': row(250)}.items():
+        for name, (net, items) in {'3': small(), '60': bank(25), '250': row(250)}.items():
             file, trace, html = stored(folder, name, net, items)
             look(browser, name, html, given.folder)
             browser.open(html)
@@ -284,9 +284,13 @@ def main():
         for_documents(browser, folder)
         tries(browser, folder)
         if given.long:
-            net, _ = bank(4)
-            file, trace, html = stored(folder, 'long', net, signal(given.long // 130), max_commits=10**9)
+            net, items = bank(4)
+            file, trace, html = stored(folder, 'long', net, items)
+            count = given.long * len(items) // len(trace.read_bytes().splitlines())
+            file, trace, html = stored(folder, 'long', net, signal(count), max_commits=10**9)
+            print(f'long: {len(trace.read_bytes().splitlines()):,} lines of the trace')
             look(browser, 'long', html, given.folder)
+            browser.open(html)
             compare(browser, file, trace)
     browser.close()
 

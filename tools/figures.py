@@ -72,6 +72,9 @@ def advice(audit, bounded, free, c):
     if last is None:
         return ''
     number = min(bounded.needed(c), last) if bounded.length == free.length else free.needed(c)
+    # A channel that jams the run could use one item more at least.
+    if any(audit.blocked(p) == ('full', c) for cycle in cycles_of(audit) for p in cycle):
+        number = max(number, last + 1)
     said, limit = f'{audit.network.channels[c]}: cap {number}', audit.network.growing.limit
     if number > limit:
         return f'{said} would be advised, but the limit is {limit}\n'
@@ -263,6 +266,25 @@ def deadlock_text(audit):
             + (f'items left because of it: {left}\n' if left else ''))
 
 
+FORMS = {'get': 'gets {item} from `{c}`', 'put': 'puts {item} on `{c}`', 'wait-empty': 'waits on `{c}` as empty',
+         'wait-full': 'waits on `{c}` as full'}
+
+
+def faults_text(network, history):
+    """Of each event by which a process ends by a fault: its number, and what the process did before."""
+    last, lines = {}, []
+    for k, (word, p, *rest) in enumerate(history):
+        if word in FORMS:
+            c, *items = rest
+            last[p] = 'right after `{}` '.format(network.instances[p]) + FORMS[word].format(
+                c=network.channels[c], item=''.join(map(str, items)))
+        elif word == 'end' and rest[0] != 'done':
+            lines.append(f'fault: `{network.instances[p]}` ends with `{rest[0]}` at event {k}, '
+                         + last.get(p, 'before it reads or writes')
+                         + '; its readers get what is unread, and nothing more\n')
+    return ''.join(lines)
+
+
 def cut(line):
     """A line of an audit, with the first 20 items of a longer list."""
     name, mark, items = line.rstrip('\n').partition(':')
@@ -275,7 +297,8 @@ def cut(line):
 def explained(network, trace):
     """What is said of a legal trace."""
     audit = replay(network, trace)[0]
-    said = deadlock_text(audit) + ''.join(map(cut, audit.text().splitlines(keepends=True)))
+    said = deadlock_text(audit) + faults_text(network, trace.history)
+    said += ''.join(map(cut, audit.text().splitlines(keepends=True)))
     if audit.is_quiet():
         return said
     complete = audit.complete()

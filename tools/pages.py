@@ -24,8 +24,8 @@ PAGES = 'share/man/man1'
 # A line of help: a head such as `--source <NAME=FILE>` or `<FILE>`, two spaces or more, and its text.
 ENTRY = re.compile(r' {2,}(\S.*?) {2,}(\S.*)')
 OPTION = re.compile(r'(?:(-\w), )?(--[\w-]+)(?: <(.+)>)?')
-# The words that a text offers, as in `Writes one table: channels or processes`.
-CHOICES = re.compile(r': ((?:[a-z]\w*, )*[a-z]\w* or [a-z]\w*)(?:;|$)')
+# The words that a text offers, as in `Writes one table: channels or processes`. A word may have a number behind it.
+CHOICES = re.compile(r': ((?:[a-z]\w*(?::[A-Z])?, )*[a-z]\w* or [a-z]\w*)(?:;|$)')
 
 
 @dataclasses.dataclass
@@ -48,7 +48,7 @@ class Entry:
     @property
     def choices(self) -> list[str]:
         found = CHOICES.search(self.text)
-        return re.split(', | or ', found[1]) if found else []
+        return [it for it in re.split(', | or ', found[1]) if ':' not in it] if found else []
 
     @property
     def is_file(self) -> bool:

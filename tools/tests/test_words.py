@@ -21,6 +21,17 @@ ECHO = COPY + '''process add(in a, b; out o) { while 1 { read a x; read b y; wri
 process ones(out o) { while 1 { write o 1; } }
 network { source s; channel one cap 1; sink z cap 1; n = ones(; one); sum = add(s, one; z); }
 '''
+DIVIDE = '''process div(in i; out o) { while 1 { read i x; write o (100 / x); } }
+network { source s; sink z cap 1; d = div(s; z); }
+'''
+SPIN = COPY + '''process spin(in i; out o) { read i x; while 1 { x = (x * x); x = 1; } write o x; }
+process ones(out o) { while 1 { write o 1; } }
+process eat(in i) { while 1 { read i x; } }
+network {
+  source s; channel a cap 1; channel one cap 1; sink z cap 1;
+  c = copy(s; a); loop = spin(a; z); n = ones(; one); e = eat(one;);
+}
+'''
 
 
 class Words(unittest.TestCase):
@@ -30,7 +41,8 @@ class Words(unittest.TestCase):
         self.folder = pathlib.Path(folder.name)
         for name, text in (('copy.kpn', COPY + 'network { source s; sink z cap 1; c = copy(s; z); }\n'),
                            ('wrong.kpn', COPY + 'network { source s; sink z cap 1; c = copi(s; z); }\n'),
-                           ('loop.kpn', LOOP), ('echo.kpn', ECHO), ('items', '1\n2\n3\n'), ('bad', '1\n2x\n')):
+                           ('divide.kpn', DIVIDE), ('spin.kpn', SPIN), ('loop.kpn', LOOP), ('echo.kpn', ECHO),
+                           ('items', '1\n2\n3\n'), ('bad', '1\n2x\n')):
             (self.folder / name).write_text(text)
 
     def told(self, *words, status, given=''):
@@ -77,16 +89,41 @@ class Words(unittest.TestCase):
 
     def test_samples_that_are_read_as_lines(self):
         (self.folder / 'samples').write_bytes(bytes([0, 0, 44, 1, 212, 254, 5, 0]))
-        asked = ' has bytes that no item has. These look like samples: --format s=s16le?\n'
+        asked = 'These bytes look like samples, which `kpn stream` reads: of 16 bits by `--format s=s16le`.\n'
         line = 'sink z: 0 items, not complete\nwaits c s\nkpn: 25 BadItem at 1\n'
-        self.assertEqual(self.behind('stream', 'copy.kpn', '--source', 's=samples', status=1, line=line),
-                         '`samples`' + asked)
+        said = self.behind('stream', 'copy.kpn', '--source', 's=samples', status=1, line=line)
+        self.assertTrue(said.startswith('samples:1:1: ') and said.endswith(asked), said)
         with open(self.folder / 'samples') as samples:
             told = subprocess.run([PROGRAM, '--words', 'always', 'stream', 'copy.kpn'], cwd=self.folder,
                                   capture_output=True, text=True, stdin=samples).stderr
-        self.assertTrue(told.endswith('at --source s=-\nStandard input' + asked), told)
-        words = ['--source', 's=samples', '--format', 's=s16le', '--format', 'z=u8', '--quiet']
-        self.assertEqual(self.behind('stream', 'copy.kpn', *words, status=1, line='kpn: 54 NoSample of 300\n'), '')
+        self.assertIn('at --source s=-\nstandard input:1:1: ', told)
+        self.assertTrue(told.endswith(asked), told)
+
+    def test_an_input_that_can_not_be_read_again(self):
+        os.mkfifo(self.folder / 'fifo')
+        for command in ('run', 'stream'):
+            writer = subprocess.Popen(['sh', '-c', 'cat bad > fifo'], cwd=self.folder)
+            told = self.told('--words', 'always', command, 'copy.kpn', '--source', 's=fifo', status=1)
+            self.assertEqual(writer.wait(), 0)
+            said = told.splitlines()[-2:]
+            self.assertTrue(said[0].startswith('Line 2 of `fifo` spells no item for source `s`. An item is'), told)
+            self.assertIn('from -9223372036854775808 to 9223372036854775807. ', said[1])
+            self.assertTrue(said[1].endswith('`--format s=s16le`, and a WAV file with `=wav`.'), told)
+        said = self.behind('stream', 'copy.kpn', status=1, given='1\n' * 3000 + 'x\n')
+        self.assertTrue(said.startswith('Line 3001 of standard input spells no item for source `s`.'), said)
+        said = self.behind('stream', 'copy.kpn', status=1, given='1\n' * 2000 + 'x\n')
+        self.assertTrue(said.startswith('standard input:2001:1: '), said)
+
+    def test_devices_that_fail(self):
+        for command in ('run', 'stream'):
+            for output in ('>&-', '> /dev/full'):
+                line = f'"$0" --words always {command} copy.kpn --source s=items {output}'
+                done = subprocess.run(['sh', '-c', line, PROGRAM], cwd=self.folder, capture_output=True, text=True)
+                self.assertEqual(done.returncode, 1)
+                self.assertIn('Standard output takes no more: ', done.stderr.splitlines()[-1])
+        done = subprocess.run(['sh', '-c', '"$0" --words always stream copy.kpn <&-', PROGRAM], cwd=self.folder,
+                              capture_output=True, text=True)
+        self.assertEqual(done.stderr.splitlines()[-1], "Standard input can't be read: is it closed?")
 
     def test_a_wrong_name(self):
         self.assertEqual(self.behind('run', 'copy.kpn', '--source', 't=items', status=1),
@@ -121,6 +158,17 @@ class Words(unittest.TestCase):
         said = self.behind('stream', 'echo.kpn', '--max-commits', '2', status=5, given='1\n')
         self.assertIn('--max-commits', said)
 
+    def test_a_run_that_was_stopped(self):
+        said = self.behind('run', 'spin.kpn', '--source', 's=items', '--max-commits', '50000', status=5)
+        self.assertIn('`loop`: a loop without a read or a write, ', said)
+        self.assertIn('`n`, `e` went on after 20,000 commits.\n', said)
+        said = self.behind('run', 'spin.kpn', '--source', 's=items', '--max-commits', '5', status=5)
+        self.assertNotIn('a loop', said)
+        self.assertIn(' went on to the end.\n', said)
+        said = self.behind('stream', 'spin.kpn', '--source', 's=items', '--max-commits', '5000', status=5)
+        self.assertTrue(said.endswith('`loop`, `n`, `e` waited for nothing: each went on, looped without a read or a '
+                                      'write, or had ended.\n'), said)
+
     def test_a_description_that_can_not_be_read_twice(self):
         self.assertEqual(self.behind('check', '/dev/stdin', status=1, given='network'), '')
 
@@ -151,6 +199,16 @@ class Words(unittest.TestCase):
         told = self.told_on_a_terminal('run', 'loop.kpn', '--source', 's=items', status=0)
         self.assertTrue(told.startswith('deadlock: sum waits on back for loop, '), told)
 
+    def test_a_quiet_stream_on_a_terminal(self):
+        words = ['stream', 'loop.kpn', '--source', 's=items', '--quiet']
+        self.assertTrue(self.told_on_a_terminal(*words, status=9).startswith('deadlock: sum waits on back for loop, '))
+        self.assertEqual(self.told(*words, status=9), '')
+        (self.folder / 'zero').write_text('2\n0\n')
+        words = ['stream', 'divide.kpn', '--source', 's=zero', '--quiet']
+        told = self.told_on_a_terminal(*words, status=8)
+        self.assertTrue(told.startswith('`d` ended by a division by 0 (`zero-divisor`).\n'), told)
+        self.assertEqual(self.told(*words, status=8), '')
+
 
 class Habits(unittest.TestCase):
     """Advice where a text has what other languages have there."""
@@ -167,6 +225,8 @@ class Habits(unittest.TestCase):
     def test_powers(self):
         for text in ('write o (x ^ 3);', 'write o x ^ 3;', 'y = ((x + 1) ^ 2);', 'while x ^ 2 { }'):
             self.assertEqual(self.advice(text), 'There is no `^`: a power is a product, as in `((x * x) * x)`.', text)
+        for text in ('write o x ** 2;', 'write o (x ** 2);', 'while x ** 2 { }', 'y = ((x + 1) ** 2);'):
+            self.assertEqual(self.advice(text), 'There is no `**`: a power is a product, as in `(x * x)`.', text)
         for text in ('read i ^;', '^ = 3;', 'y = ^ 3;', 'read ^ x;'):
             self.assertNotIn('power', self.advice(text), text)
         self.assertNotIn('power', self.advice('', 'network { source s ^; }'))

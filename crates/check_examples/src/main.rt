@@ -1,7 +1,8 @@
 //! Command lines as a compared run. The program repeats each line of standard input behind `$ `. A line is one of these:
 //!
 //! - `kpn WORDS`, a command line over the files in this folder. Below it comes what it wrote and, if it failed, its error
-//!   line and its status. Its standard input is the file `input`, if there is one.
+//!   line and its status. Its standard input is the file `input`, if there is one. Behind `kpn --words always WORDS`
+//!   follow the words for a person.
 //! - `first COUNT kpn WORDS`, a command line too. Only so many lines of what it wrote follow, since the rest of an audit
 //!   of a run by workers depends on the order of their turns.
 //! - `file NAME TEXT` makes a file. In the text `\n`, `\r` and `\0` are bytes that no line can have.
@@ -35,19 +36,19 @@ use crate::stage::{Stage, fail, run};
 use anyhow::Result;
 use kpn_cli::{FileShelf, Ports};
 use std::alloc::Global;
+use std::fs::File;
 use std::io::{ErrorKind, Write};
+use std::rt::Files;
 use std::sync::Wait;
 use std::thread::Threads;
 use std::time::Clock;
 
 /// Runs the command line of `COUNT kpn WORDS`, and writes the first lines of what it wrote.
-fn run_first<R: Threads + Wait + Clock + Sync, S: Ports, O: Write>(
-    rt: &R,
-    alloc: Global,
-    stage: &mut Stage<S>,
-    out: &mut O,
-    rest: &str,
-) -> Result<()> {
+fn run_first<
+    R: Threads + Wait + Clock + Sync + Files<File = File> + AllocGlobal,
+    S: Ports,
+    O: Write,
+>(rt: &R, alloc: Global, stage: &mut Stage<S>, out: &mut O, rest: &str) -> Result<()> {
     let Some((count, line)) = rest.split_once(' ') else {
         return Ok(());
     };
@@ -60,7 +61,7 @@ fn run_first<R: Threads + Wait + Clock + Sync, S: Ports, O: Write>(
 }
 
 /// Does what a line says, and writes what follows.
-fn happen<R: Threads + Wait + Clock + Sync, S: Ports, O: Write>(
+fn happen<R: Threads + Wait + Clock + Sync + Files<File = File> + AllocGlobal, S: Ports, O: Write>(
     rt: &R,
     alloc: Global,
     stage: &mut Stage<S>,

@@ -4,9 +4,11 @@ use crate::devices::{Failure, Input, NONE, Output};
 use crate::files::bytes_of;
 use crate::shelf::{Call, Troubled};
 use anyhow::{Result, bail};
-use kpn_cli::{Ports, command};
+use kpn_cli::{Known, Ports, command, words_for};
 use std::alloc::Global;
+use std::fs::File;
 use std::io::{ErrorKind, Write};
+use std::rt::Files;
 use std::sync::Wait;
 use std::thread::Threads;
 use std::time::Clock;
@@ -99,27 +101,54 @@ fn words_of(alloc: Global, line: &str) -> Result<Vec<String>> {
     Ok(words)
 }
 
+// What stands in front of a command behind which words follow.
+const WITH_WORDS: &str = "--words always ";
+
 /// Runs a command line, and returns what it wrote and, if it failed, its error lines and its status. If a call may
-/// fail, the error lines follow in any case, apart from the rest.
-pub(crate) fn run<R: Threads + Wait + Clock + Sync, S: Ports>(
+/// fail, the error lines follow in any case, apart from the rest. Words for a person follow, if they are wanted.
+pub(crate) fn run<R: Threads + Wait + Clock + Sync + Files<File = File> + AllocGlobal, S: Ports>(
     rt: &R,
     alloc: Global,
     stage: &mut Stage<S>,
     line: &str,
 ) -> Result<Vec<u8>> {
-    let words = words_of(alloc, line)?;
+    let bare = line.replace(alloc, WITH_WORDS, "")?;
+    let words = words_of(alloc, bare.as_str())?;
     let bytes = bytes_of(alloc, &stage.shelf.files, "input");
     let mut input = Input::new(&bytes, stage.input);
     let mut out = Output::new(alloc, stage.output);
     let mut errors = Output::new(alloc, stage.errors);
+    let mut unsaid = Vec::new(alloc);
     let shelf = &mut stage.shelf;
-    let status = command(rt, alloc, &words, shelf, &mut input, &mut out, &mut errors);
+    let status = command(
+        rt,
+        alloc,
+        &words,
+        shelf,
+        &mut input,
+        &mut out,
+        &mut errors,
+        &mut unsaid,
+    );
+    let known = Known {
+        written: &out.kept,
+        told: &errors.kept,
+        unsaid: &unsaid,
+        given: &bytes,
+        count: bytes.len() as u64,
+    };
+    let said = if bare.as_str() == line {
+        Vec::new(alloc)
+    } else {
+        words_for(rt, &words, status, &known)
+    };
     if stage.may_fail && !errors.kept.is_empty() {
         out.kept.write_all(b"errors:\n")?;
     }
     if stage.may_fail || status != 0 {
         out.kept.write_all(&errors.kept)?;
     }
+    out.kept.write_all(&said)?;
     if status != 0 {
         writeln!(out.kept, "status {status}")?;
     }

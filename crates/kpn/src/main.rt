@@ -2,7 +2,7 @@
 //! command tells stand words for a person, if they are wanted.
 #![tactic(auto)]
 
-use kpn_cli::{Keeping, WordsWanted, command, tell_words};
+use kpn_cli::{Keeping, Known, Opening, WordsWanted, command, words_for};
 use kpn_command_base::Refusal;
 use kpn_shelf::{FileShelf, Patient, fill_standard, standard_input};
 use std::env;
@@ -25,19 +25,31 @@ fn main(rt: HostRuntime) -> ExitCode {
         return ExitCode::from(refuse(&mut Patient::new(&rt, rt.stderr())));
     };
     let has_words = wanted.holds(&rt);
+    let mut input = Opening::new(rt.alloc(), standard_input(&rt, rt.stdin()));
     let mut out = Keeping::new(rt.alloc(), Patient::new(&rt, rt.stdout()), has_words);
     let mut err = Keeping::new(rt.alloc(), Patient::new(&rt, rt.stderr()), has_words);
+    let mut unsaid = Vec::new(rt.alloc());
     let status = command(
         &rt,
         rt.alloc(),
         &words,
         &mut FileShelf::new(&rt),
-        &mut standard_input(&rt, rt.stdin()),
+        &mut input,
         &mut out,
         &mut err,
+        &mut unsaid,
     );
     if has_words {
-        tell_words(&rt, &words, status, &out, &mut err);
+        let known = Known {
+            written: out.kept(),
+            told: err.kept(),
+            unsaid: &unsaid,
+            given: input.given(),
+            count: input.count(),
+        };
+        let said = words_for(&rt, &words, status, &known);
+        let _ = err.write_all(&said);
+        let _ = err.flush();
     }
     ExitCode::from(status)
 }

@@ -4,7 +4,8 @@ use Rattle.std.specs.Result.{OnErr}
 use Rattle.std.proofs.lemmas.List.{take-append-drop, map-append, map_more}
 use Rattle.kpn_shelf.specs.Shelf.{Loads, KeepsOthers}
 use Rattle.kpn_command_base.specs.Conclusion.{StoredFile}
-use Rattle.kpn_cli.specs.Concludes.{IsStored, AreStored, IsCutShort}
+use Rattle.kpn_command_base.specs.Stored.{IsStored}
+use Rattle.kpn_cli.specs.Concludes.{AreStored, IsCutShort}
 
 module _ {S : Type 0} (may_give : S → Loads) where
   stored_push : (files : List StoredFile) (file : StoredFile) (shelf between kept : S)

@@ -114,7 +114,7 @@ TellsAsked contents holds may_give request out written err told status = ⊥
 
 -- What the program does. Given are the words of the command line, the shelf, the input, the output and the place for
 -- faults, each as it was and as it is afterwards, and the status.
-pub data Runs {S I F O G E : Type 0} (may_give : S → Loads) (may_alias : S → Aliases) (names : Names F G)
+pub data Runs {S I F O G E : Type 0} (may_give : S → Loads) (may_alias : S → Aliases) (names : Names S F G)
     (remaining : I → Option (List ℕ)) (left_in : F → Option (List ℕ)) (contents : O → Option (List ℕ))
     (holds_in : G → Option (List ℕ)) (holds : E → Option (List ℕ)) (asked : List (List ℕ)) (shelf kept : S)
     (input read : I) (out written : O) (err told : E) (status : ℕ) : Type 0 where

@@ -10,13 +10,9 @@ use Rattle.kpn_command_base.specs.Told.{IsTold}
 use Rattle.kpn_shelf.specs.Shelf.{Loads, KeepsOthers}
 use Rattle.kpn_command_base.specs.declared.conclusion.Conclusion.{Conclusion}
 use Rattle.kpn_command_base.specs.Conclusion.{StoredFile, files_in}
+use Rattle.kpn_command_base.specs.Stored.{IsStored}
 
 -- ---- how files are stored
-
--- the file is stored: under its name the shelf may give its bytes, and its other files are as they were
-abbrev pub IsStored : {S : Type 0} → (may_give : S → Loads) → StoredFile → (shelf kept : S) → Type 0
-IsStored may_give file shelf kept =
-    may_give kept file.name (Ok file.bytes) × KeepsOthers (may_give shelf) (may_give kept) file.name
 
 -- these files are stored one after the other
 abbrev pub AreStored : {S : Type 0} → (may_give : S → Loads) → List StoredFile → (shelf kept : S) → Type 0

@@ -1,8 +1,12 @@
-//! What to do about an outcome: about a ring of processes, and about a run that is clogged, jammed or stopped.
+//! What to do about an outcome: about a ring of processes or a fault, about a run that is clogged, jammed or stopped,
+//! and about a source without items.
 
-use crate::causes::{is_plain, push};
-use crate::waits::{Waits, waits_in};
-use kpn_command_base::load_document;
+use crate::pieces::{has_name, has_one, is_of, is_plain, push, push_name, text_of};
+use crate::room::push_room;
+use crate::stopped::{push_looks, push_others};
+use crate::waits::{push_faults, waits_in};
+use crate::words::Known;
+use kpn_command_base::{Ends, RunRequest, StreamRequest, load_document};
 use kpn_command_line::Request;
 use kpn_shelf::Shelf;
 use kpn_text::Document;
@@ -13,22 +17,13 @@ const CLOGGED: &str = "\
 clogged: a process waits for room on a full channel, and its reader never reads there again.
 ";
 
-const CLOGGED_HELP: &str = "\
-With `policy all;` in the network such a channel grows, and so the run goes on; or give it a larger `cap`.
-";
-
 const JAMMED: &str = "\
 jammed: processes wait for one another, and each full channel among them has the most room that `limit` allows.
-Give the network a larger `limit`, or look for a process that writes more than its reader reads.
 ";
 
 const STOPPED: &str = "\
-stopped: the run has made all commits that it may. Give it more by `--max-commits N`, 1,000,000,000 at most, or say
-by `--take K` how many items are enough.
-";
-
-const FAULTED: &str = "\
-A process has ended by a fault, as the lines `fault` say: a result out of range (`overflow`), or a division by 0.
+stopped: the run has made all commits that it may. Unless a process loops for ever, give it more by
+`--max-commits N`, 1,000,000,000 at most, or say by `--take K` how many items are enough.
 ";
 
 const STEPS: &str = "\
@@ -43,75 +38,134 @@ const STORED: &str = "\
 `--sink NAME=OUT` stores what a sink has given. A stored trace and `kpn explain FILE TRACE` say what is complete.
 ";
 
-/// Adds what to do about the outcome of a run or a stream, or about an audit without steps. The report of a run is in
-/// what was written, that of a stream in what was told.
+/// Adds what to do about the outcome of a run or a stream, or about an audit without steps.
 pub(crate) fn push_advice<R: Files + AllocGlobal, S: Shelf>(
     text: &mut Vec<u8>,
     request: &Request<'_>,
     shelf: &S,
     rt: &R,
     status: u8,
-    written: &[u8],
-    told: &[u8],
+    known: &Known<'_>,
 ) -> Result<(), AllocError> {
+    let alloc = rt.alloc();
     match request {
         Request::Run(run) => {
-            let waits = waits_of(rt.alloc(), run.file, shelf, rt, written)?;
-            push_outcome(text, waits, status, true)
+            let document = plain_document(alloc, run.file, shelf, rt);
+            push_outcome(text, status)?;
+            match &document {
+                Some(document) => push_run(text, alloc, run, document, shelf, rt, status, known),
+                None => Ok(()),
+            }
         }
         Request::Stream(stream) => {
-            let waits = waits_of(rt.alloc(), stream.file, shelf, rt, told)?;
-            push_outcome(text, waits, status, false)
+            let document = plain_document(alloc, stream.file, shelf, rt);
+            push_outcome(text, status)?;
+            match &document {
+                Some(document) => push_stream(text, alloc, stream, document, shelf, status, known),
+                None => Ok(()),
+            }
         }
         _ if status == 5 => push(text, STEPS),
         _ => Ok(()),
     }
 }
 
-// The network of a file, and who waits in it, as the report says. None if the file can't be read once more.
-fn waits_of<R: Files, S: Shelf>(
+// The network of a file, if it can be read once more.
+fn plain_document<R: Files, S: Shelf>(
     alloc: Global,
     file: &str,
     shelf: &S,
     rt: &R,
-    written: &[u8],
-) -> Result<Option<(Document, Waits)>, AllocError> {
+) -> Option<Document> {
     if !is_plain(rt, file) {
-        return Ok(None);
+        return None;
     }
-    let Ok(document) = load_document(alloc, shelf, file) else {
-        return Ok(None);
-    };
-    let waits = waits_in(alloc, &document, written)?;
-    Ok(Some((document, waits)))
+    load_document(alloc, shelf, file).ok()
 }
 
-// Adds what to do about an outcome. Only the report of a run does not show what its sinks have given.
-fn push_outcome(
-    text: &mut Vec<u8>,
-    found: Option<(Document, Waits)>,
-    status: u8,
-    is_run: bool,
-) -> Result<(), AllocError> {
-    let is_complete = match &found {
-        Some((document, waits)) => {
-            waits.push_rings(text, document)?;
-            waits.are_sinks_complete(document)
-        }
-        None => false,
-    };
+// Adds what an outcome means.
+fn push_outcome(text: &mut Vec<u8>, status: u8) -> Result<(), AllocError> {
     match status {
-        3 => push(text, CLOGGED)?,
-        4 => push(text, JAMMED)?,
-        5 => return push(text, STOPPED),
-        8 => return push(text, FAULTED),
-        _ => return Ok(()),
+        3 => push(text, CLOGGED),
+        4 => push(text, JAMMED),
+        5 => push(text, STOPPED),
+        _ => Ok(()),
     }
-    if is_run {
-        push(text, if is_complete { COMPLETE } else { STORED })?;
+}
+
+// Adds what the report of a run means, which is what it wrote.
+fn push_run<R: Files, S: Shelf>(
+    text: &mut Vec<u8>,
+    alloc: Global,
+    run: &RunRequest<'_>,
+    document: &Document,
+    shelf: &S,
+    rt: &R,
+    status: u8,
+    known: &Known<'_>,
+) -> Result<(), AllocError> {
+    push_unfed(text, document, &run.sources)?;
+    if status == 5 {
+        return push_looks(text, alloc, run, document, shelf, rt);
     }
-    if status == 3 && !is_complete {
-        push(text, CLOGGED_HELP)?;
+    let report = text_of(known.written);
+    let waits = waits_in(alloc, document, report)?;
+    waits.push_rings(text, document)?;
+    push_faults(text, report)?;
+    if status != 3 && status != 4 {
+        return Ok(());
+    }
+    // Only the report of a run does not show what its sinks have given.
+    let has_sinks = has_one(document, Ends::Sinks);
+    if has_sinks && waits.are_sinks_complete(document) {
+        return push(text, COMPLETE);
+    }
+    push_room(text, alloc, document, run.file, &waits, status, shelf)?;
+    if has_sinks {
+        push(text, STORED)?;
+    }
+    Ok(())
+}
+
+// Adds what the summary of a stream means.
+fn push_stream<S: Shelf>(
+    text: &mut Vec<u8>,
+    alloc: Global,
+    stream: &StreamRequest<'_>,
+    document: &Document,
+    shelf: &S,
+    status: u8,
+    known: &Known<'_>,
+) -> Result<(), AllocError> {
+    let summary = text_of(if stream.quiet {
+        known.unsaid
+    } else {
+        known.told
+    });
+    let waits = waits_in(alloc, document, summary)?;
+    waits.push_rings(text, document)?;
+    push_faults(text, summary)?;
+    match status {
+        3 | 4 => push_room(text, alloc, document, stream.file, &waits, status, shelf),
+        5 => push_others(text, document, &waits),
+        _ => Ok(()),
+    }
+}
+
+// Adds that a source has no items which no option gives a file.
+fn push_unfed(text: &mut Vec<u8>, document: &Document, options: &[&str]) -> Result<(), AllocError> {
+    for channel in 0..document.network().channels() {
+        let name = document.channel_name(channel);
+        if is_of(document, Ends::Sources, channel) && !has_name(options, name) {
+            push_name(
+                text,
+                "Source ",
+                name,
+                " got no file, so it has no items: --source ",
+            )?;
+            push(text, name)?;
+            push(text, "=FILE\n")?;
+        }
     }
     Ok(())
 }

@@ -1,52 +1,38 @@
 //! Why a file of a request was refused: its name and the reason, and the words of `kpn explain`.
 
+use crate::ends::{ErrorLine, NO_SOURCE, push_failed_end, push_given, push_unseen};
 use crate::named::Named;
-use crate::samples::push_samples;
+use crate::pieces::{
+    STANDARD, file_in, has_name, is_end, is_plain, name_in, push, push_ends, push_name, text_of,
+    word_of,
+};
+use crate::words::Known;
 use kpn_command_base::{Conclusion, Ends, Refusal, load_document};
-use kpn_command_explain::{explain_command, explain_items_command, explain_trace_command};
+use kpn_command_explain::{
+    bad_line_text, explain_command, explain_items_command, explain_trace_command,
+};
 use kpn_command_line::Request;
 use kpn_limits::{MAX_INPUT_BYTES, USUAL_COUNT};
 use kpn_shelf::Shelf;
 use kpn_text::Document;
+use kpn_text_items::{ItemFault, items_of};
 use std::alloc::{AllocError, Global};
 use std::fs;
 use std::io::ErrorKind;
 use std::rt::Files;
-
-/// Adds a piece to a text.
-pub(crate) fn push(text: &mut Vec<u8>, piece: &str) -> Result<(), AllocError> {
-    text.extend_from_slice(piece.as_bytes())
-}
-
-/// Adds a name between backticks, and what stands before it and behind it.
-pub(crate) fn push_name(
-    text: &mut Vec<u8>,
-    before: &str,
-    name: &str,
-    behind: &str,
-) -> Result<(), AllocError> {
-    push(text, before)?;
-    push(text, "`")?;
-    push(text, name)?;
-    push(text, "`")?;
-    push(text, behind)
-}
-
-/// Whether a path leads to a plain file. Another one may not be read twice.
-pub(crate) fn is_plain<R: Files>(rt: &R, path: &str) -> bool {
-    fs::metadata(rt, path).is_ok_and(|found| found.is_file())
-}
 
 /// Adds what is wrong with the first file of a request that is wrong.
 pub(crate) fn push_causes<R: Files, S: Shelf>(
     text: &mut Vec<u8>,
     alloc: Global,
     request: &Request<'_>,
+    known: &Known<'_>,
     shelf: &S,
     rt: &R,
 ) -> Result<(), AllocError> {
+    let line = ErrorLine::in_text(text_of(known.told));
     let Some(named) = Named::of(request) else {
-        return Ok(());
+        return push_wrong_input(text, alloc, line, known);
     };
     if push_unread(text, rt, named.file, MOST)? || !is_plain(rt, named.file) || named.is_items {
         return Ok(());
@@ -59,13 +45,45 @@ pub(crate) fn push_causes<R: Files, S: Shelf>(
     };
     if push_wrong_name(text, &document, Ends::Sources, named.sources)?
         || push_wrong_name(text, &document, Ends::Sinks, named.sinks)?
-        || push_looks(text, alloc, &document, &named, shelf, rt)?
-        || push_wrong_items(text, alloc, &named, shelf, rt)?
+        || push_wrong_end(text, alloc, &named, line, known, shelf, rt)?
+        || push_wrong_items(text, alloc, &named, line, shelf, rt)?
         || push_wrong_trace(text, alloc, &named, shelf, rt)?
+        || push_unwritable(text, rt, &named)?
     {
         return Ok(());
     }
-    push_unwritable(text, rt, &named)
+    push_full(text, &named, line)
+}
+
+// Adds what is wrong with the items of standard input.
+fn push_wrong_input(
+    text: &mut Vec<u8>,
+    alloc: Global,
+    line: Option<ErrorLine<'_>>,
+    known: &Known<'_>,
+) -> Result<(), AllocError> {
+    match line {
+        Some(line) if line.number == "25" => push_given(text, alloc, NO_SOURCE, line.place, known),
+        _ => Ok(()),
+    }
+}
+
+// Adds what has failed at an end of a stream, if something has.
+fn push_wrong_end<R: Files, S: Shelf>(
+    text: &mut Vec<u8>,
+    alloc: Global,
+    named: &Named<'_, '_>,
+    line: Option<ErrorLine<'_>>,
+    known: &Known<'_>,
+    shelf: &S,
+    rt: &R,
+) -> Result<bool, AllocError> {
+    match (named.stream, line) {
+        (Some(stream), Some(line)) => {
+            push_failed_end(text, alloc, stream, line, known, shelf, rt)
+        }
+        _ => Ok(false),
+    }
 }
 
 // Adds what an explanation says, if something is wrong. It returns whether it did.
@@ -90,8 +108,8 @@ const OTHER_RULES: &str = "\
 The trace is of a network with another `policy` or `grow`. Give it the description that ran.
 ";
 
-// Adds the name of a file that can't be read, and the reason: it may have so many bytes. It returns whether it did.
-fn push_unread<R: Files>(
+/// Adds the name of a file that can't be read, and the reason: it may have so many bytes. It returns whether it did.
+pub(crate) fn push_unread<R: Files>(
     text: &mut Vec<u8>,
     rt: &R,
     file: &str,
@@ -137,26 +155,19 @@ fn push_wrong_name(
     ends: Ends,
     options: &[&str],
 ) -> Result<bool, AllocError> {
-    let what = match ends {
-        Ends::Sources => "source",
-        Ends::Sinks => "sink",
-    };
     for (at, option) in options.iter().enumerate() {
         let name = name_in(option);
         if !is_end(document, ends, name) {
             push(text, "There is no ")?;
-            push(text, what)?;
+            push(text, word_of(ends))?;
             push_name(text, " ", name, ". The network has ")?;
-            push_ends(text, document, ends, what)?;
+            push_ends(text, document, ends)?;
+            push(text, ".\n")?;
             return Ok(true);
         }
-        if options
-            .iter()
-            .take(at)
-            .any(|earlier| name_in(earlier) == name)
-        {
+        if has_name(options.get(..at).unwrap_or(&[]), name) {
             push(text, "The option of ")?;
-            push(text, what)?;
+            push(text, word_of(ends))?;
             push_name(text, " ", name, " is given twice.\n")?;
             return Ok(true);
         }
@@ -164,101 +175,80 @@ fn push_wrong_name(
     Ok(false)
 }
 
-// The name that an option gives a file.
-pub(crate) fn name_in<'a>(option: &&'a str) -> &'a str {
-    match option.split_once('=') {
-        Some((name, _)) => name,
-        None => option,
-    }
-}
-
-// The file behind the name in an option.
-pub(crate) fn file_in<'a>(option: &&'a str) -> &'a str {
-    match option.split_once('=') {
-        Some((_, file)) => file,
-        None => "",
-    }
-}
-
-// Whether a network has an end of this name.
-fn is_end(document: &Document, ends: Ends, name: &str) -> bool {
-    match document.find_channel(name) {
-        Some(channel) => is_of(document, ends, channel),
-        None => false,
-    }
-}
-
-// Whether a channel is one of these ends.
-fn is_of(document: &Document, ends: Ends, channel: usize) -> bool {
-    match ends {
-        Ends::Sources => document.network().is_source(channel),
-        Ends::Sinks => document.network().is_sink(channel),
-    }
-}
-
-// Adds the names of these ends of a network.
-fn push_ends(
-    text: &mut Vec<u8>,
-    document: &Document,
-    ends: Ends,
-    what: &str,
-) -> Result<(), AllocError> {
-    let mut before = "";
-    for channel in 0..document.network().channels() {
-        if is_of(document, ends, channel) {
-            push_name(text, before, document.channel_name(channel), "")?;
-            before = ", ";
-        }
-    }
-    if before.is_empty() {
-        push(text, "no ")?;
-        push(text, what)?;
-    }
-    push(text, ".\n")
-}
-
-// Adds that a source of a stream looks like samples, if one is read as lines and does.
-fn push_looks<R: Files, S: Shelf>(
-    text: &mut Vec<u8>,
-    alloc: Global,
-    document: &Document,
-    named: &Named<'_, '_>,
-    shelf: &S,
-    rt: &R,
-) -> Result<bool, AllocError> {
-    match named.stream {
-        Some(stream) => push_samples(text, alloc, document, stream, shelf, rt),
-        None => Ok(false),
-    }
-}
-
 // Adds what is wrong with the first file of items that is wrong.
 fn push_wrong_items<R: Files, S: Shelf>(
     text: &mut Vec<u8>,
     alloc: Global,
     named: &Named<'_, '_>,
+    line: Option<ErrorLine<'_>>,
     shelf: &S,
     rt: &R,
 ) -> Result<bool, AllocError> {
-    // A stream reads on as long as bytes come.
-    let most = if named.stream.is_some() {
-        u64::MAX
-    } else {
-        MOST
-    };
     for option in named.sources {
         let file = file_in(option);
-        if file != "-" && push_unread(text, rt, file, most)? {
-            return Ok(true);
-        }
-        if named.has_lines(name_in(option))
-            && is_plain(rt, file)
-            && push_told(text, explain_items_command(alloc, file, shelf))?
-        {
+        if named.stream.is_some() {
+            // A stream reads on as long as bytes come.
+            if file != STANDARD && push_unread(text, rt, file, u64::MAX)? {
+                return Ok(true);
+            }
+        } else if push_wrong_file(text, alloc, name_in(option), file, line, shelf, rt)? {
             return Ok(true);
         }
     }
     Ok(false)
+}
+
+// Adds what is wrong with the file of a source that is read whole: why it can't be read, or its first bad line.
+fn push_wrong_file<R: Files, S: Shelf>(
+    text: &mut Vec<u8>,
+    alloc: Global,
+    source: &str,
+    file: &str,
+    line: Option<ErrorLine<'_>>,
+    shelf: &S,
+    rt: &R,
+) -> Result<bool, AllocError> {
+    if push_unread(text, rt, file, MOST)? {
+        if file == STANDARD {
+            push(text, NO_STANDARD)?;
+        }
+        return Ok(true);
+    }
+    if is_plain(rt, file) {
+        return push_bad_line(text, alloc, source, file, shelf);
+    }
+    match line {
+        Some(line) if line.number == "25" => {
+            push_unseen(text, alloc, source, file, line.place)?;
+            Ok(true)
+        }
+        _ => Ok(false),
+    }
+}
+
+const NO_STANDARD: &str = "\
+This command reads files: give `/dev/stdin`. `kpn stream` reads standard input as `-`.
+";
+
+// Adds the first line of a file that spells no item, if there is one.
+fn push_bad_line<S: Shelf>(
+    text: &mut Vec<u8>,
+    alloc: Global,
+    source: &str,
+    file: &str,
+    shelf: &S,
+) -> Result<bool, AllocError> {
+    let Ok(bytes) = shelf.load(alloc, file) else {
+        return Ok(false);
+    };
+    match items_of(alloc, &bytes) {
+        Err(ItemFault::BadItem(line)) => {
+            let told = bad_line_text(alloc, file, &bytes, line, source)?;
+            text.extend_from_slice(&told)?;
+            Ok(true)
+        }
+        _ => Ok(false),
+    }
 }
 
 // Adds what is wrong with the trace that is read.
@@ -290,17 +280,45 @@ fn push_unwritable<R: Files>(
     text: &mut Vec<u8>,
     rt: &R,
     named: &Named<'_, '_>,
-) -> Result<(), AllocError> {
+) -> Result<bool, AllocError> {
     for sink in named.sinks {
         if push_unwritten(text, rt, file_in(sink))? {
-            return Ok(());
+            return Ok(true);
         }
     }
-    if let Some(trace) = named.stored {
-        let _said = push_unwritten(text, rt, trace)?;
+    match named.stored {
+        Some(trace) => push_unwritten(text, rt, trace),
+        None => Ok(false),
     }
-    Ok(())
 }
+
+// Adds which outputs there are, and what may be wrong with one, if nothing shows it.
+fn push_full(
+    text: &mut Vec<u8>,
+    named: &Named<'_, '_>,
+    line: Option<ErrorLine<'_>>,
+) -> Result<(), AllocError> {
+    match line {
+        Some(line) if line.number == "27" => {}
+        _ => return Ok(()),
+    }
+    for sink in named.sinks {
+        push_name(text, "", file_in(sink), " or ")?;
+    }
+    if let Some(trace) = named.stored {
+        push_name(text, "", trace, " or ")?;
+    }
+    let standard = if text.is_empty() {
+        "Standard"
+    } else {
+        "standard"
+    };
+    push(text, standard)?;
+    push(text, FULL)
+}
+
+const FULL: &str =
+    " output takes no more: is it closed, locked by another run, or its disk full?\n";
 
 // Adds the name of a file that can't be written, and the reason, as far as it shows.
 fn push_unwritten<R: Files>(text: &mut Vec<u8>, rt: &R, file: &str) -> Result<bool, AllocError> {

@@ -1,12 +1,16 @@
-//! A writer that keeps the end of what it has written.
+//! A writer that keeps the end of what it has written, and a reader that keeps the beginning of what it has read.
 ghost use Rattle.std.specs.Prelude.{◌≡◌};
 
+use kpn_shelf::Look;
 use std::alloc::Global;
 use std::io;
-use std::io::Write;
+use std::io::{Read, Write};
 
 // How many bytes are kept at most. The lines of a report that are read again are the last ones, and take less.
 const MOST_KEPT: usize = 65_536;
+
+/// How many bytes of an input are kept at most.
+pub(crate) const MOST_GIVEN: usize = 4_096;
 
 /// A writer, and the end of what went through it, as far as there was memory for it.
 #[derive(Drop)]
@@ -62,4 +66,73 @@ fn keep(kept: &mut Vec<u8>, bytes: &[u8], count: usize) {
         kept.clear();
     }
     let _ = kept.extend_from_slice(end);
+}
+
+/// A reader, the beginning of what came through it, as far as there was memory for it, and how many bytes came.
+#[derive(Drop)]
+pub struct Opening<I: Drop> {
+    inner: I,
+    given: Vec<u8>,
+    count: u64,
+}
+
+impl<I: Drop> Opening<I> {
+    /// This reader.
+    pub fn new(alloc: Global, inner: I) -> Opening<I> {
+        Opening {
+            inner,
+            given: Vec::new(alloc),
+            count: 0,
+        }
+    }
+
+    /// The beginning of what was read.
+    pub fn given(&self) -> &[u8] {
+        &self.given
+    }
+
+    /// How many bytes were read.
+    pub fn count(&self) -> u64 {
+        self.count
+    }
+}
+
+impl<I: Read + Drop> Read for Opening<I> {
+    ghost remaining = { λ opening. I.remaining opening.inner };
+
+    fn read(&mut self, buf: &mut [u8]) -> io::Result<usize> {
+        let answer = self.inner.read(buf);
+        if let Ok(count) = &answer {
+            begin(&mut self.given, buf, *count);
+            self.count = self.count.saturating_add(*count as u64);
+        }
+        answer
+    }
+}
+
+impl<I: Look + Drop> Look for Opening<I> {
+    fn look(&mut self, buf: &mut [u8]) -> io::Result<Option<usize>> {
+        let answer = self.inner.look(buf);
+        if let Ok(Some(count)) = &answer {
+            begin(&mut self.given, buf, *count);
+            self.count = self.count.saturating_add(*count as u64);
+        }
+        answer
+    }
+
+    fn can_look(&self) -> bool {
+        self.inner.can_look()
+    }
+
+    fn linger(&self) {
+        self.inner.linger();
+    }
+}
+
+// Keeps so many first bytes behind those before, as long as there is room.
+fn begin(given: &mut Vec<u8>, bytes: &[u8], count: usize) {
+    let room = MOST_GIVEN.saturating_sub(given.len());
+    if let Some(first) = bytes.get(..count.min(room)) {
+        let _ = given.extend_from_slice(first);
+    }
 }

@@ -5,17 +5,21 @@
 mod advice;
 mod causes;
 mod concluding;
+mod ends;
 mod here;
 mod keeping;
 mod named;
+mod options;
+mod pieces;
 mod program;
-mod samples;
+mod room;
+mod stopped;
 mod usage;
 mod waits;
 mod words;
 
 pub use here::{Progress, answer_here};
-pub use keeping::Keeping;
+pub use keeping::{Keeping, Opening};
 pub use kpn_shelf::{FileShelf, Look, MemoryShelf, Ports, Shelf};
 pub use program::command;
-pub use words::{WordsWanted, tell_words};
+pub use words::{Known, WordsWanted, words_for};

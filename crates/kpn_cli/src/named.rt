@@ -2,7 +2,6 @@
 
 use kpn_command_base::{RunRequest, StreamRequest};
 use kpn_command_line::Request;
-use kpn_command_stream::has_lines;
 use kpn_limits::USUAL_COUNT;
 
 /// What a request names: files that are read and written. `is_items` says that the only one is an item file, and
@@ -120,14 +119,6 @@ impl<'r, 'a> Named<'r, 'a> {
             stored: stream.trace,
             stream: Some(stream),
             ..Named::bare(stream.file)
-        }
-    }
-
-    /// Whether the source of this name has lines.
-    pub(crate) fn has_lines(&self, name: &str) -> bool {
-        match self.stream {
-            Some(stream) => has_lines(&stream.formats, name),
-            None => true,
         }
     }
 }

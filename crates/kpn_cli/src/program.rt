@@ -22,8 +22,8 @@ use std::time::Clock;
 /// that the user called the program by. It returns the status of the program: 0 for success and for help, 1 for a
 /// refused input, a device that fails or an illegal trace, 2 for words that are not understood, 3 for a run that has
 /// clogged, 4 for one that has jammed, 5 for one that has stopped or an audit without steps left, 6 for want of memory,
-/// 7 for workers that came to no outcome, 8 for a stream of which a process has faulted. Only a run by workers may
-/// wait.
+/// 7 for workers that came to no outcome, 8 for a stream of which a process has faulted. What a quiet stream does not
+/// tell is added to `unsaid`. Only a run by workers may wait.
 pub fn command<R: Threads + Wait + Clock + Sync, S: Shelf + Ports, I: Look, O: Write, E: Write>(
     rt: &R,
     alloc: Global,
@@ -32,8 +32,9 @@ pub fn command<R: Threads + Wait + Clock + Sync, S: Shelf + Ports, I: Look, O: W
     input: &mut I,
     out: &mut O,
     err: &mut E,
+    unsaid: &mut Vec<u8>,
 ) -> u8
-    ensures { Runs S.may_give S.may_alias (names_of S.comes_from S.goes_to)
+    ensures { Runs S.may_give S.may_alias (names_of S.are_two_inputs S.comes_from S.goes_to)
         I.remaining S.Input.remaining O.contents S.Output.contents E.contents
         (map string_bytes words.now) shelf.old shelf.new input.old input.new out.old out.new
         err.old err.new result }
@@ -46,7 +47,7 @@ pub fn command<R: Threads + Wait + Clock + Sync, S: Shelf + Ports, I: Look, O: W
                 conclude(answer, shelf, out, err)
             }
             Progress::NeedsDevices(stream) => {
-                stream_command(alloc, &stream, shelf, input, out, err)
+                stream_command(alloc, &stream, shelf, input, out, err, unsaid)
             }
             Progress::NeedsOutput { file, trace, steps } => {
                 tell_timeline(alloc, file, trace, steps, shelf, out, err)

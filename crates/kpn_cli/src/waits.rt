@@ -1,10 +1,10 @@
-//! Which processes wait, as the lines of a report say, and what follows from it.
+//! Which processes wait, and have faulted, as the lines of a report say, and what follows from it.
 
-use crate::causes::push;
+use crate::pieces::{push, push_name};
 use kpn_net::End;
+use kpn_run_history::State;
 use kpn_text::Document;
 use std::alloc::{AllocError, Global};
-use std::str;
 
 // A wait of a process on a channel: for room, or else for an item.
 #[derive(Clone, Copy)]
@@ -23,19 +23,18 @@ pub(crate) struct Waits {
 pub(crate) fn waits_in(
     alloc: Global,
     document: &Document,
-    written: &[u8],
+    report: &str,
 ) -> Result<Waits, AllocError> {
     let mut of = Vec::new(alloc);
     for p in 0..document.network().instances() {
-        of.push(wait_of(document, document.instance_name(p), written))?;
+        of.push(wait_of(document, document.instance_name(p), report))?;
     }
     Ok(Waits { of })
 }
 
 // The wait that a text tells of a process of this name.
-fn wait_of(document: &Document, name: &str, written: &[u8]) -> Option<Waiting> {
-    let text = str::from_utf8(written).unwrap_or("");
-    for line in text.lines() {
+fn wait_of(document: &Document, name: &str, report: &str) -> Option<Waiting> {
+    for line in report.lines() {
         if let Some(rest) = line.strip_prefix("waits ") {
             if let Some((instance, channel)) = rest.split_once(' ') {
                 if instance == name {
@@ -55,6 +54,25 @@ fn wait_on(document: &Document, words: &str) -> Option<Waiting> {
     };
     let channel = document.find_channel(name)?;
     Some(Waiting { channel, is_full })
+}
+
+/// The waits of these states.
+pub(crate) fn waits_among(alloc: Global, states: &[State]) -> Result<Waits, AllocError> {
+    let mut of = Vec::new(alloc);
+    for state in states {
+        of.push(match *state {
+            State::WaitsEmpty(channel) => Some(Waiting {
+                channel,
+                is_full: false,
+            }),
+            State::WaitsFull(channel) => Some(Waiting {
+                channel,
+                is_full: true,
+            }),
+            _ => None,
+        })?;
+    }
+    Ok(Waits { of })
 }
 
 impl Waits {
@@ -131,6 +149,45 @@ impl Waits {
         true
     }
 
+    /// Whether a process waits.
+    pub(crate) fn has(&self, p: usize) -> bool {
+        matches!(self.of.get(p), Some(Some(_)))
+    }
+
+    /// Adds the names of the full channels on which processes wait. It returns whether there are some.
+    pub(crate) fn push_full(
+        &self,
+        text: &mut Vec<u8>,
+        document: &Document,
+    ) -> Result<bool, AllocError> {
+        let mut before = "Full: ";
+        for wait in self.of.as_slice() {
+            if let Some(wait) = *wait {
+                if wait.is_full && wait.channel < document.network().channels() {
+                    push_name(text, before, document.channel_name(wait.channel), "")?;
+                    before = ", ";
+                }
+            }
+        }
+        Ok(before == ", ")
+    }
+
+    /// Whether one of these channels has as much room at the start as the limit allows.
+    pub(crate) fn is_one_at_limit(&self, document: &Document) -> bool {
+        let network = document.network();
+        for wait in self.of.as_slice() {
+            if let Some(wait) = *wait {
+                if wait.is_full
+                    && wait.channel < network.channels()
+                    && network.cap_of(wait.channel) == Some(network.limit())
+                {
+                    return true;
+                }
+            }
+        }
+        false
+    }
+
     // Whether nothing more comes on a channel. Behind a ring nothing does.
     fn is_complete(&self, document: &Document, channel: usize) -> bool {
         let mut channel = channel;
@@ -147,6 +204,65 @@ impl Waits {
         true
     }
 }
+
+/// Adds which processes have ended by a fault, as the lines `fault INSTANCE CAUSE` of a text tell, and what it means.
+pub(crate) fn push_faults(text: &mut Vec<u8>, report: &str) -> Result<(), AllocError> {
+    let zero = push_faulted(
+        text,
+        report,
+        "zero-divisor",
+        " ended by a division by 0 (`zero-divisor`)",
+    )?;
+    let overflow = push_faulted(
+        text,
+        report,
+        "overflow",
+        " ended by a result out of range (`overflow`)",
+    )?;
+    if zero || overflow {
+        return push(text, FAULTED);
+    }
+    Ok(())
+}
+
+// Adds the names of the processes that a text tells to have ended by this fault. It returns whether there are some.
+fn push_faulted(
+    text: &mut Vec<u8>,
+    report: &str,
+    cause: &str,
+    said: &str,
+) -> Result<bool, AllocError> {
+    let mut count = 0u32;
+    for line in report.lines() {
+        if let Some((instance, how)) = fault_in(line) {
+            if how == cause {
+                push_name(text, lead(count), instance, "")?;
+                count = count.saturating_add(1);
+            }
+        }
+    }
+    if count == 0 {
+        return Ok(false);
+    }
+    push(text, said)?;
+    push(text, ".\n")?;
+    Ok(true)
+}
+
+// What stands before a name of a list, of which this is the number.
+fn lead(count: u32) -> &'static str {
+    if count == 0 { "" } else { ", " }
+}
+
+// The process and the cause that a line `fault INSTANCE CAUSE` tells.
+fn fault_in(line: &str) -> Option<(&str, &str)> {
+    line.strip_prefix("fault ")?.split_once(' ')
+}
+
+const FAULTED: &str = "\
+A process that has ended writes nothing more: its readers get what is unread, and then wait. With `--trace OUT`,
+`kpn explain FILE OUT` says after which item it was.
+";
 
 const FIRST_ITEM: &str = "\
 ; one of them has to write before it reads (a first item before its loop)

@@ -1,17 +1,16 @@
 //! Words for a person, behind the fixed line: which file it is about, what stands there, and what to do.
 //!
-//! What they say is found anew from the words of the command line and from plain files, so they change nothing of what
-//! the program has done. They are tested, not proved.
+//! What they say is found anew from the words of the command line, from plain files and from what was kept of what the
+//! program has read and written, so they change nothing of what it has done. They are tested, not proved.
 
 use crate::advice::push_advice;
 use crate::causes::push_causes;
-use crate::keeping::Keeping;
-use kpn_command_line::read_words;
+use crate::options::{push_unclear, push_wrong_format};
+use kpn_command_line::{Request, read_words};
 use kpn_shelf::FileShelf;
 use std::alloc::AllocError;
 use std::fs;
 use std::fs::File;
-use std::io::Write;
 use std::rt::Files;
 
 /// When words follow the fixed line.
@@ -54,39 +53,50 @@ fn is_terminal<R: Files + AllocGlobal>(rt: &R) -> bool {
     name.starts_with("/dev/pts/") || name.starts_with("/dev/tty") || name == "/dev/console"
 }
 
-/// Writes words behind what a command has told, if there is something to say. Given are the words of the command line,
-/// the status that the command came to, and the output and the place for faults, which have kept the end of what it
-/// wrote.
-pub fn tell_words<R: Files<File = File> + AllocGlobal, O: Write + Drop, E: Write + Drop>(
+/// What is known of what a command has read and written.
+#[derive(Clone, Copy)]
+pub struct Known<'k> {
+    /// The end of what it wrote.
+    pub written: &'k [u8],
+    /// The end of what it told where faults go.
+    pub told: &'k [u8],
+    /// What a quiet stream would have told of its end.
+    pub unsaid: &'k [u8],
+    /// The beginning of what it read of standard input, and how many bytes it read there.
+    pub given: &'k [u8],
+    pub count: u64,
+}
+
+/// The words behind what a command has told that came to this status. There are none if there is nothing to say, or no
+/// memory to say it.
+pub fn words_for<R: Files<File = File> + AllocGlobal>(
     rt: &R,
     words: &[String],
     status: u8,
-    out: &Keeping<O>,
-    err: &mut Keeping<E>,
-) {
-    if let Ok(text) = words_for(rt, words, status, out.kept(), err.kept()) {
-        let _ = err.write_all(&text);
-        let _ = err.flush();
+    known: &Known<'_>,
+) -> Vec<u8> {
+    let mut text = Vec::new(rt.alloc());
+    match push_words(&mut text, rt, words, status, known) {
+        Ok(()) => text,
+        Err(_) => Vec::new(rt.alloc()),
     }
 }
 
-// The words for a status.
-fn words_for<R: Files<File = File> + AllocGlobal>(
+fn push_words<R: Files<File = File> + AllocGlobal>(
+    text: &mut Vec<u8>,
     rt: &R,
     words: &[String],
     status: u8,
-    written: &[u8],
-    told: &[u8],
-) -> Result<Vec<u8>, AllocError> {
+    known: &Known<'_>,
+) -> Result<(), AllocError> {
     let alloc = rt.alloc();
-    let mut text = Vec::new(alloc);
     let Ok(request) = read_words(alloc, words) else {
-        return Ok(text);
+        return push_unclear(text, alloc, words, known);
     };
     let shelf = FileShelf::new(rt);
-    match status {
-        1 => push_causes(&mut text, alloc, &request, &shelf, rt)?,
-        _ => push_advice(&mut text, &request, &shelf, rt, status, written, told)?,
+    match (status, &request) {
+        (1, _) => push_causes(text, alloc, &request, known, &shelf, rt),
+        (2, Request::Stream(stream)) => push_wrong_format(text, alloc, stream, &shelf, rt),
+        _ => push_advice(text, &request, &shelf, rt, status, known),
     }
-    Ok(text)
 }

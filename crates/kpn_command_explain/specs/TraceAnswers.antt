@@ -1,11 +1,13 @@
 -- What `kpn explain` comes to of a trace, and why it gives no answer. Of the texts about what is wrong the beginning is
 -- fixed here, which names the place; rows show their words.
-use Rattle.std.specs.Prelude.{◌≡◌, ℕ, ◌+◌, nat_eq, if◌then◌else◌, Bool, true, false, List, [], ◌++◌, Ok, codes, ⊤}
-use Rattle.std.specs.List.{starts_with}
+use Rattle.std.specs.Prelude.{◌≡◌, ℕ, ◌+◌, nat_eq, if◌then◌else◌, Bool, true, false, List, [], ◌++◌, Ok, Option, Some, codes, ⊤}
+use Rattle.std.specs.List.{list_any, starts_with}
 use Rattle.std.specs.declared.alloc.Global.{Global}
 use Rattle.kpn_net.specs.declared.wait.Wait.{Wait}
 use Rattle.kpn_net.specs.Tables.{Tables}
 use Rattle.kpn_ring.specs.Told.{AreRings, are_some}
+use Rattle.kpn_run_history.specs.declared.event.How.{How}
+use Rattle.kpn_run_history.specs.declared.event.How.TheVariants.{Overflow, ZeroDivisor}
 use Rattle.kpn_run_history.specs.declared.stored.Trace.{Trace}
 use Rattle.kpn_trace.specs.declared.fault.TraceFault.{TraceFault}
 use Rattle.kpn_trace.specs.TraceText.{Spells, Refuses}
@@ -46,11 +48,21 @@ abbrev pub IsAuditedText : {A : Type 0} → Document → Audit A → (text : Lis
 IsAuditedText d audit text =
     (rest : List ℕ) × (text ≡ cut_text d.names.channels audit ++ rest) × (audit.exact ≡ true → rest ≡ [])
 
--- the rings of a legal history, if there are some, and what the audit says of it
+-- an end by a fault
+abbrev pub is_fault : Option How → Bool
+is_fault (Some Overflow) = true
+is_fault (Some ZeroDivisor) = true
+is_fault other = false
+
+-- a text is empty if no process has ended by a fault
+abbrev pub TellsFaults : List (Option How) → (text : List ℕ) → Type 0
+TellsFaults ends text = list_any is_fault ends ≡ false → text ≡ []
+
+-- the rings of a legal history and its faults, if there are some, and what the audit says of it
 abbrev pub IsLegalText : {A : Type 0} → Document → Audit A → (text : List ℕ) → Type 0
 IsLegalText d audit text =
-    (first told : List ℕ) × (text ≡ first ++ told) × TellsRings d.tables audit.waits first
-    × IsAuditedText d audit told
+    (first faults told : List ℕ) × (text ≡ (first ++ faults) ++ told) × TellsRings d.tables audit.waits first
+    × TellsFaults audit.ends faults × IsAuditedText d audit told
 
 -- the line that ends the first lines of a trace of this beginning
 abbrev pub head_line : (bytes : List ℕ) → ℕ

@@ -65,6 +65,8 @@ pub(crate) enum Habit {
     Fraction,
     /// `^`
     Power,
+    /// `**`
+    Stars,
     /// `[` behind a name.
     Place,
 }
@@ -208,6 +210,8 @@ fn whole_habit(last: &[u8], here: &[u8]) -> Option<Habit> {
         Some(Habit::Changes)
     } else if begins_comment(here) {
         Some(Habit::Slashes)
+    } else if here.starts_with(b"**") {
+        Some(Habit::Stars)
     } else if is_operator(here) {
         Some(Habit::Sides)
     } else if assigns(here) {
@@ -223,6 +227,8 @@ fn operand_habit(last: &[u8]) -> Option<Habit> {
         Some(Habit::Slashes)
     } else if last.starts_with(b"<>") {
         Some(Habit::Differs)
+    } else if last.starts_with(b"**") {
+        Some(Habit::Stars)
     } else {
         shift(last)
     }

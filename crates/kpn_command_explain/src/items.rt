@@ -6,6 +6,7 @@ ghost use Rattle.kpn_command_explain.specs.Answers.{AreItemsExplained, ExplainsL
 
 use crate::excerpt::{push_excerpt, push_where};
 use crate::explained::push_bracket;
+use crate::kinds::{kind_of, push_remedy};
 use crate::lines::{back, line_start};
 use crate::loading::load;
 use crate::words::is_fraction;
@@ -13,6 +14,9 @@ use kpn_command_base::{Conclusion, Refusal, push_number};
 use kpn_shelf::Shelf;
 use kpn_text_items::{ItemFault, items_of};
 use std::alloc::{AllocError, Global};
+
+// What stands for the name of a source where none is known.
+const SOURCE: &str = "NAME";
 
 /// What `kpn explain FILE --items` comes to.
 pub fn explain_items_command<S: Shelf>(
@@ -53,7 +57,7 @@ fn wrong(alloc: Global, file: &str, bytes: &[u8], line: usize) -> Result<Conclus
         ExplainsLine file.now bytes.now line text × (status ≡ 1))) }
     ensures refused { IfErr result (λ refusal. refusal ≡ NoMemory) }
 {
-    let text = explanation_of(alloc, file.as_bytes(), bytes, line)?;
+    let text = bad_line_text(alloc, file, bytes, line, SOURCE)?;
     Ok(Conclusion {
         text,
         status: 1,
@@ -61,34 +65,45 @@ fn wrong(alloc: Global, file: &str, bytes: &[u8], line: usize) -> Result<Conclus
     })
 }
 
-// The place of a bad line, what the error line says, the line itself, and what helps.
-fn explanation_of(
+/// The place of a bad line in the bytes of a file, what the error line says, the line itself, and what helps, if it is
+/// the file of the source of this name.
+pub fn bad_line_text(
     alloc: Global,
-    file: &[u8],
-    text: &[u8],
+    file: &str,
+    bytes: &[u8],
     line: usize,
+    source: &str,
 ) -> Result<Vec<u8>, AllocError>
-    ensures { IfOk result (λ told. ExplainsLine file.now text.now line told.items) }
+    ensures { IfOk result (λ told. ExplainsLine file.now bytes.now line told.items) }
 {
-    let at = line_start(text, line);
-    let rest = rest_of(alloc, text, line, at)?;
+    let at = line_start(bytes, line);
+    let rest = rest_of(alloc, bytes, line, at, source)?;
     let mut told = Vec::new(alloc);
-    push_where(&mut told, file, text, at)?;
+    push_where(&mut told, file.as_bytes(), bytes, at)?;
     told.extend_from_slice(&rest)?;
     Ok(told)
 }
 
-fn rest_of(alloc: Global, text: &[u8], line: usize, at: usize) -> Result<Vec<u8>, AllocError> {
+fn rest_of(
+    alloc: Global,
+    bytes: &[u8],
+    line: usize,
+    at: usize,
+    source: &str,
+) -> Result<Vec<u8>, AllocError> {
     let mut told = Vec::new(alloc);
     told.extend_from_slice(b"this line spells no item")?;
     push_bracket(alloc, &mut told, &Refusal::Input(ItemFault::BadItem(line)))?;
-    push_excerpt(&mut told, text, at)?;
-    let here = back(text, at);
-    let advice: &[u8] = if is_fraction(here.strip_prefix(b"-").unwrap_or(here)) {
-        b"Items are whole numbers: scale them first, as 2.5 to 25 tenths.\n"
-    } else {
-        b"Write one item on each line: an optional `-` and 1 to 19 digits, and nothing else.\n"
-    };
-    told.extend_from_slice(advice)?;
+    push_excerpt(&mut told, bytes, at)?;
+    let here = back(bytes, at);
+    if is_fraction(here.strip_prefix(b"-").unwrap_or(here)) {
+        told.extend_from_slice(
+            b"Items are whole numbers: scale them first, as 2.5 to 25 tenths.\n",
+        )?;
+    } else if !push_remedy(&mut told, kind_of(bytes), source)? {
+        told.extend_from_slice(
+            b"Write one item on each line: an optional `-` and 1 to 19 digits, and nothing else.\n",
+        )?;
+    }
     Ok(told)
 }

@@ -34,6 +34,7 @@ pub(crate) fn remedy(habit: Habit) -> &'static [u8] {
         Habit::NoCapacity => b"Write a capacity behind the name, as in `channel a cap 1;`.",
         Habit::Fraction => b"Numbers are whole: scale them first, or divide, as in `(x / 2)`.",
         Habit::Power => b"There is no `^`: a power is a product, as in `((x * x) * x)`.",
+        Habit::Stars => b"There is no `**`: a power is a product, as in `(x * x)`.",
         Habit::Place =>
             b"There are no arrays: give each place a variable of its own, as in `a0 = x;`, or a channel.",
     }

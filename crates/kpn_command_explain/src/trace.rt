@@ -18,8 +18,8 @@ use std::alloc::Global;
 
 /// What `kpn explain FILE TRACE` comes to. Each process may make `steps` steps before each of its events. It reads the
 /// description first, then the trace. For a trace that is legal, and for one out of steps, it tells what `kpn audit`
-/// tells, but of each channel no more than the first 20 items. Of a legal one it tells the rings first, and if it is not
-/// exact, also which sinks are complete and why nobody reads where a writer waits.
+/// tells, but of each channel no more than the first 20 items. Of a legal one it tells the rings and the faults first,
+/// and if it is not exact, also which sinks are complete and why nobody reads where a writer waits.
 pub fn explain_trace_command<S: Shelf>(
     alloc: Global,
     file: &str,
@@ -78,7 +78,7 @@ fn conclusion(
     let finding = audit_trace(alloc, document.network(), trace, steps)?;
     match finding {
         Finding::Legal(audit) => Ok(Conclusion {
-            text: legal_text(alloc, document, &audit)?,
+            text: legal_text(alloc, document, trace, &audit)?,
             status: 0,
             files: Vec::new(alloc),
         }),

@@ -7,6 +7,7 @@ ghost use Rattle.kpn_command_explain.specs.TraceAnswers as spec;
 use crate::cut::cut_text;
 use crate::deadlock::deadlock_text;
 use crate::excerpt::{push_excerpt, push_where};
+use crate::faults::faults_text;
 use crate::lines::line_start;
 use crate::not_exact::push_not_exact;
 use crate::trace_words::{push_event, push_scene};
@@ -16,16 +17,20 @@ use kpn_text::Document;
 use kpn_trace::TraceFault;
 use std::alloc::{AllocError, Global};
 
-/// The rings of a legal history, what the audit says of it with the first items, and what a stop means for the items if it is not exact.
+/// The rings of a legal history, its faults, what the audit says of it with the first items, and what a stop means for
+/// the items if it is not exact.
 pub(crate) fn legal_text(
     alloc: Global,
     document: &Document,
+    trace: &Trace,
     audit: &Audit,
 ) -> Result<Vec<u8>, AllocError>
     ensures { IfOk result (λ text. spec.IsLegalText document.now audit.now text.items) }
 {
     let told = audited_text(alloc, document, audit)?;
+    let faults = faults_text(alloc, document, trace, audit)?;
     let mut text = deadlock_text(alloc, document, audit)?;
+    text.extend_from_slice(&faults)?;
     text.extend_from_slice(&told)?;
     Ok(text)
 }

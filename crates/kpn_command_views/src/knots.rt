@@ -55,6 +55,16 @@ impl Knots {
         }
         false
     }
+
+    /// Whether a member of a cycle waits for room on a channel.
+    pub(crate) fn jams(&self, audit: &Audit, c: usize) -> bool {
+        for (p, wait) in audit.waits.as_slice().iter().enumerate() {
+            if *wait == Wait::Full(c) && self.is_member(p) {
+                return true;
+            }
+        }
+        false
+    }
 }
 
 // Whether a wait is on this channel.

@@ -4,6 +4,7 @@ ghost use Rattle.std.specs.Prelude.{◌≡◌, ◌<◌, length};
 
 use crate::bound::{push_bound, ticks_word};
 use crate::figures::{ChannelFigures, ProcessFigures};
+use crate::knots::Knots;
 use crate::measured::Measured;
 use crate::times::Times;
 use kpn_audit::Audit;
@@ -69,7 +70,7 @@ pub(crate) fn text_of(
                 alloc, &mut text,
             )?;
             text.push_str("\n")?;
-            push_advice(&mut text, document, audit, times)?;
+            push_advice(alloc, &mut text, document, audit, times)?;
         }
         StatsTables::Channels => {
             channel_table(alloc, document, audit, channels, times)?.push_tabbed(&mut text)?
@@ -220,8 +221,15 @@ fn end_of(
     }
 }
 
-// The advice on each channel with a capacity.
-fn push_advice(text: &mut String, document: &Document, audit: &Audit, times: &Times) -> Pushed {
+// The advice on each channel with a capacity. One that jams the run could use one item more at least.
+fn push_advice(
+    alloc: Global,
+    text: &mut String,
+    document: &Document,
+    audit: &Audit,
+    times: &Times,
+) -> Pushed {
+    let knots = Knots::of(alloc, document.network(), Some(audit))?;
     let is_shortest = times.bounded.last() == times.free.last();
     for c in 0..document.network().channels() {
         let Some(last) = last_cap(audit, c) else {
@@ -231,6 +239,11 @@ fn push_advice(text: &mut String, document: &Document, audit: &Audit, times: &Ti
             times.bounded.capacity_needed(c).min(last)
         } else {
             times.free.capacity_needed(c)
+        };
+        let needed = if knots.jams(audit, c) {
+            needed.max(last.saturating_add(1))
+        } else {
+            needed
         };
         push_capacity(text, document, c, needed, last)?;
     }

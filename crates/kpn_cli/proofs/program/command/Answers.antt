@@ -10,7 +10,7 @@ use Rattle.kpn_command_stream.specs.Command.{Names}
 use Rattle.kpn_cli.specs.Command.{Runs, answers, streams, tells, unclear, unread, TellsFault}
 use Rattle.kpn_cli.proofs.program.command.Goals as goal
 
-refused : {S I F O G E : Type 0} (may_give : S → Loads) (may_alias : S → Aliases) (names : Names F G)
+refused : {S I F O G E : Type 0} (may_give : S → Loads) (may_alias : S → Aliases) (names : Names S F G)
     (remaining : I → Option (List ℕ)) (left_in : F → Option (List ℕ)) (contents : O → Option (List ℕ))
     (holds_in : G → Option (List ℕ)) (holds : E → Option (List ℕ)) (asked : List (List ℕ)) (shelf : S) (input : I)
     (out : O) (err told : E) (status : ℕ) (fault : WordsFault) → TellsFault holds fault err told status

@@ -1,0 +1,118 @@
+//! Pieces of words, and what options, files and networks say for them.
+
+use kpn_command_base::Ends;
+use kpn_text::Document;
+use std::alloc::AllocError;
+use std::rt::Files;
+use std::{fs, str};
+
+/// The name of standard input and of standard output.
+pub(crate) const STANDARD: &str = "-";
+
+/// Adds a piece to a text.
+pub(crate) fn push(text: &mut Vec<u8>, piece: &str) -> Result<(), AllocError> {
+    text.extend_from_slice(piece.as_bytes())
+}
+
+/// Adds a piece that was made, if there was memory for it.
+pub(crate) fn push_made(
+    text: &mut Vec<u8>,
+    made: Result<String, AllocError>,
+) -> Result<(), AllocError> {
+    let piece = made?;
+    push(text, piece.as_str())
+}
+
+/// Adds a name between backticks, and what stands before it and behind it.
+pub(crate) fn push_name(
+    text: &mut Vec<u8>,
+    before: &str,
+    name: &str,
+    behind: &str,
+) -> Result<(), AllocError> {
+    push(text, before)?;
+    push(text, "`")?;
+    push(text, name)?;
+    push(text, "`")?;
+    push(text, behind)
+}
+
+/// A text that was kept. Nothing is read of one that is not UTF-8.
+pub(crate) fn text_of(kept: &[u8]) -> &str {
+    str::from_utf8(kept).unwrap_or("")
+}
+
+/// Whether a path leads to a plain file. Another one may not be read twice.
+pub(crate) fn is_plain<R: Files>(rt: &R, path: &str) -> bool {
+    fs::metadata(rt, path).is_ok_and(|found| found.is_file())
+}
+
+/// The name that an option gives something.
+pub(crate) fn name_in<'a>(option: &&'a str) -> &'a str {
+    match option.split_once('=') {
+        Some((name, _)) => name,
+        None => option,
+    }
+}
+
+/// What stands behind the name in an option.
+pub(crate) fn file_in<'a>(option: &&'a str) -> &'a str {
+    match option.split_once('=') {
+        Some((_, file)) => file,
+        None => "",
+    }
+}
+
+/// Whether one of these options has this name.
+pub(crate) fn has_name(options: &[&str], name: &str) -> bool {
+    options.iter().any(|option| name_in(option) == name)
+}
+
+/// The word for an end of a network.
+pub(crate) fn word_of(ends: Ends) -> &'static str {
+    match ends {
+        Ends::Sources => "source",
+        Ends::Sinks => "sink",
+    }
+}
+
+/// Whether a network has an end of this name.
+pub(crate) fn is_end(document: &Document, ends: Ends, name: &str) -> bool {
+    match document.find_channel(name) {
+        Some(channel) => is_of(document, ends, channel),
+        None => false,
+    }
+}
+
+/// Whether a channel is one of these ends.
+pub(crate) fn is_of(document: &Document, ends: Ends, channel: usize) -> bool {
+    match ends {
+        Ends::Sources => document.network().is_source(channel),
+        Ends::Sinks => document.network().is_sink(channel),
+    }
+}
+
+/// Whether a network has one of these ends.
+pub(crate) fn has_one(document: &Document, ends: Ends) -> bool {
+    (0..document.network().channels()).any(|channel| is_of(document, ends, channel))
+}
+
+/// Adds the names of these ends of a network.
+pub(crate) fn push_ends(
+    text: &mut Vec<u8>,
+    document: &Document,
+    ends: Ends,
+) -> Result<(), AllocError> {
+    let mut before = "";
+    for channel in 0..document.network().channels() {
+        if is_of(document, ends, channel) {
+            push_name(text, before, document.channel_name(channel), "")?;
+            before = ", ";
+        }
+    }
+    if before.is_empty() {
+        push(text, "no ")?;
+        push(text, word_of(ends))?;
+    }
+    Ok(())
+}

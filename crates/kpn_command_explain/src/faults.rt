@@ -1,0 +1,91 @@
+//! What is said of a legal history with a fault: which event it is, what its process did last, and what follows. Rows
+//! show its words.
+ghost use Rattle.std.specs.Prelude.{◌≡◌, false, [], IfOk};
+ghost use Rattle.std.specs.List.{list_any};
+ghost use Rattle.kpn_command_explain.specs.TraceAnswers.{TellsFaults, is_fault};
+
+use crate::trace_names::process;
+use crate::trace_words::push_event;
+use kpn_audit::Audit;
+use kpn_command_base::Pushed;
+use kpn_run_history::{Event, How, Trace};
+use kpn_text::Document;
+use kpn_trace::how_word;
+use std::alloc::{AllocError, Global};
+
+/// A line for each process that has ended by a fault. Nothing is said if there is none.
+pub(crate) fn faults_text(
+    alloc: Global,
+    document: &Document,
+    trace: &Trace,
+    audit: &Audit,
+) -> Result<Vec<u8>, AllocError>
+    ensures { IfOk result (λ text. TellsFaults audit.now.ends text.items) }
+{
+    let mut text = String::new(alloc);
+    if has_fault(audit.ends.as_slice()) {
+        push_faults(alloc, &mut text, document, trace)?;
+    }
+    Ok(text.into_bytes())
+}
+
+fn has_fault(ends: &[Option<How>]) -> bool
+    ensures { result ≡ list_any is_fault ends.now }
+{
+    ends.iter().any(|end| is_fault(*end))
+}
+
+fn is_fault(end: Option<How>) -> bool
+    ensures { result ≡ is_fault end }
+{
+    match end {
+        Some(How::Overflow | How::ZeroDivisor) => true,
+        _ => false,
+    }
+}
+
+// A line for each event by which a process ends by a fault, with the event of the process before it.
+fn push_faults(alloc: Global, text: &mut String, document: &Document, trace: &Trace) -> Pushed {
+    let mut last: Vec<Option<Event>> = Vec::new(alloc);
+    for _process in 0..document.network().instances() {
+        last.push(None)?;
+    }
+    for (k, event) in trace.events.as_slice().iter().enumerate() {
+        let Some(p) = event.process() else {
+            continue;
+        };
+        let before = last.get(p).copied().unwrap_or(None);
+        if let Event::Ended(_, how) = *event {
+            push_fault(text, document, trace, k, p, how, before)?;
+        }
+        if p < last.len() {
+            last[p] = Some(*event);
+        }
+    }
+    Ok(())
+}
+
+// What follows the end of a process, if it is by a fault.
+fn push_fault(
+    text: &mut String,
+    document: &Document,
+    trace: &Trace,
+    k: usize,
+    p: usize,
+    how: How,
+    before: Option<Event>,
+) -> Pushed {
+    if !is_fault(Some(how)) {
+        return Ok(());
+    }
+    let (name, word) = (process(document, p), how_word(how));
+    write!(text, "fault: {name} ends with `{word}` at event {k}, ")?;
+    match before {
+        Some(event) => {
+            text.push_str("right after ")?;
+            push_event(text, document, trace.version, event)?;
+        }
+        None => text.push_str("before it reads or writes")?,
+    }
+    text.push_str("; its readers get what is unread, and nothing more\n")
+}
