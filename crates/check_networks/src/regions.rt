@@ -1,0 +1,238 @@
+//! Regions that are a whole network and run by themselves. What they do is worked by hand.
+ghost use Rattle.std.specs.Prelude.{◌≡◌};
+ghost use Rattle.kpn_region.specs.Batch.{IsFresh};
+
+use kpn_lang::Fault;
+use kpn_net::Network;
+use kpn_region::Batch;
+use kpn_run_history::Event;
+use kpn_step::{Frame, Stop};
+use kpn_text::read_network;
+use std::alloc::{AllocError, Global};
+use std::test::Fail;
+
+const TWO_COPIES: &str = "
+process copy(in i; out o) { while 1 { read i x; write o x; } }
+network {
+  source a; channel b cap 1; sink z cap 1;
+  first = copy(a; b); second = copy(b; z);
+}";
+
+const REST: &str = "
+process rest(in i; out o) { while 1 { read i x; write o (10 % x); } }
+network { source a; sink z cap 1; rest = rest(a; z); }";
+
+const CROSSED: &str = "
+process p(out a, b) { write a 1; write a 2; write b 3; }
+process q(in a, b; out z) { read b x; read a y; write z (x + y); }
+network {
+  channel a cap 1; channel b cap 1; sink z cap 1;
+  p = p(; a, b); q = q(a, b; z);
+}";
+
+const SPINS: &str = "
+process spin(out o) { while 1 { } write o 1; }
+network { sink z cap 1; spin = spin(; z); }";
+
+/// A network, what is claimed of it, how often it is run, the events that this makes, and where its processes can't go
+/// on then.
+#[derive(Clone, Copy)]
+struct Row<'a> {
+    text: &'a str,
+    items: &'a [i64],
+    drains: bool,
+    budget: u32,
+    times: u32,
+    events: &'a [Event],
+    stops: &'a [Option<Stop>],
+}
+
+/// Claims all of a network: its processes at their starts, these items of each source, and the room of the others.
+fn claim_all(
+    network: &Network,
+    batch: &mut Batch<'_>,
+    items: &[i64],
+    drains: bool,
+) -> Result<(), AllocError>
+    requires tables { batch.old.tables ≡ network.now }
+    requires fresh { IsFresh batch.old }
+    ensures { batch.new.tables ≡ network.now }
+{
+    network.known();
+    'processes: for p in 0..network.instances() {
+        let frame = Frame::start(network.program(p), network.pars(p));
+        batch.claim_process(p, &frame, true);
+    }
+    'channels: for c in 0..network.channels() {
+        match network.cap_of(c) {
+            None => batch.claim_channel(c, items, 0, false)?,
+            Some(cap) => batch.claim_channel(c, &[], cap.into(), drains && network.is_sink(c))?,
+        }
+    }
+    Ok(())
+}
+
+/// Runs a region, and tells whether it has made the events of its row and stands where that says.
+fn plays(network: &Network, batch: &mut Batch<'_>, row: &Row<'_>) -> Result<bool, AllocError>
+    requires tables { batch.old.tables ≡ network.now }
+    requires fresh { IsFresh batch.old }
+{
+    claim_all(network, batch, row.items, row.drains)?;
+    'times: for _time in 0..row.times {
+        batch.run(10, row.budget)?;
+    }
+    Ok(*batch.events() == *row.events && are_stopped(network, batch, row.stops))
+}
+
+/// Whether the processes can't go on from these stops.
+fn are_stopped(network: &Network, batch: &Batch<'_>, stops: &[Option<Stop>]) -> bool
+    requires { batch.now.tables ≡ network.now }
+{
+    if network.instances() != stops.len() {
+        return false;
+    }
+    'stops: for p in 0..network.instances() {
+        if batch.stop(p) != stops[p] {
+            return false;
+        }
+    }
+    true
+}
+
+/// Claims and runs a network, as `plays` does.
+fn runs(alloc: Global, network: &Network, row: &Row<'_>) -> Result<bool, AllocError> {
+    let mut batch = Batch::new(alloc, network)?;
+    let played = plays(network, &mut batch, row);
+    drop(batch);
+    played
+}
+
+/// Whether the network of a row does what the row says.
+fn does(alloc: Global, row: &Row<'_>) -> Result<bool, Fail> {
+    let document = read_network(alloc, row.text.as_bytes())?;
+    let done = runs(alloc, document.network(), row);
+    drop(document);
+    Ok(done?)
+}
+
+/// Each process goes on until it can't, with capacity 1, and what comes to the sink is taken at once.
+#[test]
+fn runs_until_all_are_stuck(rt: HostRuntime) -> Result<(), Fail> {
+    let row = Row {
+        text: TWO_COPIES,
+        items: &[5, 6],
+        drains: true,
+        budget: 100,
+        times: 1,
+        events: &[
+            Event::Get(0, 0, 5),
+            Event::Put(0, 1, 5),
+            Event::Get(0, 0, 6),
+            Event::Get(1, 1, 5),
+            Event::Put(1, 2, 5),
+            Event::Take(2, 5),
+            Event::Put(0, 1, 6),
+            Event::Get(1, 1, 6),
+            Event::Put(1, 2, 6),
+            Event::Take(2, 6),
+        ],
+        stops: &[Some(Stop::WantRead(0)), Some(Stop::WantRead(0))],
+    };
+    assert!(rt; does(rt.alloc(), &row)?);
+    Ok(())
+}
+
+/// The same with a budget of one: each event, and each turn without one, is a run of its own, and the next process has
+/// its turn then.
+#[test]
+fn runs_by_budgets_of_one(rt: HostRuntime) -> Result<(), Fail> {
+    let row = Row {
+        text: TWO_COPIES,
+        items: &[5, 6],
+        drains: true,
+        budget: 1,
+        times: 11,
+        events: &[
+            Event::Get(0, 0, 5),
+            Event::Put(0, 1, 5),
+            Event::Get(1, 1, 5),
+            Event::Get(0, 0, 6),
+            Event::Put(1, 2, 5),
+            Event::Take(2, 5),
+            Event::Put(0, 1, 6),
+            Event::Get(1, 1, 6),
+            Event::Put(1, 2, 6),
+            Event::Take(2, 6),
+        ],
+        stops: &[Some(Stop::WantRead(0)), Some(Stop::WantRead(0))],
+    };
+    assert!(rt; does(rt.alloc(), &row)?);
+    Ok(())
+}
+
+/// A sink that is not emptied has the room that it had at the claim.
+#[test]
+fn uses_up_the_room(rt: HostRuntime) -> Result<(), Fail> {
+    let row = Row {
+        text: TWO_COPIES,
+        items: &[5, 6, 7],
+        drains: false,
+        budget: 100,
+        times: 2,
+        events: &[
+            Event::Get(0, 0, 5),
+            Event::Put(0, 1, 5),
+            Event::Get(0, 0, 6),
+            Event::Get(1, 1, 5),
+            Event::Put(1, 2, 5),
+            Event::Put(0, 1, 6),
+            Event::Get(0, 0, 7),
+            Event::Get(1, 1, 6),
+            Event::Put(0, 1, 7),
+        ],
+        stops: &[Some(Stop::WantRead(0)), Some(Stop::WantWrite(0, 6))],
+    };
+    assert!(rt; does(rt.alloc(), &row)?);
+    Ok(())
+}
+
+/// A fault, a cycle of waits, and a process that is only paused.
+#[test]
+fn stops_where_it_cannot_go_on(rt: HostRuntime) -> Result<(), Fail> {
+    let faults = Row {
+        text: REST,
+        items: &[3, 0],
+        drains: true,
+        budget: 100,
+        times: 1,
+        events: &[
+            Event::Get(0, 0, 3),
+            Event::Put(0, 1, 1),
+            Event::Take(1, 1),
+            Event::Get(0, 0, 0),
+        ],
+        stops: &[Some(Stop::Faulted(Fault::ZeroDivisor))],
+    };
+    assert!(rt; does(rt.alloc(), &faults)?);
+    let crossed = Row {
+        text: CROSSED,
+        items: &[],
+        drains: true,
+        budget: 100,
+        times: 1,
+        events: &[Event::Put(0, 0, 1)],
+        stops: &[Some(Stop::WantWrite(0, 2)), Some(Stop::WantRead(1))],
+    };
+    assert!(rt; does(rt.alloc(), &crossed)?);
+    let spins = Row {
+        text: SPINS,
+        items: &[],
+        drains: true,
+        budget: 2000,
+        times: 1,
+        events: &[],
+        stops: &[None],
+    };
+    assert!(rt; does(rt.alloc(), &spins)?);
+    Ok(())
+}

@@ -1,0 +1,25 @@
+-- Processes and channels of a network have small numbers, and those at its ports are there.
+use Rattle.std.proofs.Common.{◌≡◌, ℕ, ◌<◌, List, length, subst, arith}
+use Rattle.std.specs.List.{Contains}
+use Rattle.std.proofs.lemmas.List.Elements.{Contains-get_or}
+use Rattle.kpn_net.specs.Tables.{Tables, instance_at}
+use Rattle.kpn_net.specs.Faults.{IsNetwork}
+use Rattle.kpn_net.proofs.Networks.{sizes}
+use Rattle.kpn_net.proofs.PortsApart.{in_is_there, out_is_there}
+use Rattle.kpn_run_configuration.specs.Changes.{IsChannelAt}
+
+among : (ports : List ℕ) (port c : ℕ) → IsChannelAt ports port c → Contains ports c
+among ports port c at = subst (λ x. Contains ports x) at.1 (Contains-get_or ports port 0 at.0)
+
+module _ (t : Tables) (network : IsNetwork t) where
+  pub in_there : (p port c : ℕ) → IsChannelAt (instance_at t p).ins port c → c < length t.channels
+  in_there p port c at = in_is_there t network p c (among (instance_at t p).ins port c at)
+
+  pub out_there : (p port c : ℕ) → IsChannelAt (instance_at t p).outs port c → c < length t.channels
+  out_there p port c at = out_is_there t network p c (among (instance_at t p).outs port c at)
+
+  pub process_fits : (p : ℕ) → p < length t.instances → p < 65536
+  process_fits p there = let few = (sizes t network).instances in omega (arith, few, there)
+
+  pub channel_fits : (c : ℕ) → c < length t.channels → c < 65536
+  channel_fits c there = let few = (sizes t network).channels in omega (arith, few, there)

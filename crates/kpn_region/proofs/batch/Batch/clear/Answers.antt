@@ -1,0 +1,30 @@
+use Rattle.std.proofs.Common.{false, None, replicate, ◌∙◌, ap}
+use Rattle.kpn_region.specs.Local.{no_side}
+use Rattle.kpn_region.specs.Batch.{batch_of}
+use Rattle.kpn_region.proofs.Batches.{IsNew, is_new}
+use Rattle.kpn_region.proofs.batch.Batch.clear.Given as given
+use Rattle.kpn_region.proofs.batch.Batch.clear.Goals as goal
+use Rattle.kpn_region.proofs.batch.Batch.clear.Goals.{After-clear}
+
+cleared : (g : given.Over) (c : After-clear g)
+    → IsNew (batch_of c.self.inside.network.now c.clear_processes.new.within.items c.self.inside.first.items
+    c.clear_processes.new.frames.items c.clear_sides.new.sides.items c.clear.new.self.items
+    c.clear_processes.new.stops.items)
+cleared g c =
+    let is = c.self.invariant.is in
+    is_new c.self.inside.network.now c.clear_processes.new.within.items c.self.inside.first.items
+    c.clear_processes.new.frames.items c.clear_sides.new.sides.items c.clear.new.self.items
+    c.clear_processes.new.stops.items
+    (c.clear_processes.ensures.within ∙ ap (λ n. replicate n false) is.within) c.clear_processes.ensures.frames
+    (c.clear_sides.ensures ∙ ap (λ n. replicate n no_side) is.sides) c.clear.ensures.items
+    (c.clear_processes.ensures.stops ∙ ap (λ n. replicate n None) is.within) c.self.invariant.was.frames
+    c.self.invariant.was.fit
+
+pub invariant_of-self : goal.invariant_of-self
+invariant_of-self g c = (cleared g (goal.at.invariant_of-self g c).After-clear).batch
+
+pub returns-clause-fresh : goal.returns-clause-fresh
+returns-clause-fresh g c = (cleared g (goal.at.returns-clause-fresh g c).After-clear).fresh
+
+pub returns-clause-empty : goal.returns-clause-empty
+returns-clause-empty g c = (cleared g (goal.at.returns-clause-empty g c).After-clear).empty

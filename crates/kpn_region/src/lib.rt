@@ -1,0 +1,11 @@
+//! Regions: a worker takes a set of processes and what lies unread on their channels, runs them by itself, with no
+//! lock, no waits and no wakes, and hands back the events that they made.
+#![tactic(auto)]
+
+mod batch;
+mod ready;
+mod side;
+mod traffic;
+
+pub use batch::Batch;
+pub use side::Side;

@@ -1,0 +1,167 @@
+//! A channel, as far as a region sees it.
+ghost use Rattle.std.specs.Prelude.{◌≡◌, ◌<◌, ◌++◌, true, length, IsTrue, OnErr, is_ok, if◌then◌else◌, IfSome, IfNone};
+ghost use Rattle.kpn_region.specs.Local.{claimed_with, no_side, untaken, next_of, with_next_taken, with_item, as_claimed};
+
+use std::alloc::{AllocError, Allocator, Global};
+use std::marker::Model;
+
+/// No process.
+const NOBODY: u16 = u16::MAX;
+
+/// The items of a channel that were claimed, and then those that the region has put; how many of them were taken; how
+/// many may be there that are not taken; and whether it is a sink that the region empties.
+#[derive(Debug, Drop)]
+pub struct Side<A: Allocator = Global> {
+    items: Vec<i64, A>,
+    claimed: usize,
+    taken: usize,
+    room: u64,
+    drains: bool,
+    // the process that can't go on because of this channel
+    stuck: u16,
+}
+
+impl<A: Allocator> Model for Side<A> {
+    ghost use Rattle.std.specs.Prelude.{◌≤◌, length};
+    ghost use Rattle.kpn_region.specs.Local.{SideState};
+
+    ghost Value = { SideState };
+
+    ghost view = { λ s. record {
+      items = s.items.items;
+      claimed = s.claimed;
+      taken = s.taken;
+      room = s.room;
+      is_drained = s.drains;
+    } };
+
+    ghost invariant = { λ s. (s.claimed ≤ length s.items.items) × (s.taken ≤ length s.items.items) };
+}
+
+impl<A: Allocator> Side<A> {
+    /// A channel of which the region sees nothing.
+    pub(crate) fn new(alloc: A) -> Self
+        ensures { result ≡ no_side }
+    {
+        Side {
+            items: Vec::new(alloc),
+            claimed: 0,
+            taken: 0,
+            room: 0,
+            drains: false,
+            stuck: NOBODY,
+        }
+    }
+
+    /// The channel becomes one of which the region sees nothing, and keeps its memory.
+    pub(crate) fn clear(&mut self)
+        ensures { self.new ≡ no_side }
+    {
+        self.items.clear();
+        self.claimed = 0;
+        self.taken = 0;
+        self.room = 0;
+        self.drains = false;
+        self.stuck = NOBODY;
+    }
+
+    /// The channel as it is claimed, with these items. The error is that memory ran out: the region then sees nothing of it.
+    pub(crate) fn claim(&mut self, items: &[i64], room: u64, drains: bool) -> Result<(), AllocError>
+        ensures { self.new
+            ≡ (if is_ok result then claimed_with items.now room drains else no_side) }
+    {
+        self.clear();
+        self.items.extend_from_slice(items)?;
+        self.claimed = self.items.len();
+        self.room = room;
+        self.drains = drains;
+        Ok(())
+    }
+
+    /// The items that were claimed, and then those that the region has put.
+    pub fn items(&self) -> &[i64]
+        ensures { result.now ≡ self.now.items }
+    {
+        self.items.as_slice()
+    }
+
+    /// How many items were claimed.
+    pub fn claimed(&self) -> usize
+        ensures { result ≡ self.now.claimed }
+    {
+        self.claimed
+    }
+
+    /// How many items were taken.
+    pub fn taken(&self) -> usize
+        ensures { result ≡ self.now.taken }
+    {
+        self.taken
+    }
+
+    /// How many items may be there that are not taken.
+    pub fn room(&self) -> u64
+        ensures { result ≡ self.now.room }
+    {
+        self.room
+    }
+
+    /// Whether it is a sink that the region empties.
+    #[inline(always)]
+    pub fn is_drained(&self) -> bool
+        ensures { result ≡ self.now.is_drained }
+    {
+        self.drains
+    }
+
+    /// Takes the next item. If there is none, it returns `None` and the channel stays as it was.
+    #[inline(always)]
+    pub(crate) fn get(&mut self) -> Option<i64>
+        ensures item { result ≡ next_of self.old }
+        ensures some { IfSome result (λ _. self.new ≡ with_next_taken self.old) }
+        ensures none { IfNone result (self.new ≡ self.old) }
+    {
+        let item = *self.items.get(self.taken)?;
+        self.taken += 1;
+        Some(item)
+    }
+
+    /// Whether there is room for one more item.
+    #[inline(always)]
+    pub(crate) fn has_room(&self) -> bool
+        ensures { IsTrue result → length (untaken self.now) < self.now.room }
+    {
+        ((self.items.len() - self.taken) as u64) < self.room
+    }
+
+    /// Puts an item behind the others. The error is that memory ran out, and then the channel is as before.
+    #[inline(always)]
+    pub(crate) fn put(&mut self, item: i64) -> Result<(), AllocError>
+        ensures after { self.new ≡ (if is_ok result then with_item item self.old else self.old) }
+        ensures claimed { as_claimed self.new ≡ as_claimed self.old }
+    {
+        self.items.push(item)?;
+        Ok(())
+    }
+
+    /// Notes that a process can't go on because of this channel.
+    #[inline(always)]
+    pub(crate) fn hold(&mut self, p: u16)
+        ensures { self.new ≡ self.old }
+    {
+        self.stuck = p;
+    }
+
+    /// The process that could not go on because of this channel, if there is one, which is then forgotten.
+    #[inline(always)]
+    pub(crate) fn release(&mut self) -> Option<u16>
+        ensures { self.new ≡ self.old }
+    {
+        if self.stuck == NOBODY {
+            return None;
+        }
+        let stuck = self.stuck;
+        self.stuck = NOBODY;
+        Some(stuck)
+    }
+}
