@@ -48,6 +48,14 @@ def call(words, folder, **more):
     return done.stdout, done.returncode, done.stderr
 
 
+def compile_runtime(folder, compiler=()):
+    """The runtime and the program of many runs as object files, by this compiler if there are words for one."""
+    made = pathlib.Path(folder, 'native_runs.o')
+    words = [*command.compiler(compiler), '-c', str(TOP / 'bench/stress/native_runs.c'), '-o', str(made)]
+    subprocess.run(words, check=True)
+    return [*command.compile_runtime(folder, compiler), str(made)]
+
+
 class Trial:
     """A network in a folder, as a program with the network under each schedule, and options that vary."""
 
@@ -69,12 +77,14 @@ class Trial:
 
     def compile(self, texts, runtime):
         """Makes one program of all schedules, which makes many runs: to start programs takes most of the time."""
+        names = [f'{PLAN}_{number}' for number in range(len(texts))]
+        plans = ', '.join(f'&{it.split()[-1]}' for it in names)
+        behind = ''.join(f'extern {it};\n' for it in names)
+        behind += f'const struct kpn_plan *const kpn_plans[] = {{{plans}}};\n'
         for number, c in enumerate(texts):
-            (self.folder / f'{number}.c').write_text(c.replace(PLAN, f'{PLAN}_{number}'))
-        plans = ''.join(f'plan({number}) ' for number in range(len(texts)))
-        (self.folder / 'plans.h').write_text(plans)
-        words = [*command.compiler(), '-I.', *(f'{number}.c' for number in range(len(texts))),
-                 str(TOP / 'bench/stress/native_runs.c'), *runtime, '-o', 'runs']
+            is_last = number == len(texts) - 1
+            (self.folder / f'{number}.c').write_text(c.replace(PLAN, names[number]) + behind * is_last)
+        words = [*command.compiler(), *(f'{number}.c' for number in range(len(texts))), *runtime, '-o', 'runs']
         if subprocess.run(words, cwd=self.folder, check=False).returncode:
             raise Difference('the compiler refuses the C')
 
@@ -144,13 +154,13 @@ def try_network(seed, runtime, seconds, schedules, kind):
             return f'network {seed}: {found}\n{text}{lists}'
 
 
-def try_networks(count, first, processes, seconds=None, schedules=command.SCHEDULES, kind='', compiler=()):
-    """So many networks, with the runtime by this compiler; gives how many runs came to each outcome, or the first
-    difference."""
+def try_networks(count, first, processes, seconds=None, schedules=command.SCHEDULES, kind='', compiler=(), runtime=()):
+    """So many networks, with the runtime by these object files or by this compiler; gives how many runs came to each
+    outcome, or the first difference."""
     counts = collections.Counter()
     with tempfile.TemporaryDirectory(prefix='kpn-') as folder, \
             concurrent.futures.ProcessPoolExecutor(processes) as pool:
-        runtime = command.compile_runtime(folder, compiler)
+        runtime = runtime or compile_runtime(folder, compiler)
         left = [pool.submit(try_network, seed, runtime, seconds, schedules, kind)
                 for seed in range(first, first + count)]
         for number, future in enumerate(left):

@@ -1,7 +1,7 @@
 /* Makes the runs of a network that the file `jobs` tells, one on each line: the number of a schedule, a name, and the
    words of a compiled program. Reports and what is told go to NAME.report and NAME.told, and the statuses to `statuses`.
 
-   bench/stress/native.py calls it. It compiles one C for each schedule; plans.h names them as plan(0) plan(1) .. */
+   bench/stress/native.py calls it. It compiles one C for each schedule, and the last has the array of their plans. */
 #include <fcntl.h>
 #include <stdio.h>
 #include <stdlib.h>
@@ -10,13 +10,7 @@
 
 struct kpn_plan;
 extern int kpn_main(const struct kpn_plan *plan, const char *program, int count, char **words);
-#define plan(number) extern const struct kpn_plan kpn_plan_##number;
-#include "plans.h"
-#undef plan
-#define plan(number) &kpn_plan_##number,
-static const struct kpn_plan *const plans[] = {
-#include "plans.h"
-};
+extern const struct kpn_plan *const kpn_plans[];
 
 enum { MOST_WORDS = 1024 };
 
@@ -36,7 +30,7 @@ int main(void) {
       words[count++] = word;
     }
     if (count < 3 || redirect(STDOUT_FILENO, words[1], "report") || redirect(STDERR_FILENO, words[1], "told")) return 1;
-    int status = kpn_main(plans[atoi(words[0])], "kpn", count - 1, words + 1);
+    int status = kpn_main(kpn_plans[atoi(words[0])], "kpn", count - 1, words + 1);
     fprintf(statuses, "%d\n", status);
     if (fflush(statuses)) return 1;
   }

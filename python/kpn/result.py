@@ -26,8 +26,10 @@ if TYPE_CHECKING:
 TEXT, TRACE = 'net.kpn', 'run.trace'
 # The statuses of a run that came to an outcome.
 STATUSES = (0, 3, 4, 5)
-# A second run that looks for channels that grow makes so many commits and takes so many seconds at most.
-COMMITS_OF_LOOK, TIME_OF_LOOK = 100_000, 10
+# A second run that looks for channels that grow has so many items of each source, makes so many commits and takes so
+# many seconds at most. What it finds has to grow in a third, longer run too: a frame may be longer than the second.
+ITEMS_OF_LOOK, COMMITS_OF_LOOK, TIME_OF_LOOK = 1_000, 100_000, 10
+ITEMS_OF_LONG_LOOK, COMMITS_OF_LONG_LOOK = 50_000, 5_000_000
 # What such runs have found, by the texts of the networks, and the most of them that are kept.
 LOOKS: Dict[str, List[Rate]] = {}
 MOST_LOOKS = 100
@@ -68,7 +70,7 @@ class Report(NamedTuple):
 
 
 class Look(NamedTuple):
-    """What a second run takes, which looks for channels that grow: the first lines of each source, and options."""
+    """What runs take that look for channels that grow: the first lines of each source, and options."""
 
     lines: Dict[str, bytes]
     take: Optional[int]
@@ -210,7 +212,7 @@ class Result(collections.abc.Mapping):  # type: ignore[type-arg]
 
         Raises KpnError that says what lacks if not, and `kpn.Deadlock` if there is a ring. Warns by a
         `kpn.GrowthWarning` of each channel that grows with the length of the run. Without a trace it finds those by a
-        second, short run on the first 1,000 items of each source.
+        second, short run on the first 1,000 items of each source, and a longer one where that finds some.
         """
         reasons = self._reasons()
         if self.outcome != 'enough' and self.deadlock:
@@ -362,7 +364,9 @@ class Result(collections.abc.Mapping):  # type: ignore[type-arg]
 
 def look(layout: Layout, wanted: Look, program: Program) -> List[Rate]:
     """How many items the ends of each channel put and got in a short run; nothing if it can't be told."""
-    folder = Folder({TEXT: layout.text.encode(), **{f'{name}.source': it for name, it in wanted.lines.items()}})
+    short = {name: b''.join(it.splitlines(keepends=True)[:ITEMS_OF_LOOK]) for name, it in wanted.lines.items()}
+    folder = Folder({TEXT: layout.text.encode(), **{f'{name}.source': it for name, it in short.items()},
+                     **{f'{name}.long': it for name, it in wanted.lines.items()}})
     words = words_of(take=wanted.take, max_commits=COMMITS_OF_LOOK)
     for name in wanted.lines:
         words += ['--source', f'{name}={name}.source']
@@ -370,9 +374,30 @@ def look(layout: Layout, wanted: Look, program: Program) -> List[Rate]:
         done = call(['run', TEXT, '--trace', TRACE, *words], program, folder.path, TIME_OF_LOOK)
         result = Result(layout, report_of(done.stdout), {}, program)
         result.keep(folder, TRACE)
-        return rates_of(result) if done.returncode in STATUSES else []
+        rates = rates_of(result) if done.returncode in STATUSES else []
+        if short == wanted.lines or not any(it.grows for it in rates):
+            return rates
+        counts = long_look(layout, wanted, program, folder)
     except KpnError:
         return []
+    return [it._replace(grows=it.grows and goes_on(it, counts.get(it.channel, (0, 0)))) for it in rates]
+
+
+def long_look(layout: Layout, wanted: Look, program: Program, folder: Folder) -> Dict[str, Tuple[int, int]]:
+    """How many items were put on each channel, and how many are unread, in a run on more items."""
+    words = words_of(take=wanted.take, max_commits=COMMITS_OF_LONG_LOOK)
+    for name in wanted.lines:
+        words += ['--source', f'{name}={name}.long']
+    for name in layout.sinks:
+        words += ['--sink', f'{name}={name}.out']
+    done = call(['stream', TEXT, '--stats', '--quiet', *words], program, folder.path, TIME_OF_LOOK)
+    return {str(it['channel']): (int(it['put']), int(it['unread'])) for it in counted_in(done.stderr).channels}
+
+
+def goes_on(rate: Rate, counts: Tuple[int, int]) -> bool:
+    """Whether of what a longer run puts on a channel about the same part is unread."""
+    put, unread = counts
+    return 2 * unread * rate.put > put * rate.left
 
 
 def advice_in(stats: Mapping[str, Any]) -> Dict[str, int]:

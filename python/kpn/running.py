@@ -21,7 +21,7 @@ from .errors import LARGEST, KpnError, seconds
 from .program import MOST, Program, call, failure, find_program, words_of
 from .ranks import runner_of
 from .rates import may_grow
-from .result import STATUSES, TEXT, TRACE, Folder, Look, Result, report_of
+from .result import ITEMS_OF_LONG_LOOK, STATUSES, TEXT, TRACE, Folder, Look, Result, report_of
 from .wav import Wav
 
 if TYPE_CHECKING:
@@ -37,8 +37,6 @@ OF_TEXT, OF_ITEMS = range(1, 25), range(25, 27)
 CERTIFIED = re.compile(r'^kpn: certified: (.*)$', re.M)
 # The most commits of a run if nobody says how many.
 USUAL_COMMITS = MOST['max_commits']
-# How many of the first items of each source a look for channels that grow takes.
-ITEMS_OF_LOOK = 1000
 
 
 def run(net: Network, inputs: Inputs = None, *, take: Optional[int] = None, workers: Optional[int] = None,
@@ -124,7 +122,7 @@ def first_lines(file: pathlib.Path) -> bytes:
     if not file.is_file():
         return b''
     with open(file, 'rb') as lines:
-        return b''.join(itertools.islice(lines, ITEMS_OF_LOOK))
+        return b''.join(itertools.islice(lines, ITEMS_OF_LONG_LOOK))
 
 
 def by_name(layout: Layout, inputs: Inputs) -> Dict[str, Items]:

@@ -10,7 +10,6 @@ import itertools
 import os
 import random
 import signal
-import sys
 import tempfile
 import time
 

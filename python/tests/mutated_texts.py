@@ -104,18 +104,20 @@ def read(text):
     return str(net), None, True
 
 
-def difference(text):
-    """How the package and `kpn print` differ on a text; '' if they do not."""
+def compare(text):
+    """How the package and `kpn print` differ on a text, '' if they do not; and whether the package refuses it."""
     with tempfile.TemporaryDirectory() as folder:
         pathlib.Path(folder, 'text').write_bytes(as_bytes(text))
         done = call(['print', 'text'], None, folder)
     wanted = done.stderr.strip()[len('kpn: '):] or None
     printed, error, is_of_text = read(text)
+    is_refused = error is not None
     if not is_of_text:
         # The place is in the text that the package has made.
         error, wanted = (it and it.split(' at ')[0] for it in (error, wanted))
-    return '' if (printed, error) == (done.stdout, wanted) else f'{wanted or done.stdout}\nis for the package\n' \
-        f'{error or printed}'
+    if (printed, error) == (done.stdout, wanted):
+        return '', is_refused
+    return f'{wanted or done.stdout}\nis for the package\n{error or printed}', is_refused
 
 
 def main(rounds, first):
@@ -123,11 +125,11 @@ def main(rounds, first):
     refused = 0
     for seed in range(first, first + rounds):
         text = mutant(random.Random(seed))
-        found = difference(text)
+        found, is_refused = compare(text)
         if found:
             print(f'seed {seed}: {text[:4_000]!r}\n{found[:4_000]}')
             return 1
-        refused += read(text)[1] is not None
+        refused += is_refused
     print(f'{rounds} texts, {refused} of them refused: the package reads them as `kpn` does')
     return 0
 

@@ -147,6 +147,10 @@ class Rates(unittest.TestCase):
             net.run(given).check()
             net.run(given, trace=True).check()
             loop(True).run(range(1000)).check()
+            # A row of blocks has more items than a short run.
+            net = kpn.Network()
+            net.sink('y', parts.to_blocks(net.source('x'), 256))
+            net.run(range(4096)).check()
             # Nobody reads behind a process that has ended.
             once = kpn.Process.from_text('process once(in a, b; out o) { read a x; read b y; write o (x + y); }')
             net = kpn.Network()

@@ -2,6 +2,7 @@
 import array
 import contextlib
 import ctypes
+import fcntl
 import importlib
 import os
 import pathlib
@@ -9,6 +10,7 @@ import random
 import resource
 import select
 import shutil
+import struct
 import subprocess
 import sys
 import tempfile
@@ -22,29 +24,43 @@ os.environ.setdefault('CFLAGS', '-std=c11 -O0 -w')
 import kpn  # noqa: E402
 import native  # noqa: E402
 import native_fixed  # noqa: E402
+import native_stream  # noqa: E402
 from kpn.native import command  # noqa: E402
 from native_networks import MARKS  # noqa: E402
 from test_applications import module_of  # noqa: E402
 
-NETWORKS, PROCESSES = 12, 2
-# Wrong bodies: a file of the package, a text that stands there once, what stands there instead, and the kind of
-# networks. Each has to be found within 50 random networks.
+NETWORKS, PROCESSES, STREAMS = 12, 2, 150
+# Wrong bodies: a file of the package, a text that stands there once, what stands there instead, and the random network
+# that finds it, by its number and its kind.
 WRONG = {
-    'a reader wakes no writer': ('network.h', 'if (channel->writer_waits) {', 'if (0) {'),
+    'a reader wakes no writer': ('network.h', 'if (channel->writer_waits) {', 'if (0) {', 2),
     'a writer wakes no reader': ('network.h', 'if (channel->reader_waits) {',
-                                 'if (channel->reader_waits && channel->reader == KPN_OUTSIDE) {'),
-    'an ended reader wakes no writer': ('network.c', '    }\n    if (channel->writer_waits) {', '    }\n    if (0) {'),
-    'a wait is written late without its growth': ('network.c', 'if (may_grow(network, c)) {', 'if (0) {'),
-    'room for one more': ('network.h', 'channel->room - (channel->put', 'channel->room + 1 - (channel->put'),
-    'two places of a channel inside are one': ('region_text.py', '_{count - first}', '_0'),
+                                 'if (channel->reader_waits && channel->reader == KPN_OUTSIDE) {', 2),
+    'an ended reader wakes no writer': ('network.c', '    }\n    if (channel->writer_waits) {', '    }\n    if (0) {',
+                                        2),
+    'a wait is written late without its growth': ('network.c', 'if (may_grow(network, c)) {', 'if (0) {', 14),
+    'room for one more': ('network.h', 'channel->room - (channel->put', 'channel->room + 1 - (channel->put', 2),
+    'two places of a channel inside are one': ('region_text.py', '_{count - first}', '_0', 33),
     'a period with a fault is kept': ('region_text.py', "yield '    break;'",
-                                      "yield from [*self.keeping(), '    break;']", 'faults'),
-    'items are small without a look': ('vectors.c', 'return all < 65536;', 'return true;', 'small'),
-    'a value comes a period too late': ('vectors.py', 'ago + 1, (*path', 'ago + 2, (*path', 'small'),
-    'no period comes before vectors': ('region_text.py', 'first = {self.vectors.depth}', 'first = 0', 'small'),
+                                      "yield from [*self.keeping(), '    break;']", 11, 'faults'),
+    'items are small without a look': ('vectors.c', 'return all < 65536;', 'return true;', 11, 'small'),
+    'a value comes a period too late': ('vectors.py', 'ago + 1, (*path', 'ago + 2, (*path', 6, 'small'),
+    'no period comes before vectors': ('region_text.py', 'first = {self.vectors.depth}', 'first = 0', 4, 'small'),
     'the events of a dropped period are kept': ('network.h', 'kpn_history_cut(network->history, mark);',
-                                                '(void)mark;', 'faults'),
+                                                '(void)mark;', 11, 'faults'),
 }
+
+
+# What tries a network in a process of its own, whose package is another one.
+TRY = 'import sys, native; print(native.try_network(int(sys.argv[1]), sys.argv[3:], 20, ["fuse"], sys.argv[2]))'
+# The object files of the runtime, which most tests share.
+RUNTIME = []
+
+
+def setUpModule():
+    folder = tempfile.TemporaryDirectory(prefix='kpn-')
+    unittest.addModuleCleanup(folder.cleanup)
+    RUNTIME[:] = native.compile_runtime(folder.name) if shutil.which('cc') else []
 
 
 class Item(ctypes.Structure):
@@ -66,7 +82,7 @@ class Amounts(ctypes.Structure):
 
 
 def compiled(text, folder, *options):
-    """A network as a program of the usual schedule."""
+    """Compiles a network by the command."""
     (pathlib.Path(folder) / 'net.kpn').write_text(text)
     words = [sys.executable, '-m', 'kpn.native', 'net.kpn', '-o', 'prog', *options]
     return subprocess.run(words, cwd=folder, capture_output=True, text=True, env=environment())
@@ -82,6 +98,14 @@ class WithFolder(unittest.TestCase):
         self.addCleanup(made.cleanup)
         self.folder = pathlib.Path(made.name)
 
+    def build(self, text):
+        """Makes a network the program `prog`, with the runtime that is compiled already."""
+        (self.folder / 'net.kpn').write_text(text)
+        canonical = subprocess.run([PROGRAM, 'print', 'net.kpn'], cwd=self.folder, capture_output=True, text=True,
+                                   check=True).stdout
+        c = command.c_of(canonical, command.SCHEDULES[0], text.encode())
+        self.assertEqual(command.build(c, PROGRAM, str(self.folder / 'prog'), RUNTIME[:-1]), 0)
+
     def call(self, *words, **more):
         done = subprocess.run(words, cwd=self.folder, capture_output=True, text=True, env=environment(), **more)
         return done.returncode, done.stdout, done.stderr
@@ -90,7 +114,6 @@ class WithFolder(unittest.TestCase):
 @unittest.skipUnless(shutil.which('cc'), 'there is no C compiler')
 class Equal(WithFolder):
     def test_examples(self):
-        runtime = command.compile_runtime(str(self.folder))
         files = sorted(file for folder in (TOP / 'examples', TOP / 'examples/worked', GALLERY)
                        for file in folder.glob('*.kpn') if self.call(PROGRAM, 'check', str(file))[0] == 0)
         for file in files:
@@ -98,22 +121,29 @@ class Equal(WithFolder):
                 text, chosen = file.read_text(), random.Random(file.name)
                 lists = {line.split()[1].rstrip(';'): [chosen.randrange(-50, 50) for _ in range(40)]
                          for line in text.replace(';', ';\n').splitlines() if line.split()[:1] == ['source']}
-                trial = native.Trial(folder, text, lists, runtime)
+                trial = native.Trial(folder, text, lists, RUNTIME)
                 for options in ([], ['--take', '6']):
                     trial.judge(options)
 
     def test_applications(self):
-        runtime = command.compile_runtime(str(self.folder))
         for path, words, count in (('audio/chain', [2], 300), ('fm/receiver', [], 240), ('jpeg/encode', [16, 8], 128)):
             net, chosen = module_of(path).build(*words), random.Random(path)
             lists = {name: [chosen.randrange(256) for _ in range(count)] for name in net.layout().sources}
             with self.subTest(path=path), tempfile.TemporaryDirectory(prefix='kpn-') as folder:
-                trial = native.Trial(folder, str(net), lists, runtime)
+                trial = native.Trial(folder, str(net), lists, RUNTIME)
                 self.assertEqual([trial.judge(options) for options in ([], ['--take', '6'])], ['ended', 'enough'])
+
+    def test_no_warnings(self):
+        """With the usual flags the compiler has nothing to say of the C of the applications."""
+        for path, words in (('audio/chain', [2]), ('fm/receiver', []), ('jpeg/encode', [16, 8])):
+            canonical = kpn.program.answer('print', str(module_of(path).build(*words)))
+            (self.folder / 'net.c').write_text(command.c_of(canonical, command.SCHEDULES[0]))
+            words = [*command.compiler(['cc', *command.FLAGS]), '-Werror', '-fsyntax-only', 'net.c']
+            self.assertEqual(self.call(*words), (0, '', ''))
 
     def test_operators(self):
         """Each operator on operands at the edges; a process faults, or its sink gives the value."""
-        runtime, edges = command.compile_runtime(str(self.folder)), (-2**63, -2**63 + 1, -1, 0, 1, 2**63 - 1)
+        edges = (-2**63, -2**63 + 1, -1, 0, 1, 2**63 - 1)
         for marks in (MARKS[:5], MARKS[5:10], MARKS[10:]):
             text, network = '', ''
             for number, mark in enumerate(marks):
@@ -124,27 +154,45 @@ class Equal(WithFolder):
                     values = max(x, -2**63 + 1), max(y, -2**63 + 1), int(x == -2**63), int(y == -2**63)
                     network += f'sink {name} cap 1; {name} = f{number}(; {name}; {", ".join(map(str, values))});\n'
             with self.subTest(marks=marks), tempfile.TemporaryDirectory(prefix='kpn-') as folder:
-                native.Trial(folder, f'{text}network {{\n{network}}}\n', {}, runtime).judge([])
+                native.Trial(folder, f'{text}network {{\n{network}}}\n', {}, RUNTIME).judge([])
 
     def test_random_networks(self):
-        found = native.try_networks(NETWORKS, 1, PROCESSES)
+        found = native.try_networks(NETWORKS, 1, PROCESSES, runtime=RUNTIME)
         self.assertNotIsInstance(found, str, found)
 
+    def objects_of(self, package, edited):
+        """The object files of the runtime of a package in which this file is edited, a header only for the files that
+        make turns."""
+        objects, folder = [], package / 'kpn/native/runtime'
+        for path in map(pathlib.Path, RUNTIME):
+            source = folder / f'{path.stem}.c'
+            if source == edited or (edited.suffix == '.h' and path.stem in ('network', 'regions', 'run')):
+                path = package / path.name
+                subprocess.run([*command.compiler(), '-c', str(source), '-o', str(path)], check=True)
+            objects.append(str(path))
+        return objects
+
     def test_wrong_bodies(self):
-        for name, (file, old, new, *kind) in WRONG.items():
+        shutil.copytree(TOP / 'include', self.folder / 'include')
+        for name, (file, old, new, number, *kind) in WRONG.items():
             with self.subTest(name=name):
-                shutil.copytree(TOP / 'include', self.folder / 'include', dirs_exist_ok=True)
                 package = self.folder / name.replace(' ', '_')
                 shutil.copytree(TOP / 'python/kpn', package / 'kpn', ignore=shutil.ignore_patterns('__pycache__'))
                 [edited] = (package / 'kpn/native').rglob(file)
                 text = edited.read_text()
                 self.assertEqual(text.count(old), 1, name)
                 edited.write_text(text.replace(old, new))
-                words = ['50', '1', '--seconds', '20', '--processes', str(PROCESSES), '--schedules', 'fuse']
-                words += ['--kind', *kind] if kind else []
-                done = subprocess.run([sys.executable, TOP / 'bench/stress/native.py', *words],
-                                      capture_output=True, text=True, env=environment(package))
-                self.assertEqual(done.returncode, 1, f'{name}: {done.stdout}{done.stderr}')
+                words = [str(number), *(kind or ['']), *self.objects_of(package, edited)]
+                path = os.pathsep.join(map(str, (package, TOP / 'bench/stress')))
+                done = subprocess.run([sys.executable, '-c', TRY, *words], capture_output=True, text=True,
+                                      env=environment(path))
+                self.assertRegex(done.stdout, f'^network {number}: ', f'{name}: {done.stderr}')
+
+    def test_the_right_body(self):
+        """No network finds anything in the package that finds a wrong body."""
+        for number, *kind in sorted({it[3:] for it in WRONG.values()}):
+            found = native.try_network(number, RUNTIME, 20, ['fuse'], *(kind or ['']))
+            self.assertNotIsInstance(found, str, found)
 
 
 @unittest.skipUnless(shutil.which('cc'), 'there is no C compiler')
@@ -154,7 +202,7 @@ class Words(WithFolder):
 
     def setUp(self):
         super().setUp()
-        self.assertEqual(compiled(self.DOUBLE, self.folder).returncode, 0)
+        self.build(self.DOUBLE)
         (self.folder / 'in').write_text('1\n-2\n4611686018427387904\n')
         self.report = 'sink z: 2 -4\nfault d overflow\nended\n'
 
@@ -163,6 +211,7 @@ class Words(WithFolder):
 
     def test_report_says_that_nothing_is_proved(self):
         told = 'kpn: compiled: nothing is proved of the program that runs here\n'
+        self.assertEqual(compiled(self.DOUBLE, self.folder).returncode, 0)
         self.assertEqual(self.run_it(), (0, self.report, told))
 
     def test_certified(self):
@@ -215,7 +264,7 @@ class Words(WithFolder):
 
     def test_refused_memory(self):
         text = 'process p(out o) { while 1 { write o 1; } }\nnetwork { sink z cap 1; a = p(; z); }\n'
-        self.assertEqual(compiled(text, self.folder).returncode, 0)
+        self.build(text)
         least = 1 << 26
         for words in (['--take', '1000000000'], ['--trace', 'trace', '--take', '1000000000']):
             status, out, told = self.call('./prog', 'run', *words, preexec_fn=lambda: resource.setrlimit(
@@ -250,11 +299,12 @@ class Streams(WithFolder):
             done = subprocess.run([*program, *words], cwd=self.folder, input=given, capture_output=True, timeout=60)
             out = (self.folder / 'out').read_bytes() if (self.folder / 'out').exists() else None
             told = done.stderr.replace(b'kpn: compiled: nothing is proved of the program that runs here\n', b'')
+            told = told.replace(native_stream.FORMATS_TOLD, native_stream.FORMATS_KNOWN)
             answers.append((done.returncode, done.stdout, told, out))
         self.assertEqual(*answers, words)
 
     def test_two_sources(self):
-        self.assertEqual(compiled(self.QUOTIENTS, self.folder).returncode, 0)
+        self.build(self.QUOTIENTS)
         for name, text in (('one', '1\n'), ('three', '1\n2\n0\n'), ('bad', '1\n2\nx\n')):
             (self.folder / name).write_text(text)
         ends = ['--sink', 'o=-', '--sink', 'p=out']
@@ -267,19 +317,40 @@ class Streams(WithFolder):
         self.compare(['--source', 'a=one', '--source', 'c=one', *ends])
         self.compare(['--source', 'a=one', '--source', 'b=one', '--sink', 'o=-', '--sink', 'p=-'])
 
+    def test_random_streams(self):
+        found = native_stream.try_streams(STREAMS, 1, ['fuse'], RUNTIME[:-1])
+        self.assertNotIsInstance(found, str, found)
+        self.assertLessEqual({'status 0', 'status 1 25', 'status 1 29', 'status 1 54', 'status 2 usage:'}, set(found))
+
+    def test_rings(self):
+        """A ring is told and has a status of its own, except under `enough`."""
+        text = 'process copy(in i; out o) { read i x; write o x; }\n' \
+               'process both(in i, j; out o, p) { while 1 { read i x; write o x; read j y; write p y; } }\n' \
+               'network { source s; channel b cap 1; channel c cap 1; channel d cap 1; channel e cap 1; sink z cap 1;' \
+               ' q = copy(e; d); r = both(s, b; z, c); t = copy(c; b); u = copy(d; e); }\n'
+        self.build(text)
+        for given in (b'', b'1\n', b'1\n2\n'):
+            self.compare([], given)
+
     def test_formats(self):
-        self.assertEqual(compiled(Words.DOUBLE, self.folder).returncode, 0)
+        self.build(Words.DOUBLE)
         for given in (b'', b'\n', b'1\r\n2\r', b'-9223372036854775809', b'0' * 30, b'007\n-0\n1',
                       b'4611686018427387904'):
             self.compare([], given)
         whole = bytes(range(256)) * 3
-        for format in ('s16le', 's32le', 's64le'):
-            for length in range(20):
+        for format in ('s8', 's16le', 's24le', 's32le', 's64le', 'f32le'):
+            for length in (0, 1, 2, 3, 7, 8, 19):
                 self.compare(['--format', format, '--sink', 'z=out'], whole[-length:])
+        self.compare(['--format=u8', '--clip', '--format', 's=s8'], whole)
+        self.compare(['--format', 's=u8', '--format', 's=u8'])
+        self.compare(['--format', 'z=s24le'], b'4194303\n-4194304\n4194304\n')
+        self.compare(['--format', 'z=f32le'], b'4611685880988434431\n4611685880988434432\n')
+        for given in (-2**48, 2**48, -2**48 - 2**25):
+            self.compare(['--format', 's=f32le'], struct.pack('<f', given))
 
     def test_cut_at_each_byte(self):
         """A stream that ends after any byte, and one that waits there and then goes on."""
-        self.assertEqual(compiled(Words.DOUBLE, self.folder).returncode, 0)
+        self.build(Words.DOUBLE)
         given, wanted = b'-12\r\n7\n0033\n', b'-24\n14\n66\n'
         for length in range(len(given) + 1):
             self.compare([], given[:length])
@@ -295,7 +366,7 @@ class Streams(WithFolder):
         text = 'process mean(in i; out o) { while 1 { read i x; s = (s + x); n = (n + 1); write o (s / n); } }\n' \
                'process copy(in i; out o) { while 1 { read i x; write o x; } }\n' \
                'network { source i; channel c cap 9; sink o cap 1; m = mean(i; c); k = copy(c; o); }\n'
-        self.assertEqual(compiled(text, self.folder).returncode, 0)
+        self.build(text)
         with subprocess.Popen(['./prog', 'stream', '--quiet'], cwd=self.folder, stdin=subprocess.PIPE,
                               stdout=subprocess.PIPE, bufsize=0) as child:
             for given, wanted in ((b'4\n', b'4\n'), (b'8\n', b'6\n'), (b'0\n' * 9, b'4\n3\n'), (b'1', b'')):
@@ -309,7 +380,7 @@ class Streams(WithFolder):
         text = 'process spin(out o) { x = 1; while x { x = ((x % 7) + 1); } write o x; }\n' \
                'process copy(in i; out o) { while 1 { read i x; write o x; } }\n' \
                'network { source i; sink o cap 1; sink p cap 1; s = spin(; p); k = copy(i; o); }\n'
-        self.assertEqual(compiled(text, self.folder).returncode, 0)
+        self.build(text)
         with subprocess.Popen(['./prog', 'stream', '--quiet', '--sink', 'o=-', '--sink', 'p=out'], cwd=self.folder,
                               stdin=subprocess.PIPE, stdout=subprocess.PIPE, bufsize=0) as child:
             self.addCleanup(child.kill)
@@ -319,8 +390,58 @@ class Streams(WithFolder):
                 self.assertEqual(child.stdout.read(len(line)) if ready else b'', line)
             child.kill()
 
+    PAIR = 'process copy(in i; out o) { while 1 { read i x; write o x; } }\n' \
+           'network { source a; source b; sink y cap 4; sink z cap 4; c = copy(a; y); d = copy(b; z); }\n'
+
+    def test_of_two_sources_that_is_read_whose_item_has_come(self):
+        self.build(self.PAIR)
+        one, to_one = os.pipe()
+        words = ['--source', f'a=/dev/fd/{one}', '--source', 'b=-', '--sink', 'y=out', '--sink', 'z=-']
+        with open(to_one, 'wb') as late, subprocess.Popen(
+                ['./prog', 'stream', '--quiet', *words], cwd=self.folder, stdin=subprocess.PIPE,
+                stdout=subprocess.PIPE, pass_fds=[one], bufsize=0) as child:
+            os.close(one)
+            child.stdin.write(b'5\n')
+            ready, _, _ = select.select([child.stdout], [], [], 60)
+            self.assertEqual(child.stdout.read(2) if ready else b'', b'5\n')
+            late.write(b'3\n4')
+            late.close()
+            self.assertEqual((child.communicate()[0], child.returncode), (b'', 0))
+        self.assertEqual((self.folder / 'out').read_text(), '3\n4\n')
+
+    def test_ends_that_do_not_wait(self):
+        self.build(Words.DOUBLE)
+        (given, to_given), (out, to_out) = os.pipe(), os.pipe()
+        os.set_blocking(given, False)
+        os.set_blocking(to_out, False)
+        with subprocess.Popen(['./prog', 'stream', '--quiet'], cwd=self.folder, stdin=given, stdout=to_out) as child:
+            os.close(given)
+            os.close(to_out)
+            with open(to_given, 'wb') as lines:
+                lines.write(b'123456\n')
+                lines.flush()
+                lines.write(b'1234\n' * 12_000)
+            with open(out, 'rb') as found:
+                self.assertEqual(found.read(), b'246912\n' + b'2468\n' * 12_000)
+        self.assertEqual(child.returncode, 0)
+
+    def test_files_that_are_kept(self):
+        """A stream that is refused leaves its files as they are; a file has one stream at a time."""
+        self.build(self.PAIR)
+        (self.folder / 'one').write_text('1\n')
+        (self.folder / 'kept').write_text('old')
+        ends = ['--source', 'a=one', '--source', 'b=one', '--sink', 'y=kept']
+        self.compare([*ends, '--sink', 'z=no/where'])
+        with open(self.folder / 'kept', 'a') as locked:
+            fcntl.flock(locked, fcntl.LOCK_EX)
+            self.compare([*ends, '--sink', 'z=out'])
+        self.assertEqual((self.folder / 'kept').read_text(), 'old')
+        self.compare([*ends, '--sink', 'z=out'])
+        self.assertEqual((self.folder / 'kept').read_text(), '1\n')
+        self.assertEqual(self.call('./prog', 'stream', '--clip', '--clip')[::2], (2, 'kpn: usage: --clip once\n'))
+
     def test_reader_has_gone(self):
-        self.assertEqual(compiled(Words.DOUBLE, self.folder).returncode, 0)
+        self.build(Words.DOUBLE)
         done = subprocess.run('yes 1 | ./prog stream --trace trace | head -n 3; exit ${PIPESTATUS[1]}', shell=True,
                               executable='/bin/bash', cwd=self.folder, capture_output=True, text=True)
         self.assertEqual((done.returncode, done.stdout), (0, '2\n2\n2\n'))

@@ -14,6 +14,10 @@ A = [NUMBERS.randint(-1000, 1000) for _ in range(200)]
 B = [NUMBERS.randint(-1000, 1000) for _ in range(200)]
 BITS = [NUMBERS.randrange(2) for _ in range(200)]
 RUNS = [it // 7 % 3 for it in range(200)]
+COUNTS = [it % 6 - 2 for it in range(200)]
+# Parts that are what their first line says, and have no source.
+PLAIN = {'add', 'constant', 'count', 'deal', 'delay', 'downsample', 'drop', 'fork', 'gain', 'hold', 'merge', 'multiply',
+         'offset', 'pointwise', 'saturate', 'scale', 'subtract', 'sum_of', 'upsample', 'wrap', 'zip_streams'}
 
 
 def rounded(a, b):
@@ -84,7 +88,7 @@ CASES = {
     'offset': [(lambda x: parts.offset(x, -5), [A], [it - 5 for it in A])],
     'pointwise': [(lambda x, y: parts.pointwise('((x * k) - (y % m))', x=x, y=y, k=3, m=10), [A, B],
                    [3 * a - int(math.fmod(b, 10)) for a, b in zip(A, B)])],
-    'run_length_decode': [(parts.run_length_decode, [A, RUNS], [a for a, n in zip(A, RUNS) for _ in range(n)])],
+    'run_length_decode': [(parts.run_length_decode, [A, COUNTS], [a for a, n in zip(A, COUNTS) for _ in range(n)])],
     'run_length_encode': [(parts.run_length_encode, [RUNS], tuple(map(list, zip(*runs(RUNS))))),
                           (lambda x: parts.run_length_encode(x, 3), [[5] * 10], ([5, 5, 5], [3, 3, 3]))],
     'saturate': [(lambda x: parts.saturate(x, -300, 500), [A], [max(-300, min(500, it)) for it in A])],
@@ -129,8 +133,10 @@ class Parts(unittest.TestCase):
 
     def test_fft_is_near_the_transform(self):
         for points in (2, 4, 8, 32):
-            (re, im), _ = run_one(lambda re, im: parts.fft(re, im, points, 20), A[:points], B[:points])
-            for found, wanted in zip(zip(re, im), transform([complex(*it) for it in zip(A, B)][:points])):
+            frames = [[complex(*it) for it in zip(A, B)][first:first + points] for first in (0, points)]
+            (re, im), _ = run_one(lambda re, im: parts.fft(re, im, points, 20), A[:2 * points], B[:2 * points])
+            self.assertEqual((len(re), len(im)), (2 * points, 2 * points))
+            for *found, wanted in zip(re, im, [it for frame in frames for it in transform(frame)]):
                 self.assertLess(abs(complex(*found) - wanted), 2 * points)
 
     def test_faults_are_those_that_are_told(self):
@@ -143,10 +149,11 @@ class Parts(unittest.TestCase):
         for build in (lambda x: parts.saturate(x, 0, 5), lambda x: parts.wrap(x, 4), parts.drop, parts.delay):
             self.assertEqual(run_one(build, [-2**63, 2**63 - 1])[1].faults, {})
 
-    def test_docs_tell_rates_and_faults(self):
+    def test_docs_tell_rates_faults_and_sources(self):
         for name in parts.__all__:
             doc = getattr(parts, name).__doc__
             self.assertTrue('Rates: ' in doc and 'Faults: ' in doc, name)
+            self.assertEqual('Source: ' in doc, name not in PLAIN, name)
 
     def test_wrong_words_are_refused(self):
         for build in (lambda x: parts.downsample(x, 3, 3), lambda x: parts.scale(x, 0), lambda x: parts.wrap(x, 63),

@@ -46,6 +46,7 @@ class NetworkText:
             yield from ('#ifndef KPN_FIXED', '#define KPN_FIXED', '#endif', '#include "fixed.h"')
         yield '#include "network.h"'
         yield '#pragma GCC diagnostic ignored "-Wtautological-compare"'
+        yield '#pragma GCC diagnostic ignored "-Wunused-but-set-variable"'
         yield ''
         for kind, number in self.kinds.items():
             yield from Function(number, kind, self.rows[kind.name], self.heads.get(kind), self.is_one_talk).text()

@@ -50,7 +50,7 @@ def transpose(stream: Stream, rows: int = SIZE, columns: int = SIZE) -> Stream:
 def zigzag(stream: Stream, inverse: bool = False) -> Stream:
     """Of each block of 8 x 8 items, by rows, gives them along the diagonals, as JPEG does; or undoes that.
 
-    Rates: a block out for a block in. Faults: none. Source: a sort by diagonals.
+    Rates: a block out for a block in. Faults: none. Source: ITU-T T.81, 1992, by a sort of the diagonals.
     """
     order = sorted(range(SIZE**2), key=lambda it: (it // SIZE + it % SIZE,
                                                    (it // SIZE if (it // SIZE + it % SIZE) % 2 else it % SIZE)))
@@ -98,7 +98,8 @@ def dct(stream: Stream, *, shift: int = 0, inverse: bool = False) -> Stream:
 
     It is orthonormal: item k is c(k) / 2 times the sum of x[n] cos((2n + 1) k pi / 16), with c(0) = sqrt(1/2), else 1.
     Rates: 8 out for 8 in. Faults: overflow, for items of 2^40 or more. The error is at most 4e-6 of the largest item,
-    and a half. Source: the definition, by its symmetry with half of the products.
+    and a half. Source: N. Ahmed, T. Natarajan and K. R. Rao, "Discrete cosine transform", 1974, by its symmetry with
+    half of the products.
     """
     divisor = 1 << COSINE_BITS + whole('the shift', shift, -COSINE_BITS, MOST_BITS - COSINE_BITS)
     cosines = [[(math.sqrt(0.5) if k == 0 else 1.0) / 2 * math.cos((2 * n + 1) * k * math.pi / 16)
@@ -220,7 +221,8 @@ def power_of_two(count: int, most: int) -> int:
 def bitonic_sort(stream: Stream, n: int) -> Stream:
     """Sorts each frame of n items, a power of two from 2 to 32: the smallest comes first.
 
-    Rates: n out for n in. Faults: none. Source: a bitonic sort, one process.
+    Rates: n out for n in. Faults: none. Source: K. E. Batcher, "Sorting networks and their applications", 1968, in one
+    process.
     """
     pairs = exchanges(power_of_two(n, 32))
     steps = '\n'.join(f'if (x{a} > x{b}) {{ t = x{a}; x{a} = x{b}; x{b} = t; }} else {{ }}' for a, b in pairs)
@@ -233,7 +235,7 @@ def sort_streams(streams: Sequence[Stream]) -> Tuple[Stream, ...]:
     """Sorts an item of each of 2, 4, 8 or 16 streams: the first stream that comes out has the smallest.
 
     There is a process for each of the 1, 6, 24 or 80 comparisons.
-    Rates: one item on each out for one on each in. Faults: none. Source: a bitonic sort.
+    Rates: one item on each out for one on each in. Faults: none. Source: that of `bitonic_sort`.
     """
     rest = list(streams)
     for a, b in exchanges(power_of_two(len(rest), 16)):

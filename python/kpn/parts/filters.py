@@ -61,6 +61,7 @@ def cic(stream: Stream, order: int, factor: int, bits: int = 62) -> Stream:
 
     Both are 1 or more. Its registers have `bits` bits, 1 to 62, and wrap. The items that come out are right if they
     fit into these. Rates: one out for `factor` in. Faults: overflow of items near 2^63.
+    Source: E. B. Hogenauer, "An economical class of digital filters for decimation and interpolation", 1981.
     """
     order, factor = whole('the order', order, 1), whole('the factor', factor, 1)
     for _ in range(order):
@@ -75,6 +76,7 @@ def biquad(stream: Stream, b: Sequence[int], a: Sequence[int], shift: int) -> St
     """y[n] = (b[0] x[n] + b[1] x[n-1] + b[2] x[n-2] - a[0] y[n-1] - a[1] y[n-2]) / 2^shift, rounded to nearest.
 
     A half goes away from 0. `shift` is 0 to 62. Rates: one out for one in. Faults: overflow.
+    Source: direct form 1 in R. Bristow-Johnson, "Cookbook formulae for audio EQ biquad filter coefficients".
     """
     need(len(b) == 3 and len(a) == 2, f'a biquad has 3 and 2 coefficients: {len(b)} and {len(a)} are given')
     return cast(Stream, BIQUAD(stream, *b, *a, 1 << whole('the shift', shift, 0, MOST_BITS)))
@@ -85,7 +87,8 @@ def fft(re: Stream, im: Stream, points: int, bits: int = 14) -> Tuple[Stream, St
 
     Its factors have `bits` bits behind the point, 0 to 62, and each product is rounded to nearest. There is a process
     for each butterfly, so a network has room for 32 points.
-    Rates: one out for one in, by whole frames. Faults: overflow.
+    Rates: one out for one in, by whole frames. Faults: overflow. Source: J. W. Cooley and J. W. Tukey, "An algorithm
+    for the machine calculation of complex Fourier series", 1965.
     """
     points, one = whole('the number of points', points, 2), 1 << whole('the number of bits', bits, 0, MOST_BITS)
     need(points & (points - 1) == 0, f'{points} points: they have to be a power of two')

@@ -42,7 +42,8 @@ def nco(steps: Stream, amplitude: int = 32767) -> Tuple[Stream, Stream]:
 
     2^32 are a turn, so `round(2**32 * f / fs)` makes the frequency f. The amplitude is 0 to 2^31.
     Rates: one item on each out for one in. Faults: overflow, for steps of 2^62 or more. They are within 2e-6 of the
-    amplitude, and a half. Source: a sum, and a polynomial of degree 7 for a quarter of the sine.
+    amplitude, and a half. Source: a sum, as in J. Tierney, C. M. Rader and B. Gold, "A digital frequency synthesizer",
+    1971, and a polynomial of degree 7 for a quarter of the sine.
     """
     text = f'''
         process nco(in step; out cosine, sine; par amplitude) {{
@@ -105,7 +106,8 @@ def polar(re: Stream, im: Stream, *, rounds: int = 20) -> Tuple[Stream, Stream]:
 
     The angle is within 2^(32 - rounds), and 2^18 / magnitude; `rounds` is 4 to 28. That of 0 is 0.
     Rates: one item on each out for one on each in. Faults: overflow, for items of 2^31 or more. The magnitude is right
-    within 1 for items below 2^24 and 14 rounds. Source: CORDIC by vectors, with 16 bits behind the point, one process.
+    within 1 for items below 2^24 and 14 rounds. Source: J. E. Volder, "The CORDIC trigonometric computing technique",
+    1959, by vectors, with 16 bits behind the point, one process.
     """
     steps, gain = vectoring(rounds)
     return cast(Tuple[Stream, Stream], Process.from_text(f'''

@@ -70,7 +70,8 @@ def cascade(stream: Stream, sections: Any, *, bits: int = BITS) -> Stream:
     So scipy's `sos` is a list of them. The numbers get `bits` bits behind the point, 0 to 62. Each section rounds to
     nearest and adds what that leaves to the sums behind, so that the error stays at some units even for narrow filters.
     Rates: one out for one in. Faults: overflow, for items near 2^(59 - bits). Source: the direct form with the error of
-    the rounding fed back twice.
+    the rounding fed back twice, as in T. Thong and B. Liu, "Error spectrum shaping in narrow-band recursive filters",
+    1977.
     """
     to_fixed = Q(bits)
     for section in plain(sections):
@@ -86,7 +87,8 @@ def second_order(stream: Stream, kind: str, fs: float, f0: float, q: float = mat
 
     A `band` has gain 1 at f0 and is f0 / q wide; so is a `notch`. `all` turns only the phase.
     Rates: one out for one in. Faults: those of `cascade`.
-    Source: the bilinear transform of the analogue filter, right at f0.
+    Source: the bilinear transform of the analogue filter, right at f0, as in R. Bristow-Johnson, "Cookbook formulae for
+    audio EQ biquad filter coefficients".
     """
     return cascade(stream, [section_of(kind, fs, f0, q)], bits=bits)
 
@@ -95,7 +97,8 @@ def butterworth(stream: Stream, kind: str, fs: float, f0: float, order: int, *, 
     """A flat `low` or `high` pass of any order, at half of the power at f0 of fs items a second.
 
     Rates: one out for one in. Faults: those of `cascade`.
-    Source: poles on a circle, in pairs, by the bilinear transform.
+    Source: S. Butterworth, "On the theory of filter amplifiers", 1930: poles on a circle, in pairs, by the bilinear
+    transform.
     """
     order = whole('the order', order, 1)
     need(kind in ('low', 'high'), f'the kind is {kind!r}: it has to be low or high')

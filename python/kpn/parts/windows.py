@@ -41,7 +41,8 @@ def fir(stream: Stream, taps: Sequence[int], *, shift: int = 0, systolic: bool =
     a chain of as few as there have to be of more; with `systolic=True` there is a process for each tap.
     Rates: one out for one in. Faults: overflow, also of a sum of some items or products. Taps that are the same from
     both ends delay a signal by half of (their number - 1). Source: the convolution by its definition; two items that
-    have one tap, as many from both ends, are added first.
+    have one tap, as many from both ends, are added first. `systolic` is as in H. T. Kung, "Why systolic
+    architectures?", 1982.
     """
     if not systolic:
         return windows(stream, [whole_numbers('a tap', taps)], shift)
@@ -91,7 +92,8 @@ def polyphase(stream: Stream, taps: Sequence[int], n: int, *, shift: int = 0) ->
 
     Their sum is `decimate(stream, taps, n, phase=n - 1)`, and their `fft` is a bank of n channels. n is 1 to 16, or a
     product of such numbers; there are n taps or more.
-    Rates: one item on each out for n in. Faults: those of `fir`. Source: the definition.
+    Rates: one item on each out for n in. Faults: those of `fir`. Source: M. G. Bellanger, G. Bonnerot and M. Coudreuse,
+    "Digital filtering by polyphase network: application to sample-rate alteration and filter banks", 1976.
     """
     n = whole('the number of filters', n, 1)
     need(len(taps) >= n, f'a bank of {n} filters has at least {n} taps: {len(taps)} are given')

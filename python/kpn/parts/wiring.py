@@ -234,7 +234,8 @@ def zip_streams(*streams: Stream) -> Tuple[Stream, ...]:
 def select(control: Stream, if_true: Stream, if_false: Stream) -> Stream:
     """For each item of `control`, takes an item of `if_true` if it is not 0, and else of `if_false`.
 
-    Rates: one out for one of `control` and one of the stream that it selects. Faults: none.
+    Rates: one out for one of `control` and one of the stream that it selects. Faults: none. Source: J. T. Buck,
+    "Scheduling dynamic dataflow graphs with bounded memory using the token flow model", 1993.
     """
     return cast(Stream, SELECT(control, if_true, if_false))
 
@@ -242,7 +243,7 @@ def select(control: Stream, if_true: Stream, if_false: Stream) -> Stream:
 def switch(control: Stream, stream: Stream) -> Tuple[Stream, Stream]:
     """Sends each item to the first of two streams if the item of `control` is not 0, and else to the second.
 
-    Rates: one out, on one of the two, for one of `control` and one in. Faults: none.
+    Rates: one out, on one of the two, for one of `control` and one in. Faults: none. Source: that of `select`.
     """
     return cast(Tuple[Stream, Stream], SWITCH(control, stream))
 
@@ -251,7 +252,8 @@ def run_length_encode(stream: Stream, longest: int = 2**62) -> Tuple[Stream, Str
     """Gives the values of the runs of equal items, and how long these are; `longest`, 1 or more, cuts longer runs.
 
     Rates: one item on each out for each run. Faults: none. A run comes out once an item follows that is not of it, so
-    the last one never does.
+    the last one never does. Source: A. H. Robinson and C. Cherry, "Results of a prototype television bandwidth
+    compression scheme", 1967.
     """
     return cast(Tuple[Stream, Stream], ENCODE(stream, whole('the longest run', longest, 1)))
 
@@ -259,6 +261,6 @@ def run_length_encode(stream: Stream, longest: int = 2**62) -> Tuple[Stream, Str
 def run_length_decode(values: Stream, counts: Stream) -> Stream:
     """Gives each value as often as the count beside it says; a count below 1 gives nothing.
 
-    Rates: for one item on each in, so many out as the count is. Faults: none.
+    Rates: for one item on each in, so many out as the count is. Faults: none. Source: that of `run_length_encode`.
     """
     return cast(Stream, DECODE(values, counts))

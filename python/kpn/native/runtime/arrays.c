@@ -69,7 +69,7 @@ size_t kpn_arrays_report(const struct kpn_run *run, char *text, size_t size) {
   if (run->outcome == KPN_STOPPED) {
     return write_to(&room, "stopped\n", strlen("stopped\n")) ? room.length : 0;
   }
-  return kpn_report_end(run, write_to, &room) ? room.length : 0;
+  return kpn_report_end(run, false, write_to, &room) ? room.length : 0;
 }
 
 void kpn_arrays_take(struct kpn_run *run, struct kpn_array *sinks) {

@@ -6,6 +6,7 @@
 #include <stddef.h>
 #include <stdint.h>
 
+#include "formats.h"
 #include "program.h"
 
 enum { KPN_DEVICE_BYTES = 65536 };
@@ -13,12 +14,15 @@ enum { KPN_DEVICE_BYTES = 65536 };
 struct kpn_input {
   int from;
   bool is_open, has_ended;   /* until its source is closed; no more bytes come */
-  size_t start, end, line;   /* the bytes that were not used yet; lines so far */
+  enum kpn_format format;
+  size_t start, end, used;   /* the bytes that were not used yet; lines or samples so far */
   char bytes[KPN_DEVICE_BYTES];
 };
 
 struct kpn_output {
   int to;
+  enum kpn_format format;
+  bool clips;                /* it writes the nearest item that the format has */
   bool has_gone, has_failed; /* nobody reads it any more; it could not be written */
   bool has_misfit;           /* an item that the format does not have was to be written */
   int64_t misfit;
@@ -31,14 +35,13 @@ struct kpn_output {
 enum kpn_input_state { KPN_ITEM, KPN_NO_ITEM_YET, KPN_NO_MORE_ITEMS, KPN_BAD_ITEM, KPN_CUT_SAMPLE };
 
 /* Takes an item from the bytes that are there. */
-enum kpn_input_state kpn_next_item(struct kpn_input *input, enum kpn_format format, int64_t *item);
+enum kpn_input_state kpn_next_item(struct kpn_input *input, int64_t *item);
 
-/* Whether a read would not wait; reads what there is, and waits for it if need be. False says that the device fails. */
-bool kpn_is_readable(const struct kpn_input *input);
+/* Reads what there is, and waits for it if need be. False says that the device fails. */
 bool kpn_read_more(struct kpn_input *input);
 
 /* Writes an item later, and everything now. */
-void kpn_give_item(struct kpn_output *output, enum kpn_format format, int64_t item);
+void kpn_give_item(struct kpn_output *output, int64_t item);
 void kpn_flush(struct kpn_output *output);
 
 #endif

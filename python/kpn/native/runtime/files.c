@@ -4,6 +4,7 @@
 #include <errno.h>
 #include <fcntl.h>
 #include <limits.h>
+#include <poll.h>
 #include <stdio.h>
 #include <stdlib.h>
 #include <string.h>
@@ -171,10 +172,18 @@ bool kpn_file_prepare(struct kpn_file *file) {
   return file->is_open = file->part && open_part(file, is_there ? &old : NULL);
 }
 
+bool kpn_may_retry(int device, short events) {
+  struct pollfd asked = {.fd = device, .events = events};
+  if (errno == EAGAIN || errno == EWOULDBLOCK) {
+    return poll(&asked, 1, -1) >= 0 || errno == EINTR;
+  }
+  return errno == EINTR;
+}
+
 bool kpn_write_all(int to, const char *text, size_t length) {
   while (length) {
     ssize_t count = write(to, text, length);
-    if (count < 0 && errno != EINTR) {
+    if (count < 0 && !kpn_may_retry(to, POLLOUT)) {
       return false;
     }
     if (count > 0) {

@@ -24,6 +24,10 @@ bool kpn_file_store(struct kpn_file *file);
 /* Drops what was not stored. */
 void kpn_file_drop(struct kpn_file *file);
 
+/* Whether a read or write that has failed may be tried again: after a signal, or once a device that does not wait has
+   something, or room. */
+bool kpn_may_retry(int device, short events);
+
 /* Writes all bytes to a descriptor. */
 bool kpn_write_all(int to, const char *text, size_t length);
 

@@ -3,11 +3,12 @@
 #define KPN_PROGRAM_H
 
 #include "files.h"
+#include "formats.h"
 #include "items.h"
 #include "network.h"
 
 /* The statuses beside those of outcomes. */
-enum { KPN_REFUSED = 1, KPN_USAGE = 2, KPN_LACKS_MEMORY = 6, KPN_FAULTED = 8, KPN_NOT_CERTIFIED = 9 };
+enum { KPN_REFUSED = 1, KPN_USAGE = 2, KPN_LACKS_MEMORY = 6, KPN_FAULTED = 8, KPN_HAS_RING = 9, KPN_NOT_CERTIFIED = 9 };
 
 /* What is told of a run with a trace whose loops without checks give other items. */
 #define KPN_DIFFERED "not certified: two ways of the program give other items; please report the network and its input"
@@ -18,16 +19,20 @@ struct kpn_end {
   unsigned channel;
 };
 
-enum kpn_format { KPN_LINES, KPN_S16, KPN_S32, KPN_S64 };
+/* A word FORMAT or NAME=FORMAT. */
+struct kpn_format_word {
+  const char *name; /* of the only end that it is for; null if it is for all */
+  enum kpn_format format;
+};
 
 /* What the words of the command line ask for. */
 struct kpn_words {
   struct kpn_end *sources, *sinks;
-  size_t source_count, sink_count;
+  struct kpn_format_word *formats;
+  size_t source_count, sink_count, format_count;
   const char *trace;
-  bool has_take, is_certified, is_checked, has_most_commits, is_quiet;
+  bool has_take, is_certified, is_checked, has_most_commits, is_quiet, clips;
   uint64_t take, most_commits, events;
-  enum kpn_format format;
 };
 
 /* Where a sink's items go in a run. */
@@ -51,8 +56,15 @@ struct kpn_run {
 /* Reads the words behind the command. If they are wrong it says so and gives false. */
 bool kpn_read_words(struct kpn_words *words, bool is_stream, int count, char **given);
 
-/* Finds the channels of the ends. If a name is wrong it says so and gives false. */
-bool kpn_find_ends(const struct kpn_plan *plan, struct kpn_words *words);
+/* Finds the channels of the ends of a kind. If a name is wrong it says so and gives false. */
+bool kpn_find_ends(const struct kpn_plan *plan, enum kpn_kind kind, struct kpn_end *ends, size_t count);
+
+/* Whether each format is for all ends or for one that the network has, and no two are for the same. If not it says
+   so. */
+bool kpn_check_formats(const struct kpn_plan *plan, const struct kpn_words *words);
+
+/* How the items of an end are written. */
+enum kpn_format kpn_format_of_end(const struct kpn_words *words, const char *name);
 
 /* Refuses outputs that would be written over other files; 0, or the status. `-` is a standard end of a stream. */
 int kpn_check_outputs(const struct kpn_words *words, bool is_stream);
@@ -77,9 +89,12 @@ void kpn_end_run(struct kpn_run *run);
 /* Writes the report of a run. */
 bool kpn_report(const struct kpn_run *run, kpn_writer *writer, void *to);
 
-/* Writes which processes have faulted or wait, and the outcome if there is one. Under `enough` processes may be ahead
-   of what was asked for, so it says nothing of them. */
-bool kpn_report_end(const struct kpn_run *run, kpn_writer *writer, void *to);
+/* Writes which processes have faulted or wait, as a stream has it also each ring of them, and the outcome if there is
+   one. Under `enough` processes may be ahead of what was asked for, so it says nothing of them. */
+bool kpn_report_end(const struct kpn_run *run, bool has_rings, kpn_writer *writer, void *to);
+
+/* Whether this process has the least number in a ring: each waits for an item of the next, and the last one of it. */
+bool kpn_begins_ring(const struct kpn_network *network, unsigned p);
 
 /* Has `kpn audit` judge the history, or `kpn run` give the same report. 0, or the status with which the run fails. */
 int kpn_certify(struct kpn_run *run);

@@ -75,6 +75,37 @@ static void add_waits(struct text *text, const struct kpn_network *network) {
   }
 }
 
+/* The process for whose item this one waits, or KPN_OUTSIDE. */
+static unsigned awaited(const struct kpn_network *network, unsigned p) {
+  const struct kpn_process *process = &network->processes[p];
+  bool is_waiting = process->being == KPN_WAITING || process->being == KPN_STALLED;
+  return is_waiting && process->why == KPN_EMPTY ? network->channels[process->channel].writer : KPN_OUTSIDE;
+}
+
+bool kpn_begins_ring(const struct kpn_network *network, unsigned p) {
+  unsigned at = awaited(network, p);
+  for (size_t k = 0; k < network->plan->process_count && at > p && at != KPN_OUTSIDE; k++) {
+    at = awaited(network, at);
+  }
+  return at == p;
+}
+
+static void add_rings(struct text *text, const struct kpn_network *network) {
+  for (unsigned p = 0; p < network->plan->process_count; p++) {
+    if (!kpn_begins_ring(network, p)) {
+      continue;
+    }
+    unsigned at = p;
+    add(text, "deadlock");
+    do {
+      add(text, " ");
+      add(text, network->plan->processes[at].name);
+      at = awaited(network, at);
+    } while (at != p);
+    add(text, "\n");
+  }
+}
+
 static void begin(struct text *text, kpn_writer *writer, void *to) {
   text->length = 0;
   text->writer = writer;
@@ -104,12 +135,15 @@ bool kpn_report(const struct kpn_run *run, kpn_writer *writer, void *to) {
   return !text.has_failed;
 }
 
-bool kpn_report_end(const struct kpn_run *run, kpn_writer *writer, void *to) {
+bool kpn_report_end(const struct kpn_run *run, bool has_rings, kpn_writer *writer, void *to) {
   struct text text;
   begin(&text, writer, to);
   if (run->outcome != KPN_ENOUGH) {
     add_faults(&text, &run->network);
     add_waits(&text, &run->network);
+  }
+  if (run->outcome != KPN_ENOUGH && has_rings) {
+    add_rings(&text, &run->network);
   }
   add_outcome(&text, run->outcome);
   return !text.has_failed;

@@ -226,7 +226,10 @@ int kpn_commands(struct kpn_run *run) {
   if (!run->lists || !run->sinks || !run->files) {
     status = kpn_refuse(KPN_LACKS_MEMORY, "42 NoMemory");
   } else {
-    status = kpn_find_ends(run->network.plan, &run->words) ? read_inputs(run) : KPN_REFUSED;
+    const struct kpn_plan *plan = run->network.plan;
+    bool are_found = kpn_find_ends(plan, KPN_SOURCE, run->words.sources, run->words.source_count) &&
+                     kpn_find_ends(plan, KPN_SINK, run->words.sinks, run->words.sink_count);
+    status = are_found ? read_inputs(run) : KPN_REFUSED;
     status = status ? status : prepare_outputs(run);
     status = status ? status : run_network(run);
   }

@@ -1,10 +1,13 @@
 /* stream.c: the command `stream`, on items as they come. */
 #define _GNU_SOURCE
+#include <errno.h>
 #include <fcntl.h>
+#include <poll.h>
 #include <signal.h>
 #include <stdio.h>
 #include <stdlib.h>
 #include <string.h>
+#include <sys/file.h>
 #include <sys/stat.h>
 #include <unistd.h>
 
@@ -38,14 +41,18 @@ static void fail(struct stream *stream, unsigned c, int status, const char *line
 
 /* ---- ends */
 
-/* Completes the options: the only source is standard input if it is left out, and the only sink standard output. */
-static int complete_ends(struct stream *stream, enum kpn_kind kind, struct kpn_end *ends, size_t *count) {
+/* Finds the files of the ends of a kind. The only source is standard input if it is left out, and the only sink
+   standard output. */
+static int complete_ends(struct stream *stream, enum kpn_kind kind, struct kpn_end *ends, size_t count) {
   const struct kpn_plan *plan = plan_of(stream);
   size_t of_kind = 0;
+  if (!kpn_find_ends(plan, kind, ends, count)) {
+    return KPN_REFUSED;
+  }
   for (unsigned c = 0; c < plan->channel_count; c++) {
     of_kind += plan->channels[c].kind == kind;
   }
-  for (size_t k = 0; k < *count; k++) {
+  for (size_t k = 0; k < count; k++) {
     stream->files[ends[k].channel] = ends[k].file;
   }
   for (unsigned c = 0; c < plan->channel_count; c++) {
@@ -87,6 +94,7 @@ static int open_inputs(struct stream *stream) {
       if (!input) {
         return kpn_refuse(KPN_LACKS_MEMORY, "42 NoMemory");
       }
+      input->format = kpn_format_of_end(&stream->run->words, plan_of(stream)->channels[c].name);
       bool is_standard = strcmp(stream->files[c], "-") == 0;
       input->from = is_standard ? STDIN_FILENO : open(stream->files[c], O_RDONLY | O_CLOEXEC);
       if (input->from < 0) {
@@ -98,12 +106,27 @@ static int open_inputs(struct stream *stream) {
   return 0;
 }
 
+/* Whether no other stream writes the plain file that this may be. It stays locked. */
+static bool is_only_writer(int to) {
+  struct stat told;
+  return fstat(to, &told) != 0 || !S_ISREG(told.st_mode) || flock(to, LOCK_EX | LOCK_NB) == 0 || errno != EWOULDBLOCK;
+}
+
+/* Removes what the plain outputs held, once all ends are open. Standard output is written where it stands. */
+static int empty_outputs(const struct stream *stream) {
+  struct stat told;
+  for (unsigned c = 0; c < plan_of(stream)->channel_count; c++) {
+    const struct kpn_output *output = stream->outputs[c];
+    if (output && output->to != STDOUT_FILENO && fstat(output->to, &told) == 0 && S_ISREG(told.st_mode) &&
+        ftruncate(output->to, 0) != 0) {
+      return kpn_refuse(KPN_REFUSED, "27 Write");
+    }
+  }
+  return 0;
+}
+
 static int open_outputs(struct stream *stream) {
   struct kpn_run *run = stream->run;
-  run->trace.name = run->words.trace;
-  if (run->trace.name && !kpn_file_prepare(&run->trace)) {
-    return kpn_refuse(KPN_REFUSED, "27 Write");
-  }
   for (unsigned c = 0; c < plan_of(stream)->channel_count; c++) {
     if (plan_of(stream)->channels[c].kind == KPN_SINK) {
       struct kpn_output *output = calloc(1, sizeof *output);
@@ -111,16 +134,17 @@ static int open_outputs(struct stream *stream) {
       if (!output) {
         return kpn_refuse(KPN_LACKS_MEMORY, "42 NoMemory");
       }
+      output->format = kpn_format_of_end(&run->words, plan_of(stream)->channels[c].name);
+      output->clips = run->words.clips;
       bool is_standard = strcmp(stream->files[c], "-") == 0;
-      output->to = is_standard ? STDOUT_FILENO
-                               : open(stream->files[c], O_WRONLY | O_CREAT | O_TRUNC | O_CLOEXEC, 0666);
-      if (output->to < 0) {
+      output->to = is_standard ? STDOUT_FILENO : open(stream->files[c], O_WRONLY | O_CREAT | O_CLOEXEC, 0666);
+      if (output->to < 0 || !(is_standard || is_only_writer(output->to))) {
         return kpn_refuse(KPN_REFUSED, "27 Write");
       }
       run->sinks_short++;
     }
   }
-  return 0;
+  return empty_outputs(stream);
 }
 
 /* ---- items */
@@ -134,7 +158,7 @@ static void take(struct kpn_network *network, unsigned c) {
   bool was_short = output->count < most;
   while (channel->got != channel->put) {
     if (output->count < most) {
-      kpn_give_item(output, run->words.format, channel->ring[channel->got & channel->mask]);
+      kpn_give_item(output, channel->ring[channel->got & channel->mask]);
     }
     channel->got++;
   }
@@ -179,7 +203,7 @@ static bool look_at_outputs(struct stream *stream) {
 static void look_behind_items(struct stream *stream, unsigned c, enum kpn_input_state state) {
   char line[64];
   if (state == KPN_BAD_ITEM) {
-    snprintf(line, sizeof line, "25 BadItem at %zu", stream->inputs[c]->line);
+    snprintf(line, sizeof line, "25 BadItem at %zu", stream->inputs[c]->used);
     fail(stream, c, KPN_REFUSED, line);
   } else if (state == KPN_CUT_SAMPLE) {
     fail(stream, c, KPN_REFUSED, "29 CutSample");
@@ -196,16 +220,16 @@ static bool feed_what_is_there(struct stream *stream, unsigned c) {
   struct kpn_input *input = stream->inputs[c];
   bool has_fed = false;
   for (;;) {
-    size_t start = input->start, line = input->line;
+    size_t start = input->start, used = input->used;
     int64_t item;
-    enum kpn_input_state state = kpn_next_item(input, stream->run->words.format, &item);
+    enum kpn_input_state state = kpn_next_item(input, &item);
     if (state == KPN_ITEM && !kpn_feed_item(network, c, item)) {
       fail(stream, c, KPN_LACKS_MEMORY, "28 NoMemory");
       return true;
     }
     if (state != KPN_ITEM && has_fed) {
       input->start = start;
-      input->line = line;
+      input->used = used;
       kpn_fed(network, c);
       return true;
     }
@@ -223,9 +247,9 @@ static void read_more(struct stream *stream, unsigned c) {
   }
 }
 
-/* The least open source for whose item somebody waits, or the number of channels. */
-static unsigned awaited_source(const struct stream *stream) {
-  unsigned c = 0, count = (unsigned)plan_of(stream)->channel_count;
+/* The least open source from this channel on for whose item somebody waits, or the number of channels. */
+static unsigned awaited_source(const struct stream *stream, unsigned c) {
+  unsigned count = (unsigned)plan_of(stream)->channel_count;
   while (c < count && !(stream->inputs[c] && stream->inputs[c]->is_open &&
                         stream->run->network.channels[c].reader_waits)) {
     c++;
@@ -252,26 +276,34 @@ static void close_all(struct stream *stream) {
   }
 }
 
-/* Feeds a source for whose item somebody waits. If it has to wait for the item, all that was computed goes out
-   first. */
-static void serve_source(struct stream *stream, unsigned c) {
-  const struct kpn_input *input = stream->inputs[c];
-  if (feed_what_is_there(stream, c)) {
-    return;
-  }
-  bool is_readable = kpn_is_readable(input);
-  if (is_readable || !stream->run->network.ready_count) {
-    if (!is_readable) {
-      flush_all(stream);
+/* Feeds the least awaited source whose bytes are there, or else reads the least for which some have come. If it has to
+   wait for them, all that was computed goes out first. Beside ready processes it does not wait. */
+static void serve_sources(struct stream *stream) {
+  struct pollfd asked[KPN_MOST_CHANNELS];
+  unsigned sources[KPN_MOST_CHANNELS], count = 0, channels = (unsigned)plan_of(stream)->channel_count;
+  for (unsigned c = awaited_source(stream, 0); c < channels; c = awaited_source(stream, c + 1)) {
+    if (feed_what_is_there(stream, c)) {
+      return;
     }
-    read_more(stream, c);
+    asked[count] = (struct pollfd){.fd = stream->inputs[c]->from, .events = POLLIN};
+    sources[count++] = c;
+  }
+  if (poll(asked, count, 0) == 0 && !stream->run->network.ready_count) {
+    flush_all(stream);
+    poll(asked, count, -1);
+  }
+  for (unsigned k = 0; k < count; k++) {
+    if (asked[k].revents) {
+      read_more(stream, sources[k]);
+      return;
+    }
   }
 }
 
 /* Looks whether the run is over behind a slice; feeds it if not. */
 static bool is_over(struct stream *stream, uint64_t most) {
   struct kpn_run *run = stream->run;
-  unsigned source = awaited_source(stream);
+  unsigned source = awaited_source(stream, 0);
   run->outcome = run->words.has_take && run->sinks_short == 0 ? KPN_ENOUGH : kpn_verdict_of(&run->network);
   if (run->outcome == KPN_GOING && run->network.commits >= most) {
     run->outcome = KPN_STOPPED;
@@ -280,7 +312,7 @@ static bool is_over(struct stream *stream, uint64_t most) {
     return true;
   }
   if (source < plan_of(stream)->channel_count) {
-    serve_source(stream, source);
+    serve_sources(stream);
     return false;
   }
   if (run->outcome == KPN_GOING) {
@@ -296,11 +328,14 @@ static bool is_over(struct stream *stream, uint64_t most) {
 static void go(struct stream *stream) {
   struct kpn_network *network = &stream->run->network;
   uint64_t most = stream->run->words.has_most_commits ? stream->run->words.most_commits : UINT64_MAX;
-  while (look_at_outputs(stream) && !network->lacks_memory) {
+  while (stream->status == 0 && !network->lacks_memory) {
     uint64_t slice = network->commits + SLICE;
     kpn_go(network, slice < most ? slice : most);
     if (network->ready_count) {
       flush_all(stream);
+    }
+    if (!look_at_outputs(stream)) {
+      break;
     }
     if (is_over(stream, most)) {
       return;
@@ -318,6 +353,15 @@ static void go(struct stream *stream) {
 static bool has_fault(const struct kpn_network *network) {
   for (size_t p = 0; p < network->plan->process_count; p++) {
     if (network->processes[p].being == KPN_OVER && network->processes[p].why != KPN_DONE) {
+      return true;
+    }
+  }
+  return false;
+}
+
+static bool has_ring(const struct kpn_network *network) {
+  for (unsigned p = 0; p < network->plan->process_count; p++) {
+    if (kpn_begins_ring(network, p)) {
       return true;
     }
   }
@@ -349,12 +393,20 @@ static int conclude(struct stream *stream) {
                           (run->words.has_take && output->count >= run->words.take));
   }
   if (!run->words.is_quiet) {
-    kpn_report_end(run, write_told, NULL);
+    kpn_report_end(run, true, write_told, NULL);
   }
   if (run->outcome != KPN_ENOUGH && has_fault(&run->network)) {
     return KPN_FAULTED;
   }
+  if (run->outcome != KPN_ENOUGH && has_ring(&run->network)) {
+    return KPN_HAS_RING;
+  }
   return are_all || run->outcome < KPN_CLOGGED || run->outcome == KPN_ENOUGH ? 0 : statuses[run->outcome];
+}
+
+static int prepare_trace(struct kpn_run *run) {
+  run->trace.name = run->words.trace;
+  return run->trace.name && !kpn_file_prepare(&run->trace) ? kpn_refuse(KPN_REFUSED, "27 Write") : 0;
 }
 
 static int store_trace(struct kpn_run *run) {
@@ -410,10 +462,11 @@ int kpn_command_stream(struct kpn_run *run) {
   int status = KPN_LACKS_MEMORY;
   if (stream.inputs && stream.outputs && stream.files) {
     status = kpn_check_outputs(&run->words, true);
-    status = status ? status : kpn_find_ends(run->network.plan, &run->words) ? 0 : KPN_REFUSED;
-    status = status ? status : complete_ends(&stream, KPN_SOURCE, run->words.sources, &run->words.source_count);
-    status = status ? status : complete_ends(&stream, KPN_SINK, run->words.sinks, &run->words.sink_count);
+    status = status ? status : complete_ends(&stream, KPN_SOURCE, run->words.sources, run->words.source_count);
     status = status ? status : check_inputs(&stream);
+    status = status ? status : complete_ends(&stream, KPN_SINK, run->words.sinks, run->words.sink_count);
+    status = status ? status : kpn_check_formats(run->network.plan, &run->words) ? 0 : KPN_USAGE;
+    status = status ? status : prepare_trace(run);
     status = status ? status : open_inputs(&stream);
     status = status ? status : open_outputs(&stream);
     status = status ? status : run_stream(&stream);

@@ -41,28 +41,34 @@ static bool read_end(const char *option, const char *what, char *text, struct kp
   return true;
 }
 
-static bool read_format(struct kpn_words *words, const char *text) {
-  static const char *const names[] = {"lines", "s16le", "s32le", "s64le"};
-  for (unsigned k = 0; k < sizeof names / sizeof *names; k++) {
-    if (strcmp(text, names[k]) == 0) {
-      words->format = (enum kpn_format)k;
-      return true;
-    }
-  }
-  kpn_refuse(KPN_USAGE, "usage: --format lines, s16le, s32le or s64le, and not %s", text);
+static bool refuse_formats(void) {
+  kpn_refuse(KPN_USAGE, "usage: --format FORMAT and --format NAME=FORMAT, once for each source and sink: "
+                        KPN_FORMAT_NAMES);
   return false;
 }
 
-/* Reads an option without a value. */
-static bool read_flag(struct kpn_words *words, bool is_stream, const char *option) {
-  if (!is_stream && strcmp(option, "--certify") == 0) {
-    return words->is_certified = true;
+/* Cuts NAME=FORMAT at its first `=`. */
+static bool read_format(struct kpn_words *words, char *text) {
+  char *cut = strchr(text, '=');
+  if (cut) {
+    *cut = 0;
   }
-  return is_stream && strcmp(option, "--quiet") == 0 && (words->is_quiet = true);
+  enum kpn_format format = kpn_format_of_name(cut ? cut + 1 : text);
+  words->formats[words->format_count++] = (struct kpn_format_word){cut ? text : NULL, format};
+  return format != KPN_FORMATS || refuse_formats();
 }
 
-enum option { SOURCE, SINK, TAKE, COMMITS, TRACE, FORMAT, CHECK, EVENTS, WORKERS, OPTIONS };
-static const char *const OPTION_NAMES[] = {"--source", "--sink", "--take", "--max-commits", "--trace", "--format",
+/* What an option without a value sets, or null if it is none. */
+static bool *flag_of(struct kpn_words *words, bool is_stream, const char *option) {
+  if (!is_stream) {
+    return strcmp(option, "--certify") == 0 ? &words->is_certified : NULL;
+  }
+  return strcmp(option, "--clip") == 0 ? &words->clips : strcmp(option, "--quiet") == 0 ? &words->is_quiet : NULL;
+}
+
+/* The options with a value; the first of them may be repeated. */
+enum option { SOURCE, SINK, FORMAT, TAKE, COMMITS, TRACE, CHECK, EVENTS, WORKERS, OPTIONS };
+static const char *const OPTION_NAMES[] = {"--source", "--sink", "--format", "--take", "--max-commits", "--trace",
                                            "--check", "--events", "--workers"};
 
 /* Reads the value of an option. */
@@ -103,24 +109,36 @@ static bool may_have(bool is_stream, enum option option) {
   return is_stream ? option != CHECK && option != EVENTS : option != FORMAT;
 }
 
+static unsigned option_of(bool is_stream, const char *name) {
+  unsigned option = 0;
+  while (option < OPTIONS && (strcmp(name, OPTION_NAMES[option]) != 0 || !may_have(is_stream, option))) {
+    option++;
+  }
+  return option;
+}
+
 bool kpn_read_words(struct kpn_words *words, bool is_stream, int count, char **given) {
   bool seen[OPTIONS] = {false};
   for (int k = 0; k < count; k++) {
     char *value = strncmp(given[k], "--", 2) == 0 ? strchr(given[k], '=') : NULL;
-    unsigned option = 0;
-    if (value) {
-      *value++ = 0;
-    } else if (read_flag(words, is_stream, given[k])) {
+    bool *flag = flag_of(words, is_stream, given[k]);
+    if (flag && *flag) {
+      kpn_refuse(KPN_USAGE, "usage: %s once", given[k]);
+      return false;
+    }
+    if (flag) {
+      *flag = true;
       continue;
     }
-    while (option < OPTIONS && (strcmp(given[k], OPTION_NAMES[option]) != 0 || !may_have(is_stream, option))) {
-      option++;
+    if (value) {
+      *value++ = 0;
     }
+    unsigned option = option_of(is_stream, given[k]);
     if (option == OPTIONS) {
       kpn_refuse(KPN_USAGE, "usage: no option %s here; --help lists them", given[k]);
       return false;
     }
-    if ((!value && ++k == count) || (seen[option] && option > SINK)) {
+    if ((!value && ++k == count) || (seen[option] && option > FORMAT)) {
       kpn_refuse(KPN_USAGE, "usage: %s once and with a value", OPTION_NAMES[option]);
       return false;
     }
@@ -136,7 +154,7 @@ bool kpn_read_words(struct kpn_words *words, bool is_stream, int count, char **g
   return true;
 }
 
-static bool find_ends(const struct kpn_plan *plan, enum kpn_kind kind, struct kpn_end *ends, size_t count) {
+bool kpn_find_ends(const struct kpn_plan *plan, enum kpn_kind kind, struct kpn_end *ends, size_t count) {
   for (size_t k = 0; k < count; k++) {
     size_t c = 0;
     while (c < plan->channel_count &&
@@ -158,9 +176,38 @@ static bool find_ends(const struct kpn_plan *plan, enum kpn_kind kind, struct kp
   return true;
 }
 
-bool kpn_find_ends(const struct kpn_plan *plan, struct kpn_words *words) {
-  return find_ends(plan, KPN_SOURCE, words->sources, words->source_count) &&
-         find_ends(plan, KPN_SINK, words->sinks, words->sink_count);
+static bool is_end(const struct kpn_plan *plan, const char *name) {
+  for (size_t c = 0; c < plan->channel_count; c++) {
+    if (plan->channels[c].kind != KPN_CHANNEL && strcmp(plan->channels[c].name, name) == 0) {
+      return true;
+    }
+  }
+  return false;
+}
+
+/* The first word for the end of this name, or for all ends if that is null. */
+static const struct kpn_format_word *format_word(const struct kpn_words *words, const char *name) {
+  const struct kpn_format_word *word = words->formats, *behind = word + words->format_count;
+  while (word != behind && (name && word->name ? strcmp(name, word->name) != 0 : name != word->name)) {
+    word++;
+  }
+  return word == behind ? NULL : word;
+}
+
+bool kpn_check_formats(const struct kpn_plan *plan, const struct kpn_words *words) {
+  for (size_t k = 0; k < words->format_count; k++) {
+    const struct kpn_format_word *word = &words->formats[k];
+    if ((word->name && !is_end(plan, word->name)) || format_word(words, word->name) != word) {
+      return refuse_formats();
+    }
+  }
+  return true;
+}
+
+enum kpn_format kpn_format_of_end(const struct kpn_words *words, const char *name) {
+  const struct kpn_format_word *word = format_word(words, name);
+  word = word ? word : format_word(words, NULL);
+  return word ? word->format : KPN_LINES;
 }
 
 /* The names of outputs that are written over other files. */
