@@ -103,7 +103,17 @@ def head(network, history, bounded, free):
     in_a_tick = '-' if hundredths is None else f'{hundredths // 100}.{hundredths % 100:02}'
     return (f'length {in_ticks(bounded.length)}, {free.length} without capacities\n'
             f'events {len(history)}, gets and puts {moves}, in a tick {in_a_tick}\n'
-            + bound_line(network, bounded))
+            + ''.join(rate_lines(network, bounded)) + bound_line(network, bounded))
+
+
+def rate_lines(network, bounded):
+    """How many ticks an item of each sink takes in the second half of its items, if there are two."""
+    for c in network.of_kind('sink'):
+        ticks = bounded.written(c)
+        steps = len(ticks) // 2
+        if steps:
+            hundredths = (ticks[-1] - ticks[-1 - steps]) * 100 // steps
+            yield f'{network.channels[c]} takes {hundredths // 100}.{hundredths % 100:02} ticks an item\n'
 
 
 def aligned(rows):

@@ -34,7 +34,7 @@ BUDGETS = {
     'docs/RUNS.md': 2_040,
     'docs/STREAMS.md': 1_290,
     'docs/TRACES.md': 850,
-    'docs/VIEWS.md': 2_080,
+    'docs/VIEWS.md': 2_100,
     'python/README.md': 1_020,
     'bench/RESULTS.md': 2_390,
 }

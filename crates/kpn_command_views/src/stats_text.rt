@@ -60,6 +60,7 @@ pub(crate) fn text_of(
     match tables {
         StatsTables::People => {
             push_lengths(&mut text, times)?;
+            push_rates(&mut text, document, times)?;
             let shares = times.shares.as_slice();
             push_bound(alloc, &mut text, document, shares, times.bounded.last())?;
             push_rings(alloc, &mut text, document, audit)?;
@@ -93,8 +94,37 @@ fn push_lengths(text: &mut String, times: &Times) -> Pushed {
     if length == 0 {
         return text.push_str("-\n");
     }
-    let n = moves as u128 * 100 / length as u128;
-    write!(text, "{}.{}{}\n", n / 100, n / 10 % 10, n % 10)
+    push_hundredths(text, moves, length)?;
+    text.push_str("\n")
+}
+
+// A quotient, rounded down to hundredths.
+fn push_hundredths(text: &mut String, part: usize, whole: usize) -> Pushed
+    requires { 0 < whole }
+{
+    let n = part as u128 * 100 / whole as u128;
+    write!(text, "{}.{}{}", n / 100, n / 10 % 10, n % 10)
+}
+
+// A line for each sink: how many ticks an item takes in the second half of its items.
+fn push_rates(text: &mut String, document: &Document, times: &Times) -> Pushed {
+    for c in 0..document.network().channels() {
+        if document.network().is_sink(c) {
+            push_rate(text, document.channel_name(c), times.bounded.written_of(c))?;
+        }
+    }
+    Ok(())
+}
+
+fn push_rate(text: &mut String, name: &str, ticks: &[usize]) -> Pushed {
+    let steps = ticks.len() / 2;
+    if steps == 0 {
+        return Ok(());
+    }
+    let last = ticks.len() - 1;
+    write!(text, "{name} takes ")?;
+    push_hundredths(text, ticks[last].saturating_sub(ticks[last - steps]), steps)?;
+    text.push_str(" ticks an item\n")
 }
 
 // A line for each ring: `deadlock` and the names of its members.
