@@ -1,5 +1,5 @@
 //! The value of an expression.
-ghost use Rattle.std.specs.Prelude.{◌≡◌, ◌<◌, ◌^◌, ◌*ℤ◌, ◌-ℤ◌, neg_ℤ, pos, length, unsigned_abs, IsTrue};
+ghost use Rattle.std.specs.Prelude.{◌≡◌, ◌<◌, ◌^◌, ◌*ℤ◌, ◌-ℤ◌, neg_ℤ, pos, false, length, IfNone, IfSome, IsTrue};
 ghost use Rattle.kpn_lang.specs.declared.syntax.Op.TheVariants.{Add, Sub, Mul, Div, Rem, Shl, Shr};
 ghost use Rattle.kpn_lang.specs.Syntax.{term_of, names_below};
 ghost use Rattle.kpn_lang.specs.Value.{value, in_range, is_count, result_of, truth_of};
@@ -67,7 +67,7 @@ pub(crate) fn remainder(left: i64, right: i64) -> Result<i64, Fault>
     left.checked_rem(right).ok_or(Fault::Overflow)
 }
 
-/// The sum of the bits that are 0 and their places, which is -1 less the number.
+/// The number with all its bits turned.
 #[inline(always)]
 pub(crate) fn complement(value: i64) -> i64
     ensures { result ≡ neg_ℤ value -ℤ pos 1 }
@@ -79,17 +79,36 @@ pub(crate) fn complement(value: i64) -> i64
 pub(crate) fn shifted_left(left: i64, count: i64) -> Result<i64, Fault>
     ensures { result ≡ result_of Shl left count }
 {
-    if count < 0 || count > 63 {
-        return Err(Fault::Shift);
+    match count_of(count) {
+        Some(63) => most_shifted(left),
+        Some(count) => product(left, power_of_two(count)),
+        None => Err(Fault::Shift),
     }
-    if count == 63 {
-        return shifted_out(left);
-    }
-    product(left, power_of_two(count as u32))
 }
 
-/// The product with 2^63, which is no number of 64 bits itself.
-fn shifted_out(left: i64) -> Result<i64, Fault>
+/// The quotient by a power of 2, rounded down.
+pub(crate) fn shifted_right(left: i64, count: i64) -> Result<i64, Fault>
+    ensures { result ≡ result_of Shr left count }
+{
+    match count_of(count) {
+        Some(count) => Ok(left >> count),
+        None => Err(Fault::Shift),
+    }
+}
+
+/// The count of a shift that a number is, if it is one.
+fn count_of(number: i64) -> Option<u32>
+    ensures some { IfSome result (λ count. (number ≡ pos count) × (count < 64)) }
+    ensures none { IfNone result (is_count number ≡ false) }
+{
+    match u32::try_from(number) {
+        Ok(count) if count < 64 => Some(count),
+        _ => None,
+    }
+}
+
+// 2^63 is out of range itself.
+fn most_shifted(left: i64) -> Result<i64, Fault>
     ensures { result ≡ in_range (left *ℤ pos (2 ^ 63)) }
 {
     match left {
@@ -104,16 +123,6 @@ fn power_of_two(exponent: u32) -> i64
     ensures { result ≡ pos (2 ^ exponent) }
 {
     1 << exponent
-}
-
-/// The quotient by a power of 2, rounded down.
-pub(crate) fn shifted_right(left: i64, count: i64) -> Result<i64, Fault>
-    ensures { result ≡ result_of Shr left count }
-{
-    if count < 0 || count > 63 {
-        return Err(Fault::Shift);
-    }
-    Ok(left >> count as u32)
 }
 
 #[inline(always)]
