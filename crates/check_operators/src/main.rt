@@ -63,7 +63,11 @@ fn answer(alloc: Global, line: &str) -> Result<std::result::Result<i64, Fault>> 
             ))
         }
         [test, "?", first, ":", second] => Ok(eval(
-            &Expr::Choice(operand(alloc, test)?, operand(alloc, first)?, operand(alloc, second)?),
+            &Expr::Choice(
+                operand(alloc, test)?,
+                operand(alloc, first)?,
+                operand(alloc, second)?,
+            ),
             &[],
         )),
         _ => bail!("a line is an operator with its operands"),
