@@ -20,5 +20,10 @@ pub fn print_network(alloc: Global, document: &Document) -> Result<Vec<u8>, Allo
 {
     document.known();
     read_again();
-    canonical_text(alloc, document.network(), document.names())
+    canonical_text(
+        alloc,
+        document.language(),
+        document.network(),
+        document.names(),
+    )
 }
