@@ -10,8 +10,9 @@ use Rattle.kpn_text_grammar.specs.Spelling.{IsDescription}
 use Rattle.kpn_text_names.specs.Named.{Named, resolve}
 use Rattle.kpn_text.specs.Document.{Document, document_named}
 
--- A text spells a document: it is within the limit of bytes and of the document's language, its tokens are those of a
--- tree, and what the tree names is the document. The document's tables keep the rules of programs and networks.
+-- A text spells a document: it is within the limit of bytes, it is of the document's language, its tokens in that
+-- language are those of a tree, and what the tree names is the document. The document's tables keep the rules of
+-- programs and networks.
 pub record Spells (text : List ℕ) (d : Document) : Type 0 where
   pub within : length text ≤ MAX_TEXT_BYTES
   pub language : language_of text ≡ d.language

@@ -167,6 +167,6 @@ abbrev pub language_text : Language → List ℕ → List ℕ
 language_text language.One more = more
 language_text language.Two more = codes "language 2;\n" ++ more
 
--- the processes and then the network
+-- the line of the language, the processes and then the network
 abbrev pub description_text : Language → Description → List ℕ
 description_text l d = language_text l (all_text process_text d.processes (network_text d.network []))
