@@ -16,7 +16,7 @@ POWERS = [sign * 2**k + more for k in (1, 30, 31, 32, 61, 62) for sign in (-1, 1
 COUNTS = [LEAST, -64, -1, 0, 1, 2, 31, 32, 33, 61, 62, 63, 64, 65, 2**32, MOST]
 FAULTS = ['overflow', 'zero-divisor']
 CRATES = pathlib.Path(__file__).resolve().parent.parent / 'crates'
-HEADING, NEXT = '# Operators in processes\n', '# The examples\n'
+HEADING, NEXT = '# Operators in processes\n', '\n# '
 
 
 def quotient(a, b):
@@ -124,9 +124,9 @@ def network_of(names):
 
 def write_between(file, lines):
     """Writes the lines below the heading, up to the next."""
-    before, _, rest = file.read_text().partition(NEXT)
-    before = before.partition(HEADING)[0]
-    file.write_text(before + HEADING + ''.join(f'{line}\n' for line in lines) + NEXT + rest)
+    before, _, rest = file.read_text().partition(HEADING)
+    behind = rest.partition(NEXT)[2]
+    file.write_text(before + HEADING + '\n'.join(lines) + NEXT + behind)
 
 
 def main():

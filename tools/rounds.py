@@ -10,7 +10,7 @@ import pathlib
 import re
 import typing
 
-TOKEN = re.compile(r'\s+|#[^\n]*|([A-Za-z_]\w*|\d+|<=|>=|==|!=|&&|\|\||[-(){};,=+*/%<>!])')
+TOKEN = re.compile(r'\s+|#[^\n]*|([A-Za-z_]\w*|\d+|<=|>=|==|!=|&&|\|\||<<|>>|[-(){};,=+*/%<>!?:~&|^])')
 SMALLEST, LARGEST = -2**63, 2**63 - 1
 LARGEST_CAPACITY = 1_048_576
 
@@ -74,6 +74,9 @@ class Parser:
         return sign * int(self.next())
 
     def description(self):
+        if self.took('language'):
+            self.number()
+            self.next(';')
         processes = {}
         while self.took('process'):
             name = self.next()
@@ -116,12 +119,17 @@ class Parser:
 
     def expression(self):
         token = self.next()
-        if token in ('-', '!'):
+        if token in ('-', '!', '~'):
             return token, self.expression()
         if token == '(':
             left, mark, right = self.expression(), self.next(), self.expression()
+            if mark == '?':
+                self.next(':')
+                found = mark, left, right, self.expression()
+            else:
+                found = mark, left, right
             self.next(')')
-            return mark, left, right
+            return found
         return int(token) if token.isdigit() else token
 
     def network(self):

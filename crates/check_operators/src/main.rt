@@ -1,6 +1,6 @@
 //! The operators of the process language on a table of operands. Each line of standard input is `LEFT OP RIGHT`,
-//! `- OPERAND`, `! OPERAND`, `~ OPERAND` or `OPERAND ? OPERAND : OPERAND`, and the answer is the value or the fault. The
-//! stored table is at the ends of the range, and for shifts at those of the counts.
+//! `- OPERAND`, `! OPERAND`, `~ OPERAND` or `OPERAND ? OPERAND : OPERAND`, and the answer is the value or the fault.
+//! The stored table is at the ends of the range, and for shifts at those of the counts.
 //! Another program (tools/operator_table.py) computed what must come, with whole numbers that have no bound.
 #![tactic(auto)]
 
