@@ -12,6 +12,7 @@ import importlib.util
 import pathlib
 import re
 import sys
+import tempfile
 
 import prover
 
@@ -25,6 +26,17 @@ def load_rt():
     sys.argv = ['rt']
     loader.exec_module(module)
     return module
+
+
+def crates_of(rt):
+    """The crates, once `rt` has taken them in. It puts aside what earlier runs left in their out/, and that comes back.
+    """
+    with tempfile.TemporaryDirectory(dir=TOP / '.git') as aside:
+        try:
+            return rt.crates_of(str(TOP), aside)
+        finally:
+            for kept in pathlib.Path(aside).iterdir():
+                kept.rename(TOP / 'crates' / kept.name / 'out')
 
 
 def stops(look, *of):
@@ -56,7 +68,7 @@ def main():
     argparse.ArgumentParser(description=__doc__, formatter_class=argparse.RawDescriptionHelpFormatter).parse_args()
     rt = load_rt()
     rt.Crate.allowed = rt.handles_of(str(TOP))
-    crates = rt.crates_of(str(TOP))
+    crates = crates_of(rt)
     for crate in crates:
         crate.out = sys.stdout
     found = [f'{crate.name} {why}' for crate in crates for why in refused(rt, crate)]

@@ -69,6 +69,12 @@ class Words(unittest.TestCase):
             self.assertEqual(self.behind(command[0], 'wrong.kpn', *command[1:], status=1), said)
         self.assertEqual(self.behind('explain', 'wrong.kpn', status=1), '')
 
+    def test_a_byte_order_mark(self):
+        (self.folder / 'marked.kpn').write_bytes(b'\xef\xbb\xbf' + (self.folder / 'copy.kpn').read_bytes())
+        self.assertEqual(self.behind('run', 'marked.kpn', status=1, line='kpn: 20 Token at 0\n'),
+                         '`marked.kpn` begins with a byte order mark, which is no part of a description: '
+                         'store it without one.\n')
+
     def test_a_file_that_is_not_there(self):
         for words, name in ((['none.kpn'], 'none.kpn'), (['copy.kpn', '--source', 's=none'], 'none')):
             said = self.behind('run', *words, status=1, line='kpn: 26 Read\n')
@@ -134,6 +140,15 @@ class Words(unittest.TestCase):
     def test_an_output_that_can_not_be_written(self):
         self.assertEqual(self.behind('run', 'copy.kpn', '--trace', 'no/t', status=1, line='kpn: 27 Write\n'),
                          "`no/t` can't be written: its folder is not there\n")
+
+    def test_an_output_with_the_name_of_standard_output(self):
+        for words in (['--sink', 'z=-'], ['--trace', '-']):
+            said = self.behind('run', 'copy.kpn', '--source', 's=items', *words, status=0)
+            self.assertTrue(said.startswith('The file `-` was written: '), said)
+
+    def test_an_option_of_streams(self):
+        said = self.behind('run', 'copy.kpn', '--format', 's16le', status=2)
+        self.assertTrue(said.endswith('`kpn stream` has it.\n'), said)
 
     def test_a_wrong_trace(self):
         (self.folder / 'trace').write_text('kpn-trace 2\npolicy cycles grow one\nput 0 1 7\n')

@@ -1,7 +1,7 @@
 //! What to do about an outcome: about a ring of processes or a fault, about a run that is clogged, jammed or stopped,
 //! and about a source without items.
 
-use crate::pieces::{has_name, has_one, is_of, is_plain, push, push_name, text_of};
+use crate::pieces::{STANDARD, file_in, has_name, has_one, is_of, is_plain, push, push_name, text_of};
 use crate::room::push_room;
 use crate::stopped::{push_looks, push_others};
 use crate::waits::{push_faults, waits_in};
@@ -105,6 +105,7 @@ fn push_run<R: Files, S: Shelf>(
     known: &Known<'_>,
 ) -> Result<(), AllocError> {
     push_unfed(text, document, &run.sources)?;
+    push_named_dash(text, run)?;
     if status == 5 {
         return push_looks(text, alloc, run, document, shelf, rt);
     }
@@ -126,6 +127,19 @@ fn push_run<R: Files, S: Shelf>(
     }
     Ok(())
 }
+
+// Adds that a run has stored an output in a file whose name is a dash, if it has.
+fn push_named_dash(text: &mut Vec<u8>, run: &RunRequest<'_>) -> Result<(), AllocError> {
+    let is_trace = run.trace == Some(STANDARD);
+    if is_trace || run.sinks.iter().any(|sink| file_in(sink) == STANDARD) {
+        return push(text, DASH);
+    }
+    Ok(())
+}
+
+const DASH: &str = "\
+The file `-` was written: a run has no other meaning for this name. Give it `/dev/stdout`, or use `kpn stream`.
+";
 
 // Adds what the summary of a stream means.
 fn push_stream<S: Shelf>(

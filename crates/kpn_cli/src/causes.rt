@@ -37,6 +37,9 @@ pub(crate) fn push_causes<R: Files, S: Shelf>(
     if push_unread(text, rt, named.file, MOST)? || !is_plain(rt, named.file) || named.is_items {
         return Ok(());
     }
+    if push_marked(text, alloc, named.file, shelf)? {
+        return Ok(());
+    }
     if !named.has_explained && push_told(text, explain_command(alloc, named.file, shelf))? {
         return Ok(());
     }
@@ -67,6 +70,29 @@ fn push_wrong_input(
         _ => Ok(()),
     }
 }
+
+// The byte order mark of UTF-8.
+const BYTE_ORDER_MARK: [u8; 3] = [0xef, 0xbb, 0xbf];
+
+// Adds that a description begins with a byte order mark, if it does. It returns whether it did.
+fn push_marked<S: Shelf>(
+    text: &mut Vec<u8>,
+    alloc: Global,
+    file: &str,
+    shelf: &S,
+) -> Result<bool, AllocError> {
+    let Ok(bytes) = shelf.load(alloc, file) else {
+        return Ok(false);
+    };
+    if !bytes.starts_with(&BYTE_ORDER_MARK) {
+        return Ok(false);
+    }
+    push_name(text, "", file, MARKED)?;
+    Ok(true)
+}
+
+const MARKED: &str =
+    " begins with a byte order mark, which is no part of a description: store it without one.\n";
 
 // Adds what has failed at an end of a stream, if something has.
 fn push_wrong_end<R: Files, S: Shelf>(

@@ -14,6 +14,16 @@ use std::rt::Files;
 // What stands before a word that a command does not know.
 const UNEXPECTED: &str = "unexpected argument '";
 
+// What `kpn run` has not and `kpn stream` has.
+const OF_STREAMS: [&str; 6] = [
+    "--format",
+    "--rate",
+    "--channels",
+    "--clip",
+    "--quiet",
+    "--stats",
+];
+
 /// Adds where a command lists its options, if a word is told that it does not know.
 pub(crate) fn push_unclear(
     text: &mut Vec<u8>,
@@ -34,6 +44,7 @@ pub(crate) fn push_unclear(
         format!(in alloc; "`kpn {command} --help` lists those that there are.\n"),
     )?;
     match command {
+        "run" if OF_STREAMS.contains(&word) => push(text, "`kpn stream` has it.\n"),
         "run" | "stream" | "rounds" => push(
             text,
             "A source gets its items by `--source NAME=FILE`.\n",
