@@ -2,17 +2,40 @@
 
 use crate::files::{bytes_of, make_file};
 use anyhow::Result;
-use kpn_cli::MemoryShelf;
+use kpn_cli::{Look, MemoryShelf, Ports};
 use std::alloc::Global;
 use std::io::Write;
 
-/// Makes the file that `NAME TEXT` says on a shelf in memory. Writes what that then holds under the name `a`.
+/// How many bytes a look asks for.
+const CHUNK: usize = 64;
+
+/// What a first look at a file shows, and nothing if it can't be opened.
+fn shown<S: Ports>(alloc: Global, shelf: &S, name: &str) -> Vec<u8> {
+    let mut chunk = [0; CHUNK];
+    let looked = match shelf.open_input(name) {
+        Ok(mut input) => input.look(&mut chunk),
+        Err(_) => Ok(None),
+    };
+    match looked {
+        Ok(Some(count)) => chunk[..count].to_vec(alloc).unwrap_or(Vec::new(alloc)),
+        _ => Vec::new(alloc),
+    }
+}
+
+/// Makes the file that `NAME TEXT` says on a shelf in memory. Writes what that then holds under the name `a`, what a
+/// look shows of it, and what is left in an output that had as much and was emptied.
 pub(crate) fn keep<O: Write>(alloc: Global, out: &mut O, words: &str) -> Result<()> {
     let mut shelf = MemoryShelf::new(alloc);
     let made = make_file(alloc, &mut shelf, words);
     let bytes = bytes_of(alloc, &shelf, "a");
+    let looked = shown(alloc, &shelf, "a");
+    let mut output = bytes_of(alloc, &shelf, "a");
+    let emptied = shelf.empty(&mut output);
     drop(shelf);
     made?;
+    emptied?;
     out.write_all(&bytes)?;
+    out.write_all(&looked)?;
+    out.write_all(&output)?;
     Ok(())
 }
