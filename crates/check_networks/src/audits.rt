@@ -14,9 +14,15 @@ use test_support::texts::COPY;
 
 const ONE: [Event; 1] = [Event::Feed(0, 5)];
 
-/// A process that waits for room at a sink. A growth is owed then, but not under the policy `cycles`.
-const CLOGGED: &str = "process p(out z) { write z 1; write z 2; }
-network { limit 3; policy all; sink z cap 1; p = p(; z); }
+/// A process waits for room on channel 0, beside one that waits for an item of its own. A growth is owed then, but not
+/// under the policy `cycles`.
+const CLOGGED: &str = "process p(out a, z) { write a 1; write a 2; write z 3; }
+process q(in b, a; out c) { read b x; read a y; write c y; }
+network {
+  limit 3; policy all;
+  channel a cap 1; channel b cap 1; sink z cap 1;
+  p = p(; a, z); q = q(b, a; b);
+}
 ";
 
 /// The trace of these events, under the usual rules.
@@ -127,11 +133,12 @@ fn refutes_audits_version_one_by_the_networks_policy(
 ) -> Result<(), Fail> {
     let events = [
         Event::Put(0, 0, 1),
+        Event::WaitEmpty(1, 1),
         Event::WaitFull(0, 0),
-        Event::Take(0, 1),
+        Event::Leave(2),
     ];
     let fault = fault_on(alloc, CLOGGED, Version::One, &events)?;
-    assert!(rt; fault == None, "a sink is full, and no growth is owed");
+    assert!(rt; fault == None, "all wait, and no growth is owed");
     Ok(())
 }
 
