@@ -11,14 +11,17 @@ const CHUNK: usize = 64;
 
 /// What a first look at a file shows, and nothing if it can't be opened.
 fn shown<S: Ports>(alloc: Global, shelf: &S, name: &str) -> Vec<u8> {
-    let mut chunk = [0; CHUNK];
-    let looked = match shelf.open_input(name) {
-        Ok(mut input) => input.look(&mut chunk),
-        Err(_) => Ok(None),
+    let Ok(mut input) = shelf.open_input(name) else {
+        return Vec::new(alloc);
     };
-    match looked {
-        Ok(Some(count)) => chunk[..count].to_vec(alloc).unwrap_or(Vec::new(alloc)),
-        _ => Vec::new(alloc),
+    let mut chunk = [0; CHUNK];
+    let count = match input.look(&mut chunk) {
+        Ok(Some(count)) => count,
+        _ => 0,
+    };
+    match chunk[..count.min(CHUNK)].to_vec(alloc) {
+        Ok(bytes) => bytes,
+        Err(_) => Vec::new(alloc),
     }
 }
 
