@@ -13,6 +13,10 @@ pub enum Fault {
     Overflow,
     /// A division or a remainder by 0.
     ZeroDivisor,
+    /// A cell of an array or of a table that is not there.
+    Index,
+    /// A shift by a count below 0 or above 63.
+    Shift,
 }
 
 #[inline(always)]
