@@ -9,7 +9,9 @@ use Rattle.kpn_run_state.specs.Commits.{IsReadFrom, IsWriteTo}
 use Rattle.kpn_run_state.specs.Open.{book_of, held_by, MayCommit, Answered}
 use Rattle.std.proofs.lemmas.Int.{to_z-of_z}
 use Rattle.kpn_step.specs.declared.stop.Stop.{Stop}
+use Rattle.kpn_run_history.specs.Talks.{how_of}
 use Rattle.kpn_run_configuration.specs.Due.{stop_of}
+use Rattle.kpn_run_configuration.proofs.Due.{stop_of-fault}
 use Rattle.kpn_run_state.proofs.Committing.{reads_from, writes_to}
 use Rattle.kpn_run_state.proofs.Following.{held_is_there, recorded}
 use Rattle.kpn_run_state.proofs.Answering.{asked_otherwise, answered_paused}
