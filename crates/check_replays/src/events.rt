@@ -1,15 +1,14 @@
 //! Events made by their calls, each after a check whether it may follow.
-ghost use Rattle.std.specs.Prelude.{◌≡◌, ◌↔◌, ◌<◌, length, IfOk, IfSome, OnOk, IsTrue};
+ghost use Rattle.std.specs.Prelude.{◌≡◌, ◌<◌, length, IfOk, IfSome, OnOk, IsTrue};
 ghost use Rattle.kpn_run_configuration.specs.Configuration.{IsConfiguration, IsFree};
 ghost use Rattle.kpn_run_configuration.specs.Owed.{IsAwaitedBelowLimit};
-ghost use Rattle.kpn_run_configuration.specs.Due.{Stands, ReadsFrom, WritesTo, stop_of};
+ghost use Rattle.kpn_run_configuration.specs.Due.{Stands, ReadsFrom, WritesTo};
 
 use anyhow::{Result, bail, ensure};
 use arrayvec::ArrayVec;
-use kpn_lang::Fault;
 use kpn_limits::MAX_PORTS;
 use kpn_net::{Network, Wait};
-use kpn_run_configuration::Configuration;
+use kpn_run_configuration::{Configuration, stop_of};
 use kpn_run_history::{Event, How};
 use kpn_step::Stop;
 
@@ -127,22 +126,12 @@ fn wait_on_full(state: &mut Configuration, network: &Network, p: usize, c: usize
     woken(None)
 }
 
-fn is_end(how: How, stop: Stop) -> bool
-    ensures { IsTrue result ↔ (stop ≡ stop_of how) }
-{
-    match how {
-        How::Done => stop == Stop::Done,
-        How::Overflow => stop == Stop::Faulted(Fault::Overflow),
-        How::ZeroDivisor => stop == Stop::Faulted(Fault::ZeroDivisor),
-    }
-}
-
 fn end(state: &mut Configuration, network: &Network, p: usize, how: How) -> Woken
     requires { IsConfiguration network.now state.old }
     ensures { IsConfiguration network.now state.new }
 {
     let stop = come_to_stop(state, network, p)?;
-    ensure!(is_end(how, stop), "the process does not end so");
+    ensure!(stop == stop_of(how), "the process does not end so");
     Ok(state.end(network, p, how))
 }
 
