@@ -1,8 +1,8 @@
 //! Events made by their calls, each after a check whether it may follow.
-ghost use Rattle.std.specs.Prelude.{◌≡◌, ◌<◌, length, IfOk, IfSome, OnOk, IsTrue};
+ghost use Rattle.std.specs.Prelude.{◌≡◌, ◌↔◌, ◌<◌, length, IfOk, IfSome, OnOk, IsTrue};
 ghost use Rattle.kpn_run_configuration.specs.Configuration.{IsConfiguration, IsFree};
 ghost use Rattle.kpn_run_configuration.specs.Owed.{IsAwaitedBelowLimit};
-ghost use Rattle.kpn_run_configuration.specs.Due.{Stands, ReadsFrom, WritesTo};
+ghost use Rattle.kpn_run_configuration.specs.Due.{Stands, ReadsFrom, WritesTo, stop_of};
 
 use anyhow::{Result, bail, ensure};
 use arrayvec::ArrayVec;
@@ -126,12 +126,18 @@ fn wait_on_full(state: &mut Configuration, network: &Network, p: usize, c: usize
     woken(None)
 }
 
+fn is_end(how: How, stop: Stop) -> bool
+    ensures { IsTrue result ↔ (stop ≡ stop_of how) }
+{
+    stop == stop_of(how)
+}
+
 fn end(state: &mut Configuration, network: &Network, p: usize, how: How) -> Woken
     requires { IsConfiguration network.now state.old }
     ensures { IsConfiguration network.now state.new }
 {
     let stop = come_to_stop(state, network, p)?;
-    ensure!(stop == stop_of(how), "the process does not end so");
+    ensure!(is_end(how, stop), "the process does not end so");
     Ok(state.end(network, p, how))
 }
 

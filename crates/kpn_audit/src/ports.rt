@@ -1,10 +1,13 @@
-//! Whether a stop is a read from a channel or a write to it.
-ghost use Rattle.std.specs.Prelude.{◌↔◌, ◌<◌, ℤ, IsTrue, length};
+//! What a stop asks for: a read from a channel, a write to it, or an end.
+ghost use Rattle.std.specs.Prelude.{◌≡◌, ◌↔◌, ◌<◌, ℤ, IsTrue, length};
 ghost use Rattle.kpn_net.specs.Tables.{instance_at};
 ghost use Rattle.kpn_run_configuration.specs.Changes.{IsChannelAt};
+ghost use Rattle.kpn_run_configuration.specs.Due.{stop_of};
 ghost use Rattle.kpn_audit.specs.Judged.{IsReadFrom, IsWriteOf};
 
 use kpn_net::Network;
+use kpn_run_configuration::stop_of;
+use kpn_run_history::How;
 use kpn_step::Stop;
 
 /// Whether the channel stands at a port among these.
@@ -48,4 +51,11 @@ pub(crate) fn is_write_to(network: &Network, p: usize, c: usize, stop: Stop) -> 
         Stop::WantWrite(port, _) => is_channel_at(network.outs(p), port, c),
         _ => false,
     }
+}
+
+/// Whether the stop is this end.
+pub(crate) fn is_end(how: How, stop: Stop) -> bool
+    ensures { IsTrue result ↔ (stop ≡ stop_of how) }
+{
+    stop == stop_of(how)
 }

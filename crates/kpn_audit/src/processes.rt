@@ -6,9 +6,9 @@ ghost use Rattle.kpn_audit.specs.Judged.{StandsFree, IsFound};
 
 use crate::growth::{after_event, after_wait};
 use crate::judged::Judged;
-use crate::ports::{is_read_from, is_write_of, is_write_to};
+use crate::ports::{is_end, is_read_from, is_write_of, is_write_to};
 use kpn_net::Network;
-use kpn_run_configuration::{Configuration, stop_of};
+use kpn_run_configuration::Configuration;
 use kpn_run_history::How;
 use kpn_step::Stop;
 use std::alloc::{AllocError, Allocator};
@@ -129,7 +129,7 @@ pub(crate) fn end<A: Allocator>(
         configuration.old configuration.new result }
 {
     network.known();
-    if stop != stop_of(how) {
+    if !is_end(how, stop) {
         return Judged::Illegal;
     }
     configuration.end(network, p, how);
