@@ -5,7 +5,8 @@ use Rattle.std.proofs.lemmas.List.{get_or-map}
 use Rattle.kpn_lang.specs.declared.talk.Said.TheVariants as said
 use Rattle.kpn_lang.specs.declared.talk.Ending.{Ending}
 use Rattle.kpn_lang.specs.declared.talk.Ending.TheVariants as ending
-use Rattle.kpn_lang.specs.declared.value.Fault.TheVariants as fault
+use Rattle.kpn_lang.specs.declared.value.Fault.{Fault}
+use Rattle.kpn_lang.specs.declared.value.Fault.TheVariants.{Overflow, ZeroDivisor, Index, Shift}
 use Rattle.kpn_net.specs.Tables.{Tables, channel_at, is_source, is_sink, instance_at}
 use Rattle.kpn_net.specs.Faults.{IsNetwork}
 use Rattle.kpn_net.specs.Process.{CanSay, ComesTo, ends_at_channel}
@@ -17,20 +18,37 @@ use Rattle.kpn_chan.specs.Channel as chan
 use Rattle.kpn_chan.specs.Channel.{ChannelState, unread, next_item}
 use Rattle.kpn_chan.proofs.Reading.{given, drop-given}
 use Rattle.kpn_run_history.specs.declared.event.How.{How}
-use Rattle.kpn_run_history.specs.declared.event.How.TheVariants as how
 use Rattle.kpn_run_history.specs.declared.event.Event.{Event}
 use Rattle.kpn_run_history.specs.declared.event.Event.TheVariants.{Get, Put, WaitEmpty, WaitFull, Ended, Feed, Close, Take, Leave, Grow}
-use Rattle.kpn_run_history.specs.Talks.{talk_of, has_ended}
+use Rattle.kpn_run_history.specs.Talks.{talk_of, how_of, has_ended}
 use Rattle.kpn_run_history.specs.Channels.{read_on, read_in, unread_on, is_empty, is_full, is_closed, is_left, reader_lives, lives, reaches, capacity_after}
 use Rattle.kpn_run_history.specs.Legal.{HasNumbers, IsDue, CanGo, ending_of, Legal}
 use Rattle.kpn_run_history.specs.OneMore.{IsOldest, KeepsConsistent}
 use Rattle.kpn_run_history.specs.Stops.{OwesNothing}
 use Rattle.kpn_run_history.proofs.Events.{read_on-push}
+use Rattle.kpn_run_history.proofs.Running.{IsLast}
+use Rattle.kpn_run_history.proofs.Above.{IsLast-ending_of}
 use Rattle.kpn_run_history.proofs.OneMore.{Legal-exactly, item_here}
 use Rattle.kpn_run_configuration.specs.Configuration.{Configuration, channel_in, closed_in, end_in, frame_in, IsFree}
 use Rattle.kpn_run_configuration.specs.Run.{HoldsChannel, IsEndOf, IsRun}
-use Rattle.kpn_run_configuration.specs.Due.{Stands, ReadsFrom, WritesTo, stop_of, IsDueNow}
+use Rattle.kpn_run_configuration.specs.Due.{Stands, ReadsFrom, WritesTo, stop_at, stop_of, IsDueNow}
 use Rattle.kpn_run_configuration.proofs.Talking.{CanSay-next, ComesTo-end}
+
+-- ---- ends as stops
+
+pub stop_of-fault : (fault : Fault) → stop_of (how_of fault) ≡ stop.Faulted fault
+stop_of-fault Overflow = refl
+stop_of-fault ZeroDivisor = refl
+stop_of-fault Index = refl
+stop_of-fault Shift = refl
+
+last_is_no_pause : (end : Ending) → IsLast end → stop_at end ≢ stop.Paused
+last_is_no_pause ending.Done last e = absurd cc
+last_is_no_pause (ending.Faulted fault) last e = absurd cc
+last_is_no_pause end last e = absurd last
+
+pub end_is_no_pause : (how : How) → stop_of how ≢ stop.Paused
+end_is_no_pause how = last_is_no_pause (ending_of how) (IsLast-ending_of how)
 
 -- ---- channels
 
@@ -161,18 +179,18 @@ module _ (t : Tables) (network : IsNetwork t) (H : List Event) (s : Configuratio
           },
         ) tt
 
-    -- an end as a stop
-    pub Legal-ended : (ended : How) → Stands t s p (stop_of ended) → Legal t (H ++ Ended p ended ∷ [])
-    Legal-ended ended stands = legal_with (Ended p ended) there (may_go p there free, comes ended stands) tt
-      where
-        comes : (ended : How) → Stands t s p (stop_of ended) → ComesTo t p (read_on H) (ending_of ended) (talk_of H p)
-        comes how.Done stands = comes_to stop.Done stands (λ e. absurd cc) ending.Done tt (λ e. absurd cc)
-        comes how.Overflow stands =
-            comes_to (stop.Faulted fault.Overflow) stands (λ e. absurd cc) (ending.Faulted fault.Overflow) refl
-            (λ e. absurd cc)
-        comes how.ZeroDivisor stands =
-            comes_to (stop.Faulted fault.ZeroDivisor) stands (λ e. absurd cc) (ending.Faulted fault.ZeroDivisor) refl
-            (λ e. absurd cc)
+    comes_last : (end : Ending) → IsLast end → Stands t s p (stop_at end) → ComesTo t p (read_on H) end (talk_of H p)
+    comes_last ending.Done last stands = comes_to stop.Done stands (λ e. absurd cc) ending.Done tt (λ e. absurd cc)
+    comes_last (ending.Faulted fault) last stands =
+        comes_to (stop.Faulted fault) stands (λ e. absurd cc) (ending.Faulted fault) refl (λ e. absurd cc)
+    comes_last end last stands = absurd last
+
+    pub Legal-ended : (how : How) → Stands t s p (stop_of how) → Legal t (H ++ Ended p how ∷ [])
+    Legal-ended how stands =
+        legal_with (Ended p how) there (
+          may_go p there free,
+          comes_last (ending_of how) (IsLast-ending_of how) stands,
+        ) tt
 
   -- ---- events of the outside
 

@@ -71,11 +71,15 @@ how_lacks_feed : (how : How) → LacksByte 10 (how_word how)
 how_lacks_feed how.Done = refl
 how_lacks_feed how.Overflow = refl
 how_lacks_feed how.ZeroDivisor = refl
+how_lacks_feed how.Index = refl
+how_lacks_feed how.Shift = refl
 
 same_how : (a b : How) → how_word a ≡ how_word b → a ≡ b
 same_how how.Done how.Done e = refl
 same_how how.Overflow how.Overflow e = refl
 same_how how.ZeroDivisor how.ZeroDivisor e = refl
+same_how how.Index how.Index e = refl
+same_how how.Shift how.Shift e = refl
 same_how a b e = absurd (cc)
 
 -- ---- a line is its kind, a space, and its parts
