@@ -6,5 +6,5 @@ mod configuration;
 pub mod laws;
 mod port_channels;
 
-pub use configuration::{Configuration, Got, Grown, OwedGrowth};
+pub use configuration::{Configuration, Got, Grown, OwedGrowth, frames_at_start};
 pub use port_channels::{in_channel, out_channel};
