@@ -36,6 +36,7 @@ use Rattle.kpn_run_history.specs.OneMore.{IsOldest}
 use Rattle.kpn_run_history.specs.Stops.{OwesNothing}
 use Rattle.kpn_run_history.proofs.Events.{read_on-push}
 use Rattle.kpn_run_history.proofs.EndsOnce.{ended_exactly}
+use Rattle.kpn_run_history.proofs.Legality.{can_go}
 use Rattle.kpn_run_history.proofs.OneMore.{Legal-exactly}
 use Rattle.kpn_run_history.proofs.Running.{IsLast}
 use Rattle.kpn_run_history.proofs.Above.{IsLast-ending_of}
@@ -157,23 +158,9 @@ module _ (t : Tables) (network : IsNetwork t) (H : List Event) (s : Configuratio
   not_retired c below sink left =
       (run.leads.channels c below).retired ∙ ap not (ap (lives H c) (reader_of-sink t c sink) ∙ ap not left)
 
-  -- a process that makes an event may go
-  can_go : (p : ℕ) (e : Event) → is_of p e ≡ true → Legal t (H ++ e ∷ []) → CanGo t H p
-  can_go p (Get q c v) own legal =
-      subst (λ x. CanGo t H x) (eqb-true q p own) ((Legal-exactly t H (Get q c v)).0 legal).1.due
-  can_go p (Put q c v) own legal =
-      subst (λ x. CanGo t H x) (eqb-true q p own) ((Legal-exactly t H (Put q c v)).0 legal).1.due
-  can_go p (WaitEmpty q c) own legal =
-      subst (λ x. CanGo t H x) (eqb-true q p own) ((Legal-exactly t H (WaitEmpty q c)).0 legal).1.due.0
-  can_go p (WaitFull q c) own legal =
-      subst (λ x. CanGo t H x) (eqb-true q p own) ((Legal-exactly t H (WaitFull q c)).0 legal).1.due.0
-  can_go p (Ended q how) own legal =
-      subst (λ x. CanGo t H x) (eqb-true q p own) ((Legal-exactly t H (Ended q how)).0 legal).1.due.0
-  can_go p event own legal = absurd (false≢true own)
-
   pub must_be_free : (p : ℕ) → p < length t.instances → (e : Event) → is_of p e ≡ true → Legal t (H ++ e ∷ [])
       → IsFree s p
-  must_be_free p there e own legal = is_free p there (can_go p e own legal)
+  must_be_free p there e own legal = is_free p there (can_go t H e legal p own)
 
   -- the reader of a channel that has not ended
   still_read : (p c : ℕ) → c < length t.channels → reader_of t c ≡ Process p → has_ended H p ≡ false
