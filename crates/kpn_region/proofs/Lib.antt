@@ -1,4 +1,5 @@
 pub mod Batches
+pub mod Comparing
 pub mod Joined
 pub mod Numbers
 pub mod OnTheWay

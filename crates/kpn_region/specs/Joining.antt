@@ -1,5 +1,5 @@
--- When a batch of a region may be joined to a configuration, and to which one that leads. The configuration may be a later
--- one than that of the claim: others may have moved between. Then what was claimed still has to agree with it.
+-- When a batch of a region may be joined to a configuration, and to which one that leads. The configuration may be a
+-- later one than that of the claim: others may have moved between. What was claimed still has to agree with it.
 use Rattle.std.specs.Prelude.{◌≡◌, ℕ, zero, suc, ◌+◌, ◌-◌, ◌<◌, ◌≤◌, ◌⊎◌, Bool, true, false, nat_lt, if◌then◌else◌, max, ℤ, IsTrue, List, [], ◌++◌, length, take, drop, Some, None}
 use Rattle.kpn_net.specs.declared.wait.Wait.{Wait}
 use Rattle.kpn_net.specs.declared.wait.Wait.TheVariants.{Nobody, Empty, Full}
@@ -95,8 +95,9 @@ pub record IsChannelJoined (side : SideState) (before after : ChannelState) : Ty
   pub most : after.most ≡ most_joined side before
   pub kept : after.is_kept ≡ before.is_kept
 
--- what a process waits for after a batch: nobody, if an item was put on the channel on which it waited as empty, or taken
--- from the one on which it waited as full; else as before. A process of the region that has moved waited so, if it waited
+-- what a process waits for after a batch: nobody, if an item was put on the channel on which it waited as empty, or
+-- taken from the one on which it waited as full; else as before. A process of the region that has moved waited so, if it
+-- waited
 abbrev pub wait_joined : List SideState → Wait → Wait
 wait_joined sides Nobody = Nobody
 wait_joined sides (Empty c) = if has_put (side_in sides c) then Nobody else Empty c

@@ -2,3 +2,4 @@ pub mod Local
 pub mod Batch
 pub mod Turn
 pub mod Joining
+pub mod Agreeing

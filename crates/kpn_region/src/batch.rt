@@ -196,6 +196,13 @@ impl<'n, A: Allocator> Batch<'n, A> {
         &self.traffic.sides[c]
     }
 
+    /// The network of which it is a region.
+    pub(crate) fn network(&self) -> &'n Network
+        ensures { result.now ≡ self.now.tables }
+    {
+        self.network
+    }
+
     /// Does nothing. A caller's proof learns from it what holds of every batch.
     pub fn known(&self)
         ensures { IsBatch self.now }

@@ -9,8 +9,9 @@ ghost use Rattle.kpn_run_configuration.specs.Run.{IsRun};
 ghost use Rattle.kpn_region.specs.Batch.{Batch, IsBatch};
 ghost use Rattle.kpn_region.specs.Joining.{AgreesWith, Joins};
 
-/// After a run that owes no growth, take a batch that agrees with its configuration. The history with the batch's events
-/// leads to the configuration with the batch, and owes no growth. So each event of the batch may follow in its place.
+/// After a run that owes no growth, take a batch that agrees with its configuration. The history with the batch's
+/// events leads to the configuration with the batch, and owes no growth. So each event of the batch may follow in its
+/// place.
 pub fn a_batch_follows()
     ensures run { (t : Tables) → IsNetwork t → (b : Batch) → b.tables ≡ t → IsBatch b
         → (H : List Event) (before after : Configuration) → IsRun t H before → OwesNothing t H

@@ -1,5 +1,5 @@
 //! A channel, as far as a region sees it.
-ghost use Rattle.std.specs.Prelude.{◌≡◌, ◌<◌, ◌++◌, true, length, IsTrue, OnErr, is_ok, if◌then◌else◌, IfSome, IfNone};
+ghost use Rattle.std.specs.Prelude.{◌≡◌, ◌<◌, ◌≤◌, ◌++◌, true, length, IsTrue, OnErr, is_ok, if◌then◌else◌, IfSome, IfNone};
 ghost use Rattle.kpn_region.specs.Local.{claimed_with, no_side, untaken, next_of, with_next_taken, with_item, as_claimed};
 
 use std::alloc::{AllocError, Allocator, Global};
@@ -117,6 +117,13 @@ impl<A: Allocator> Side<A> {
         ensures { result ≡ self.now.is_drained }
     {
         self.drains
+    }
+
+    /// Does nothing. A caller's proof learns from it what holds of every side.
+    pub(crate) fn known(&self)
+        ensures { self.now.claimed ≤ length self.now.items }
+    {
+        let _ = &self.items;
     }
 
     /// Takes the next item. If there is none, it returns `None` and the channel stays as it was.
