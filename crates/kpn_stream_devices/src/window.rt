@@ -73,15 +73,17 @@ impl Window {
         ensures added { OnOk result (self.new.unused ≡ self.old.unused ++ bytes.now) }
         ensures used { self.new.used ≡ self.old.used }
         ensures wav { self.new.wav ≡ self.old.wav }
-        ensures over { self.new.is_over ≡ true → bytes.now ≡ [] }
+        ensures over { OnOk result (self.new.is_over ≡ true → bytes.now ≡ []) }
+        ensures as_before { OnErr result (self.new ≡ self.old) }
     {
         if bytes.is_empty() {
             self.is_over = true;
             return Ok(());
         }
-        self.is_over = false;
         self.forget_used();
-        self.bytes.extend_from_slice(bytes)
+        self.bytes.extend_from_slice(bytes)?;
+        self.is_over = false;
+        Ok(())
     }
 
     /// Makes room where used bytes lie.
