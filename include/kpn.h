@@ -207,14 +207,16 @@ uint32_t kpn_count(kpn_session *session, kpn_counts *counts);
 uint32_t kpn_channel_name(kpn_session *session, size_t channel, char *name, size_t room, size_t *length);
 uint32_t kpn_process_name(kpn_session *session, size_t process, char *name, size_t room, size_t *length);
 
-/* The states of a process. 3 to 5: it has ended, at the end of its body or by a fault. */
+/* The states of a process. 3 to 7: it has ended, at the end of its body or by a fault. */
 enum {
   KPN_STATE_READY = 0,
   KPN_STATE_WAITS_EMPTY = 1,    /* until an item is put on its channel */
   KPN_STATE_WAITS_FULL = 2,     /* until an item is got from its channel, or nobody reads that any more */
   KPN_STATE_DONE = 3,
   KPN_STATE_OVERFLOW = 4,       /* a value was outside of -2^63 to 2^63 - 1 */
-  KPN_STATE_ZERO_DIVISOR = 5
+  KPN_STATE_ZERO_DIVISOR = 5,   /* a divisor was 0 */
+  KPN_STATE_INDEX = 6,          /* an array or a table had no such cell */
+  KPN_STATE_SHIFT = 7           /* the count of a shift was below 0 or above 63 */
 };
 
 typedef struct {

@@ -132,10 +132,19 @@ static void join_ports(network *net, int number) {
   }
 }
 
+static void read_opening(reader *in, network *net) {
+  const char *start = in->token.at;
+  next(in);
+  next(in);
+  net->opening = (span){start, (size_t)(in->at - start)};
+  next(in);
+}
+
 void read_network(network *net, const char *text, size_t length) {
   reader in = {.at = text, .end = text + length};
   *net = (network){0};
   next(&in);
+  if (is(&in, "language")) read_opening(&in, net);
   while (is(&in, "process")) read_process(&in, &net->processes[net->process_count++]);
   next(&in);
   next(&in);

@@ -31,6 +31,7 @@ void print_part(const part *of, text *into) {
   const network *net = of->net;
   bool is_used[MOST_PROCESSES] = {false};
   for (size_t p = 0; p < of->instance_count; p++) is_used[net->instances[of->instances[p]].process] = true;
+  if (net->opening.length) print_to(into, "%.*s\n", SHOWN(net->opening));
   for (size_t k = 0; k < net->process_count; k++)
     if (is_used[k]) print_to(into, "%.*s\n", SHOWN(net->processes[k].whole));
   print_to(into, "network {\n  limit %zu;\n", net->limit);

@@ -211,12 +211,13 @@ static void print_sinks(const rank *of) {
 }
 
 static void print_processes(const rank *of) {
+  static const char *const faults[] = {[KPN_STATE_OVERFLOW] = "overflow", [KPN_STATE_ZERO_DIVISOR] = "zero-divisor",
+                                       [KPN_STATE_INDEX] = "index", [KPN_STATE_SHIFT] = "shift"};
   const network *net = of->net;
   const standing *all = of->chief->standings;
   for (size_t p = 0; p < net->instance_count; p++)
     if (all[p].state >= KPN_STATE_OVERFLOW)
-      printf("fault %.*s %s\n", SHOWN(net->instances[p].name),
-             all[p].state == KPN_STATE_OVERFLOW ? "overflow" : "zero-divisor");
+      printf("fault %.*s %s\n", SHOWN(net->instances[p].name), faults[all[p].state]);
   for (size_t p = 0; p < net->instance_count; p++)
     if (all[p].state == KPN_STATE_WAITS_EMPTY || all[p].state == KPN_STATE_WAITS_FULL)
       printf("waits %.*s %.*s%s\n", SHOWN(net->instances[p].name), SHOWN(net->channels[all[p].channel].name),

@@ -9,7 +9,7 @@ import pathlib
 import histories
 
 FOLDER = pathlib.Path(__file__).resolve().parent.parent / 'crates/check_replays'
-CAUSES = {'done': 'Done', 'overflow': 'Overflow', 'zero-divisor': 'ZeroDivisor'}
+CAUSES = {'done': 'Done', 'overflow': 'Overflow', 'zero-divisor': 'ZeroDivisor', 'index': 'Index', 'shift': 'Shift'}
 
 
 def some(value):

@@ -63,6 +63,8 @@ def expression(tree):
     mark, *parts = tree
     if len(parts) == 1:
         return mark + expression(parts[0])
+    if mark == '?':
+        return f'({expression(parts[0])} ? {expression(parts[1])} : {expression(parts[2])})'
     return f'({expression(parts[0])} {mark} {expression(parts[1])})'
 
 
@@ -111,8 +113,9 @@ def check(file):
 
 
 def print_text(file):
-    _, *parts = description(file)
-    return canonical(*parts)
+    text, *parts = description(file)
+    opening = 'language 2;\n' if rounds.Parser(text).took('language') else ''
+    return opening + canonical(*parts)
 
 
 def lists_of(channels, options):
@@ -300,7 +303,7 @@ def what_is_wrong(command, said, lines, rows):
 
 def wrong_claims(rows):
     """What the examples and the documents wrongly say of commands."""
-    files = sorted([*pathlib.Path().glob('*.kpn'), *pathlib.Path('worked').glob('*.kpn')])
+    files = sorted(file for folder in ('.', 'worked', 'language2') for file in pathlib.Path(folder).glob('*.kpn'))
     claims = [(file.name, *claim) for file in files
               for claim in claims_of_example(file.read_text())]
     claims += [(name, *claim) for name in DOCUMENTS for claim in claims_of_document((TOP / name).read_text())]

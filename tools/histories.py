@@ -277,10 +277,10 @@ def report_text(run, take=None):
 
 # ---- the text of a history
 
-CAUSES = 'done', 'overflow', 'zero-divisor'
+CAUSES = 'done', 'overflow', 'zero-divisor', 'index', 'shift'
 NUMBER, ITEM = '(0|[1-9][0-9]{0,4})', '(0|-?[1-9][0-9]{0,18})'
 LINES = [re.compile(line.replace('N', NUMBER).replace('V', ITEM).encode()) for line in (
-    '(get) N N V', '(put) N N V', '(wait-empty) N N', '(wait-full) N N', '(end) N (done|overflow|zero-divisor)',
+    '(get) N N V', '(put) N N V', '(wait-empty) N N', '(wait-full) N N', f'(end) N ({"|".join(CAUSES)})',
     '(feed) N V', '(close) N', '(take) N V', '(leave) N')]
 GROW_ONE, GROW_TWO = (re.compile(line.replace('N', NUMBER).encode()) for line in (
     'grow N N', 'grow N N ([1-9][0-9]{0,6})'))

@@ -125,8 +125,8 @@ BAD_LINES = ['put 00 0 1', 'put 0 00 1', 'put 0 0 01', 'put 0 0 +1', 'put 0 0 -0
              'end 0 ended', 'end 0 Done', 'end done', 'close', 'close 0 0', 'grow 0 0 2', '', ' ', '# put 0 0 1',
              'kpn-trace 1', 'feed 0', 'take 0', 'leave']
 GOOD_LINES = ['put 65535 65535 9223372036854775807', 'get 65535 65535 -9223372036854775808', 'wait-empty 65535 0',
-              'wait-full 0 65535', 'end 65535 zero-divisor', 'end 0 overflow', 'feed 0 0', 'close 0', 'take 65535 -1',
-              'leave 65535', 'grow 0 0']
+              'wait-full 0 65535', 'end 65535 zero-divisor', 'end 0 overflow', 'end 0 index', 'end 1 shift', 'feed 0 0',
+              'close 0', 'take 65535 -1', 'leave 65535', 'grow 0 0']
 BAD_HEADS = ['', 'kpn-trace 9\n', 'kpn-trace 2\n', 'kpn-trace 1', 'kpn-trace 1 \n', 'kpn-trace 1\r\n', 'kpn-trace 01\n',
              'kpn-trace  1\n', ' kpn-trace 1\n', 'Kpn-trace 1\n', '\nkpn-trace 1\n', 'put 0 0 1\n', 'kpn-trace\n',
              'kpn-trace 1\0\n']

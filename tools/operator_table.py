@@ -1,19 +1,22 @@
 #!/usr/bin/env python3
 """Writes the stored table of crates/check_operators: each operator on pairs at the ends of the range, with the right
-answer. It computes with whole numbers that have no bound.
+answer, and shifts by counts at the ends of theirs. It computes with whole numbers that have no bound.
 
 It also writes the lines of crates/check_examples below the heading `# Operators in processes`: the same operators in
 assignments, with a variable or a number on each side, and the comparisons as tests. Each pair without a value has a
-process of its own."""
+process of its own. Those of bits are not among them."""
 import argparse
 import pathlib
 
 LEAST, MOST = -2**63, 2**63 - 1
 OPERANDS = [LEAST, LEAST + 1, -3037000500, -7, -2, -1, 0, 1, 2, 7, 3037000499, MOST - 1, MOST]
 FEWER = [LEAST, -1, 0, 3, MOST]
+PATTERNS = [0x5555555555555555, -0x5555555555555556, 0x00ff00ff00ff00ff, -0x100000000]
+POWERS = [sign * 2**k + more for k in (1, 30, 31, 32, 61, 62) for sign in (-1, 1) for more in (-1, 0, 1)]
+COUNTS = [LEAST, -64, -1, 0, 1, 2, 31, 32, 33, 61, 62, 63, 64, 65, 2**32, MOST]
 FAULTS = ['overflow', 'zero-divisor']
 CRATES = pathlib.Path(__file__).resolve().parent.parent / 'crates'
-HEADING, NEXT = '# Operators in processes\n', '# The examples\n'
+HEADING, NEXT = '# Operators in processes\n', '\n# '
 
 
 def quotient(a, b):
@@ -47,6 +50,15 @@ OPERATORS = {
     '&&': lambda a, b: str(int(a != 0 and b != 0)),
     '||': lambda a, b: str(int(a != 0 or b != 0)),
 }
+BITS = {
+    '&': lambda a, b: str(a & b),
+    '|': lambda a, b: str(a | b),
+    '^': lambda a, b: str(a ^ b),
+}
+SHIFTS = {
+    '<<': lambda a, b: in_range(a << b) if 0 <= b < 64 else 'shift',
+    '>>': lambda a, b: str(a >> b) if 0 <= b < 64 else 'shift',
+}
 NAMES = dict(zip(OPERATORS, 'sum difference product quotient rest lt le gt ge eq ne and or'.split()))
 
 
@@ -56,6 +68,16 @@ def rows():
         yield f'! {a}', str(int(a == 0))
         for b in OPERANDS:
             for spelling, give in OPERATORS.items():
+                yield f'{a} {spelling} {b}', give(a, b)
+    for a in OPERANDS + PATTERNS:
+        yield f'~ {a}', str(~a)
+        yield f'{a} ? 3 : 4', '3' if a else '4'
+        for b in OPERANDS + PATTERNS:
+            for spelling, give in BITS.items():
+                yield f'{a} {spelling} {b}', give(a, b)
+    for a in OPERANDS + PATTERNS + POWERS:
+        for b in COUNTS:
+            for spelling, give in SHIFTS.items():
                 yield f'{a} {spelling} {b}', give(a, b)
 
 
@@ -102,9 +124,9 @@ def network_of(names):
 
 def write_between(file, lines):
     """Writes the lines below the heading, up to the next."""
-    before, _, rest = file.read_text().partition(NEXT)
-    before = before.partition(HEADING)[0]
-    file.write_text(before + HEADING + ''.join(f'{line}\n' for line in lines) + NEXT + rest)
+    before, _, rest = file.read_text().partition(HEADING)
+    behind = rest.partition(NEXT)[2]
+    file.write_text(before + HEADING + '\n'.join(lines) + NEXT + behind)
 
 
 def main():

@@ -26,9 +26,9 @@ BUDGETS = {
     'docs/DECISIONS.md': 3_000,
     'docs/DEFINITIONS.md': 2_440,
     'docs/ERRORS.md': 1_170,
-    'docs/GUARANTEES.md': 6_500,
+    'docs/GUARANTEES.md': 6_510,
     'docs/GUIDE.md': 1_020,
-    'docs/LANGUAGE.md': 1_510,
+    'docs/LANGUAGE.md': 1_760,
     'docs/LIBRARY.md': 2_240,
     'docs/PROVING.md': 2_840,
     'docs/RUNS.md': 2_040,
@@ -38,7 +38,7 @@ BUDGETS = {
     'python/README.md': 1_020,
     'bench/RESULTS.md': 2_390,
 }
-BUDGET = 36_900
+BUDGET = 37_200
 POINT = re.compile(r'\s*(?:[-*+]|\d+\.)\s+')
 END = re.compile(r'(?<=[.!?])["\')*]*\s+(?=["\'(*]*[A-Z0-9`])')
 WORD = re.compile(r"[^\s]*\w[^\s]*")

@@ -5,17 +5,18 @@ Words: the description's file, n, and NAME=FILE for each source that has items. 
 each channel. The tests' expected values come from here. It trusts its input: it does not check descriptions.
 """
 import argparse
+import operator
 import pathlib
 import re
 import typing
 
-TOKEN = re.compile(r'\s+|#[^\n]*|([A-Za-z_]\w*|\d+|<=|>=|==|!=|&&|\|\||[-(){};,=+*/%<>!])')
+TOKEN = re.compile(r'\s+|#[^\n]*|([A-Za-z_]\w*|\d+|<=|>=|==|!=|&&|\|\||<<|>>|[-(){};,=+*/%<>!?:~&|^])')
 SMALLEST, LARGEST = -2**63, 2**63 - 1
 LARGEST_CAPACITY = 1_048_576
 
 
 class Fault(Exception):
-    """An expression has no value, which ends its process. The text for it is `overflow` or `zero-divisor`."""
+    """An expression has no value, which ends its process. The text for it is `overflow`, `zero-divisor` or `shift`."""
 
 
 class Starved(Exception):
@@ -73,6 +74,9 @@ class Parser:
         return sign * int(self.next())
 
     def description(self):
+        if self.took('language'):
+            self.number()
+            self.next(';')
         processes = {}
         while self.took('process'):
             name = self.next()
@@ -115,12 +119,17 @@ class Parser:
 
     def expression(self):
         token = self.next()
-        if token in ('-', '!'):
+        if token in ('-', '!', '~'):
             return token, self.expression()
         if token == '(':
             left, mark, right = self.expression(), self.next(), self.expression()
+            if mark == '?':
+                self.next(':')
+                found = mark, left, right, self.expression()
+            else:
+                found = mark, left, right
             self.next(')')
-            return mark, left, right
+            return found
         return int(token) if token.isdigit() else token
 
     def network(self):
@@ -178,6 +187,15 @@ def quotient(a, b):
     return exact(whole if (a < 0) == (b < 0) else -whole)
 
 
+def shifted(by):
+    """A shift by a count from 0 to 63."""
+    def give(a, b):
+        if not 0 <= b < 64:
+            raise Fault('shift')
+        return exact(by(a, b))
+    return give
+
+
 MARKS = {
     '+': lambda a, b: exact(a + b),
     '-': lambda a, b: exact(a - b),
@@ -190,6 +208,11 @@ MARKS = {
     '>=': lambda a, b: int(a >= b),
     '==': lambda a, b: int(a == b),
     '!=': lambda a, b: int(a != b),
+    '&': operator.and_,
+    '|': operator.or_,
+    '^': operator.xor,
+    '<<': shifted(operator.lshift),
+    '>>': shifted(operator.rshift),
 }
 
 
@@ -204,6 +227,10 @@ def value(tree, variables):
         return int(left == 0)
     if mark == '-' and len(parts) == 1:
         return exact(-left)
+    if mark == '~':
+        return ~left
+    if mark == '?':
+        return value(parts[1] if left else parts[2], variables)
     if mark == '&&':
         return int(left != 0 and value(parts[1], variables) != 0)
     if mark == '||':

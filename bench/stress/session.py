@@ -200,7 +200,7 @@ class Model:
         self.states[process] = state, channel
 
     def ends_by(self, process, how):
-        self.states[process] = {'done': 3, 'overflow': 4, 'zero-divisor': 5}[how], 0
+        self.states[process] = {'done': 3, 'overflow': 4, 'zero-divisor': 5, 'index': 6, 'shift': 7}[how], 0
         for c in range(len(self.channels)):
             if self.ends(c)[1] == process:
                 self.leaves(c)

@@ -1,9 +1,9 @@
-"""The language of networks: reads its texts, and writes them in their one canonical form.
+"""The languages of networks: reads their texts, and writes them in their one canonical form.
 
-A text is read only so far as the package has to know it: its form, the ports and the parameters of its processes, and
-the network. Whether the names and the rules are right is for `kpn` to say. The canonical form has the same tokens as
-the text that it is made from; only white space, comments and leading zeros differ. So a place in it is found again in
-the text by the number of its token.
+A text that begins with `language 2;` is of language 2, and any other of language 1. A text is read only so far as the
+package has to know it: its form, the ports and the parameters of its processes, and the network. Whether the names and
+the rules are right is for `kpn` to say. The canonical form has the same tokens as the text that it is made from; only
+white space, comments and leading zeros differ. So a place in it is found again in the text by the number of its token.
 """
 from __future__ import annotations
 
@@ -18,12 +18,16 @@ LONGEST_TEXT = LARGEST_CAPACITY = 1_048_576
 LONGEST_NAME = 32
 RESERVED = frozenset('process in out par read write if else while network limit channel cap source sink policy grow'
                      .split())
+# These words are reserved in language 2 besides.
+RESERVED_IN_TWO = frozenset('language array table'.split())
 MOST_LEVELS = 32
 NUMBER = re.compile(r'[0-9]{1,19}')
 NAME = re.compile(r'[A-Za-z_][A-Za-z0-9_]*')
-OPERATORS = frozenset('+ - * / % < <= > >= == != && ||'.split())
+SIGNS = {1: frozenset('-!'), 2: frozenset('-!~')}
+OPERATORS = {1: frozenset('+ - * / % < <= > >= == != && ||'.split())}
+OPERATORS[2] = OPERATORS[1] | frozenset('& | ^ << >>'.split())
 SPACE = re.compile(r'(?:[ \t\r\n]|#[^\n]*)*')
-TOKEN = re.compile(r'[A-Za-z_][A-Za-z0-9_]*|[0-9]+|<=|>=|==|!=|&&|\|\||[-(){};,=+*/%<>!]')
+TOKEN = re.compile(r'[A-Za-z_][A-Za-z0-9_]*|[0-9]+|<=|>=|==|!=|&&|\|\||<<|>>|[-(){};,=+*/%<>!~&|^?:]')
 
 
 class Token(NamedTuple):
@@ -45,6 +49,7 @@ class Entry(NamedTuple):
 class Description(NamedTuple):
     """A text that has been read. A channel has a kind (`channel`, `source` or `sink`) and its capacity."""
 
+    language: int
     processes: List[Process]
     settings: Dict[str, str]
     channels: List[Tuple[str, str, Optional[int]]]
@@ -70,9 +75,10 @@ def same_place(canonical: str, place: int, text: str) -> int:
     return tokens[min(number, len(tokens) - 1)].start
 
 
-def is_name(word: str) -> bool:
-    """Whether the language takes a word as a name."""
-    return NAME.fullmatch(word) is not None and word not in RESERVED and len(word) <= LONGEST_NAME
+def is_name(word: str, language: int = 1) -> bool:
+    """Whether a language takes a word as a name."""
+    is_reserved = word in RESERVED or language == 2 and word in RESERVED_IN_TWO
+    return NAME.fullmatch(word) is not None and not is_reserved and len(word) <= LONGEST_NAME
 
 
 def is_number(word: str) -> bool:
@@ -86,7 +92,9 @@ class Reader:
     def __init__(self, text: str, what: str = 'text'):
         self.text, self.what = text, what
         self.tokens = tokens_of(text)
-        self.place = 0
+        opening = [it.text for it in self.tokens[:3]]
+        is_two = opening[::2] == ['language', ';'] and is_number(opening[1]) and int(opening[1]) == 2
+        self.language, self.place = (2, 3) if is_two else (1, 0)
 
     def peek(self) -> str:
         """The next token; `''` at the end of the text."""
@@ -105,7 +113,7 @@ class Reader:
 
     def name(self) -> str:
         """Goes past a name."""
-        if not is_name(self.peek()):
+        if not is_name(self.peek(), self.language):
             self.fail()
         self.place += 1
         return self.tokens[self.place - 1].text
@@ -187,7 +195,7 @@ class Reader:
         token = self.peek()
         if level > MOST_LEVELS:
             self.fail()
-        if token in ('-', '!'):
+        if token in SIGNS[self.language]:
             self.place += 1
             return token + self.expression(level + 1)
         if is_number(token):
@@ -196,16 +204,20 @@ class Reader:
             return self.name()
         self.place += 1
         left, operator = self.expression(level + 1), self.peek()
-        if operator not in OPERATORS:
+        is_choice = operator == '?' and self.language == 2
+        if operator not in OPERATORS[self.language] and not is_choice:
             self.fail()
         self.place += 1
         right = self.expression(level + 1)
+        if is_choice:
+            self.need(':')
+            right += f' : {self.expression(level + 1)}'
         self.need(')')
         return f'({left} {operator} {right})'
 
     def description(self) -> Description:
         """Reads a whole text."""
-        found = Description([], {}, [], [])
+        found = Description(self.language, [], {}, [], [])
         while self.peek() == 'process':
             found.processes.append(self.process())
         self.need('network')
@@ -255,7 +267,7 @@ class Reader:
 
 
 def read_process(text: str) -> Process:
-    """Reads a text that is one process."""
+    """Reads a text that is one process, behind `language 2;` if it is of that language."""
     reader = Reader(text, 'the process')
     try:
         process = reader.process()

@@ -25,16 +25,16 @@ COPY = Process('copy', ('i',), ('o',), (), ('  while 1 {', '    read i x;', '   
 
 
 class Names:
-    """Gives each thing a name that no other one of its table has."""
+    """Gives each thing a name of the language that no other one of its table has."""
 
-    def __init__(self, taken: Iterable[str] = ()):
-        self.taken = set(taken)
+    def __init__(self, language: int, taken: Iterable[str] = ()):
+        self.language, self.taken = language, set(taken)
         self.last: Dict[str, int] = {}
 
     def give(self, wanted: str) -> str:
         """The wanted name, or that with a number behind it."""
         name, number = wanted[:LONGEST_NAME], self.last.get(wanted, 1)
-        while name in self.taken or not is_name(name):
+        while name in self.taken or not is_name(name, self.language):
             number += 1
             name = f'{wanted[:LONGEST_NAME - len(str(number)) - 1]}_{number}'
         self.taken.add(name)
@@ -88,6 +88,7 @@ class Network:
                 raise KpnError(f'{what} is {given!r}: it has to be {choices[0]!r} or {choices[1]!r}')
         self.limit = whole('the limit', limit, 1, LARGEST_CAPACITY)
         self.policy, self.grow, self.auto_fork = policy, grow, auto_fork
+        self._language = 1
         self._processes: List[Process] = []
         self._channels: List[Stream] = []
         self._instances: List[Instance] = []
@@ -115,7 +116,7 @@ class Network:
 
     def _filled(self, found: Description) -> Network:
         """This network with what a text says."""
-        self._processes = found.processes
+        self._language, self._processes = found.language, found.processes
         processes = {it.name: it for it in found.processes}
         if len(processes) < len(found.processes):
             raise KpnError('two processes of the text have one name')
@@ -318,6 +319,12 @@ class Network:
             self._layout = self._laid_out()
         return self._layout
 
+    @property
+    def language(self) -> int:
+        """The language of its text: 2 if it was read from such a text, or if a process needs that, and else 1."""
+        return max([self._language, *(it.language for it in self._processes),
+                    *(it.process.language for it in self._instances)])
+
     def name_of(self, thing: Union[Instance, Stream]) -> str:
         """The name of an instance or a channel in the text."""
         self.layout()
@@ -325,17 +332,18 @@ class Network:
 
     def _laid_out(self) -> Layout:
         processes = dict.fromkeys([*self._processes, *(it.process for it in self._instances)])
-        called, table = {}, Names()
+        language = self.language
+        called, table = {}, Names(language)
         for process in processes:
             called[process] = table.give(process.name)
         names: Dict[Union[Instance, Stream], str] = {}
-        table = Names(it.given_name for it in self._instances if it.given_name)
+        table = Names(language, (it.given_name for it in self._instances if it.given_name))
         for instance in self._instances:
             names[instance] = instance.given_name or table.give(instance.prefix + instance.process.name)
-        table = Names(it.given_name for it in self._channels if it.given_name)
+        table = Names(language, (it.given_name for it in self._channels if it.given_name))
         for stream in self._channels:
             names[stream] = stream.given_name or table.give(stream.wanted_name(names))
-        self._names, begins, text = names, [], ''
+        self._names, begins, text = names, [], 'language 2;\n' if language == 2 else ''
         for process, name in called.items():
             begins.append((len(text), process.renamed(name)))
             text += str(begins[-1][1])

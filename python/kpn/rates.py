@@ -4,13 +4,15 @@ from __future__ import annotations
 import itertools
 from typing import TYPE_CHECKING, Dict, List, NamedTuple, Optional
 
+from .trace import FAULTS
+
 if TYPE_CHECKING:
     from .network import Layout
     from .result import Result
 
 # A channel with fewer items left is not looked at.
 LEAST_LEFT = 16
-ENDS = ('done', 'overflow', 'zero-divisor')
+ENDS = ('done', *FAULTS)
 
 
 class Rate(NamedTuple):

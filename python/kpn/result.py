@@ -16,7 +16,7 @@ from .errors import GrowthWarning, KpnError
 from .program import Program, call, failure, words_of
 from .rates import Rate, rates_of
 from .rings import deadlock_of, rings_of
-from .trace import Trace
+from .trace import FAULTS, Trace
 from .view import page, stats_of
 from .wav import Path, write_wav
 
@@ -34,7 +34,7 @@ ITEMS_OF_LONG_LOOK, COMMITS_OF_LONG_LOOK = 50_000, 5_000_000
 LOOKS: Dict[str, List[Rate]] = {}
 MOST_LOOKS = 100
 # The lines that are read of the report of `kpn run` and of the summary of `kpn stream`.
-LINE = re.compile(r'fault (\w+) (overflow|zero-divisor)|waits (\w+) (\w+)( full)?'
+LINE = re.compile(rf'fault (\w+) ({"|".join(FAULTS)})|waits (\w+) (\w+)( full)?'
                   r'|sink (\w+): (\d+) items, (not )?complete|(ended|enough|clogged|jammed|stopped)')
 # The lines that are read of `kpn stats` and of `kpn timeline`.
 ADVICE = re.compile(r'(\w+): (?:cap )?(\d+)\b')
@@ -102,10 +102,11 @@ class Result(collections.abc.Mapping):  # type: ignore[type-arg]
     """What came of a run. `result["y"]` has the items that the sink `y` gave, a list or an array, whatever the outcome.
 
     `outcome` is `ended`, `enough`, `clogged`, `jammed` or `stopped`; of a live run whose sinks were all left before
-    there was one it is None. `faults` is a dict of the instances that a fault ended, with `overflow` or `zero-divisor`,
-    and `waits` a list of a `Wait` for each one that waits; of `run` both are empty under `enough` and `stopped`.
-    `check()` raises an error if an item may lack. What is made of the trace needs a run with `trace=True`, and raises
-    KpnError without one. A sink that is not there raises KeyError. A copy or a pickle has all of it, the trace too.
+    there was one it is None. `faults` is a dict of the instances that a fault ended, with the word of each (`overflow`,
+    `zero-divisor`, `index` or `shift`), and `waits` a list of a `Wait` for each one that waits; of `run` both are empty
+    under `enough` and `stopped`. `check()` raises an error if an item may lack. What is made of the trace needs a run
+    with `trace=True`, and raises KpnError without one. A sink that is not there raises KeyError. A copy or a pickle has
+    all of it, the trace too.
     `certified` is what `kpn audit` has found of a compiled run, such as `legal, exact`, and None if it was not asked.
     """
 

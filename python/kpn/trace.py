@@ -10,11 +10,13 @@ from .errors import KpnError
 if TYPE_CHECKING:
     from .network import Network
 
+# The words of the faults that end a process.
+FAULTS = ('overflow', 'zero-divisor', 'index', 'shift')
 # What a line has behind its kind: a process P, a channel C, an item V, a capacity N, the reason R of an end.
 FORMS = {'get': 'P C V', 'put': 'P C V', 'wait-empty': 'P C', 'wait-full': 'P C', 'end': 'P R', 'feed': 'C V',
          'close': 'C', 'take': 'C V', 'leave': 'C', 'grow': 'P C N'}
 PARTS = {'P': '(0|[1-9][0-9]{0,4})', 'C': '(0|[1-9][0-9]{0,4})', 'V': '(0|-?[1-9][0-9]{0,18})', 'N': '([1-9][0-9]*)',
-         'R': '(done|overflow|zero-divisor)'}
+         'R': f'(done|{"|".join(FAULTS)})'}
 RULES = re.compile('policy (cycles|all) grow (one|double)\n')
 
 
@@ -22,7 +24,7 @@ class Event(NamedTuple):
     """An event. Its process and its channel have names if the trace is read with its network, and else numbers.
 
     `value` is the item of a `get`, `put`, `feed` or `take`, the new capacity of a `grow`, and the reason of an `end`:
-    `done`, `overflow` or `zero-divisor`. What an event does not have is None.
+    `done` or the word of a fault. What an event does not have is None.
     """
 
     kind: str

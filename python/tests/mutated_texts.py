@@ -15,9 +15,10 @@ from kpn.language import tokens_of
 from kpn.program import as_bytes, call
 from random_networks import Maker
 
-TEXTS = [file.read_text() for file in sorted([*GALLERY.glob('*.kpn'), *(TOP / 'examples').glob('*.kpn')])]
+TEXTS = [file.read_text() for folder in (TOP / 'examples', TOP / 'examples/language2', GALLERY)
+         for file in sorted(folder.glob('*.kpn'))]
 TOKENS = ('(', ')', '{', '}', ';', ',', '=', '-', '0', '1', '007', '1048577', '9223372036854775808', 'x', 'cap',
-          'limit', 'policy', 'grow', 'all', 'double', 'source', 'sink', 'channel', 'read', 'in', 'out', '_' * 33, '&')
+          'limit', 'policy', 'grow', 'all', 'double', 'source', 'sink', 'channel', 'read', 'in', 'out', '_' * 33, '&', '~', '?', ':', '<<', 'language', 'table')
 CHARACTERS = ('', *'(){};,=-1x#\n\r\t\x00\x0b&', '\u00b2', '\ufeff', '\udc80', '# \u00e9 \ud800\n', '\r\n')
 PARTS = re.compile(r'(\w+ = \w+\()([^;)]*);([^;)]*)(;[^;)]*)?\);')
 

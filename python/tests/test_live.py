@@ -215,9 +215,9 @@ class Endings(unittest.TestCase):
         self.assertRaisesRegex(kpn.KpnError, 'the sink `z` is not complete$', result.check)
 
     def test_the_forms_of_a_summary(self):
-        told = report_of('a library says: ended\nfault p zero-divisor\nwaits q c\nwaits r d full\n'
+        told = report_of('a library says: ended\nfault p zero-divisor\nfault s shift\nwaits q c\nwaits r d full\n'
                          'sink y: 3 items, not complete\nsink z: 0 items, complete\nwaits\nstopped\nkpn: 27 Write\n')
-        self.assertEqual(told, ('stopped', {'p': 'zero-divisor'}, [('q', 'c', False), ('r', 'd', True)],
+        self.assertEqual(told, ('stopped', {'p': 'zero-divisor', 's': 'shift'}, [('q', 'c', False), ('r', 'd', True)],
                                 {'y': (3, False), 'z': (0, True)}))
         self.assertIsNone(report_of('waits q c\nhas ended\n').outcome)
 

@@ -114,8 +114,9 @@ class WithFolder(unittest.TestCase):
 @unittest.skipUnless(shutil.which('cc'), 'there is no C compiler')
 class Equal(WithFolder):
     def test_examples(self):
-        files = sorted(file for folder in (TOP / 'examples', TOP / 'examples/worked', GALLERY)
-                       for file in folder.glob('*.kpn') if self.call(PROGRAM, 'check', str(file))[0] == 0)
+        folders = (TOP / 'examples', TOP / 'examples/worked', TOP / 'examples/language2', GALLERY)
+        files = sorted(file for folder in folders for file in folder.glob('*.kpn')
+                       if self.call(PROGRAM, 'check', str(file))[0] == 0)
         for file in files:
             with self.subTest(file=file.name), tempfile.TemporaryDirectory(prefix='kpn-') as folder:
                 text, chosen = file.read_text(), random.Random(file.name)

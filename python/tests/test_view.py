@@ -24,6 +24,7 @@ import ticks
 from kpn import program, view
 from kpn.__main__ import main
 from kpn.language import tokens_of
+from kpn.trace import FAULTS
 from kpn.view import events, layout
 
 NODE = shutil.which('node')
@@ -175,7 +176,7 @@ class Pages(unittest.TestCase):
                 self.assertEqual(ports[line[1]], state['channel'])
             elif state['word'] == 'done':
                 self.assertEqual((stands['why'], stands['line']), ('end', len(process['lines']) - 1))
-            elif state['word'] in ('overflow', 'zero-divisor'):
+            elif state['word'] in FAULTS:
                 self.assertEqual(stands['why'], state['word'])
 
     def check_draw(self, it, told):
@@ -223,7 +224,7 @@ def table_rows(stored, name):
 
 def end_of(state, channels):
     """A state as the column `end` of `kpn stats` has it."""
-    if state['word'] in ('done', 'overflow', 'zero-divisor'):
+    if state['word'] in ('done', *FAULTS):
         return state['word']
     waits = {'empty': '', 'full': ' full'}
     return f'waits {channels[state["channel"]]["name"]}{waits[state["word"]]}' if state['word'] in waits else '-'

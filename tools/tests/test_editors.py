@@ -22,10 +22,11 @@ from kpn.language import RESERVED  # noqa: E402
 from rounds import TOKEN  # noqa: E402
 
 PROGRAM = os.environ.get('KPN_PROGRAM', TOP / 'crates/kpn/out/kpn')
-EXAMPLES = sorted((TOP / 'examples').glob('*.kpn')) + sorted((TOP / 'examples').glob('[gw]*/*.kpn'))
+EXAMPLES = sorted((TOP / 'examples').glob('*.kpn')) + sorted((TOP / 'examples').glob('[glw]*/*.kpn'))
 REFUSED = sorted((TOP / 'examples/refused').iterdir())
 TRIED = 40
-WRONG = b'$&|."~\x00\x80\xff_9az#\n'
+# Without the marks of language 2, which are operators in any text.
+WRONG = b'$."\x00\x80\xff_9az#\n'
 MARKS = set('(){};,')
 # What the names of scopes, of tokens and of vim's groups begin with.
 SCOPES = {'comment': 'comment', 'keyword.operator': 'operator', 'keyword': 'word', 'constant.numeric': 'number',
@@ -62,13 +63,14 @@ def kind(name, kinds):
 def by_tokens(text):
     """The kinds by rounds.py, of a right text."""
     kinds = []
+    opening = 'language' if text.startswith('language 2;') else None
     for found in TOKEN.finditer(text):
         token = found[1]
         if token is None:
             what = 'comment' if found[0][0] == '#' else ''
         elif token.isdigit():
             what = 'number'
-        elif token in RESERVED:
+        elif token in RESERVED or token == opening:
             what = 'word'
         else:
             what = 'name' if re.match(r'\w', token) else 'mark' if token in MARKS else 'operator'

@@ -14,7 +14,8 @@
 //! - `fail CALL NAME`: this call for files fails for this name, `load`, `store` or `ready`, which asks whether a file
 //!   can be stored. `fail same NAME`: each name is taken for one file with this one. `fail nothing` ends all that.
 //!   Until then error lines stand below a line `errors:`, also if the command succeeds.
-//! - `keep NAME TEXT` makes a file on a shelf in memory. What that then holds under the name `a` follows.
+//! - `keep NAME TEXT` makes a file on a shelf in memory. What that then holds under the name `a` follows, what a look
+//!   shows of it, and what is left in an output that is emptied.
 //! - `tell refusals`: how each refusal is reported that no command line causes here.
 //! - `# TEXT`, a heading, which stands without `$ `.
 //!

@@ -46,6 +46,21 @@ const FAULTY_WRITE: Worked<'static> = (
     ]],
 );
 
+// It writes `(k ? (7 / k) : 9)` and `(1 << k)` for each k that it reads.
+const CHOOSING: Worked<'static> = (
+    1,
+    1,
+    1,
+    &[
+        &[Line::While(Value::Num(1), 1)],
+        &[
+            Line::Read(0, 0),
+            Line::Write(0, Value::QuotientOr(7, 0, 9)),
+            Line::Write(0, Value::ShiftedBy(1, 0)),
+        ],
+    ],
+);
+
 /// A program, the items of its in port, a quota, and what it then has said and where it has stopped.
 type Row<'a> = (Worked<'a>, &'a [i64], u64, &'a [Said], AloneStop);
 
@@ -53,7 +68,20 @@ const COPIED: &[Said] = &[Said::Got(0, 5), Said::Put(0, 5)];
 
 const FAULT: AloneStop = AloneStop::Faulted(Fault::ZeroDivisor);
 
-const ROWS: [Row<'static>; 10] = [
+const CHOSEN: &[Said] = &[
+    Said::Got(0, 0),
+    Said::Put(0, 9),
+    Said::Put(0, 1),
+    Said::Got(0, 2),
+    Said::Put(0, 3),
+    Said::Put(0, 4),
+    Said::Got(0, 64),
+    Said::Put(0, 0),
+];
+
+const SHIFT: AloneStop = AloneStop::Faulted(Fault::Shift);
+
+const ROWS: [Row<'static>; 11] = [
     (COPY, &[5], 0, &[], AloneStop::Paused),
     (COPY, &[5], 1, COPIED, AloneStop::Paused),
     (COPY, &[5], 2, COPIED, AloneStop::Paused),
@@ -64,6 +92,7 @@ const ROWS: [Row<'static>; 10] = [
     (FAULTY, &[], 1, &[], AloneStop::Paused),
     (FAULTY, &[], 2, &[], FAULT),
     (FAULTY_WRITE, &[], 1, &[], FAULT),
+    (CHOOSING, &[0, 2, 64], 9, CHOSEN, SHIFT),
 ];
 
 // Whether a program says so and stops so.

@@ -14,6 +14,10 @@ pub enum Value {
     Quotient(i64, i64),
     /// A number by a variable.
     QuotientBy(i64, usize),
+    /// The same if the variable is not 0, else another number.
+    QuotientOr(i64, usize, i64),
+    /// A number shifted to the left by a variable.
+    ShiftedBy(i64, usize),
 }
 
 /// A statement.
@@ -39,6 +43,14 @@ fn expr_of(alloc: Global, value: Value) -> Result<Expr, AllocError> {
         Value::Plus(x, number) => both(alloc, Op::Add, Expr::Var(x), Expr::Num(number)),
         Value::Quotient(left, right) => both(alloc, Op::Div, Expr::Num(left), Expr::Num(right)),
         Value::QuotientBy(left, x) => both(alloc, Op::Div, Expr::Num(left), Expr::Var(x)),
+        Value::QuotientOr(left, x, number) => {
+            let quotient = both(alloc, Op::Div, Expr::Num(left), Expr::Var(x))?;
+            let test = Box::new(alloc, Expr::Var(x))?;
+            let first = Box::new(alloc, quotient)?;
+            let second = Box::new(alloc, Expr::Num(number))?;
+            Ok(Expr::Choice(test, first, second))
+        }
+        Value::ShiftedBy(left, x) => both(alloc, Op::Shl, Expr::Num(left), Expr::Var(x)),
     }
 }
 

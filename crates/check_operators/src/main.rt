@@ -1,5 +1,6 @@
 //! The operators of the process language on a table of operands. Each line of standard input is `LEFT OP RIGHT`,
-//! `- OPERAND` or `! OPERAND`, and the answer is the value or the fault. The stored table is at the ends of the range.
+//! `- OPERAND`, `! OPERAND`, `~ OPERAND` or `OPERAND ? OPERAND : OPERAND`, and the answer is the value or the fault.
+//! The stored table is at the ends of the range, and for shifts at those of the counts.
 //! Another program (tools/operator_table.py) computed what must come, with whole numbers that have no bound.
 #![tactic(auto)]
 
@@ -27,6 +28,11 @@ fn operator(word: &str) -> Option<Op> {
         "!=" => Some(Op::Ne),
         "&&" => Some(Op::And),
         "||" => Some(Op::Or),
+        "&" => Some(Op::BitAnd),
+        "|" => Some(Op::BitOr),
+        "^" => Some(Op::BitXor),
+        "<<" => Some(Op::Shl),
+        ">>" => Some(Op::Shr),
         _ => None,
     }
 }
@@ -46,6 +52,7 @@ fn answer(alloc: Global, line: &str) -> Result<std::result::Result<i64, Fault>> 
     match words.as_slice() {
         ["-", word] => Ok(eval(&Expr::Neg(operand(alloc, word)?), &[])),
         ["!", word] => Ok(eval(&Expr::Not(operand(alloc, word)?), &[])),
+        ["~", word] => Ok(eval(&Expr::BitNot(operand(alloc, word)?), &[])),
         [left, word, right] => {
             let Some(op) = operator(word) else {
                 bail!("no such operator");
@@ -55,6 +62,14 @@ fn answer(alloc: Global, line: &str) -> Result<std::result::Result<i64, Fault>> 
                 &[],
             ))
         }
+        [test, "?", first, ":", second] => Ok(eval(
+            &Expr::Choice(
+                operand(alloc, test)?,
+                operand(alloc, first)?,
+                operand(alloc, second)?,
+            ),
+            &[],
+        )),
         _ => bail!("a line is an operator with its operands"),
     }
 }
@@ -65,6 +80,8 @@ fn main(rt: HostRuntime) -> Result<()> {
             Ok(value) => println!(rt; "{value}")?,
             Err(Fault::Overflow) => println!(rt; "overflow")?,
             Err(Fault::ZeroDivisor) => println!(rt; "zero-divisor")?,
+            Err(Fault::Index) => println!(rt; "index")?,
+            Err(Fault::Shift) => println!(rt; "shift")?,
         }
     }
     Ok(())

@@ -19,20 +19,27 @@ const BACK: Link = Link {
     source: 0,
 };
 
-/// A copy is fed an item and puts it.
-fn copy_run(alloc: Global) -> Result<Sequence<Event>, AllocError> {
+/// A copy is fed these items and puts each.
+fn copy_run(alloc: Global, items: &[i64]) -> Result<Sequence<Event>, AllocError> {
     let mut events = Vec::new(alloc);
-    events.push(Event::Feed(0, 7))?;
-    events.push(Event::Get(0, 0, 7))?;
-    events.push(Event::Put(0, 1, 7))?;
+    for item in items {
+        events.push(Event::Feed(0, *item))?;
+        events.push(Event::Get(0, 0, *item))?;
+        events.push(Event::Put(0, 1, *item))?;
+    }
     Ok(Sequence::from_vec(events))
 }
 
-/// How many events two copies with these links have in one order, if there is one.
-fn joined(alloc: Global, links: &[Link]) -> Result<Option<usize>, AllocError> {
+/// How many events two copies of these items with these links have in one order, if there is one.
+fn joined(
+    alloc: Global,
+    first: &[i64],
+    second: &[i64],
+    links: &[Link],
+) -> Result<Option<usize>, AllocError> {
     let mut histories = Vec::new(alloc);
-    histories.push(copy_run(alloc)?)?;
-    histories.push(copy_run(alloc)?)?;
+    histories.push(copy_run(alloc, first)?)?;
+    histories.push(copy_run(alloc, second)?)?;
     match join(alloc, &histories, links)? {
         Some(order) => Ok(Some(order.as_slice().len())),
         None => Ok(None),
@@ -42,8 +49,23 @@ fn joined(alloc: Global, links: &[Link]) -> Result<Option<usize>, AllocError> {
 #[test]
 fn two_copies_are_joined_unless_they_are_a_ring(rt: HostRuntime) -> Result<(), Fail> {
     let alloc = rt.alloc();
-    assert!(rt; joined(alloc, &[ONWARD])? == Some(6), "onward");
-    assert!(rt; joined(alloc, &[BACK])? == Some(6), "back");
-    assert!(rt; joined(alloc, &[ONWARD, BACK])? == None, "a ring");
+    let seven: &[i64] = &[7];
+    assert!(rt;
+        joined(alloc, seven, seven, &[ONWARD])? == Some(6),
+        "onward"
+    );
+    assert!(rt; joined(alloc, seven, seven, &[BACK])? == Some(6), "back");
+    assert!(rt;
+        joined(alloc, seven, seven, &[ONWARD, BACK])? == None,
+        "a ring"
+    );
+    assert!(rt;
+        joined(alloc, &[5], seven, &[ONWARD])? == None,
+        "another item"
+    );
+    assert!(rt;
+        joined(alloc, seven, &[7, 7], &[ONWARD])? == None,
+        "an item too few"
+    );
     Ok(())
 }

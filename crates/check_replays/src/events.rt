@@ -6,10 +6,9 @@ ghost use Rattle.kpn_run_configuration.specs.Due.{Stands, ReadsFrom, WritesTo, s
 
 use anyhow::{Result, bail, ensure};
 use arrayvec::ArrayVec;
-use kpn_lang::Fault;
 use kpn_limits::MAX_PORTS;
 use kpn_net::{Network, Wait};
-use kpn_run_configuration::Configuration;
+use kpn_run_configuration::{Configuration, stop_of};
 use kpn_run_history::{Event, How};
 use kpn_step::Stop;
 
@@ -130,11 +129,7 @@ fn wait_on_full(state: &mut Configuration, network: &Network, p: usize, c: usize
 fn is_end(how: How, stop: Stop) -> bool
     ensures { IsTrue result ↔ (stop ≡ stop_of how) }
 {
-    match how {
-        How::Done => stop == Stop::Done,
-        How::Overflow => stop == Stop::Faulted(Fault::Overflow),
-        How::ZeroDivisor => stop == Stop::Faulted(Fault::ZeroDivisor),
-    }
+    stop == stop_of(how)
 }
 
 fn end(state: &mut Configuration, network: &Network, p: usize, how: How) -> Woken

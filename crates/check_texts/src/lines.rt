@@ -4,7 +4,7 @@ use kpn_trace::{Version, event_line, read_event};
 use std::alloc::Global;
 use std::test::Fail;
 
-const ROWS: [(Event, &str); 13] = [
+const ROWS: [(Event, &str); 15] = [
     (Event::Get(1, 0, -7), "get 1 0 -7"),
     (Event::Put(0, 65535, 312), "put 0 65535 312"),
     (Event::WaitEmpty(1, 10), "wait-empty 1 10"),
@@ -12,6 +12,8 @@ const ROWS: [(Event, &str); 13] = [
     (Event::Ended(0, How::Done), "end 0 done"),
     (Event::Ended(9, How::Overflow), "end 9 overflow"),
     (Event::Ended(99, How::ZeroDivisor), "end 99 zero-divisor"),
+    (Event::Ended(0, How::Index), "end 0 index"),
+    (Event::Ended(0, How::Shift), "end 0 shift"),
     (Event::Feed(3, i64::MIN), "feed 3 -9223372036854775808"),
     (Event::Close(3), "close 3"),
     (Event::Take(2, i64::MAX), "take 2 9223372036854775807"),

@@ -1,7 +1,7 @@
 //! What the definition of tokens is compared with: the format's own lists of marks and reserved words, and worked
 //! texts, each with its tokens.
 
-use kpn_text_tokens::{Lexeme, Token, lexemes};
+use kpn_text_tokens::{Language, Lexeme, Token, lexemes};
 use std::alloc::Global;
 use std::fmt::Write;
 use std::test::Fail;
@@ -27,8 +27,8 @@ fn described(alloc: Global, lexemes: &[Lexeme<'_>]) -> Result<String, Fail> {
     Ok(words)
 }
 
-/// Texts, each with its tokens in words.
-const ROWS: [(&[u8], &str); 13] = [
+/// Texts in language 1, each with its tokens in words.
+const IN_ONE: [(&[u8], &str); 13] = [
     (b"", ""),
     (b" \t\r\n", ""),
     (b"a", "0 name a;"),
@@ -64,12 +64,33 @@ const ROWS: [(&[u8], &str); 13] = [
     ),
 ];
 
+/// The same in language 2.
+const IN_TWO: [(&[u8], &str); 3] = [
+    (
+        b"[ ] ? : ~ & | ^ << >>",
+        "0 LeftBracket;2 RightBracket;4 Question;6 Colon;8 BitNot;10 BitAnd;12 BitOr;14 BitXor;\
+        16 ShiftLeft;19 ShiftRight;",
+    ),
+    (b"language array table", "0 Language;9 Array;15 Table;"),
+    (
+        b"<<=<=<<>>=>>>&&&|||",
+        "0 ShiftLeft;2 Assign;3 LessOrEqual;5 ShiftLeft;7 ShiftRight;9 Assign;10 ShiftRight;\
+        12 Greater;13 And;15 BitAnd;16 Or;18 BitOr;",
+    ),
+];
+
 #[test]
 fn cuts_texts_into_tokens(rt: HostRuntime) -> Result<(), Fail> {
-    for (text, wanted) in &ROWS {
-        let found = lexemes(rt.alloc(), text)?;
-        let words = described(rt.alloc(), &found)?;
-        assert!(rt; words.as_str() == *wanted, "{words}");
+    let tables = [
+        (Language::One, IN_ONE.as_slice()),
+        (Language::Two, IN_TWO.as_slice()),
+    ];
+    for (language, rows) in tables {
+        for (text, wanted) in rows {
+            let found = lexemes(rt.alloc(), language, text)?;
+            let words = described(rt.alloc(), &found)?;
+            assert!(rt; words.as_str() == *wanted, "{words}");
+        }
     }
     Ok(())
 }

@@ -4,12 +4,11 @@ use Rattle.std.proofs.lemmas.Bool.{eq-eqb, both_ways}
 use Rattle.kpn_net.specs.Tables.{Tables, instance_at, program_of, channel_at, is_sink}
 use Rattle.kpn_net.specs.Faults.{IsNetwork}
 use Rattle.kpn_step.specs.declared.stop.Stop.{Stop}
-use Rattle.kpn_step.specs.declared.stop.Stop.TheVariants.{WantRead, WantWrite, Paused}
+use Rattle.kpn_step.specs.declared.stop.Stop.TheVariants.{WantRead, WantWrite}
 use Rattle.kpn_chan.specs.Channel.{unread, is_full, next_item}
 use Rattle.kpn_run_history.specs.declared.event.Event.{Event}
 use Rattle.kpn_run_history.specs.declared.event.Event.TheVariants.{Get, Put, WaitEmpty, WaitFull, Ended, Feed, Close, Take, Leave, Grow}
 use Rattle.kpn_run_history.specs.declared.event.How.{How}
-use Rattle.kpn_run_history.specs.declared.event.How.TheVariants as how
 use Rattle.kpn_run_history.specs.Talks.{is_of, is_of_process}
 use Rattle.kpn_run_history.specs.Legal.{HasNumbers, OwesGrowth, growth_after, Legal}
 use Rattle.kpn_run_history.specs.Stops.{OwesNothing}
@@ -17,6 +16,7 @@ use Rattle.kpn_run_history.proofs.OneMore.{Legal-exactly}
 use Rattle.kpn_run_configuration.specs.Configuration.{Configuration, channel_in, frame_in}
 use Rattle.kpn_run_configuration.specs.Due.{Stands, ReadsFrom, WritesTo, stop_of, IsDueNow}
 use Rattle.kpn_run_configuration.specs.Run.{IsRun}
+use Rattle.kpn_run_configuration.proofs.Due.{end_is_no_pause}
 use Rattle.kpn_run_configuration.proofs.OneStop.{one_stop}
 use Rattle.kpn_run_configuration.proofs.Exact.{due_here, due_outside}
 use Rattle.kpn_audit.specs.Judged.{IsReadFrom, IsWriteOf, StandsFree}
@@ -43,15 +43,11 @@ module _ (t : Tables) (s : Configuration) (p : ℕ) (stop : Stop) (at : StandsFr
         at.is_no_pause (λ e. absurd cc),
   )
 
-no_pause : (how : How) → stop_of how ≢ Paused
-no_pause how.Done e = absurd cc
-no_pause how.Overflow e = absurd cc
-no_pause how.ZeroDivisor e = absurd cc
-
 pub is_stop : (t : Tables) (s : Configuration) (p : ℕ) (stop : Stop) → StandsFree t s p stop → (how : How)
     → Stands t s p (stop_of how) → stop ≡ stop_of how
 is_stop t s p stop at how stands =
-    one_stop (program_of t p).blocks (frame_in s p) stop (stop_of how) at.stands stands at.is_no_pause (no_pause how)
+    one_stop (program_of t p).blocks (frame_in s p) stop (stop_of how) at.stands stands at.is_no_pause
+    (end_is_no_pause how)
 
 -- ---- events of processes
 

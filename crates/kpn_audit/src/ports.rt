@@ -5,8 +5,8 @@ ghost use Rattle.kpn_run_configuration.specs.Changes.{IsChannelAt};
 ghost use Rattle.kpn_run_configuration.specs.Due.{stop_of};
 ghost use Rattle.kpn_audit.specs.Judged.{IsReadFrom, IsWriteOf};
 
-use kpn_lang::Fault;
 use kpn_net::Network;
+use kpn_run_configuration::stop_of;
 use kpn_run_history::How;
 use kpn_step::Stop;
 
@@ -57,9 +57,5 @@ pub(crate) fn is_write_to(network: &Network, p: usize, c: usize, stop: Stop) -> 
 pub(crate) fn is_end(how: How, stop: Stop) -> bool
     ensures { IsTrue result ↔ (stop ≡ stop_of how) }
 {
-    match how {
-        How::Done => stop == Stop::Done,
-        How::Overflow => stop == Stop::Faulted(Fault::Overflow),
-        How::ZeroDivisor => stop == Stop::Faulted(Fault::ZeroDivisor),
-    }
+    stop == stop_of(how)
 }

@@ -15,7 +15,6 @@ ghost use Rattle.kpn_audit.specs.Scene.{IsDoing, IsScene, source_side, sink_side
 use crate::judging::has_numbers;
 use crate::scene::{Doing, Scene, Side};
 use crate::stepping::step_on;
-use kpn_lang::Fault;
 use kpn_net::{Network, Wait};
 use kpn_run_configuration::{Configuration, in_channel, out_channel};
 use kpn_run_history::{Event, How};
@@ -80,8 +79,7 @@ fn at_stop<A: Allocator>(
         Stop::WantRead(port) => reads(configuration, network, p, port),
         Stop::WantWrite(port, item) => writes(configuration, network, p, port, item),
         Stop::Done => Doing::Ends(How::Done),
-        Stop::Faulted(Fault::Overflow) => Doing::Ends(How::Overflow),
-        Stop::Faulted(Fault::ZeroDivisor) => Doing::Ends(How::ZeroDivisor),
+        Stop::Faulted(fault) => Doing::Ends(How::from(fault)),
         Stop::Paused => Doing::Elsewhere,
     }
 }

@@ -1,7 +1,7 @@
 -- What is told of processes, and of the unread items of a channel.
 use Rattle.std.specs.Prelude.{◌≡◌, ◌⊎◌, ◌<◌, ◌≤◌, ℕ, if◌then◌else◌, ℤ, List, [], length, take, drop, Option, Some, None}
 use Rattle.kpn_chan.specs.Channel.{ChannelState, unread}
-use Rattle.kpn_run_history.specs.declared.event.How.TheVariants.{Done, Overflow, ZeroDivisor}
+use Rattle.kpn_run_history.specs.declared.event.How.TheVariants.{Done, Overflow, ZeroDivisor, Index, Shift}
 use Rattle.kpn_run_history.specs.declared.state.State.{State}
 use Rattle.kpn_run_history.specs.declared.state.State.TheVariants.{Ready, Held, WaitsEmpty, WaitsFull, Ended}
 use Rattle.kpn_run_configuration.specs.Configuration.{channel_in}
@@ -26,6 +26,8 @@ state_as (WaitsFull c) = waiting_on 2 c
 state_as (Ended Done) = state_alone 3
 state_as (Ended Overflow) = state_alone 4
 state_as (Ended ZeroDivisor) = state_alone 5
+state_as (Ended Index) = state_alone 6
+state_as (Ended Shift) = state_alone 7
 
 -- ---- unread items
 

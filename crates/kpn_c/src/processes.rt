@@ -41,6 +41,8 @@ fn state_as(state: State) -> ProcessState
         State::Ended(How::Done) => alone(3),
         State::Ended(How::Overflow) => alone(4),
         State::Ended(How::ZeroDivisor) => alone(5),
+        State::Ended(How::Index) => alone(6),
+        State::Ended(How::Shift) => alone(7),
     }
 }
 

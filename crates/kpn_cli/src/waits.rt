@@ -207,19 +207,13 @@ impl Waits {
 
 /// Adds which processes have ended by a fault, as the lines `fault INSTANCE CAUSE` of a text tell, and what it means.
 pub(crate) fn push_faults(text: &mut Vec<u8>, report: &str) -> Result<(), AllocError> {
-    let zero = push_faulted(
-        text,
-        report,
-        "zero-divisor",
-        " ended by a division by 0 (`zero-divisor`)",
-    )?;
-    let overflow = push_faulted(
-        text,
-        report,
-        "overflow",
-        " ended by a result out of range (`overflow`)",
-    )?;
-    if zero || overflow {
+    let mut has_fault = false;
+    for (cause, said) in &FAULTS {
+        if push_faulted(text, report, cause, said)? {
+            has_fault = true;
+        }
+    }
+    if has_fault {
         return push(text, FAULTED);
     }
     Ok(())
@@ -245,7 +239,6 @@ fn push_faulted(
         return Ok(false);
     }
     push(text, said)?;
-    push(text, ".\n")?;
     Ok(true)
 }
 
@@ -258,6 +251,23 @@ fn lead(count: u32) -> &'static str {
 fn fault_in(line: &str) -> Option<(&str, &str)> {
     line.strip_prefix("fault ")?.split_once(' ')
 }
+
+// The word of each fault in a report, and what is said of those that it ended.
+const FAULTS: [(&str, &str); 4] = [
+    (
+        "zero-divisor",
+        " ended by a division by 0 (`zero-divisor`).\n",
+    ),
+    (
+        "overflow",
+        " ended by a result out of range (`overflow`).\n",
+    ),
+    ("index", " ended by an index out of range (`index`).\n"),
+    (
+        "shift",
+        " ended by a shift by less than 0 or more than 63 (`shift`).\n",
+    ),
+];
 
 const FAULTED: &str = "\
 A process that has ended writes nothing more: its readers get what is unread, and then wait. With `--trace OUT`,

@@ -7,6 +7,7 @@ use Rattle.kpn_text_items.specs.declared.fault.ItemFault.TheVariants as item
 use Rattle.kpn_text_tokens.specs.declared.lexer.LexFault.{LexFault}
 use Rattle.kpn_text_tokens.specs.declared.tokens.Lexeme.{Lexeme}
 use Rattle.kpn_text_tokens.specs.Lexing.{lexemes_of}
+use Rattle.kpn_text_tokens.specs.Opening.{language_of}
 use Rattle.kpn_text.specs.declared.fault.TextFault.{TextFault}
 use Rattle.kpn_text.specs.Document.{Document}
 use Rattle.kpn_text.specs.Phases.{Refuses}
@@ -27,10 +28,14 @@ abbrev pub tokens_in : Result (List Lexeme) LexFault → List Lexeme
 tokens_in (Ok ls) = ls
 tokens_in (Err other) = []
 
+-- the tokens of a text in its language
+abbrev pub text_tokens : List ℕ → List Lexeme
+text_tokens bytes = tokens_in (lexemes_of (language_of bytes) bytes)
+
 -- an explanation of a fault of a text begins with the first place that the fault concerns
 abbrev pub Explains : (file bytes : List ℕ) → TextFault → (text : List ℕ) → Type 0
 Explains file bytes fault text =
-    (rest : List ℕ) × (text ≡ where_text file bytes (places_of bytes (tokens_in (lexemes_of bytes)) fault).first ++ rest)
+    (rest : List ℕ) × (text ≡ where_text file bytes (places_of bytes (text_tokens bytes) fault).first ++ rest)
 
 -- the text and the status for a file: the line of `kpn check`, 0, if it spells a network; else its fault explained, 1
 pub data IsExplained (may_give : Loads) (file : List ℕ) (text : List ℕ) (status : ℕ) : Type 0 where

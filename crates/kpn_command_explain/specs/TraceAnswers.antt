@@ -1,13 +1,13 @@
 -- What `kpn explain` comes to of a trace, and why it gives no answer. Of the texts about what is wrong the beginning is
 -- fixed here, which names the place; rows show their words.
-use Rattle.std.specs.Prelude.{◌≡◌, ℕ, ◌+◌, nat_eq, if◌then◌else◌, Bool, true, false, List, [], ◌++◌, Ok, Option, Some, codes, ⊤}
+use Rattle.std.specs.Prelude.{◌≡◌, ℕ, ◌+◌, nat_eq, if◌then◌else◌, Bool, true, false, List, [], ◌++◌, Ok, Option, Some, None, codes, ⊤}
 use Rattle.std.specs.List.{list_any, starts_with}
 use Rattle.std.specs.declared.alloc.Global.{Global}
 use Rattle.kpn_net.specs.declared.wait.Wait.{Wait}
 use Rattle.kpn_net.specs.Tables.{Tables}
 use Rattle.kpn_ring.specs.Told.{AreRings, are_some}
 use Rattle.kpn_run_history.specs.declared.event.How.{How}
-use Rattle.kpn_run_history.specs.declared.event.How.TheVariants.{Overflow, ZeroDivisor}
+use Rattle.kpn_run_history.specs.declared.event.How.TheVariants.{Done}
 use Rattle.kpn_run_history.specs.declared.stored.Trace.{Trace}
 use Rattle.kpn_trace.specs.declared.fault.TraceFault.{TraceFault}
 use Rattle.kpn_trace.specs.TraceText.{Spells, Refuses}
@@ -50,9 +50,9 @@ IsAuditedText d audit text =
 
 -- an end by a fault
 abbrev pub is_fault : Option How → Bool
-is_fault (Some Overflow) = true
-is_fault (Some ZeroDivisor) = true
-is_fault other = false
+is_fault (Some Done) = false
+is_fault (Some how) = true
+is_fault None = false
 
 -- a text is empty if no process has ended by a fault
 abbrev pub TellsFaults : List (Option How) → (text : List ℕ) → Type 0

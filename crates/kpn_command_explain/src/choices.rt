@@ -1,11 +1,11 @@
 //! What may stand at a place of a description: each word with which a reading of the text up to there gets further.
 
 use kpn_text_grammar::{GrammarFault, description};
-use kpn_text_tokens::{Keyword, LexFault, Mark, lexemes};
+use kpn_text_tokens::{Keyword, LexFault, Mark, language_of, lexemes};
 use std::alloc::{AllocError, Global};
 
 /// Adds all that may stand behind this text, with a space before each: any name, or else words of settings; any number;
-/// and each word and mark of the language.
+/// and each word and mark of its language.
 pub(crate) fn push_choices(
     alloc: Global,
     told: &mut Vec<u8>,
@@ -22,11 +22,16 @@ pub(crate) fn push_choices(
     if may_stand(alloc, front, b"0")? {
         told.extend_from_slice(b" NUMBER")?;
     }
+    let language = language_of(front);
     for word in &Keyword::ALL {
-        push_word(alloc, told, front, word.spelling())?;
+        if word.is_of(language) {
+            push_word(alloc, told, front, word.spelling())?;
+        }
     }
     for mark in &Mark::ALL {
-        push_word(alloc, told, front, mark.spelling())?;
+        if mark.is_of(language) {
+            push_word(alloc, told, front, mark.spelling())?;
+        }
     }
     Ok(())
 }
@@ -57,12 +62,13 @@ pub(crate) fn may_stand(alloc: Global, front: &[u8], word: &[u8]) -> Result<bool
 
 /// Whether a text is not refused at this byte.
 pub(crate) fn is_taken(alloc: Global, text: &[u8], at: usize) -> Result<bool, AllocError> {
-    let tokens = match lexemes(alloc, text) {
+    let language = language_of(text);
+    let tokens = match lexemes(alloc, language, text) {
         Ok(tokens) => tokens,
         Err(LexFault::NoMemory) => return Err(AllocError),
         Err(_) => return Ok(false),
     };
-    match description(alloc, tokens.as_slice(), text.len()) {
+    match description(alloc, language, tokens.as_slice(), text.len()) {
         Ok(_) => Ok(true),
         Err(GrammarFault::Grammar(place)) => Ok(place != at),
         Err(GrammarFault::TooDeep(_)) => Ok(false),

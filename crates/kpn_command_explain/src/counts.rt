@@ -11,8 +11,8 @@ pub fn count_of(alloc: Global, tokens: &[Lexeme<'_>], wanted: Spot) -> Result<us
     Ok(found.len())
 }
 
-/// How many nodes the process has whose name begins at this byte: its statements, and the numbers, names and operators
-/// of their expressions.
+/// How many nodes the process has whose name begins at this byte: its statements, and the numbers, names, operators and
+/// choices of their expressions.
 pub fn nodes_of(alloc: Global, tokens: &[Lexeme<'_>], at: usize) -> Result<usize, AllocError> {
     let end = process_end(alloc, tokens, at)?;
     let mut count = 0usize;
@@ -39,7 +39,8 @@ fn is_node(now: Spot, token: &Token<'_>) -> bool {
 fn is_operator(mark: Mark) -> bool {
     match mark {
         Mark::LeftParen | Mark::RightParen | Mark::LeftBrace | Mark::RightBrace => false,
-        Mark::Semicolon | Mark::Comma | Mark::Assign => false,
+        Mark::Semicolon | Mark::Comma | Mark::Assign | Mark::Colon => false,
+        Mark::LeftBracket | Mark::RightBracket => false,
         _ => true,
     }
 }

@@ -7,7 +7,7 @@ use kpn_command_base::push_number;
 use kpn_limits::{MAX_CHANNELS, MAX_NODES, MAX_PORTS, MAX_PROCESSES, MAX_VARIABLES};
 use kpn_text_grammar::{GrammarFault, description};
 use kpn_text_names::{NameFault, resolve};
-use kpn_text_tokens::Lexeme;
+use kpn_text_tokens::{Lexeme, language_of};
 use std::alloc::{AllocError, Global};
 
 /// How many ports and variables a process has.
@@ -33,7 +33,7 @@ pub(crate) fn process_excess<'a>(
     process: usize,
     at: usize,
 ) -> Result<Excess, AllocError> {
-    let sizes = sizes_of(alloc, tokens, text.len(), process)?;
+    let sizes = sizes_of(alloc, text, tokens, process)?;
     let excess = if sizes.vars > MAX_VARIABLES {
         excess(Part::Variables, sizes.vars, MAX_VARIABLES)
     } else if sizes.ins > MAX_PORTS {
@@ -53,11 +53,11 @@ fn excess(part: Part, count: usize, limit: usize) -> Excess {
 // The sizes of the process with this number; none, if the tokens spell no description whose names are right.
 fn sizes_of<'a>(
     alloc: Global,
+    text: &[u8],
     tokens: &'a [Lexeme<'a>],
-    end: usize,
     process: usize,
 ) -> Result<Sizes, AllocError> {
-    let tree = match description(alloc, tokens, end) {
+    let tree = match description(alloc, language_of(text), tokens, text.len()) {
         Ok(tree) => tree,
         Err(GrammarFault::NoMemory) => return Err(AllocError),
         Err(_) => return Ok(NO_SIZES),

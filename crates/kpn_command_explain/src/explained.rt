@@ -1,7 +1,6 @@
 //! The text that explains a fault of a description. Rows show its words; a clause says which places it concerns.
 ghost use Rattle.std.specs.Prelude.{◌≡◌, IfOk};
-ghost use Rattle.kpn_text_tokens.specs.Lexing.{lexemes_of};
-ghost use Rattle.kpn_command_explain.specs.Answers.{Explains, tokens_in};
+ghost use Rattle.kpn_command_explain.specs.Answers.{Explains, text_tokens};
 
 use crate::cases::case_of;
 use crate::choices::{may_stand, push_choices};
@@ -15,7 +14,7 @@ use crate::remedies::remedy;
 use crate::sentences::{Case, advice, is_named, other, said};
 use kpn_command_base::Refusal;
 use kpn_text::TextFault;
-use kpn_text_tokens::{LexFault, Lexeme, lexemes};
+use kpn_text_tokens::{LexFault, Lexeme, language_of, lexemes};
 use std::alloc::{AllocError, Global};
 
 /// The text for a fault of the text of a file. It begins with the first place that the fault concerns.
@@ -38,9 +37,9 @@ pub(crate) fn explanation_of(
 
 // The tokens of a text. There are none if one of them has a fault.
 fn tokens_of(alloc: Global, text: &[u8]) -> Result<Vec<Lexeme<'_>>, AllocError>
-    ensures { IfOk result (λ found. found.items ≡ tokens_in (lexemes_of text.now)) }
+    ensures { IfOk result (λ found. found.items ≡ text_tokens text.now) }
 {
-    match lexemes(alloc, text) {
+    match lexemes(alloc, language_of(text), text) {
         Ok(tokens) => Ok(tokens),
         Err(LexFault::NoMemory) => Err(AllocError),
         Err(_) => Ok(Vec::new(alloc)),

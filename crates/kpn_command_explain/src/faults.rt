@@ -39,8 +39,8 @@ fn is_fault(end: Option<How>) -> bool
     ensures { result ≡ is_fault end }
 {
     match end {
-        Some(How::Overflow | How::ZeroDivisor) => true,
-        _ => false,
+        None | Some(How::Done) => false,
+        Some(_) => true,
     }
 }
 

@@ -1,4 +1,4 @@
-//! Ways of writing that other languages have and this one has not.
+//! Ways of writing that other languages have and that of the text has not.
 
 use crate::choices::{is_taken, may_stand};
 use crate::lines::{back, front};
@@ -7,10 +7,10 @@ use crate::sentences::Case;
 use crate::spots::{Spot, spot_at, start_before};
 use crate::stands::{Stand, stand_of};
 use crate::words::is_fraction;
-use kpn_text_tokens::{LexFault, Lexeme, lexemes};
+use kpn_text_tokens::{Language, LexFault, Lexeme, language_of, lexemes};
 use std::alloc::{AllocError, Global};
 
-/// A way of writing that this language has not.
+/// A way of writing that the language of the text has not.
 #[derive(Clone, Copy)]
 pub(crate) enum Habit {
     /// An operator stands without parentheses.
@@ -51,6 +51,14 @@ pub(crate) enum Habit {
     Differs,
     /// `&` or `|`
     Bits,
+    /// `~`
+    Complement,
+    /// `?` in language 1.
+    Question,
+    /// A choice without parentheses, in language 2.
+    Choice,
+    /// `language` at the front, but not `language 2;`.
+    Opening,
     /// `true` or `false`
     Truth,
     /// `let`, `var` or `int` before a variable.
@@ -67,7 +75,7 @@ pub(crate) enum Habit {
     Power,
     /// `**`
     Stars,
-    /// `[` behind a name.
+    /// `[` behind a name, and what declares arrays and tables elsewhere.
     Place,
 }
 
@@ -81,7 +89,13 @@ pub(crate) fn habit_of(
 ) -> Result<Option<Habit>, AllocError> {
     let (last, here) = (back(text, start_before(tokens, at)), back(text, at));
     match case {
-        Case::Misplaced => Ok(habit_at(stand_of(alloc, text, tokens, at)?, last, here)),
+        Case::Misplaced => {
+            let stand = stand_of(alloc, text, tokens, at)?;
+            Ok(match language_of(text) {
+                Language::One => habit_at(stand, last, here),
+                Language::Two => habit_of_two(stand, last, here),
+            })
+        }
         Case::Reserved => Ok(reserved_habit(spot_at(tokens, at), last, here)),
         Case::NoToken if here.starts_with(b".") => point_habit(alloc, text, at),
         Case::NoToken if here.starts_with(b"^") || here.starts_with(b"[") => {
@@ -113,11 +127,43 @@ fn habit_at(stand: Stand, last: &[u8], here: &[u8]) -> Option<Habit> {
         Stand::BeforeCapacity if begins_comment(here) => Some(Habit::Comment),
         Stand::BeforeCapacity => Some(Habit::NoCapacity),
         Stand::Elsewhere if begins_comment(here) => Some(Habit::Comment),
+        Stand::Elsewhere if is_word(here, b"language") => Some(Habit::Opening),
         Stand::Elsewhere => habit_if(
             is_word(last, b"else") && is_word(here, b"if"),
             Habit::ElseIf,
         ),
     }
+}
+
+// The same in a text of language 2, which has shifts, operators on bits and choices.
+fn habit_of_two(stand: Stand, last: &[u8], here: &[u8]) -> Option<Habit> {
+    match stand {
+        Stand::Statement if is_word(here, b"array") || is_word(here, b"table") => {
+            Some(Habit::Place)
+        }
+        Stand::Assigning | Stand::FirstSide | Stand::Whole if here.starts_with(b"[") => {
+            Some(Habit::Place)
+        }
+        Stand::Assigning if begins_any(here, &[b"<<=", b">>=", b"&=", b"|=", b"^="]) => {
+            Some(Habit::Changes)
+        }
+        Stand::Assigning if begins_shift(here) => None,
+        Stand::Whole if here.starts_with(b"?") => Some(Habit::Choice),
+        Stand::Whole if is_operator_of_two(here) => Some(Habit::Sides),
+        Stand::Operand if begins_shift(last) => None,
+        _ => habit_at(stand, last, here),
+    }
+}
+
+fn begins_shift(text: &[u8]) -> bool {
+    begins_any(text, &[b"<<", b">>"])
+}
+
+// An operator that language 2 alone has: no comment and no assignment begins so.
+fn is_operator_of_two(text: &[u8]) -> bool {
+    begins_shift(text)
+        || text.starts_with(b"^")
+        || (begins_any(text, &[b"&", b"|"]) && !begins_any(text, &[b"&&", b"||"]))
 }
 
 // Whether the first word of a text is this one.
@@ -259,7 +305,7 @@ fn reserved_habit(spot: Spot, last: &[u8], here: &[u8]) -> Option<Habit> {
 // A point: the last token before it may be a number, if one may stand there. Behind `for NAME in NUMBER` two of them
 // begin a range.
 fn point_habit(alloc: Global, text: &[u8], at: usize) -> Result<Option<Habit>, AllocError> {
-    let tokens = match lexemes(alloc, front(text, at)) {
+    let tokens = match lexemes(alloc, language_of(text), front(text, at)) {
         Ok(tokens) => tokens,
         Err(LexFault::NoMemory) => return Err(AllocError),
         Err(_) => return Ok(None),
@@ -307,7 +353,7 @@ fn ends_operand(alloc: Global, text: &[u8]) -> Result<bool, AllocError> {
     if may_stand(alloc, text, b"*")? {
         return Ok(true);
     }
-    let last = match lexemes(alloc, text) {
+    let last = match lexemes(alloc, language_of(text), text) {
         Ok(tokens) => start_before(tokens.as_slice(), text.len()),
         Err(LexFault::NoMemory) => return Err(AllocError),
         Err(_) => return Ok(false),
@@ -324,6 +370,10 @@ fn byte_habit(alloc: Global, front: &[u8], here: &[u8]) -> Result<Option<Habit>,
         Ok(habit_if(may_stand(alloc, front, b"=")?, Habit::Becomes))
     } else if begins_any(here, &[b"&", b"|"]) {
         Ok(habit_if(may_stand(alloc, front, b"&&")?, Habit::Bits))
+    } else if here.starts_with(b"~") {
+        Ok(habit_if(may_stand(alloc, front, b"!")?, Habit::Complement))
+    } else if here.starts_with(b"?") {
+        Ok(habit_if(ends_operand(alloc, front)?, Habit::Question))
     } else {
         Ok(None)
     }

@@ -8,8 +8,10 @@ pub(crate) fn remedy(habit: Habit) -> &'static [u8] {
         Habit::Sides => b"Put parentheses around each operator with two sides: `((x + y) + 1)`.",
         Habit::Parentheses =>
             b"Leave these parentheses out: they stand only around an operator with two sides, as in `(x + 1)`.",
-        Habit::ShiftRight => b"There is no shift: divide by a power of two, as in `(x / 4)`.",
-        Habit::ShiftLeft => b"There is no shift: multiply by a power of two, as in `(x * 4)`.",
+        Habit::ShiftRight =>
+            b"There is no shift: divide by a power of two, as in `(x / 4)`, or begin the text with `language 2;`.",
+        Habit::ShiftLeft =>
+            b"There is no shift: multiply by a power of two, as in `(x * 4)`, or begin the text with `language 2;`.",
         Habit::Comment => b"A comment begins with `#` and ends with its line.",
         Habit::Slashes =>
             b"A comment begins with `#` and ends with its line. A quotient is written `(x / 2)`.",
@@ -25,7 +27,15 @@ pub(crate) fn remedy(habit: Habit) -> &'static [u8] {
         Habit::Or => b"Write `||` for or, between parentheses: `(x || y)`.",
         Habit::Not => b"Write `!` for not: `!x`.",
         Habit::Differs => b"Write `!=` in place of `<>`.",
-        Habit::Bits => b"There are no operators on bits: `&&` is and, `||` is or.",
+        Habit::Bits =>
+            b"There are no operators on bits: `&&` is and, `||` is or, or begin the text with `language 2;`.",
+        Habit::Complement =>
+            b"There is no `~`: write `(-x - 1)` in place of `~x`, or begin the text with `language 2;`.",
+        Habit::Question =>
+            b"There is no `?`: use `if` and `else`, or begin the text with `language 2;`.",
+        Habit::Choice => b"Put parentheses around a choice: `(x ? 1 : 0)`.",
+        Habit::Opening =>
+            b"There are languages 1 and 2: a text of language 2 begins with `language 2;`, the other without.",
         Habit::Truth => b"Write 1 for true and 0 for false.",
         Habit::Declares =>
             b"The first assignment makes a variable: `x = 0;`, with no word before it.",

@@ -36,8 +36,8 @@ AreSinkEnds b ends = AllZip (IsSinkEnd b) (end_numbers is_sink b.tables) ends
 
 -- a process ended by a fault
 abbrev pub is_fault : State → Bool
-is_fault (state.Ended how.Overflow) = true
-is_fault (state.Ended how.ZeroDivisor) = true
+is_fault (state.Ended how.Done) = false
+is_fault (state.Ended end) = true
 is_fault other = false
 
 abbrev pub has_fault : List State → Bool

@@ -91,7 +91,8 @@ fn is_fault(state: State) -> bool
     ensures { result ≡ is_fault state }
 {
     match state {
-        State::Ended(How::Overflow | How::ZeroDivisor) => true,
+        State::Ended(How::Done) => false,
+        State::Ended(_) => true,
         _ => false,
     }
 }

@@ -4,7 +4,7 @@ ghost use Rattle.kpn_command_base.specs.Added.{Adds};
 ghost use Rattle.kpn_commands.specs.AloneText.{alone_text, fault_text};
 
 use kpn_command_base::{Pushed, push_faulted};
-use kpn_lang::{Fault, Said};
+use kpn_lang::Said;
 use kpn_run_history::How;
 use kpn_step::AloneStop;
 use std::alloc::{AllocError, Global};
@@ -36,8 +36,7 @@ fn push_fault(text: &mut String, name: &str, stop: AloneStop) -> Pushed
     ensures { Adds result text.old text.new (fault_text name.now stop) }
 {
     match stop {
-        AloneStop::Faulted(Fault::Overflow) => push_faulted(text, name, How::Overflow),
-        AloneStop::Faulted(Fault::ZeroDivisor) => push_faulted(text, name, How::ZeroDivisor),
+        AloneStop::Faulted(fault) => push_faulted(text, name, How::from(fault)),
         _ => Ok(()),
     }
 }

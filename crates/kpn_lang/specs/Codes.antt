@@ -6,14 +6,15 @@ use base.Stored.{Gv, gnil, gnum, gcons}
 use mathlib.Core.Path.{sym, ◌∙◌, ap}
 use mathlib.Core.Logic.{inl, inr}
 use Rattle.kpn_lang.specs.declared.syntax.Op.{Op}
-use Rattle.kpn_lang.specs.declared.syntax.Op.TheVariants.{Add, Sub, Mul, Div, Rem, Lt, Le, Gt, Ge, Eq, Ne, And, Or}
-use Rattle.kpn_lang.specs.Syntax.{Term, Num, Var, Neg, Not, Bin, Statement, Assign, Read, Write, If, While}
+use Rattle.kpn_lang.specs.declared.syntax.Op.TheVariants.{Add, Sub, Mul, Div, Rem, Lt, Le, Gt, Ge, Eq, Ne, And, Or, BitAnd, BitOr, BitXor, Shl, Shr}
+use Rattle.kpn_lang.specs.Syntax.{Term, Num, Var, Neg, Not, BitNot, Bin, Choice, Statement, Assign, Read, Write, If, While}
 use Rattle.kpn_lang.specs.Parts.{Parts}
 
 -- ---- operators, by their places in one list
 
 abbrev operators : List Op
-operators = Add ∷ Sub ∷ Mul ∷ Div ∷ Rem ∷ Lt ∷ Le ∷ Gt ∷ Ge ∷ Eq ∷ Ne ∷ And ∷ Or ∷ []
+operators =
+    Add ∷ Sub ∷ Mul ∷ Div ∷ Rem ∷ Lt ∷ Le ∷ Gt ∷ Ge ∷ Eq ∷ Ne ∷ And ∷ Or ∷ BitAnd ∷ BitOr ∷ BitXor ∷ Shl ∷ Shr ∷ []
 
 abbrev place_of : Op → ℕ
 place_of Add = 0
@@ -29,6 +30,11 @@ place_of Eq = 9
 place_of Ne = 10
 place_of And = 11
 place_of Or = 12
+place_of BitAnd = 13
+place_of BitOr = 14
+place_of BitXor = 15
+place_of Shl = 16
+place_of Shr = 17
 
 abbrev operator_at : ℕ → Op
 operator_at n = slice_index_or operators n Or
@@ -47,32 +53,43 @@ operator_at-place_of Eq = refl
 operator_at-place_of Ne = refl
 operator_at-place_of And = refl
 operator_at-place_of Or = refl
+operator_at-place_of BitAnd = refl
+operator_at-place_of BitOr = refl
+operator_at-place_of BitXor = refl
+operator_at-place_of Shl = refl
+operator_at-place_of Shr = refl
 
--- ---- terms: each is stored as a kind, a number and two trees
+-- ---- terms: each is stored as a kind, a number and three trees
 
-abbrev stored : (kind number : ℕ) → (left right : Gv) → Gv
-stored kind number left right = gcons (gnum kind) (gcons (gnum number) (gcons left right))
+abbrev stored : (kind number : ℕ) → (first second third : Gv) → Gv
+stored kind number first second third =
+    gcons (gnum kind) (gcons (gnum number) (gcons first (gcons second third)))
 
 abbrev code_of : Term → Gv
-code_of (Num (pos n)) = stored 0 n gnil gnil
-code_of (Num (negsuc n)) = stored 1 n gnil gnil
-code_of (Var x) = stored 2 x gnil gnil
-code_of (Neg e) = stored 3 0 (code_of e) gnil
-code_of (Not e) = stored 4 0 (code_of e) gnil
-code_of (Bin op a b) = stored 5 (place_of op) (code_of a) (code_of b)
+code_of (Num (pos n)) = stored 0 n gnil gnil gnil
+code_of (Num (negsuc n)) = stored 1 n gnil gnil gnil
+code_of (Var x) = stored 2 x gnil gnil gnil
+code_of (Neg e) = stored 3 0 (code_of e) gnil gnil
+code_of (Not e) = stored 4 0 (code_of e) gnil gnil
+code_of (BitNot e) = stored 5 0 (code_of e) gnil gnil
+code_of (Bin op a b) = stored 6 (place_of op) (code_of a) (code_of b) gnil
+code_of (Choice c a b) = stored 7 0 (code_of c) (code_of a) (code_of b)
 
 -- the term of a kind
-abbrev of_kind : (kind number : ℕ) → (left right : Term) → Term
-of_kind zero n a b = Num (pos n)
-of_kind (suc zero) n a b = Num (negsuc n)
-of_kind (suc (suc zero)) n a b = Var n
-of_kind (suc (suc (suc zero))) n a b = Neg a
-of_kind (suc (suc (suc (suc zero)))) n a b = Not a
-of_kind (suc (suc (suc (suc (suc kind))))) n a b = Bin (operator_at n) a b
+abbrev of_kind : (kind number : ℕ) → (first second third : Term) → Term
+of_kind zero n a b c = Num (pos n)
+of_kind (suc zero) n a b c = Num (negsuc n)
+of_kind (suc (suc zero)) n a b c = Var n
+of_kind (suc (suc (suc zero))) n a b c = Neg a
+of_kind (suc (suc (suc (suc zero)))) n a b c = Not a
+of_kind (suc (suc (suc (suc (suc zero))))) n a b c = BitNot a
+of_kind (suc (suc (suc (suc (suc (suc zero)))))) n a b c = Bin (operator_at n) a b
+of_kind (suc (suc (suc (suc (suc (suc (suc kind))))))) n a b c = Choice a b c
 
 -- the term that is stored so; a value that stores no term stands for an arbitrary one
 abbrev term_at : Gv → Term
-term_at (gcons (gnum kind) (gcons (gnum n) (gcons left right))) = of_kind kind n (term_at left) (term_at right)
+term_at (gcons (gnum kind) (gcons (gnum n) (gcons first (gcons second third)))) =
+    of_kind kind n (term_at first) (term_at second) (term_at third)
 term_at _ = Var 0
 
 pub term_at-code_of : (e : Term) → term_at (code_of e) ≡ e
@@ -81,7 +98,9 @@ term_at-code_of (Num (negsuc n)) = refl
 term_at-code_of (Var x) = refl
 term_at-code_of (Neg e) = ap Neg (term_at-code_of e)
 term_at-code_of (Not e) = ap Not (term_at-code_of e)
+term_at-code_of (BitNot e) = ap BitNot (term_at-code_of e)
 term_at-code_of (Bin op a b) = λ i. Bin (operator_at-place_of op i) (term_at-code_of a i) (term_at-code_of b i)
+term_at-code_of (Choice c a b) = λ i. Choice (term_at-code_of c i) (term_at-code_of a i) (term_at-code_of b i)
 
 abbrev pub term_code : Coded Term
 term_code = record { code = code_of; inj = λ x y p. sym (term_at-code_of x) ∙ ap term_at p ∙ term_at-code_of y }

@@ -5,7 +5,7 @@ use Rattle.std.specs.Cmp.Lexicographic.{pointwise}
 use Rattle.kpn_limits.specs.declared.TheConstants.{MAX_VARIABLES, MAX_PORTS, MAX_NODES, MAX_LEVELS}
 use Rattle.kpn_lang.specs.declared.program.ProgramFault.{ProgramFault}
 use Rattle.kpn_lang.specs.declared.program.ProgramFault.TheVariants.{TooMany, NoSuchBlock, BlockOrder, NoSuchVar, NoSuchPort, TooDeep}
-use Rattle.kpn_lang.specs.Syntax.{Term, Num, Var, Neg, Not, Bin, Statement, Assign, Read, Write, If, While, names_below}
+use Rattle.kpn_lang.specs.Syntax.{Term, Num, Var, Neg, Not, BitNot, Bin, Choice, Statement, Assign, Read, Write, If, While, names_below}
 use Rattle.kpn_lang.specs.Tree.{block_at}
 
 -- in ports, out ports, parameters, variables with the parameters first, and the blocks with the body first
@@ -38,13 +38,15 @@ children blocks b = flat_map inner_blocks (block_at blocks b)
 
 -- ---- 1: a limit is passed: of the variables, of the ports each way, of the nodes
 
--- the nodes of an expression: each number, name and operator is one
+-- the nodes of an expression: each number, name, operator and choice is one
 abbrev pub nodes : Term → ℕ
 nodes (Num z) = 1
 nodes (Var x) = 1
 nodes (Neg e) = nodes e + 1
 nodes (Not e) = nodes e + 1
+nodes (BitNot e) = nodes e + 1
 nodes (Bin op a b) = nodes a + nodes b + 1
+nodes (Choice c a b) = nodes c + nodes a + nodes b + 1
 
 -- a statement is a node beside those of its expressions
 abbrev pub statement_nodes : Statement → ℕ
@@ -95,13 +97,15 @@ names_ports_below ins outs (While e b) = true
 
 -- ---- 6: blocks or expressions nest too deep
 
--- a number or a name is at level 1, an operator one above its operands
+-- a number or a name is at level 1, an operator or a choice one above its parts
 abbrev pub depth : Term → ℕ
 depth (Num z) = 1
 depth (Var x) = 1
 depth (Neg e) = depth e + 1
 depth (Not e) = depth e + 1
+depth (BitNot e) = depth e + 1
 depth (Bin op a b) = max (depth a) (depth b) + 1
+depth (Choice c a b) = max (depth c) (max (depth a) (depth b)) + 1
 
 -- a block and the blocks inside it go down at most this many levels
 abbrev pub is_within : List (List Statement) → ℕ → ℕ → Bool

@@ -13,7 +13,9 @@ pub data Term : Type 0 where
   Var : ℕ → Term
   Neg : Term → Term
   Not : Term → Term
+  BitNot : Term → Term
   Bin : Op → Term → Term → Term
+  Choice : (test first second : Term) → Term
 
 -- a statement, which names the blocks inside it by number
 pub data Statement : Type 0 where
@@ -29,7 +31,9 @@ term_of (expr.Num z) = Num z
 term_of (expr.Var x) = Var x
 term_of (expr.Neg' p e) = Neg (term_of e)
 term_of (expr.Not' p e) = Not (term_of e)
+term_of (expr.BitNot' p e) = BitNot (term_of e)
 term_of (expr.Bin' op p a q b) = Bin op (term_of a) (term_of b)
+term_of (expr.Choice' p c q a r b) = Choice (term_of c) (term_of a) (term_of b)
 
 -- the statement that the code holds
 abbrev pub statement_of : Stmt → Statement
@@ -45,4 +49,6 @@ names_below n (Num z) = true
 names_below n (Var x) = nat_lt x n
 names_below n (Neg e) = names_below n e
 names_below n (Not e) = names_below n e
+names_below n (BitNot e) = names_below n e
 names_below n (Bin op a b) = names_below n a && names_below n b
+names_below n (Choice c a b) = names_below n c && names_below n a && names_below n b

@@ -16,6 +16,11 @@ pub enum Op {
     Ne,
     And,
     Or,
+    BitAnd,
+    BitOr,
+    BitXor,
+    Shl,
+    Shr,
 }
 
 /// An expression over the variables of a process, which it names by number.
@@ -29,8 +34,12 @@ pub enum Expr {
     Neg(Box<Expr>),
     /// 1 if the operand is 0, else 0.
     Not(Box<Expr>),
+    /// The number with all its bits turned.
+    BitNot(Box<Expr>),
     /// An operator between its left and its right side.
     Bin(Op, Box<Expr>, Box<Expr>),
+    /// The second expression if the first is not 0, else the third.
+    Choice(Box<Expr>, Box<Expr>, Box<Expr>),
 }
 
 /// The number of a block of statements in its program. Block 0 is the body of the process.

@@ -1,8 +1,8 @@
 //! The value of an expression.
-ghost use Rattle.std.specs.Prelude.{◌≡◌, length, IsTrue};
-ghost use Rattle.kpn_lang.specs.declared.syntax.Op.TheVariants.{Add, Sub, Mul, Div, Rem};
+ghost use Rattle.std.specs.Prelude.{◌≡◌, ◌<◌, ◌^◌, ◌*ℤ◌, ◌-ℤ◌, neg_ℤ, pos, false, length, IfNone, IfSome, IsTrue};
+ghost use Rattle.kpn_lang.specs.declared.syntax.Op.TheVariants.{Add, Sub, Mul, Div, Rem, Shl, Shr};
 ghost use Rattle.kpn_lang.specs.Syntax.{term_of, names_below};
-ghost use Rattle.kpn_lang.specs.Value.{value, result_of, truth_of};
+ghost use Rattle.kpn_lang.specs.Value.{value, in_range, is_count, result_of, truth_of};
 
 use crate::syntax::{Expr, Op};
 
@@ -13,6 +13,10 @@ pub enum Fault {
     Overflow,
     /// A division or a remainder by 0.
     ZeroDivisor,
+    /// An element that is not there.
+    Index,
+    /// A count of a shift that is below 0 or above 63.
+    Shift,
 }
 
 #[inline(always)]
@@ -63,6 +67,64 @@ pub(crate) fn remainder(left: i64, right: i64) -> Result<i64, Fault>
     left.checked_rem(right).ok_or(Fault::Overflow)
 }
 
+/// The number with all its bits turned.
+#[inline(always)]
+pub(crate) fn complement(value: i64) -> i64
+    ensures { result ≡ neg_ℤ value -ℤ pos 1 }
+{
+    !value
+}
+
+/// The product with a power of 2.
+pub(crate) fn shifted_left(left: i64, count: i64) -> Result<i64, Fault>
+    ensures { result ≡ result_of Shl left count }
+{
+    match count_of(count) {
+        Some(63) => most_shifted(left),
+        Some(count) => product(left, power_of_two(count)),
+        None => Err(Fault::Shift),
+    }
+}
+
+/// The quotient by a power of 2, rounded down.
+pub(crate) fn shifted_right(left: i64, count: i64) -> Result<i64, Fault>
+    ensures { result ≡ result_of Shr left count }
+{
+    match count_of(count) {
+        Some(count) => Ok(left >> count),
+        None => Err(Fault::Shift),
+    }
+}
+
+/// The count of a shift that a number is, if it is one.
+fn count_of(number: i64) -> Option<u32>
+    ensures some { IfSome result (λ count. (number ≡ pos count) × (count < 64)) }
+    ensures none { IfNone result (is_count number ≡ false) }
+{
+    match u32::try_from(number) {
+        Ok(count) if count < 64 => Some(count),
+        _ => None,
+    }
+}
+
+// 2^63 is out of range itself.
+fn most_shifted(left: i64) -> Result<i64, Fault>
+    ensures { result ≡ in_range (left *ℤ pos (2 ^ 63)) }
+{
+    match left {
+        0 => Ok(0),
+        -1 => Ok(i64::MIN),
+        _ => Err(Fault::Overflow),
+    }
+}
+
+fn power_of_two(exponent: u32) -> i64
+    requires { exponent < 63 }
+    ensures { result ≡ pos (2 ^ exponent) }
+{
+    1 << exponent
+}
+
 #[inline(always)]
 pub(crate) fn apply(op: Op, left: i64, right: i64) -> Result<i64, Fault>
     ensures { result ≡ result_of op left right }
@@ -81,11 +143,17 @@ pub(crate) fn apply(op: Op, left: i64, right: i64) -> Result<i64, Fault>
         Op::Ne => Ok(truth(left != right)),
         Op::And => Ok(truth(left != 0 && right != 0)),
         Op::Or => Ok(truth(left != 0 || right != 0)),
+        Op::BitAnd => Ok(left & right),
+        Op::BitOr => Ok(left | right),
+        Op::BitXor => Ok(left ^ right),
+        Op::Shl => shifted_left(left, right),
+        Op::Shr => shifted_right(left, right),
     }
 }
 
 /// The value of an expression if the variables have these values. The left side comes first, and the first fault is the
-/// fault; `&&` and `||` leave out a right side that cannot matter.
+/// fault; `&&` and `||` leave out a right side that cannot matter, and
+/// a choice the expression that it does not choose.
 pub fn eval(expr: &Expr, variables: &[i64]) -> Result<i64, Fault>
     requires { IsTrue (names_below (length variables.now) (term_of expr.now)) }
     ensures { result ≡ value (term_of expr.now) variables.now }
@@ -97,12 +165,20 @@ pub fn eval(expr: &Expr, variables: &[i64]) -> Result<i64, Fault>
             .checked_neg()
             .ok_or(Fault::Overflow),
         Expr::Not(operand) => Ok(truth(eval(operand, variables)? == 0)),
+        Expr::BitNot(operand) => Ok(complement(eval(operand, variables)?)),
         Expr::Bin(op, left, right) => {
             let left = eval(left, variables)?;
             match op {
                 Op::And if left == 0 => Ok(0),
                 Op::Or if left != 0 => Ok(1),
                 _ => apply(*op, left, eval(right, variables)?),
+            }
+        }
+        Expr::Choice(test, first, second) => {
+            if eval(test, variables)? != 0 {
+                eval(first, variables)
+            } else {
+                eval(second, variables)
             }
         }
     }

@@ -1,3 +1,7 @@
 pub mod Batches
+pub mod Comparing
+pub mod Joined
 pub mod Numbers
+pub mod OnTheWay
+pub mod Playing
 pub mod Turns

@@ -1,3 +1,5 @@
 pub mod Local
 pub mod Batch
 pub mod Turn
+pub mod Joining
+pub mod Agreeing

@@ -1,7 +1,7 @@
 //! A batch of a region.
 ghost use Rattle.std.specs.Prelude.{◌≡◌, ℕ, ◌<◌, ◌≤◌, length, IsTrue, IfOk, OnErr, Some, None, true, false, is_ok, if◌then◌else◌, replicate, slice_index_or};
-ghost use Rattle.kpn_net.specs.Tables.{instance_at, program_of};
-ghost use Rattle.kpn_step.specs.Frame.{fits, start_frame};
+ghost use Rattle.kpn_net.specs.Tables.{program_of};
+ghost use Rattle.kpn_step.specs.Frame.{fits};
 ghost use Rattle.kpn_run_configuration.specs.Configuration.{no_frame};
 ghost use Rattle.kpn_region.specs.Local.{claimed_with, no_side, is_within, frame_at, side_at, with_side};
 ghost use Rattle.kpn_region.specs.Batch.{stop_of, IsBatch, IsFresh, IsEmpty, with_process, RunsOn};
@@ -10,6 +10,7 @@ use crate::ready::Ready;
 use crate::side::Side;
 use crate::traffic::{Halt, Traffic};
 use kpn_net::Network;
+use kpn_run_configuration::frames_at_start;
 use kpn_run_history::Event;
 use kpn_step::{Frame, Stop};
 use std::alloc::{AllocError, Allocator, Global};
@@ -195,6 +196,13 @@ impl<'n, A: Allocator> Batch<'n, A> {
         &self.traffic.sides[c]
     }
 
+    /// The network of which it is a region.
+    pub(crate) fn network(&self) -> &'n Network
+        ensures { result.now ≡ self.now.tables }
+    {
+        self.network
+    }
+
     /// Does nothing. A caller's proof learns from it what holds of every batch.
     pub fn known(&self)
         ensures { IsBatch self.now }
@@ -278,23 +286,6 @@ fn no_stops<A: Allocator>(alloc: A, network: &Network) -> Result<Vec<Option<Stop
     ensures { IfOk result (λ stops. stops.items ≡ replicate (length network.now.instances) None) }
 {
     vec![in alloc; None; network.instances()]
-}
-
-/// The frames of the processes of a network at their starts.
-fn frames_at_start<A: Allocator>(alloc: A, network: &Network) -> Result<Vec<Frame, A>, AllocError>
-    ensures len { IfOk result (λ frames. length frames.items ≡ length network.now.instances) }
-    ensures each { IfOk result (λ frames. (p : ℕ) → p < length network.now.instances
-        → slice_index_or frames.items p no_frame
-        ≡ start_frame (program_of network.now p) (instance_at network.now p).pars) }
-    ensures fit { IfOk result (λ frames. (p : ℕ) → p < length network.now.instances
-        → IsTrue (fits (program_of network.now p) (slice_index_or frames.items p no_frame))) }
-{
-    network.known();
-    let mut frames = Vec::with_capacity(alloc, network.instances())?;
-    for p in 0..network.instances() {
-        frames.push(Frame::start(network.program(p), network.pars(p)))?;
-    }
-    Ok(frames)
 }
 
 /// For each channel of a network one of which the region sees nothing.

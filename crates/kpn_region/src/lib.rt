@@ -2,7 +2,9 @@
 //! lock, no waits and no wakes, and hands back the events that they made.
 #![tactic(auto)]
 
+mod agreeing;
 mod batch;
+pub mod laws;
 mod ready;
 mod side;
 mod traffic;

@@ -1,5 +1,5 @@
 //! A channel, as far as a region sees it.
-ghost use Rattle.std.specs.Prelude.{◌≡◌, ◌<◌, ◌++◌, true, length, IsTrue, OnErr, is_ok, if◌then◌else◌, IfSome, IfNone};
+ghost use Rattle.std.specs.Prelude.{◌≡◌, ◌<◌, ◌≤◌, ◌++◌, true, length, IsTrue, OnErr, is_ok, if◌then◌else◌, IfSome, IfNone};
 ghost use Rattle.kpn_region.specs.Local.{claimed_with, no_side, untaken, next_of, with_next_taken, with_item, as_claimed};
 
 use std::alloc::{AllocError, Allocator, Global};
@@ -17,6 +17,8 @@ pub struct Side<A: Allocator = Global> {
     taken: usize,
     room: u64,
     drains: bool,
+    // the most items that were there and not taken when the region had put one
+    most: usize,
     // the process that can't go on because of this channel
     stuck: u16,
 }
@@ -33,6 +35,7 @@ impl<A: Allocator> Model for Side<A> {
       taken = s.taken;
       room = s.room;
       is_drained = s.drains;
+      most = s.most;
     } };
 
     ghost invariant = { λ s. (s.claimed ≤ length s.items.items) × (s.taken ≤ length s.items.items) };
@@ -49,6 +52,7 @@ impl<A: Allocator> Side<A> {
             taken: 0,
             room: 0,
             drains: false,
+            most: 0,
             stuck: NOBODY,
         }
     }
@@ -62,6 +66,7 @@ impl<A: Allocator> Side<A> {
         self.taken = 0;
         self.room = 0;
         self.drains = false;
+        self.most = 0;
         self.stuck = NOBODY;
     }
 
@@ -114,6 +119,13 @@ impl<A: Allocator> Side<A> {
         self.drains
     }
 
+    /// Does nothing. A caller's proof learns from it what holds of every side.
+    pub(crate) fn known(&self)
+        ensures { self.now.claimed ≤ length self.now.items }
+    {
+        let _ = &self.items;
+    }
+
     /// Takes the next item. If there is none, it returns `None` and the channel stays as it was.
     #[inline(always)]
     pub(crate) fn get(&mut self) -> Option<i64>
@@ -141,6 +153,7 @@ impl<A: Allocator> Side<A> {
         ensures claimed { as_claimed self.new ≡ as_claimed self.old }
     {
         self.items.push(item)?;
+        self.most = self.most.max(self.items.len() - self.taken);
         Ok(())
     }
 

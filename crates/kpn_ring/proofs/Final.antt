@@ -2,7 +2,7 @@
 -- member waits on, since the next member writes it.
 use Rattle.std.specs.Prelude.{Contains}
 use Rattle.std.proofs.Common.{◌≡◌, ◌⊎◌, ℕ, true, false, cond, eqb, eq-eqb, List, [], ◌∷◌, ◌++◌, Some, refl, sym, ap, ◌∙◌, subst, inl, inr, append_assoc}
-use Rattle.std.proofs.lemmas.Bool.{both_ways, false_from_ne_true, false≢true, eqb-true}
+use Rattle.std.proofs.lemmas.Bool.{both_ways, false_from_ne_true, eqb-true}
 use Rattle.kpn_lang.proofs.Prefixes.{IsPrefix-append}
 use Rattle.kpn_net.specs.declared.wait.Wait.{Wait}
 use Rattle.kpn_net.specs.declared.wait.Wait.TheVariants.{Nobody, Empty}
@@ -14,30 +14,18 @@ use Rattle.kpn_net.specs.Waits.{wait_at, process_at, awaited, WaitsFor, WaitInTu
 use Rattle.kpn_net.proofs.Networks.{writer_of-source, writer_of-Writes}
 use Rattle.kpn_net.proofs.Cycles.{Contains-first, Contains-later, Contains-cases, Contains-none, cycle_below}
 use Rattle.kpn_run_history.specs.declared.event.Event.{Event}
-use Rattle.kpn_run_history.specs.declared.event.Event.TheVariants.{Get, Put, WaitEmpty, WaitFull, Ended, Feed}
+use Rattle.kpn_run_history.specs.declared.event.Event.TheVariants.{Put, Feed}
 use Rattle.kpn_run_history.specs.Talks.{is_of}
 use Rattle.kpn_run_history.specs.Waiting.{wait_of, waits_of}
 use Rattle.kpn_run_history.specs.WaitsAfter.{wait_made}
 use Rattle.kpn_run_history.specs.Waking.{wakes_reader, wait_then}
-use Rattle.kpn_run_history.specs.Legal.{CanGo, Legal}
+use Rattle.kpn_run_history.specs.Legal.{Legal}
 use Rattle.kpn_run_history.specs.Complete.{PutsNoMore, IsFinished}
-use Rattle.kpn_run_history.proofs.Legality.{Legal-last, Legal-prefix, onward}
+use Rattle.kpn_run_history.proofs.Legality.{can_go, Legal-last, Legal-prefix, onward}
 use Rattle.kpn_run_history.proofs.Ownership.{Owns-last}
 use Rattle.kpn_run_history.proofs.EarlierWaits.{wait_at-waits_of}
 use Rattle.kpn_run_history.proofs.Waking.{wait_of-then}
 use Rattle.kpn_ring.specs.Ring.{IsRing}
-
--- a process that makes an event can go on before it
-can_go : (t : Tables) (B : List Event) (e : Event) → Legal t (B ++ e ∷ []) → (p : ℕ) → is_of p e ≡ true → CanGo t B p
-can_go t B (Get q c v) legal p is = subst (CanGo t B) (eqb-true q p is) (Legal-last t B (Get q c v) legal).due
-can_go t B (Put q c v) legal p is = subst (CanGo t B) (eqb-true q p is) (Legal-last t B (Put q c v) legal).due
-can_go t B (WaitEmpty q c) legal p is =
-    subst (CanGo t B) (eqb-true q p is) (Legal-last t B (WaitEmpty q c) legal).due.0
-can_go t B (WaitFull q c) legal p is =
-    subst (CanGo t B) (eqb-true q p is) (Legal-last t B (WaitFull q c) legal).due.0
-can_go t B (Ended q how) legal p is =
-    subst (CanGo t B) (eqb-true q p is) (Legal-last t B (Ended q how) legal).due.0
-can_go t B event legal p is = absurd (false≢true is)
 
 -- ---- the next member
 

@@ -5,7 +5,8 @@ use Rattle.std.proofs.lemmas.List.{get_or-map}
 use Rattle.kpn_lang.specs.declared.talk.Said.TheVariants as said
 use Rattle.kpn_lang.specs.declared.talk.Ending.{Ending}
 use Rattle.kpn_lang.specs.declared.talk.Ending.TheVariants as ending
-use Rattle.kpn_lang.specs.declared.value.Fault.TheVariants as fault
+use Rattle.kpn_lang.specs.declared.value.Fault.{Fault}
+use Rattle.kpn_lang.specs.declared.value.Fault.TheVariants.{Overflow, ZeroDivisor, Index, Shift}
 use Rattle.kpn_net.specs.Tables.{Tables, channel_at, is_source, is_sink, instance_at}
 use Rattle.kpn_net.specs.Faults.{IsNetwork}
 use Rattle.kpn_net.specs.Process.{CanSay, ComesTo, ends_at_channel}
@@ -17,20 +18,37 @@ use Rattle.kpn_chan.specs.Channel as chan
 use Rattle.kpn_chan.specs.Channel.{ChannelState, unread, next_item}
 use Rattle.kpn_chan.proofs.Reading.{given, drop-given}
 use Rattle.kpn_run_history.specs.declared.event.How.{How}
-use Rattle.kpn_run_history.specs.declared.event.How.TheVariants as how
 use Rattle.kpn_run_history.specs.declared.event.Event.{Event}
 use Rattle.kpn_run_history.specs.declared.event.Event.TheVariants.{Get, Put, WaitEmpty, WaitFull, Ended, Feed, Close, Take, Leave, Grow}
-use Rattle.kpn_run_history.specs.Talks.{talk_of, has_ended}
+use Rattle.kpn_run_history.specs.Talks.{talk_of, how_of, has_ended}
 use Rattle.kpn_run_history.specs.Channels.{read_on, read_in, unread_on, is_empty, is_full, is_closed, is_left, reader_lives, lives, reaches, capacity_after}
 use Rattle.kpn_run_history.specs.Legal.{HasNumbers, IsDue, CanGo, ending_of, Legal}
 use Rattle.kpn_run_history.specs.OneMore.{IsOldest, KeepsConsistent}
 use Rattle.kpn_run_history.specs.Stops.{OwesNothing}
 use Rattle.kpn_run_history.proofs.Events.{read_on-push}
+use Rattle.kpn_run_history.proofs.Running.{IsLast}
+use Rattle.kpn_run_history.proofs.Above.{IsLast-ending_of}
 use Rattle.kpn_run_history.proofs.OneMore.{Legal-exactly, item_here}
 use Rattle.kpn_run_configuration.specs.Configuration.{Configuration, channel_in, closed_in, end_in, frame_in, IsFree}
 use Rattle.kpn_run_configuration.specs.Run.{HoldsChannel, IsEndOf, IsRun}
-use Rattle.kpn_run_configuration.specs.Due.{Stands, ReadsFrom, WritesTo, stop_of, IsDueNow}
+use Rattle.kpn_run_configuration.specs.Due.{Stands, ReadsFrom, WritesTo, stop_at, stop_of, IsDueNow}
 use Rattle.kpn_run_configuration.proofs.Talking.{CanSay-next, ComesTo-end}
+
+-- ---- ends as stops
+
+pub stop_of-fault : (fault : Fault) → stop_of (how_of fault) ≡ stop.Faulted fault
+stop_of-fault Overflow = refl
+stop_of-fault ZeroDivisor = refl
+stop_of-fault Index = refl
+stop_of-fault Shift = refl
+
+last_is_no_pause : (end : Ending) → IsLast end → stop_at end ≢ stop.Paused
+last_is_no_pause ending.Done last e = absurd cc
+last_is_no_pause (ending.Faulted fault) last e = absurd cc
+last_is_no_pause end last e = absurd last
+
+pub end_is_no_pause : (how : How) → stop_of how ≢ stop.Paused
+end_is_no_pause how = last_is_no_pause (ending_of how) (IsLast-ending_of how)
 
 -- ---- channels
 
@@ -76,6 +94,35 @@ module _ (t : Tables) (H : List Event) (c : ℕ) (ch : ChannelState) (holds : Ho
   pub empty_same : unread ch ≡ [] → is_empty H c ≡ true
   empty_same e = ap (λ xs. eqb (length xs) 0) (sym unread_same ∙ e)
 
+-- ---- what a process says next
+
+module _ (t : Tables) (network : IsNetwork t) (H : List Event) (s : Configuration) (run : IsRun t H s) (p : ℕ)
+    (there : p < length t.instances) where
+  pub says_got : (c : ℕ) (v : ℤ) → ReadsFrom t s p c
+      → CanSay t p (read_on (H ++ Get p c v ∷ [])) (talk_of H p ++ said.Got c v ∷ [])
+  says_got c v reads =
+      subst (λ d. CanSay t p (read_on (H ++ Get p c v ∷ [])) (talk_of H p ++ said.Got d v ∷ [])) (reads.channel.1)
+      (CanSay-next t network H run.legal p there (frame_in s p) (run.leads.frames p there)
+      (stop.WantRead reads.port) reads.stands (λ e. absurd cc)
+      (read_on (H ++ Get p c v ∷ [])) (λ d. read_in d (Get p c v)) (read_on-push H (Get p c v))
+      (said.Got reads.port v) (
+        refl,
+        (
+          [],
+          get_or-map (λ d. read_in d (Get p c v)) (instance_at t p).ins reads.port 0 []
+              (reads.channel.0) ∙ ap (λ d. read_in d (Get p c v)) (reads.channel.1)
+              ∙ item_here c v,
+        ),
+      ))
+
+  pub says_put : (c : ℕ) (v : ℤ) → WritesTo t s p c v → CanSay t p (read_on H) (talk_of H p ++ said.Put c v ∷ [])
+  says_put c v writes =
+      subst (λ d. CanSay t p (read_on H) (talk_of H p ++ said.Put d v ∷ [])) (writes.channel.1)
+      (CanSay-next t network H run.legal p there (frame_in s p) (run.leads.frames p there)
+      (stop.WantWrite writes.port v) writes.stands (λ e. absurd cc)
+      (read_on H) (λ d. []) (λ d. sym (append-nil (read_on H d)))
+      (said.Put writes.port v) (refl, refl))
+
 -- ---- events of a process
 
 module _ (t : Tables) (network : IsNetwork t) (H : List Event) (s : Configuration) (run : IsRun t H s)
@@ -99,34 +146,14 @@ module _ (t : Tables) (network : IsNetwork t) (H : List Event) (s : Configuratio
     Legal-got c v below reads ready =
         legal_with (Get p c v) (there, below) (may_go p there free) (
           oldest t H c (channel_in s c) (run.leads.channels c below) v ready,
-          subst (λ d. CanSay t p (read_on (H ++ Get p c v ∷ [])) (talk_of H p ++ said.Got d v ∷ [])) (reads.channel.1)
-              (CanSay-next t network H run.legal p there (frame_in s p) (run.leads.frames p there)
-              (stop.WantRead reads.port) reads.stands (λ e. absurd cc)
-              (read_on (H ++ Get p c v ∷ [])) (λ d. read_in d (Get p c v)) (read_on-push H (Get p c v))
-              (said.Got reads.port v) (
-                refl,
-                (
-                  [],
-                  get_or-map (λ d. read_in d (Get p c v)) (instance_at t p).ins reads.port 0 []
-                      (reads.channel.0) ∙ ap (λ d. read_in d (Get p c v)) (reads.channel.1)
-                      ∙ item_here c v,
-                ),
-              )),
+          says_got t network H s run p there c v reads,
         )
-
-    says_put : (c : ℕ) (v : ℤ) → WritesTo t s p c v → CanSay t p (read_on H) (talk_of H p ++ said.Put c v ∷ [])
-    says_put c v writes =
-        subst (λ d. CanSay t p (read_on H) (talk_of H p ++ said.Put d v ∷ [])) (writes.channel.1)
-        (CanSay-next t network H run.legal p there (frame_in s p) (run.leads.frames p there)
-        (stop.WantWrite writes.port v) writes.stands (λ e. absurd cc)
-        (read_on H) (λ d. []) (λ d. sym (append-nil (read_on H d)))
-        (said.Put writes.port v) (refl, refl))
 
     pub Legal-put : (c : ℕ) (v : ℤ) → c < length t.channels → WritesTo t s p c v
         → chan.is_full (channel_in s c) ≡ false → Legal t (H ++ Put p c v ∷ [])
     Legal-put c v below writes ready =
         legal_with (Put p c v) (there, below) (may_go p there free)
-        (sym (full_same t H c (channel_in s c) (run.leads.channels c below)) ∙ ready, says_put c v writes)
+        (sym (full_same t H c (channel_in s c) (run.leads.channels c below)) ∙ ready, says_put t network H s run p there c v writes)
 
     pub Legal-wait_full : (c : ℕ) (v : ℤ) → c < length t.channels → WritesTo t s p c v
         → chan.is_full (channel_in s c) ≡ true → Legal t (H ++ WaitFull p c ∷ [])
@@ -135,7 +162,7 @@ module _ (t : Tables) (network : IsNetwork t) (H : List Event) (s : Configuratio
           may_go p there free,
           record {
             item = v;
-            next = says_put c v writes;
+            next = says_put t network H s run p there c v writes;
             full = sym (full_same t H c (channel_in s c) (run.leads.channels c below)) ∙ ready;
           },
         ) tt
@@ -161,18 +188,18 @@ module _ (t : Tables) (network : IsNetwork t) (H : List Event) (s : Configuratio
           },
         ) tt
 
-    -- an end as a stop
-    pub Legal-ended : (ended : How) → Stands t s p (stop_of ended) → Legal t (H ++ Ended p ended ∷ [])
-    Legal-ended ended stands = legal_with (Ended p ended) there (may_go p there free, comes ended stands) tt
-      where
-        comes : (ended : How) → Stands t s p (stop_of ended) → ComesTo t p (read_on H) (ending_of ended) (talk_of H p)
-        comes how.Done stands = comes_to stop.Done stands (λ e. absurd cc) ending.Done tt (λ e. absurd cc)
-        comes how.Overflow stands =
-            comes_to (stop.Faulted fault.Overflow) stands (λ e. absurd cc) (ending.Faulted fault.Overflow) refl
-            (λ e. absurd cc)
-        comes how.ZeroDivisor stands =
-            comes_to (stop.Faulted fault.ZeroDivisor) stands (λ e. absurd cc) (ending.Faulted fault.ZeroDivisor) refl
-            (λ e. absurd cc)
+    comes_last : (end : Ending) → IsLast end → Stands t s p (stop_at end) → ComesTo t p (read_on H) end (talk_of H p)
+    comes_last ending.Done last stands = comes_to stop.Done stands (λ e. absurd cc) ending.Done tt (λ e. absurd cc)
+    comes_last (ending.Faulted fault) last stands =
+        comes_to (stop.Faulted fault) stands (λ e. absurd cc) (ending.Faulted fault) refl (λ e. absurd cc)
+    comes_last end last stands = absurd last
+
+    pub Legal-ended : (how : How) → Stands t s p (stop_of how) → Legal t (H ++ Ended p how ∷ [])
+    Legal-ended how stands =
+        legal_with (Ended p how) there (
+          may_go p there free,
+          comes_last (ending_of how) (IsLast-ending_of how) stands,
+        ) tt
 
   -- ---- events of the outside
 

@@ -27,7 +27,6 @@ use Rattle.kpn_step.proofs.After.{talk_said, next_said, end_reached}
 use Rattle.kpn_step.proofs.MayStep.{at_port}
 use Rattle.kpn_chan.specs.Channel.{unread, next_item}
 use Rattle.kpn_run_history.specs.declared.event.How.{How}
-use Rattle.kpn_run_history.specs.declared.event.How.TheVariants as how
 use Rattle.kpn_run_history.specs.declared.event.Event.{Event}
 use Rattle.kpn_run_history.specs.declared.event.Event.TheVariants.{Get, Put, WaitEmpty, WaitFull, Ended, Feed, Close, Take, Leave, Grow}
 use Rattle.kpn_run_history.specs.Talks.{is_of, is_of_process, talk_of, has_ended}
@@ -37,31 +36,16 @@ use Rattle.kpn_run_history.specs.OneMore.{IsOldest}
 use Rattle.kpn_run_history.specs.Stops.{OwesNothing}
 use Rattle.kpn_run_history.proofs.Events.{read_on-push}
 use Rattle.kpn_run_history.proofs.EndsOnce.{ended_exactly}
+use Rattle.kpn_run_history.proofs.Legality.{can_go}
 use Rattle.kpn_run_history.proofs.OneMore.{Legal-exactly}
+use Rattle.kpn_run_history.proofs.Running.{IsLast}
+use Rattle.kpn_run_history.proofs.Above.{IsLast-ending_of}
 use Rattle.kpn_run_configuration.specs.Configuration.{Configuration, channel_in, end_in, frame_in, IsFree}
 use Rattle.kpn_run_configuration.specs.Run.{IsEndOf, StandsAfter, IsRun}
-use Rattle.kpn_run_configuration.specs.Due.{Stands, ReadsFrom, WritesTo, stop_of, IsDueNow}
+use Rattle.kpn_run_configuration.specs.Due.{Stands, ReadsFrom, WritesTo, stop_at, stop_of, IsDueNow}
 use Rattle.kpn_run_configuration.proofs.Due.{unread_same, full_same}
 use Rattle.kpn_run_configuration.proofs.Ports.{reads_below, reads_own}
 use Rattle.kpn_run_configuration.proofs.Talking.{IsRestAfter-more}
-
--- ---- how a process ends, as a stop
-
--- the stop of a process that ends so; a pause if it does not end
-abbrev pub stop_at : Ending → Stop
-stop_at ending.Done = stop.Done
-stop_at (ending.Faulted f) = stop.Faulted f
-stop_at other = stop.Paused
-
-stop_at-how : (h : How) → stop_at (ending_of h) ≡ stop_of h
-stop_at-how how.Done = refl
-stop_at-how how.Overflow = refl
-stop_at-how how.ZeroDivisor = refl
-
-no_how_pauses : (h : How) → stop.Paused ≡ stop_of h → ⊥
-no_how_pauses how.Done e = cc
-no_how_pauses how.Overflow e = cc
-no_how_pauses how.ZeroDivisor e = cc
 
 -- ---- what is said on channels was said at ports
 
@@ -174,23 +158,9 @@ module _ (t : Tables) (network : IsNetwork t) (H : List Event) (s : Configuratio
   not_retired c below sink left =
       (run.leads.channels c below).retired ∙ ap not (ap (lives H c) (reader_of-sink t c sink) ∙ ap not left)
 
-  -- a process that makes an event may go
-  can_go : (p : ℕ) (e : Event) → is_of p e ≡ true → Legal t (H ++ e ∷ []) → CanGo t H p
-  can_go p (Get q c v) own legal =
-      subst (λ x. CanGo t H x) (eqb-true q p own) ((Legal-exactly t H (Get q c v)).0 legal).1.due
-  can_go p (Put q c v) own legal =
-      subst (λ x. CanGo t H x) (eqb-true q p own) ((Legal-exactly t H (Put q c v)).0 legal).1.due
-  can_go p (WaitEmpty q c) own legal =
-      subst (λ x. CanGo t H x) (eqb-true q p own) ((Legal-exactly t H (WaitEmpty q c)).0 legal).1.due.0
-  can_go p (WaitFull q c) own legal =
-      subst (λ x. CanGo t H x) (eqb-true q p own) ((Legal-exactly t H (WaitFull q c)).0 legal).1.due.0
-  can_go p (Ended q how) own legal =
-      subst (λ x. CanGo t H x) (eqb-true q p own) ((Legal-exactly t H (Ended q how)).0 legal).1.due.0
-  can_go p event own legal = absurd (false≢true own)
-
   pub must_be_free : (p : ℕ) → p < length t.instances → (e : Event) → is_of p e ≡ true → Legal t (H ++ e ∷ [])
       → IsFree s p
-  must_be_free p there e own legal = is_free p there (can_go p e own legal)
+  must_be_free p there e own legal = is_free p there (can_go t H e legal p own)
 
   -- the reader of a channel that has not ended
   still_read : (p c : ℕ) → c < length t.channels → reader_of t c ≡ Process p → has_ended H p ≡ false
@@ -271,12 +241,11 @@ module _ (t : Tables) (network : IsNetwork t) (H : List Event) (s : Configuratio
     ended_at : (at : Stop) (mine : Ending) (rest : Lists) (how : How)
         → Stands t s p at → ends_at_channel (instance_at t p) mine ≡ ending_of how → EndsThere at rest mine
         → Stands t s p (stop_of how)
-    ended_at stop.Done ending.Done rest h stands own ends =
-        subst (λ x. Stands t s p x) (ap stop_at own ∙ stop_at-how h) stands
-    ended_at (stop.Faulted f) (ending.Faulted other) rest h stands own ends =
-        subst (λ x. Stands t s p x) (ap stop.Faulted (sym ends) ∙ ap stop_at own ∙ stop_at-how h) stands
-    ended_at at (ending.Starved i) rest h stands own ends = absurd (no_how_pauses h (ap stop_at own ∙ stop_at-how h))
-    ended_at at ending.Cut rest h stands own ends = absurd (no_how_pauses h (ap stop_at own ∙ stop_at-how h))
+    ended_at stop.Done ending.Done rest how stands own ends = subst (λ x. Stands t s p x) (ap stop_at own) stands
+    ended_at (stop.Faulted f) (ending.Faulted other) rest how stands own ends =
+        subst (λ x. Stands t s p x) (ap stop.Faulted (sym ends) ∙ ap stop_at own) stands
+    ended_at at (ending.Starved i) rest how stands own ends = absurd (subst IsLast (sym own) (IsLast-ending_of how))
+    ended_at at ending.Cut rest how stands own ends = absurd (subst IsLast (sym own) (IsLast-ending_of how))
     ended_at at mine rest how stands own ends = absurd ends
 
     module _ (at : Stop) (stands : Stands t s p at) (no_pause : at ≢ stop.Paused) where

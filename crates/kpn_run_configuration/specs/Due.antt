@@ -1,15 +1,16 @@
 -- When an event may follow, as a property of the configuration before it.
 use Rattle.std.specs.Prelude.{◌≡◌, ℕ, true, false, ℤ, [], Some}
-use Rattle.kpn_lang.specs.declared.value.Fault.TheVariants as fault
+use Rattle.kpn_lang.specs.declared.talk.Ending.{Ending}
+use Rattle.kpn_lang.specs.declared.talk.Ending.TheVariants as ending
 use Rattle.kpn_net.specs.Tables.{Tables, instance_at, program_of, channel_at, is_source, is_sink}
 use Rattle.kpn_step.specs.declared.stop.Stop.{Stop}
-use Rattle.kpn_step.specs.declared.stop.Stop.TheVariants.{WantRead, WantWrite, Done, Faulted}
+use Rattle.kpn_step.specs.declared.stop.Stop.TheVariants.{WantRead, WantWrite, Done, Faulted, Paused}
 use Rattle.kpn_step.specs.Stops.{StandsAt}
 use Rattle.kpn_chan.specs.Channel.{unread, is_full, next_item}
 use Rattle.kpn_run_history.specs.declared.event.Event.{Event}
 use Rattle.kpn_run_history.specs.declared.event.Event.TheVariants.{Get, Put, WaitEmpty, WaitFull, Ended, Feed, Close, Take, Leave, Grow}
 use Rattle.kpn_run_history.specs.declared.event.How.{How}
-use Rattle.kpn_run_history.specs.declared.event.How.TheVariants as how
+use Rattle.kpn_run_history.specs.Legal.{ending_of}
 use Rattle.kpn_run_configuration.specs.Configuration.{Configuration, channel_in, closed_in, frame_in, IsFree}
 use Rattle.kpn_run_configuration.specs.Changes.{IsChannelAt}
 
@@ -31,11 +32,15 @@ pub record WritesTo (t : Tables) (s : Configuration) (p c : ℕ) (v : ℤ) : Typ
   pub channel : IsChannelAt (instance_at t p).outs port c
   pub stands : Stands t s p (WantWrite port v)
 
--- an end as a stop
+-- the stop of a process that comes to this ending; a pause if it does not end there
+abbrev pub stop_at : Ending → Stop
+stop_at ending.Done = Done
+stop_at (ending.Faulted fault) = Faulted fault
+stop_at other = Paused
+
+-- the stop of a process that ends in this way
 abbrev pub stop_of : How → Stop
-stop_of how.Done = Done
-stop_of how.Overflow = Faulted fault.Overflow
-stop_of how.ZeroDivisor = Faulted fault.ZeroDivisor
+stop_of how = stop_at (ending_of how)
 
 -- ---- when an event is due
 

@@ -3,8 +3,10 @@
 #![tactic(auto)]
 
 mod configuration;
+mod ends;
 pub mod laws;
 mod port_channels;
 
-pub use configuration::{Configuration, Got, Grown, OwedGrowth};
+pub use configuration::{Configuration, Got, Grown, OwedGrowth, frames_at_start};
+pub use ends::stop_of;
 pub use port_channels::{in_channel, out_channel};

@@ -15,7 +15,7 @@ use Rattle.kpn_net.specs.Process.{Family, IsFamilyPrefix, talk_on}
 use Rattle.kpn_net.specs.Iteration.{written_by, IsClosed}
 use Rattle.kpn_net.proofs.Networks.{Reads, reader_of-Reads, Writes-writer_of}
 use Rattle.kpn_run_history.specs.declared.event.How.{How}
-use Rattle.kpn_run_history.specs.declared.event.How.TheVariants.{Done, Overflow, ZeroDivisor}
+use Rattle.kpn_run_history.specs.declared.event.How.TheVariants.{Done, Overflow, ZeroDivisor, Index, Shift}
 use Rattle.kpn_run_history.specs.declared.event.Event.{Event}
 use Rattle.kpn_run_history.specs.declared.event.Event.TheVariants.{WaitEmpty, WaitFull, Ended}
 use Rattle.kpn_run_history.specs.Talks.{is_of, last_event, talk_of, is_end_of, has_ended}
@@ -46,10 +46,12 @@ HasSaidAll-more t B e p h =
           (talk_of-grows B e p);
     }
 
-IsLast-ending_of : (how : How) → IsLast (ending_of how)
+pub IsLast-ending_of : (how : How) → IsLast (ending_of how)
 IsLast-ending_of Done = tt
 IsLast-ending_of Overflow = tt
 IsLast-ending_of ZeroDivisor = tt
+IsLast-ending_of Index = tt
+IsLast-ending_of Shift = tt
 
 HasSaidAll-ends : (t : Tables) (B : List Event) (p : ℕ) (how : How) → Legal t (B ++ Ended p how ∷ [])
     → HasSaidAll t B p

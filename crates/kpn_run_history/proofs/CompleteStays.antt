@@ -2,7 +2,7 @@
 -- or waits, and what it waits for does not come.
 use Rattle.std.proofs.Common.{◌≡◌, ◌⊎◌, ℕ, Bool, true, false, ◌||◌, cond, eqb, eq-eqb, List, [], ◌∷◌, ◌++◌, ℤ, refl, sym, ap, ◌∙◌, subst, inl, inr}
 use Rattle.std.specs.Prelude.{Contains}
-use Rattle.std.proofs.lemmas.Bool.{cases_Bool, both_ways, false_from_ne_true, false≢true, eqb-true, or_left}
+use Rattle.std.proofs.lemmas.Bool.{cases_Bool, both_ways, false_from_ne_true, eqb-true, or_left}
 use Rattle.kpn_net.specs.declared.wait.Wait.{Wait}
 use Rattle.kpn_net.specs.declared.wait.Wait.TheVariants.{Nobody, Empty}
 use Rattle.kpn_net.specs.declared.tables.End.{End}
@@ -11,33 +11,20 @@ use Rattle.kpn_net.specs.Tables.{Tables, channel_at, is_source, writer_of}
 use Rattle.kpn_net.specs.Faults.{IsNetwork}
 use Rattle.kpn_net.proofs.Networks.{writer_of-source, writer_of-Writes}
 use Rattle.kpn_run_history.specs.declared.event.Event.{Event}
-use Rattle.kpn_run_history.specs.declared.event.Event.TheVariants.{Get, Put, WaitEmpty, WaitFull, Ended, Feed}
+use Rattle.kpn_run_history.specs.declared.event.Event.TheVariants.{Put, Feed}
 use Rattle.kpn_run_history.specs.Talks.{is_of, is_end_of, has_ended}
 use Rattle.kpn_run_history.specs.Channels.{written_in, written_on, is_close_of, is_closed}
 use Rattle.kpn_run_history.specs.Waiting.{wait_of}
 use Rattle.kpn_run_history.specs.WaitsAfter.{wait_made}
 use Rattle.kpn_run_history.specs.Waking.{wakes_reader, wakes, wait_then}
-use Rattle.kpn_run_history.specs.Legal.{CanGo, Legal}
+use Rattle.kpn_run_history.specs.Legal.{Legal}
 use Rattle.kpn_run_history.specs.Complete.{PutsNoMore, StarvesAmong, AreFinished, IsFinished, IsComplete}
 use Rattle.kpn_run_history.proofs.Events.{written_on-same}
-use Rattle.kpn_run_history.proofs.Legality.{Legal-last, onward}
+use Rattle.kpn_run_history.proofs.Legality.{can_go, Legal-last, onward}
 use Rattle.kpn_run_history.proofs.Ownership.{Owns-last}
 use Rattle.kpn_run_history.proofs.AfterEvent.{has_ended-next, is_closed-next}
 use Rattle.kpn_run_history.proofs.Waking.{wait_of-then}
 use Rattle.kpn_run_history.proofs.Finished.{PutsNoMore-if, complete_among, finished_cases, complete-process}
-
--- a process that makes an event can go on before it
-can_go : (t : Tables) (B : List Event) (e : Event) → Legal t (B ++ e ∷ []) → (p : ℕ) → is_of p e ≡ true
-    → CanGo t B p
-can_go t B (Get q c v) legal p is = subst (CanGo t B) (eqb-true q p is) (Legal-last t B (Get q c v) legal).due
-can_go t B (Put q c v) legal p is = subst (CanGo t B) (eqb-true q p is) (Legal-last t B (Put q c v) legal).due
-can_go t B (WaitEmpty q c) legal p is =
-    subst (CanGo t B) (eqb-true q p is) (Legal-last t B (WaitEmpty q c) legal).due.0
-can_go t B (WaitFull q c) legal p is =
-    subst (CanGo t B) (eqb-true q p is) (Legal-last t B (WaitFull q c) legal).due.0
-can_go t B (Ended q how) legal p is =
-    subst (CanGo t B) (eqb-true q p is) (Legal-last t B (Ended q how) legal).due.0
-can_go t B event legal p is = absurd (false≢true is)
 
 -- an event that wakes no reader of a channel writes nothing there
 unwritten : (c : ℕ) (e : Event) → wakes_reader c e ≡ false → written_in c e ≡ []

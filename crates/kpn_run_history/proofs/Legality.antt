@@ -1,11 +1,14 @@
 -- Beginnings of legal histories are legal, and a history is legal if it is made event by event.
-use Rattle.std.proofs.Common.{◌≡◌, List, [], ◌∷◌, ◌++◌, sym, subst, inl, inr, append_assoc, arith}
+use Rattle.std.proofs.Common.{◌≡◌, ℕ, true, List, [], ◌∷◌, ◌++◌, sym, subst, inl, inr, append_assoc, arith}
+use Rattle.std.proofs.lemmas.Bool.{false≢true, eqb-true}
 use Rattle.std.proofs.lemmas.List.{append-nil, same_from_push}
 use Rattle.kpn_lang.specs.Prefix.{IsPrefix}
 use Rattle.kpn_lang.proofs.Prefixes.{IsPrefix-refl, IsPrefix-trans, IsPrefix-append, nil_from_prefix, prefix_of_push}
 use Rattle.kpn_net.specs.Tables.{Tables}
 use Rattle.kpn_run_history.specs.declared.event.Event.{Event}
-use Rattle.kpn_run_history.specs.Legal.{IsConsistent, MayFollow, Legal}
+use Rattle.kpn_run_history.specs.declared.event.Event.TheVariants.{Get, Put, WaitEmpty, WaitFull, Ended}
+use Rattle.kpn_run_history.specs.Talks.{is_of}
+use Rattle.kpn_run_history.specs.Legal.{CanGo, IsConsistent, MayFollow, Legal}
 
 -- a list that ends with one more event is no beginning of the empty list
 push_is_no_prefix_of_nil : (B : List Event) (e : Event) → IsPrefix (B ++ e ∷ []) [] → ⊥
@@ -60,6 +63,19 @@ Legal-before t B e legal = Legal-prefix t B (B ++ e ∷ []) (IsPrefix-append B (
 
 pub Legal-last : (t : Tables) (B : List Event) (e : Event) → Legal t (B ++ e ∷ []) → MayFollow t B e
 Legal-last t B e legal = legal.follows B e (IsPrefix-refl (B ++ e ∷ []))
+
+-- a process that makes an event can go on before it
+pub can_go : (t : Tables) (B : List Event) (e : Event) → Legal t (B ++ e ∷ []) → (p : ℕ) → is_of p e ≡ true
+    → CanGo t B p
+can_go t B (Get q c v) legal p is = subst (CanGo t B) (eqb-true q p is) (Legal-last t B (Get q c v) legal).due
+can_go t B (Put q c v) legal p is = subst (CanGo t B) (eqb-true q p is) (Legal-last t B (Put q c v) legal).due
+can_go t B (WaitEmpty q c) legal p is =
+    subst (CanGo t B) (eqb-true q p is) (Legal-last t B (WaitEmpty q c) legal).due.0
+can_go t B (WaitFull q c) legal p is =
+    subst (CanGo t B) (eqb-true q p is) (Legal-last t B (WaitFull q c) legal).due.0
+can_go t B (Ended q how) legal p is =
+    subst (CanGo t B) (eqb-true q p is) (Legal-last t B (Ended q how) legal).due.0
+can_go t B event legal p is = absurd (false≢true is)
 
 -- what holds of a history, and of each legal history with one more event if of that before it, holds of each legal
 -- history that goes on from there

@@ -96,6 +96,8 @@ abbrev pub ending_of : How → Ending
 ending_of how.Done = ending.Done
 ending_of how.Overflow = ending.Faulted fault.Overflow
 ending_of how.ZeroDivisor = ending.Faulted fault.ZeroDivisor
+ending_of how.Index = ending.Faulted fault.Index
+ending_of how.Shift = ending.Faulted fault.Shift
 
 -- it comes to read on an empty channel
 pub record ComesToRead (t : Tables) (B : List Event) (p c : ℕ) : Type 0 where

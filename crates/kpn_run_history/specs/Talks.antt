@@ -73,6 +73,8 @@ talk_of H p = flat_map (said_in p) H
 abbrev pub how_of : Fault → How
 how_of fault.Overflow = how.Overflow
 how_of fault.ZeroDivisor = how.ZeroDivisor
+how_of fault.Index = how.Index
+how_of fault.Shift = how.Shift
 
 -- the process ends
 abbrev pub is_end_of : (p : ℕ) → Event → Bool

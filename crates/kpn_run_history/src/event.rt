@@ -40,6 +40,10 @@ pub enum How {
     Overflow,
     /// A divisor was 0.
     ZeroDivisor,
+    /// An array or a table had no such cell.
+    Index,
+    /// The count of a shift was below 0 or above 63.
+    Shift,
 }
 
 impl Event {
@@ -77,6 +81,8 @@ impl From<Fault> for How {
         match fault {
             Fault::Overflow => How::Overflow,
             Fault::ZeroDivisor => How::ZeroDivisor,
+            Fault::Index => How::Index,
+            Fault::Shift => How::Shift,
         }
     }
 }

@@ -230,7 +230,7 @@ module _ (quota p : ℕ) (b : Book) (kept : IsKept b) (holds : HoldsFirst p b.sc
         ∙ ap (λ H. H ++ handles.events)
         (base_history h.answered.answer p (counted h.reserved) ∙ history_reserved x.stop stepped h.reserved h.but)
 
-    pub turn_tables : (counted a).tables ≡ b.tables
+    turn_tables : (counted a).tables ≡ b.tables
     turn_tables =
         tables_stay handles.events (ready_if_paused p h.answered.answer (counted h.reserved)) (counted a)
         handles.appends

@@ -11,7 +11,6 @@ pub mod Answering
 pub mod Reserved
 pub mod Committing
 pub mod FirstOfQueue
-pub mod AtOnce
 pub mod Standing
 pub mod Outside
 pub mod Seen

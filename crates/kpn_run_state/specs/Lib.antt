@@ -7,7 +7,6 @@ pub mod Appending
 pub mod Commits
 pub mod Refusals
 pub mod Stepping
-pub mod AtOnce
 pub mod InARow
 pub mod Kept
 pub mod Open

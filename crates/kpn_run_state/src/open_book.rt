@@ -14,7 +14,6 @@ use kpn_run_configuration::Configuration;
 use kpn_run_history::{History, State, Verdict};
 use std::alloc::Allocator;
 
-mod at_once;
 mod commits;
 mod outside;
 mod turns;

@@ -29,10 +29,10 @@ impl<'a, R: System + AllocGlobal + Threads> FileOutput<'a, R> {
         ensures { IfOk result (λ output. string_bytes output.name ≡ name.now) }
     {
         let word = String::from_str(rt.alloc(), name)?;
-        let opening = open_apart(rt, name);
+        let opening = open_apart(rt, word.as_str());
         let file = match opening {
             Some(_) => None,
-            None => Some(open_locked(rt, name)?),
+            None => Some(open_locked(rt, word.as_str())?),
         };
         Ok(FileOutput {
             rt,

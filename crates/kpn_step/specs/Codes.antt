@@ -1,7 +1,7 @@
 -- Scaffolding: codes of stops and of what an advance holds.
 use Rattle.std.specs.Prelude.{◌≡◌, ℕ, zero, suc, ℤ, pos, refl}
 use Rattle.std.specs.Coded.{Coded, code_by, coded_ℕ, coded_ℤ, coded×}
-use Rattle.kpn_lang.specs.declared.value.Fault.TheVariants.{Overflow, ZeroDivisor}
+use Rattle.kpn_lang.specs.declared.value.Fault.TheVariants.{Overflow, ZeroDivisor, Index, Shift}
 use Rattle.kpn_lang.specs.Parts.{Parts}
 use Rattle.kpn_lang.specs.Codes.{parts_code}
 use Rattle.kpn_step.specs.declared.stop.Stop.{Stop}
@@ -16,7 +16,9 @@ kind_of (WantWrite port v) = (1, (port, v))
 kind_of Done = (2, (0, pos 0))
 kind_of (Faulted Overflow) = (3, (0, pos 0))
 kind_of (Faulted ZeroDivisor) = (4, (0, pos 0))
-kind_of Paused = (5, (0, pos 0))
+kind_of (Faulted Index) = (5, (0, pos 0))
+kind_of (Faulted Shift) = (6, (0, pos 0))
+kind_of Paused = (7, (0, pos 0))
 
 abbrev of_kind : ℕ → ℕ → ℤ → Stop
 of_kind zero port v = WantRead port
@@ -24,7 +26,9 @@ of_kind (suc zero) port v = WantWrite port v
 of_kind (suc (suc zero)) port v = Done
 of_kind (suc (suc (suc zero))) port v = Faulted Overflow
 of_kind (suc (suc (suc (suc zero)))) port v = Faulted ZeroDivisor
-of_kind (suc (suc (suc (suc (suc kind))))) port v = Paused
+of_kind (suc (suc (suc (suc (suc zero))))) port v = Faulted Index
+of_kind (suc (suc (suc (suc (suc (suc zero)))))) port v = Faulted Shift
+of_kind (suc (suc (suc (suc (suc (suc (suc kind))))))) port v = Paused
 
 pub of_kind-kind_of : (s : Stop) → of_kind (kind_of s).0 (kind_of s).1.0 (kind_of s).1.1 ≡ s
 of_kind-kind_of (WantRead port) = refl
@@ -32,6 +36,8 @@ of_kind-kind_of (WantWrite port v) = refl
 of_kind-kind_of Done = refl
 of_kind-kind_of (Faulted Overflow) = refl
 of_kind-kind_of (Faulted ZeroDivisor) = refl
+of_kind-kind_of (Faulted Index) = refl
+of_kind-kind_of (Faulted Shift) = refl
 of_kind-kind_of Paused = refl
 
 abbrev pub stop_code : Coded Stop

@@ -4,7 +4,7 @@ use Rattle.std.specs.List.{position_or_len}
 use Rattle.std.specs.Str.{bytes_eq}
 use Rattle.kpn_lang.specs.Syntax as lang
 use Rattle.kpn_lang.specs.Tree.{Tree}
-use Rattle.kpn_text_grammar.specs.Syntax.{Name, Term, numeral, variable, minus, negation, binary, Statement, assign, receive, send, choice, loop, Statements, no_statements, statement}
+use Rattle.kpn_text_grammar.specs.Syntax.{Name, Term, numeral, variable, minus, negation, complement, binary, conditional, Statement, assign, receive, send, choice, loop, Statements, no_statements, statement}
 use Rattle.kpn_text_names.specs.declared.scope.Scope.{Scope}
 use Rattle.kpn_text_tokens.specs.Results.{and_then}
 use Rattle.kpn_text_names.specs.Names.{known, with_name, name_at}
@@ -34,6 +34,10 @@ term_back vars more (negation t) e h =
     let a = went (term_in vars t) (λ a. Ok (lang.Not a)) e h in
     ap (λ y. term_named (vars ++ more) y) (sym (ok_is (lang.Not a.value) e a.rest))
     ∙ ap (λ y. negation y) (term_back vars more t a.value a.first)
+term_back vars more (complement t) e h =
+    let a = went (term_in vars t) (λ a. Ok (lang.BitNot a)) e h in
+    ap (λ y. term_named (vars ++ more) y) (sym (ok_is (lang.BitNot a.value) e a.rest))
+    ∙ ap (λ y. complement y) (term_back vars more t a.value a.first)
 term_back vars more (binary o t u) e h =
     let a = went (term_in vars t) (λ a. and_then (term_in vars u) (λ b. Ok (lang.Bin o a b))) e h in
     let b = went (term_in vars u) (λ b. Ok (lang.Bin o a.value b)) e a.rest in
@@ -41,6 +45,15 @@ term_back vars more (binary o t u) e h =
     let right = term_back vars more u b.value b.first in
     ap (λ y. term_named (vars ++ more) y) (sym (ok_is (lang.Bin o a.value b.value) e b.rest))
     ∙ (λ i. binary o (left i) (right i))
+term_back vars more (conditional t u v) e h =
+    let a = went (term_in vars t) _ e h in
+    let b = went (term_in vars u) _ e a.rest in
+    let c = went (term_in vars v) (λ c. Ok (lang.Choice a.value b.value c)) e b.rest in
+    let test = term_back vars more t a.value a.first in
+    let first = term_back vars more u b.value b.first in
+    let second = term_back vars more v c.value c.first in
+    ap (λ y. term_named (vars ++ more) y) (sym (ok_is (lang.Choice a.value b.value c.value) e c.rest))
+    ∙ (λ i. conditional (test i) (first i) (second i))
 
 -- ---- scopes
 

@@ -6,6 +6,7 @@ use Rattle.std.proofs.lemmas.List.Sums.{fold-append}
 use Rattle.kpn_net.specs.declared.tables.ChannelSpec.{ChannelSpec}
 use Rattle.kpn_net.specs.declared.tables.ChannelSpec.TheVariants.{Inner, Source, Sink}
 use Rattle.kpn_net.specs.declared.tables.Instance as net
+use Rattle.kpn_text_tokens.specs.declared.tokens.Language.{Language}
 use Rattle.kpn_text_grammar.specs.Syntax.{Name, Literal, plain, negated, literal_value, Instance, Item, channel, source, sink, instance}
 use Rattle.kpn_text_names.specs.Fault.{NameError, each}
 use Rattle.kpn_text_tokens.specs.Results.{and_then}
@@ -57,8 +58,8 @@ printed i =
       values = map literal_named (map literal_value i.values);
     }
 
-printed_proper : (i : Instance) → IsProperInstance i → IsProperInstance (printed i)
-printed_proper i h =
+printed_proper : (l : Language) (i : Instance) → IsProperInstance l i → IsProperInstance l (printed i)
+printed_proper l i h =
     record {
       name = h.name;
       program = h.program;
@@ -202,7 +203,7 @@ all_channels_are programs items last h = table_of programs (all_channels items) 
 
 -- ---- the items again
 
-module _ (names : NetworkNames) (programs channels : List Name) (p : process_names names ≡ programs)
+module _ (l : Language) (names : NetworkNames) (programs channels : List Name) (p : process_names names ≡ programs)
     (c : names.channels ≡ channels) where
   -- what items added to the tables before, and what it is to read that again
   record Added (w : Wiring) (items : List Item) (last : Wiring) : Type 0 where
@@ -223,16 +224,16 @@ module _ (names : NetworkNames) (programs channels : List Name) (p : process_nam
         ≡ Ok (wiring_with xs cs last.instance_names last.instances)
     table_again : fold with_channel_name w.channel_names (paired channel_named channel_names specs)
         ≡ last.channel_names
-    channels_proper : AllByRecursion IsProperItem items
-        → AllByRecursion IsProperItem (paired channel_named channel_names specs)
-    instances_proper : AllByRecursion IsProperItem items
-        → AllByRecursion IsProperItem (paired (instance_named names) instance_names instances)
+    channels_proper : AllByRecursion (IsProperItem l) items
+        → AllByRecursion (IsProperItem l) (paired channel_named channel_names specs)
+    instances_proper : AllByRecursion (IsProperItem l) items
+        → AllByRecursion (IsProperItem l) (paired (instance_named names) instance_names instances)
 
   -- a channel that is declared and printed as such
   record PrintsAs (i : Item) (x : Name) (spec : ChannelSpec) : Type 0 where
     again : (w : Wiring) → with_item programs channels w (channel_named x spec) ≡ with_channel w x spec
     table : (t : List Name) → with_channel_name t (channel_named x spec) ≡ with_name t x
-    proper : IsProperItem i → IsProperItem (channel_named x spec)
+    proper : IsProperItem l i → IsProperItem l (channel_named x spec)
 
   channel_step : (i : Item) (x : Name) (spec : ChannelSpec) (items : List Item) (w next last : Wiring)
       → PrintsAs i x spec → NewChannel w x spec next → Added next items last → Added w (i ∷ items) last
@@ -334,8 +335,8 @@ module _ (names : NetworkNames) (programs channels : List Name) (p : process_nam
         table_again = rest.table_again;
         channels_proper = λ h. rest.channels_proper h.1;
         instances_proper = λ h. (
-          subst IsProperInstance (sym (call_back programs channels names p c i new.made new.known_before))
-              (printed_proper i h.0),
+          subst (IsProperInstance l) (sym (call_back programs channels names p c i new.made new.known_before))
+              (printed_proper l i h.0),
           rest.instances_proper h.1,
         );
       }
@@ -415,17 +416,18 @@ all-append P [] ys h k = k
 all-append P (x ∷ xs) ys h k = (h.0, all-append P xs ys h.1 k)
 
 -- what comes of the items of a network
-pub record ItemsBack (names : NetworkNames) (programs : List Name) (items : List Item) (w : Wiring) : Type 0 where
+pub record ItemsBack (l : Language) (names : NetworkNames) (programs : List Name) (items : List Item) (w : Wiring)
+    : Type 0 where
   pub again : wiring programs (items_named names w) ≡ Ok w
-  pub proper : AllByRecursion IsProperItem items → AllByRecursion IsProperItem (items_named names w)
+  pub proper : AllByRecursion (IsProperItem l) items → AllByRecursion (IsProperItem l) (items_named names w)
 
-pub items_back : (names : NetworkNames) (programs : List Name) (items : List Item) (w : Wiring)
+pub items_back : (l : Language) (names : NetworkNames) (programs : List Name) (items : List Item) (w : Wiring)
     → process_names names ≡ programs → names.channels ≡ w.channel_names → wiring programs items ≡ Ok w
-    → ItemsBack names programs items w
-items_back names programs items w p c h =
+    → ItemsBack l names programs items w
+items_back l names programs items w p c h =
     let channels : List Name = all_channels items in
     let same : channels ≡ w.channel_names = all_channels_are programs items w h in
-    let a = added names programs channels p (c ∙ sym same) items (wiring_with [] [] [] []) w h in
+    let a = added l names programs channels p (c ∙ sym same) items (wiring_with [] [] [] []) w h in
     let declared_items : List Item = paired channel_named w.channel_names w.channels in
     let called_items : List Item = paired (instance_named names) w.instance_names w.instances in
     let declared_are : paired channel_named a.channel_names a.specs ≡ declared_items =
@@ -449,7 +451,7 @@ items_back names programs items w p c h =
     record {
       again =
           ap (λ l. each (with_item programs l) (wiring_with [] [] [] []) (items_named names w)) table ∙ read_again;
-      proper = λ are. all-append IsProperItem declared_items called_items
-          (subst (λ l. AllByRecursion IsProperItem l) declared_are (a.channels_proper are))
-          (subst (λ l. AllByRecursion IsProperItem l) called_are (a.instances_proper are));
+      proper = λ all. all-append (IsProperItem l) declared_items called_items
+          (subst (λ are. AllByRecursion (IsProperItem l) are) declared_are (a.channels_proper all))
+          (subst (λ are. AllByRecursion (IsProperItem l) are) called_are (a.instances_proper all));
     }

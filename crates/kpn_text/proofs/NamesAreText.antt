@@ -13,6 +13,7 @@ use Rattle.std.proofs.lemmas.Str.Ascii.{IsAscii-from_all}
 use Rattle.kpn_net.specs.declared.tables.ChannelSpec.{ChannelSpec}
 use Rattle.kpn_net.specs.declared.tables.ChannelSpec.TheVariants.{Inner, Source, Sink}
 use Rattle.kpn_net.specs.Tables.{Tables}
+use Rattle.kpn_text_tokens.specs.declared.tokens.Language.{Language}
 use Rattle.kpn_text_tokens.specs.Lexing.{begins_name}
 use Rattle.kpn_text_tokens.specs.Rules.{IsName}
 use Rattle.kpn_text_grammar.specs.Syntax.{Name}
@@ -38,8 +39,8 @@ ascii_bytes test small (b ∷ bs) all =
     let parts = and_parts (test b) (list_all test bs) all in
     All-cons (λ b. b < 128) b bs (small b parts.0) (ascii_bytes test small bs parts.1)
 
-name_is_text : (x : Name) → IsName x → IsUtf8 x
-name_is_text x is =
+name_is_text : (l : Language) (x : Name) → IsName l x → IsUtf8 x
+name_is_text l x is =
     IsUtf8-from_ascii x
     (IsAscii-from_all x (ascii_bytes (λ b. begins_name b || is_ascii_digit b) word_byte x is.word.goes_on))
 
@@ -47,48 +48,49 @@ no_name : IsUtf8 []
 no_name = IsUtf8-from_ascii [] (IsAscii-from_all [] (All-nil (λ b. b < 128)))
 
 -- if each pair is proper, then each of the names in them is text
-named_are : {A B C : Type 0} (P : C → Type 0) (name : A → Name) (f : A → B → C)
-    → ((x : A) (y : B) → P (f x y) → IsName (name x)) → (xs : List A) (ys : List B) → length xs ≡ length ys
+named_are : (l : Language) {A B C : Type 0} (P : C → Type 0) (name : A → Name) (f : A → B → C)
+    → ((x : A) (y : B) → P (f x y) → IsName l (name x)) → (xs : List A) (ys : List B) → length xs ≡ length ys
     → AllByRecursion P (paired f xs ys) → (k : ℕ) → IsUtf8 (name_at (map name xs) k)
-named_are P name f step [] ys same all k = no_name
-named_are P name f step (x ∷ xs) [] same all k = absurd (omega (arith, same))
-named_are P name f step (x ∷ xs) (y ∷ ys) same all zero = name_is_text (name x) (step x y all.0)
-named_are P name f step (x ∷ xs) (y ∷ ys) same all (suc k) =
+named_are l P name f step [] ys same all k = no_name
+named_are l P name f step (x ∷ xs) [] same all k = absurd (omega (arith, same))
+named_are l P name f step (x ∷ xs) (y ∷ ys) same all zero = name_is_text l (name x) (step x y all.0)
+named_are l P name f step (x ∷ xs) (y ∷ ys) same all (suc k) =
     let rest : length xs ≡ length ys = omega (arith, same) in
-    named_are P name f step xs ys rest all.1 k
+    named_are l P name f step xs ys rest all.1 k
 
-channel_is : (x : Name) (spec : ChannelSpec) → IsProperItem (channel_named x spec) → IsName x
-channel_is x (Inner cap) is = is.0
-channel_is x Source is = is
-channel_is x (Sink cap) is = is.0
+channel_is : (l : Language) (x : Name) (spec : ChannelSpec) → IsProperItem l (channel_named x spec) → IsName l x
+channel_is l x (Inner cap) is = is.0
+channel_is l x Source is = is
+channel_is l x (Sink cap) is = is.0
 
 all_parts : {X : Type 0} (P : X → Type 0) (xs ys : List X) → AllByRecursion P (xs ++ ys)
     → AllByRecursion P xs × AllByRecursion P ys
 all_parts P [] ys all = (tt, all)
 all_parts P (x ∷ xs) ys all = let parts = all_parts P xs ys all.1 in ((all.0, parts.0), parts.1)
 
-proper_text : (names : NetworkNames) (t : Tables) → AreNamed names t → IsProper (description_named names t)
+proper_text : (l : Language) (names : NetworkNames) (t : Tables) → AreNamed names t
+    → IsProper l (description_named names t)
     → AreText names
-proper_text names t named is =
+proper_text l names t named is =
     let items =
-    all_parts IsProperItem (paired channel_named names.channels t.channels)
+    all_parts (IsProperItem l) (paired channel_named names.channels t.channels)
     (paired (instance_named names) names.instances t.instances) is.network.items in
     record {
       processes =
-          named_are IsProperProcess (λ p. p.name) process_named (λ p parts proper. proper.name) names.processes
+          named_are l (IsProperProcess l) (λ p. p.name) process_named (λ p parts proper. proper.name) names.processes
           t.programs named.processes is.processes;
       instances =
           λ k. subst (λ (xs : List Name). IsUtf8 (name_at xs k)) (map-id names.instances)
-          (named_are IsProperItem (λ x. x) (instance_named names) (λ x i proper. proper.name) names.instances
+          (named_are l (IsProperItem l) (λ x. x) (instance_named names) (λ x i proper. proper.name) names.instances
           t.instances named.instances items.1 k);
       channels =
           λ k. subst (λ (xs : List Name). IsUtf8 (name_at xs k)) (map-id names.channels)
-          (named_are IsProperItem (λ x. x) channel_named channel_is names.channels t.channels named.channels items.0
-          k);
+          (named_are l (IsProperItem l) (λ x. x) channel_named (channel_is l) names.channels t.channels named.channels
+          items.0 k);
     }
 
 pub names_are_text : BlocksAreTheTree → LimitsAreInRange → ReadDescriptionsAreProper → NamesAreText
 names_are_text flat limits are_proper d (text, s) =
     subst (λ (e : Document). AreText e.names) s.is
-    (proper_text _ s.named.tables (are_named s.named (resolved_each s.tree s.named s.resolved))
+    (proper_text d.language _ s.named.tables (are_named s.named (resolved_each s.tree s.named s.resolved))
     (proper text d s are_proper (spelled_kept flat limits text d s)))

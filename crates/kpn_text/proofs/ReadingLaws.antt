@@ -13,10 +13,12 @@ use Rattle.kpn_net.specs.Faults as net
 use Rattle.kpn_net.specs.Faults.{IsNetwork}
 use Rattle.kpn_text_tokens.specs.declared.lexer.LexFault.{LexFault}
 use Rattle.kpn_text_tokens.specs.declared.lexer.LexFault.TheVariants as lex
+use Rattle.kpn_text_tokens.specs.declared.tokens.Language.{Language}
 use Rattle.kpn_text_tokens.specs.declared.tokens.Lexeme.{Lexeme}
 use Rattle.kpn_text_tokens.specs.declared.tokens.Token.{Token}
 use Rattle.kpn_text_tokens.specs.Laws.{tokens_in, tokens_of}
 use Rattle.kpn_text_tokens.specs.Lexing.{lexemes_of, scan}
+use Rattle.kpn_text_tokens.specs.Opening.{language_of}
 use Rattle.kpn_text_tokens.proofs.TokenLaws.{short_text}
 use Rattle.kpn_text_grammar.specs.declared.fault.GrammarFault.{GrammarFault}
 use Rattle.kpn_text_grammar.specs.Syntax.{Description}
@@ -28,7 +30,7 @@ use Rattle.kpn_text_names.specs.Named.{Named, resolve}
 use Rattle.kpn_text.specs.Document.{Document, document_named}
 use Rattle.kpn_text.specs.Spells.{Spells, IsSpelled}
 use Rattle.kpn_text_names.specs.NetworkNames.{AreNamed}
-use Rattle.kpn_text.specs.Phases.{Cause, in_tokens, in_grammar, in_names, phase, unless, programs_cause, program_or, network_cause, or_else, tables_cause, document_of}
+use Rattle.kpn_text.specs.Phases.{Cause, in_tokens, in_grammar, in_names, phase, unless, programs_cause, program_or, network_cause, or_else, tables_cause, document_in, document_of}
 use Rattle.kpn_text_tokens.specs.Results.{and_then}
 use Rattle.kpn_text_names.proofs.Chains.{ok_is}
 use Rattle.kpn_text_names.proofs.Counts.{are_named, resolved_each}
@@ -37,34 +39,34 @@ use Rattle.kpn_text.proofs.Parameters.{resolved_has}
 -- ---- tokens
 
 -- a text within the limit whose tokens are read has lexemes, which are those tokens
-pub record HasLexemes (text : List ℕ) (ts : List Token) : Type 0 where
+pub record HasLexemes (l : Language) (text : List ℕ) (ts : List Token) : Type 0 where
   pub lexemes : List Lexeme
-  pub found : lexemes_of text ≡ Ok lexemes
+  pub found : lexemes_of l text ≡ Ok lexemes
   pub are : ts ≡ kinds lexemes
 
-lexemes_by : (text : List ℕ) (ts : List Token) (r : Result (List Lexeme) LexFault) → lexemes_of text ≡ r
-    → tokens_in r ≡ Some ts → HasLexemes text ts
-lexemes_by text ts (Ok ls) is e = record { lexemes = ls; found = is; are = cc }
-lexemes_by text ts (Err fault) is e = absurd cc
+lexemes_by : (l : Language) (text : List ℕ) (ts : List Token) (r : Result (List Lexeme) LexFault)
+    → lexemes_of l text ≡ r → tokens_in r ≡ Some ts → HasLexemes l text ts
+lexemes_by l text ts (Ok ls) is e = record { lexemes = ls; found = is; are = cc }
+lexemes_by l text ts (Err fault) is e = absurd cc
 
-pub has_lexemes : (text : List ℕ) (ts : List Token) → length text ≤ MAX_TEXT_BYTES → tokens_of text ≡ Some ts
-    → HasLexemes text ts
+pub has_lexemes : (l : Language) (text : List ℕ) (ts : List Token) → length text ≤ MAX_TEXT_BYTES
+    → tokens_of l text ≡ Some ts → HasLexemes l text ts
 unfolding tokens_of
-has_lexemes text ts short e = lexemes_by text ts (scan 0 0 text) (short_text text short) e
+has_lexemes l text ts short e = lexemes_by l text ts (scan l 0 0 text) (short_text l text short) e
 
 -- a text that has lexemes is within the limit, and its tokens are read
-pub record AreTokens (text : List ℕ) (ls : List Lexeme) : Type 0 where
+pub record AreTokens (l : Language) (text : List ℕ) (ls : List Lexeme) : Type 0 where
   pub within : length text ≤ MAX_TEXT_BYTES
-  pub read : tokens_of text ≡ Some (kinds ls)
+  pub read : tokens_of l text ≡ Some (kinds ls)
 
-tokens_by : (text : List ℕ) (ls : List Lexeme) (b : Bool) → nat_lt MAX_TEXT_BYTES (length text) ≡ b
-    → (if b then Err (lex.TooLong MAX_TEXT_BYTES) else scan 0 0 text) ≡ Ok ls → AreTokens text ls
+tokens_by : (l : Language) (text : List ℕ) (ls : List Lexeme) (b : Bool) → nat_lt MAX_TEXT_BYTES (length text) ≡ b
+    → (if b then Err (lex.TooLong MAX_TEXT_BYTES) else scan l 0 0 text) ≡ Ok ls → AreTokens l text ls
 unfolding tokens_of
-tokens_by text ls true is e = absurd cc
-tokens_by text ls false is e = record { within = grind (arith, nat_tests); read = ap tokens_in e }
+tokens_by l text ls true is e = absurd cc
+tokens_by l text ls false is e = record { within = grind (arith, nat_tests); read = ap tokens_in e }
 
-pub are_tokens : (text : List ℕ) (ls : List Lexeme) → lexemes_of text ≡ Ok ls → AreTokens text ls
-are_tokens text ls e = tokens_by text ls (nat_lt MAX_TEXT_BYTES (length text)) refl e
+pub are_tokens : (l : Language) (text : List ℕ) (ls : List Lexeme) → lexemes_of l text ≡ Ok ls → AreTokens l text ls
+are_tokens l text ls e = tokens_by l text ls (nat_lt MAX_TEXT_BYTES (length text)) refl e
 
 -- ---- tables
 
@@ -93,64 +95,68 @@ unfolding and_then
 phase_err cause r k fault e = rw e refl
 
 -- what follows the names, the tree and the tokens
-abbrev after_names : Named → Result Document Cause
-after_names n = unless (tables_cause n.tables) (document_named n)
+abbrev after_names : Language → Named → Result Document Cause
+after_names l n = unless (tables_cause n.tables) (document_named l n)
 
-abbrev after_tree : Description → Result Document Cause
-after_tree tree = and_then (phase in_names (resolve tree)) after_names
+abbrev after_tree : Language → Description → Result Document Cause
+after_tree l tree = and_then (phase in_names (resolve tree)) (after_names l)
 
-abbrev after_tokens : List ℕ → List Lexeme → Result Document Cause
-after_tokens text ls = and_then (phase in_grammar (description_of (length text) ls)) after_tree
+abbrev after_tokens : Language → List ℕ → List Lexeme → Result Document Cause
+after_tokens l text ls = and_then (phase in_grammar (description_of l (length text) ls)) (after_tree l)
 
-pub refused_tokens : (text : List ℕ) (fault : LexFault) → lexemes_of text ≡ Err fault
-    → document_of text ≡ Err (in_tokens fault)
-unfolding document_of
-refused_tokens text fault e = phase_err in_tokens (lexemes_of text) (after_tokens text) fault e
+pub refused_tokens : (l : Language) (text : List ℕ) (fault : LexFault) → lexemes_of l text ≡ Err fault
+    → document_in l text ≡ Err (in_tokens fault)
+unfolding document_in
+refused_tokens l text fault e = phase_err in_tokens (lexemes_of l text) (after_tokens l text) fault e
 
-tokens_read : (text : List ℕ) (ls : List Lexeme) → lexemes_of text ≡ Ok ls → document_of text ≡ after_tokens text ls
-unfolding document_of
-tokens_read text ls e = phase_ok in_tokens (lexemes_of text) (after_tokens text) ls e
+tokens_read : (l : Language) (text : List ℕ) (ls : List Lexeme) → lexemes_of l text ≡ Ok ls
+    → document_in l text ≡ after_tokens l text ls
+unfolding document_in
+tokens_read l text ls e = phase_ok in_tokens (lexemes_of l text) (after_tokens l text) ls e
 
-pub refused_tree : (text : List ℕ) (ls : List Lexeme) (fault : GrammarFault) → lexemes_of text ≡ Ok ls
-    → description_of (length text) ls ≡ Err fault → document_of text ≡ Err (in_grammar fault)
-refused_tree text ls fault e f =
-    tokens_read text ls e ∙ phase_err in_grammar (description_of (length text) ls) after_tree fault f
+pub refused_tree : (l : Language) (text : List ℕ) (ls : List Lexeme) (fault : GrammarFault)
+    → lexemes_of l text ≡ Ok ls → description_of l (length text) ls ≡ Err fault
+    → document_in l text ≡ Err (in_grammar fault)
+refused_tree l text ls fault e f =
+    tokens_read l text ls e ∙ phase_err in_grammar (description_of l (length text) ls) (after_tree l) fault f
 
-tree_read : (text : List ℕ) (ls : List Lexeme) (tree : Description) → lexemes_of text ≡ Ok ls
-    → description_of (length text) ls ≡ Ok tree → document_of text ≡ after_tree tree
-tree_read text ls tree e f =
-    tokens_read text ls e ∙ phase_ok in_grammar (description_of (length text) ls) after_tree tree f
+tree_read : (l : Language) (text : List ℕ) (ls : List Lexeme) (tree : Description) → lexemes_of l text ≡ Ok ls
+    → description_of l (length text) ls ≡ Ok tree → document_in l text ≡ after_tree l tree
+tree_read l text ls tree e f =
+    tokens_read l text ls e ∙ phase_ok in_grammar (description_of l (length text) ls) (after_tree l) tree f
 
-pub refused_names : (text : List ℕ) (ls : List Lexeme) (tree : Description) (fault : NameError)
-    → lexemes_of text ≡ Ok ls → description_of (length text) ls ≡ Ok tree → resolve tree ≡ Err fault
-    → document_of text ≡ Err (in_names fault)
-refused_names text ls tree fault e f i =
-    tree_read text ls tree e f ∙ phase_err in_names (resolve tree) after_names fault i
+pub refused_names : (l : Language) (text : List ℕ) (ls : List Lexeme) (tree : Description) (fault : NameError)
+    → lexemes_of l text ≡ Ok ls → description_of l (length text) ls ≡ Ok tree → resolve tree ≡ Err fault
+    → document_in l text ≡ Err (in_names fault)
+refused_names l text ls tree fault e f i =
+    tree_read l text ls tree e f ∙ phase_err in_names (resolve tree) (after_names l) fault i
 
 -- what a text names, phase by phase
-pub record ArePhases (text : List ℕ) (ls : List Lexeme) (tree : Description) (n : Named) : Type 0 where
-  pub tokens : lexemes_of text ≡ Ok ls
-  pub grammar : description_of (length text) ls ≡ Ok tree
+pub record ArePhases (l : Language) (text : List ℕ) (ls : List Lexeme) (tree : Description) (n : Named) : Type 0 where
+  pub tokens : lexemes_of l text ≡ Ok ls
+  pub grammar : description_of l (length text) ls ≡ Ok tree
   pub names : resolve tree ≡ Ok n
 
-pub last_phases : (text : List ℕ) (ls : List Lexeme) (tree : Description) (n : Named) → ArePhases text ls tree n
-    → document_of text ≡ unless (tables_cause n.tables) (document_named n)
-last_phases text ls tree n is =
-    tree_read text ls tree is.tokens is.grammar ∙ phase_ok in_names (resolve tree) after_names n is.names
+pub last_phases : (l : Language) (text : List ℕ) (ls : List Lexeme) (tree : Description) (n : Named)
+    → ArePhases l text ls tree n → document_in l text ≡ unless (tables_cause n.tables) (document_named l n)
+last_phases l text ls tree n is =
+    tree_read l text ls tree is.tokens is.grammar ∙ phase_ok in_names (resolve tree) (after_names l) n is.names
 
 -- ---- what is spelled is read
 
 pub spelled_reads : (text : List ℕ) (d : Document) → Spells text d → document_of text ≡ Ok d
 spelled_reads text d s =
-    let l : HasLexemes text s.tokens = has_lexemes text s.tokens s.within s.read in
-    let spelled : IsDescription (kinds l.lexemes) s.tree =
-    subst (λ (ts : List Token). IsDescription ts s.tree) l.are s.spelled in
-    let g : description_of (length text) l.lexemes ≡ Ok s.tree =
-    description_again (record { end = length text; process = 0 }) l.lexemes s.tree spelled in
+    let l : Language = d.language in
+    let found : HasLexemes l text s.tokens = has_lexemes l text s.tokens s.within s.read in
+    let spelled : IsDescription l (kinds found.lexemes) s.tree =
+    subst (λ (ts : List Token). IsDescription l ts s.tree) found.are s.spelled in
+    let g : description_of l (length text) found.lexemes ≡ Ok s.tree =
+    description_again (record { end = length text; process = 0 }) l found.lexemes s.tree spelled in
     let tables : s.named.tables ≡ d.tables = ap (λ (x : Document). x.tables) s.is in
     let sound : tables_cause s.named.tables ≡ None = ap tables_cause tables ∙ network_sound d.tables s.keeps in
-    last_phases text l.lexemes s.tree s.named (record { tokens = l.found; grammar = g; names = s.resolved })
-    ∙ ap (λ c. unless c (document_named s.named)) sound ∙ ap Ok s.is
+    ap (λ k. document_in k text) s.language
+    ∙ last_phases l text found.lexemes s.tree s.named (record { tokens = found.found; grammar = g; names = s.resolved })
+    ∙ ap (λ c. unless c (document_named l s.named)) sound ∙ ap Ok s.is
 
 -- a text spells one document at most
 pub one_document : (text : List ℕ) (d e : Document) → Spells text d → Spells text e → d ≡ e
@@ -158,16 +164,19 @@ one_document text d e s t = ok_is {E = Cause} d e (sym (spelled_reads text d s) 
 
 -- ---- what is read is spelled
 
-pub read_spelled : (text : List ℕ) (ls : List Lexeme) (tree : Description) (n : Named) → ArePhases text ls tree n
-    → IsNetwork n.tables → Spells text (document_named n)
+pub read_spelled : (text : List ℕ) (ls : List Lexeme) (tree : Description) (n : Named)
+    → ArePhases (language_of text) text ls tree n → IsNetwork n.tables
+    → Spells text (document_named (language_of text) n)
 read_spelled text ls tree n is keeps =
-    let t : AreTokens text ls = are_tokens text ls is.tokens in
+    let l : Language = language_of text in
+    let t : AreTokens l text ls = are_tokens l text ls is.tokens in
     record {
       within = t.within;
+      language = refl;
       tokens = kinds ls;
       read = t.read;
       tree = tree;
-      spelled = description_takes (record { end = length text; process = 0 }) ls tree is.grammar;
+      spelled = description_takes (record { end = length text; process = 0 }) l ls tree is.grammar;
       named = n;
       resolved = is.names;
       is = refl;
@@ -216,12 +225,13 @@ last_step None made x e = (refl, ok_is made x e)
 last_step (Some cause) made x e = absurd cc
 
 pub reads_spelled : (text : List ℕ) (d : Document) → document_of text ≡ Ok d → Spells text d
-unfolding document_of
+unfolding document_in
 reads_spelled text d e =
-    phase_step in_tokens (lexemes_of text) _ d e (λ ls tokens f.
-    phase_step in_grammar (description_of (length text) ls) _ d f (λ tree grammar g.
+    let l : Language = language_of text in
+    phase_step in_tokens (lexemes_of l text) _ d e (λ ls tokens f.
+    phase_step in_grammar (description_of l (length text) ls) _ d f (λ tree grammar g.
     phase_step in_names (resolve tree) _ d g (λ n names h.
-    let last = last_step (tables_cause n.tables) (document_named n) d h in
+    let last = last_step (tables_cause n.tables) (document_named l n) d h in
     subst (λ (x : Document). Spells text x) last.1
     (read_spelled text ls tree n (record { tokens = tokens; grammar = grammar; names = names })
     (tables_keep n.tables last.0 (resolved_has tree n names))))))

@@ -9,6 +9,8 @@ use Rattle.kpn_text_tokens.specs.declared.lexer.LexFault.TheVariants as lex
 use Rattle.kpn_text_tokens.specs.declared.tokens.Lexeme.{Lexeme}
 use Rattle.kpn_text_tokens.specs.Lexing as lexing
 use Rattle.kpn_text_tokens.specs.Lexing.{lexemes_of}
+use Rattle.kpn_text_tokens.specs.declared.tokens.Language.{Language}
+use Rattle.kpn_text_tokens.specs.Opening.{language_of}
 use Rattle.kpn_text_tokens.specs.Results.{OkOr}
 use Rattle.kpn_text_grammar.specs.declared.fault.GrammarFault.{GrammarFault}
 use Rattle.kpn_text_grammar.specs.declared.fault.GrammarFault.TheVariants as grammar
@@ -35,58 +37,71 @@ found_out : (bytes : List ℕ) (cause : Cause) (f : TextFault) → document_of b
     → TellsWhatIsFound (Err cause) f → Refuses bytes f
 found_out bytes cause f e h = inr (subst (λ r. TellsWhatIsFound r f) (sym e) h)
 
-pub tokens_refused : (bytes : List ℕ) (e : LexFault) (f : TextFault)
-    → lexing.Gives {A = Global} (Err e) (lexemes_of bytes) → f ≡ lex_fault e → Refuses bytes f
-tokens_refused bytes lex.NoMemory f g h = inl h
-tokens_refused bytes (lex.Token at) f g h =
-    found_out bytes (in_tokens (lex.Token at)) f (refused_tokens bytes (lex.Token at) g) h
-tokens_refused bytes (lex.TooLong at) f g h =
-    found_out bytes (in_tokens (lex.TooLong at)) f (refused_tokens bytes (lex.TooLong at) g) h
+-- the language is that of the text
+module _ (bytes : List ℕ) (l : Language) (told : l ≡ language_of bytes) where
+  lexemes_told : (r : Result (List Lexeme) LexFault) → lexemes_of l bytes ≡ r → lexemes_of (language_of bytes) bytes ≡ r
+  lexemes_told r t = ap (λ k. lexemes_of k bytes) (sym told) ∙ t
 
-pub tree_refused : (bytes : List ℕ) (ls slice : List Lexeme) (e : GrammarFault) (f : TextFault)
-    → lexemes_of bytes ≡ Ok ls → slice ≡ ls → reading.Fails e (description_of (length bytes) slice)
-    → f ≡ grammar_fault e → Refuses bytes f
-tree_refused bytes ls slice grammar.NoMemory f t s g h = inl h
-tree_refused bytes ls slice (grammar.Grammar at) f t s g h =
-    found_out bytes (in_grammar (grammar.Grammar at)) f
-    (refused_tree bytes ls (grammar.Grammar at) t (ap (description_of (length bytes)) (sym s) ∙ g)) h
-tree_refused bytes ls slice (grammar.TooDeep i) f t s g h =
-    found_out bytes (in_grammar (grammar.TooDeep i)) f
-    (refused_tree bytes ls (grammar.TooDeep i) t (ap (description_of (length bytes)) (sym s) ∙ g)) h
+  tree_told : (ls slice : List Lexeme) (r : Result Description GrammarFault) → slice ≡ ls
+      → description_of l (length bytes) slice ≡ r → description_of (language_of bytes) (length bytes) ls ≡ r
+  tree_told ls slice r s d = (λ i. description_of (sym told i) (length bytes) (sym s i)) ∙ d
 
-pub names_refused : (bytes : List ℕ) (ls slice : List Lexeme) (tree : Description) (e : NameFault) (f : TextFault)
-    → lexemes_of bytes ≡ Ok ls → slice ≡ ls → description_of (length bytes) slice ≡ Ok tree
-    → names.Fails e (resolve tree) → f ≡ name_fault e → Refuses bytes f
-names_refused bytes ls slice tree name.NoMemory f t s d g h = inl h
-names_refused bytes ls slice tree (name.UnknownName at) f t s d g h =
-    found_out bytes (in_names unknown) f
-    (refused_names bytes ls tree unknown t (ap (description_of (length bytes)) (sym s) ∙ d) g) (at, h)
-names_refused bytes ls slice tree (name.DoubleName at) f t s d g h =
-    found_out bytes (in_names double) f
-    (refused_names bytes ls tree double t (ap (description_of (length bytes)) (sym s) ∙ d) g) (at, h)
+  pub tokens_refused : (e : LexFault) (f : TextFault) → lexing.Gives {A = Global} (Err e) (lexemes_of l bytes)
+      → f ≡ lex_fault e → Refuses bytes f
+  tokens_refused lex.NoMemory f g h = inl h
+  tokens_refused (lex.Token at) f g h =
+      found_out bytes (in_tokens (lex.Token at)) f
+      (refused_tokens (language_of bytes) bytes (lex.Token at) (lexemes_told _ g)) h
+  tokens_refused (lex.TooLong at) f g h =
+      found_out bytes (in_tokens (lex.TooLong at)) f
+      (refused_tokens (language_of bytes) bytes (lex.TooLong at) (lexemes_told _ g)) h
 
-pub phases : (bytes : List ℕ) (ls slice : List Lexeme) (tree : Description) (n : Named) → lexemes_of bytes ≡ Ok ls
-    → slice ≡ ls → description_of (length bytes) slice ≡ Ok tree → resolve tree ≡ Ok n → ArePhases bytes ls tree n
-phases bytes ls slice tree n t s d r =
-    record { tokens = t; grammar = ap (description_of (length bytes)) (sym s) ∙ d; names = r }
+  pub tree_refused : (ls slice : List Lexeme) (e : GrammarFault) (f : TextFault) → lexemes_of l bytes ≡ Ok ls
+      → slice ≡ ls → reading.Fails e (description_of l (length bytes) slice) → f ≡ grammar_fault e → Refuses bytes f
+  tree_refused ls slice grammar.NoMemory f t s g h = inl h
+  tree_refused ls slice (grammar.Grammar at) f t s g h =
+      found_out bytes (in_grammar (grammar.Grammar at)) f
+      (refused_tree (language_of bytes) bytes ls (grammar.Grammar at) (lexemes_told _ t) (tree_told ls slice _ s g)) h
+  tree_refused ls slice (grammar.TooDeep i) f t s g h =
+      found_out bytes (in_grammar (grammar.TooDeep i)) f
+      (refused_tree (language_of bytes) bytes ls (grammar.TooDeep i) (lexemes_told _ t) (tree_told ls slice _ s g)) h
+
+  pub names_refused : (ls slice : List Lexeme) (tree : Description) (e : NameFault) (f : TextFault)
+      → lexemes_of l bytes ≡ Ok ls → slice ≡ ls → description_of l (length bytes) slice ≡ Ok tree
+      → names.Fails e (resolve tree) → f ≡ name_fault e → Refuses bytes f
+  names_refused ls slice tree name.NoMemory f t s d g h = inl h
+  names_refused ls slice tree (name.UnknownName at) f t s d g h =
+      found_out bytes (in_names unknown) f
+      (refused_names (language_of bytes) bytes ls tree unknown (lexemes_told _ t) (tree_told ls slice _ s d) g) (at, h)
+  names_refused ls slice tree (name.DoubleName at) f t s d g h =
+      found_out bytes (in_names double) f
+      (refused_names (language_of bytes) bytes ls tree double (lexemes_told _ t) (tree_told ls slice _ s d) g) (at, h)
+
+  pub phases : (ls slice : List Lexeme) (tree : Description) (n : Named) → lexemes_of l bytes ≡ Ok ls → slice ≡ ls
+      → description_of l (length bytes) slice ≡ Ok tree → resolve tree ≡ Ok n
+      → ArePhases (language_of bytes) bytes ls tree n
+  phases ls slice tree n t s d r =
+      record { tokens = lexemes_told _ t; grammar = tree_told ls slice _ s d; names = r }
 
 tells_unless : (c : Option Cause) (d : Document) (f : TextFault) → TellsCause c f → TellsWhatIsFound (unless c d) f
 tells_unless (Some cause) d f h = h
 tells_unless None d f h = absurd h
 
 pub network_refused : (bytes : List ℕ) (ls : List Lexeme) (tree : Description) (n : Named) (f : TextFault)
-    → ArePhases bytes ls tree n → (f ≡ text.NoMemory) ⊎ TellsCause (tables_cause n.tables) f → Refuses bytes f
+    → ArePhases (language_of bytes) bytes ls tree n → (f ≡ text.NoMemory) ⊎ TellsCause (tables_cause n.tables) f
+    → Refuses bytes f
 network_refused bytes ls tree n f is (inl h) = inl h
 network_refused bytes ls tree n f is (inr h) =
     inr
-    (subst (λ r. TellsWhatIsFound r f) (sym (last_phases bytes ls tree n is))
-    (tells_unless (tables_cause n.tables) (document_named n) f h))
+    (subst (λ r. TellsWhatIsFound r f) (sym (last_phases (language_of bytes) bytes ls tree n is))
+    (tells_unless (tables_cause n.tables) (document_named (language_of bytes) n) f h))
 
-pub made_spelled : (bytes : List ℕ) (ls : List Lexeme) (tree : Description) (n : Named) (network : Tables)
-    (own : NetworkNames) → ArePhases bytes ls tree n → network ≡ n.tables → own ≡ names_in n → IsNetwork network
-    → Spells bytes (document_with network own)
-made_spelled bytes ls tree n network own is e h keeps =
-    let same : document_named n ≡ document_with network own = λ i. document_with (sym e i) (sym h i) in
+pub made_spelled : (bytes : List ℕ) (ls : List Lexeme) (tree : Description) (n : Named) (l : Language)
+    (network : Tables) (own : NetworkNames) → ArePhases (language_of bytes) bytes ls tree n → l ≡ language_of bytes
+    → network ≡ n.tables → own ≡ names_in n → IsNetwork network → Spells bytes (document_with l network own)
+made_spelled bytes ls tree n l network own is told e h keeps =
+    let same : document_named (language_of bytes) n ≡ document_with l network own =
+    λ i. document_with (sym told i) (sym e i) (sym h i) in
     subst (λ (d : Document). Spells bytes d) same (read_spelled bytes ls tree n is (subst IsNetwork e keeps))
 
 pub only_this : (bytes : List ℕ) (r : Result Document TextFault) → Reads bytes r → (d : Document) → Spells bytes d

@@ -10,7 +10,9 @@ use Rattle.kpn_net.specs.declared.tables.Policy.{Policy}
 use Rattle.kpn_net.specs.declared.tables.Policy.TheVariants as policy
 use Rattle.kpn_net.specs.Tables.{Tables}
 use Rattle.kpn_net.specs.Faults.{IsNetwork}
+use Rattle.kpn_text_tokens.specs.declared.tokens.Language.{Language}
 use Rattle.kpn_text_tokens.specs.Laws.{tokens_of}
+use Rattle.kpn_text_tokens.specs.Opening.{language_of}
 use Rattle.kpn_text_grammar.specs.Syntax.{Description}
 use Rattle.kpn_text_grammar.specs.Spelling.{spell_description, ProcessIsWithin, IsDescription}
 use Rattle.kpn_text_tokens.specs.Results.{and_then}
@@ -18,7 +20,7 @@ use Rattle.kpn_text_names.specs.Laws.{BlocksAreTheTree}
 use Rattle.kpn_text_names.specs.Network.{growth_of, limit_of, policy_of, Settings, settings_of, Wiring, wiring}
 use Rattle.kpn_text_names.specs.Named.{Programs, programs_of, Named, named_with, resolve}
 use Rattle.kpn_text_names.specs.declared.network_names.NetworkNames.{NetworkNames}
-use Rattle.kpn_text.specs.CanonicalLaws.{DescriptionIsRead, ReadDescriptionsAreProper}
+use Rattle.kpn_text.specs.CanonicalLaws.{DescriptionIsRead, LanguageIsTold, ReadDescriptionsAreProper}
 use Rattle.kpn_text.specs.Named.{growth_named, limit_named, policy_named, description_named}
 use Rattle.kpn_text.specs.Proper.{IsProperProcess, IsProperLimit, IsProperItem, IsProper}
 use Rattle.kpn_text.specs.Text.{description_text}
@@ -103,19 +105,20 @@ abbrev printed : Named → Description
 printed n = description_named (names_in n) n.tables
 
 -- what it keeps of a description that names the document
-pub record Kept (d : Description) (n : Named) : Type 0 where
+pub record Kept (l : Language) (d : Description) (n : Named) : Type 0 where
   pub processes : d.processes ≡ (printed n).processes
   pub limit : IsProperLimit (printed n).network.limit
-  pub items : AllByRecursion IsProperItem d.network.items → AllByRecursion IsProperItem (printed n).network.items
+  pub items : AllByRecursion (IsProperItem l) d.network.items
+      → AllByRecursion (IsProperItem l) (printed n).network.items
   pub again : resolve (printed n) ≡ Ok n
 
-kept_by : BlocksAreTheTree → (d : Description) (s : Settings) (p : Programs) (w : Wiring)
+kept_by : BlocksAreTheTree → (l : Language) (d : Description) (s : Settings) (p : Programs) (w : Wiring)
     → s.limit ≤ MAX_CAPACITY → programs_of d.processes ≡ Ok p → wiring p.names d.network.items ≡ Ok w
-    → Kept d (named_with s p w)
-kept_by flat d s p w small hp hw =
+    → Kept l d (named_with s p w)
+kept_by flat l d s p w small hp hw =
     let n : Named = named_with s p w in
     let a = processes_back flat d.processes p hp in
-    let b = items_back (names_in n) p.names d.network.items w a.names_back refl hw in
+    let b = items_back l (names_in n) p.names d.network.items w a.names_back refl hw in
     let read : programs_of (printed n).processes ≡ Ok p = ap (λ ps. programs_of ps) a.back ∙ hp in
     record {
       processes = sym a.back;
@@ -124,65 +127,69 @@ kept_by flat d s p w small hp hw =
       again = resolves (printed n) p w read b.again ∙ ap (λ q. Ok (named_with q p w)) (settings_again s small);
     }
 
-kept : BlocksAreTheTree → LimitsAreInRange → (d : Description) (n : Named) → resolve d ≡ Ok n → IsNetwork n.tables
-    → Kept d n
-kept flat limits d n h net =
+kept : BlocksAreTheTree → LimitsAreInRange → (l : Language) (d : Description) (n : Named) → resolve d ≡ Ok n
+    → IsNetwork n.tables → Kept l d n
+kept flat limits l d n h net =
     let r = resolved d n h in
     let limit : limit_of d.network.limit ≡ n.tables.limit = ap (λ (q : Named). q.tables.limit) r.is in
     let small : limit_of d.network.limit ≤ MAX_CAPACITY =
     subst (λ l. l ≤ MAX_CAPACITY) (sym limit) (limits n.tables net).1 in
-    subst (λ q. Kept d q) r.is (kept_by flat d (settings_of d.network) r.p r.w small r.has_processes r.has_items)
+    subst (λ q. Kept l d q) r.is (kept_by flat l d (settings_of d.network) r.p r.w small r.has_processes r.has_items)
 
 -- ---- the law
 
 -- the printed description is proper
-pub proper : (text : List ℕ) (d : Document) (s : Spells text d) → ReadDescriptionsAreProper → Kept s.tree s.named
-    → IsProper (printed s.named)
+pub proper : (text : List ℕ) (d : Document) (s : Spells text d) → ReadDescriptionsAreProper
+    → Kept d.language s.tree s.named → IsProper d.language (printed s.named)
 proper text d s read k =
-    let was : IsProper s.tree = read text s.tree (s.read ∙ ap (λ ts. Some ts) s.spelled.spelled) in
+    let l : Language = d.language in
+    let was : IsProper l s.tree = read l text s.tree (s.read ∙ ap (λ ts. Some ts) s.spelled.spelled) in
     record {
-      processes = subst (λ ps. AllByRecursion IsProperProcess ps) k.processes was.processes;
+      processes = subst (λ ps. AllByRecursion (IsProperProcess l) ps) k.processes was.processes;
       network = record { limit = k.limit; items = k.items was.network.items };
     }
 
 -- each of its processes is within the limits of the grammar
-printed_fits : (text : List ℕ) (d : Document) (s : Spells text d) → Kept s.tree s.named
-    → IsDescription (spell_description (printed s.named)) (printed s.named)
+printed_fits : (text : List ℕ) (d : Document) (s : Spells text d) → Kept d.language s.tree s.named
+    → IsDescription d.language (spell_description d.language (printed s.named)) (printed s.named)
 printed_fits text d s k =
     record { spelled = refl; within = subst (λ ps. AllByRecursion ProcessIsWithin ps) k.processes s.spelled.within }
 
 pub spelled_kept : BlocksAreTheTree → LimitsAreInRange → (text : List ℕ) (d : Document) (s : Spells text d)
-    → Kept s.tree s.named
+    → Kept d.language s.tree s.named
 spelled_kept flat limits text d s =
-    kept flat limits s.tree s.named s.resolved (subst (λ (e : Document). IsNetwork e.tables) (sym s.is) s.keeps)
+    kept flat limits d.language s.tree s.named s.resolved
+    (subst (λ (e : Document). IsNetwork e.tables) (sym s.is) s.keeps)
 
-pub printed_spells : BlocksAreTheTree → LimitsAreInRange → DescriptionIsRead → ReadDescriptionsAreProper
-    → PrintedTextSpells
-printed_spells flat limits is_read are_proper d h short =
-    let text : List ℕ = h.0 in
+pub printed_spells : BlocksAreTheTree → LimitsAreInRange → DescriptionIsRead → LanguageIsTold
+    → ReadDescriptionsAreProper → PrintedTextSpells
+printed_spells flat limits is_read is_told are_proper d h short =
+    let l : Language = d.language in
     let s = h.1 in
-    let k = spelled_kept flat limits text d s in
-    let same : description_text (printed s.named) ≡ canonical_text d = ap (λ e. canonical_text e) s.is in
+    let k = spelled_kept flat limits h.0 d s in
+    let same : description_text l (printed s.named) ≡ canonical_text d =
+    ap (λ (e : Document). description_text l (description_named e.names e.tables)) s.is in
     record {
       within = short;
-      tokens = spell_description (printed s.named);
-      read = ap (λ t. tokens_of t) (sym same) ∙ is_read (printed s.named) (proper text d s are_proper k);
+      language = ap (λ t. language_of t) (sym same) ∙ is_told l (printed s.named);
+      tokens = spell_description l (printed s.named);
+      read = ap (λ t. tokens_of l t) (sym same) ∙ is_read l (printed s.named) (proper h.0 d s are_proper k);
       tree = printed s.named;
-      spelled = printed_fits text d s k;
+      spelled = printed_fits h.0 d s k;
       named = s.named;
       resolved = k.again;
       is = s.is;
       keeps = s.keeps;
     }
 
--- what a call that printed the document, by its tables and names, returned is read again
+-- what a call that printed the document, by its language, tables and names, returned is read again
 pub text_reads_again : {V E : Type 0} (items : V → List ℕ) → PrintedTextSpells → (d : Document) → IsSpelled d
-    → (names : NetworkNames) (tables : Tables) → names ≡ d.names → tables ≡ d.tables
-    → (r : Result V E) → IfOk r (λ v. items v ≡ description_text (description_named names tables))
+    → (l : Language) (names : NetworkNames) (tables : Tables) → l ≡ d.language → names ≡ d.names → tables ≡ d.tables
+    → (r : Result V E) → IfOk r (λ v. items v ≡ description_text l (description_named names tables))
     → IfOk r (λ v. length (items v) ≤ MAX_TEXT_BYTES → Spells (items v) d)
-text_reads_again items law d h names tables same_names same_tables (Ok v) e =
+text_reads_again items law d h l names tables same_language same_names same_tables (Ok v) e =
     let is : items v ≡ canonical_text d =
-    e ∙ (λ i. description_text (description_named (same_names i) (same_tables i))) in
+    e ∙ (λ i. description_text (same_language i) (description_named (same_names i) (same_tables i))) in
     λ short.
     subst (λ bytes. Spells bytes d) (sym is) (law d h (subst (λ bytes. length bytes ≤ MAX_TEXT_BYTES) is short))
-text_reads_again items law d h names tables same_names same_tables (Err x) e = tt
+text_reads_again items law d h l names tables same_language same_names same_tables (Err x) e = tt

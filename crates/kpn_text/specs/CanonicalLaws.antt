@@ -1,9 +1,11 @@
 -- How the canonical text is read: its tokens are the spelling of the tree.
 use Rattle.std.specs.Prelude.{◌≡◌, ℕ, false, ◌||◌, List, [], ◌∷◌, Some}
 use Rattle.std.specs.Char.{is_ascii_digit}
+use Rattle.kpn_text_tokens.specs.declared.tokens.Language.{Language}
 use Rattle.kpn_text_tokens.specs.declared.tokens.Token.{Token}
 use Rattle.kpn_text_tokens.specs.Laws.{tokens_of}
 use Rattle.kpn_text_tokens.specs.Lexing.{begins_name}
+use Rattle.kpn_text_tokens.specs.Opening.{language_of}
 use Rattle.kpn_text_grammar.specs.Syntax.{Term, Statements, Process, Description}
 use Rattle.kpn_text_grammar.specs.Spelling.{spell_term, spell_statements, spell_process, spell_description}
 use Rattle.kpn_text.specs.Proper.{IsProperTerm, AreProper, IsProperProcess, IsProper}
@@ -17,26 +19,31 @@ EndsWord (b ∷ bs) = (begins_name b || is_ascii_digit b) ≡ false
 -- An expression that no letter, digit or `_` follows is read as its spelling, and then what follows it.
 abbrev pub TermIsRead : Type 0
 TermIsRead =
-    (e : Term) (more : List ℕ) (tokens : List Token) → IsProperTerm e → EndsWord more → tokens_of more ≡ Some tokens
-    → tokens_of (term_text e more) ≡ Some (spell_term e tokens)
+    (l : Language) (e : Term) (more : List ℕ) (tokens : List Token) → IsProperTerm l e → EndsWord more
+    → tokens_of l more ≡ Some tokens → tokens_of l (term_text e more) ≡ Some (spell_term e tokens)
 
 -- Statements are read as their spelling, and then what follows them.
 abbrev pub StatementsAreRead : Type 0
 StatementsAreRead =
-    (level : ℕ) (ss : Statements) (more : List ℕ) (tokens : List Token) → AreProper ss → tokens_of more ≡ Some tokens
-    → tokens_of (statements_text level ss more) ≡ Some (spell_statements ss tokens)
+    (l : Language) (level : ℕ) (ss : Statements) (more : List ℕ) (tokens : List Token) → AreProper l ss
+    → tokens_of l more ≡ Some tokens → tokens_of l (statements_text level ss more) ≡ Some (spell_statements ss tokens)
 
 -- A process is read as its spelling, and then what follows it.
 abbrev pub ProcessIsRead : Type 0
 ProcessIsRead =
-    (p : Process) (more : List ℕ) (tokens : List Token) → IsProperProcess p → tokens_of more ≡ Some tokens
-    → tokens_of (process_text p more) ≡ Some (spell_process p tokens)
+    (l : Language) (p : Process) (more : List ℕ) (tokens : List Token) → IsProperProcess l p
+    → tokens_of l more ≡ Some tokens → tokens_of l (process_text p more) ≡ Some (spell_process p tokens)
 
 -- A printed description is read as its spelling.
 abbrev pub DescriptionIsRead : Type 0
-DescriptionIsRead = (d : Description) → IsProper d → tokens_of (description_text d) ≡ Some (spell_description d)
+DescriptionIsRead =
+    (l : Language) (d : Description) → IsProper l d → tokens_of l (description_text l d) ≡ Some (spell_description l d)
+
+-- A printed description is of the language in which it is printed.
+abbrev pub LanguageIsTold : Type 0
+LanguageIsTold = (l : Language) (d : Description) → language_of (description_text l d) ≡ l
 
 -- A description whose spelling was read from a text is proper.
 abbrev pub ReadDescriptionsAreProper : Type 0
 ReadDescriptionsAreProper =
-    (text : List ℕ) (d : Description) → tokens_of text ≡ Some (spell_description d) → IsProper d
+    (l : Language) (text : List ℕ) (d : Description) → tokens_of l text ≡ Some (spell_description l d) → IsProper l d

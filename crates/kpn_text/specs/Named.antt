@@ -12,7 +12,7 @@ use Rattle.kpn_net.specs.declared.tables.Policy.{Policy}
 use Rattle.kpn_net.specs.declared.tables.Policy.TheVariants as policy
 use Rattle.kpn_net.specs.declared.tables.Instance as net
 use Rattle.kpn_net.specs.Tables.{Tables}
-use Rattle.kpn_text_grammar.specs.Syntax.{Name, Term, numeral, variable, minus, negation, binary, assign, receive, send, choice, loop, Statements, no_statements, statement, Process, Literal, plain, negated, Instance, Item, channel, source, sink, instance, Network, Description}
+use Rattle.kpn_text_grammar.specs.Syntax.{Name, Term, numeral, variable, minus, negation, complement, binary, conditional, assign, receive, send, choice, loop, Statements, no_statements, statement, Process, Literal, plain, negated, Instance, Item, channel, source, sink, instance, Network, Description}
 use Rattle.kpn_text_names.specs.declared.network_names.NetworkNames.{NetworkNames}
 use Rattle.kpn_text_names.specs.declared.network_names.ProcessNames.{ProcessNames}
 use Rattle.kpn_text_names.specs.Names.{name_at}
@@ -29,7 +29,9 @@ term_named vars (lang.Num z) = number_named z
 term_named vars (lang.Var k) = variable (name_at vars k)
 term_named vars (lang.Neg e) = minus (term_named vars e)
 term_named vars (lang.Not e) = negation (term_named vars e)
+term_named vars (lang.BitNot e) = complement (term_named vars e)
 term_named vars (lang.Bin o a b) = binary o (term_named vars a) (term_named vars b)
+term_named vars (lang.Choice e a b) = conditional (term_named vars e) (term_named vars a) (term_named vars b)
 
 -- statements over these ports and variables
 abbrev pub statements_named : ProcessNames → Tree → Statements

@@ -8,8 +8,10 @@ use Rattle.kpn_net.specs.declared.fault.NetFault.{NetFault}
 use Rattle.kpn_net.specs.Tables.{Tables}
 use Rattle.kpn_net.specs.Faults as net
 use Rattle.kpn_text_tokens.specs.declared.lexer.LexFault.{LexFault}
+use Rattle.kpn_text_tokens.specs.declared.tokens.Language.{Language}
 use Rattle.kpn_text_tokens.specs.Results.{◌>>=◌}
 use Rattle.kpn_text_tokens.specs.Lexing.{lexemes_of}
+use Rattle.kpn_text_tokens.specs.Opening.{language_of}
 use Rattle.kpn_text_grammar.specs.declared.fault.GrammarFault.{GrammarFault}
 use Rattle.kpn_text_grammar.specs.Reading.{description_of}
 use Rattle.kpn_text_names.specs.Fault.{NameError, unknown, double}
@@ -60,13 +62,17 @@ or_else None after = after
 abbrev pub tables_cause : Tables → Option Cause
 tables_cause t = or_else (programs_cause 0 t.programs) (network_cause (net.first_fault t))
 
--- the document of a text, or the cause of its refusal
-unfoldable pub document_of : List ℕ → Result Document Cause
-document_of text = do
-  tokens ← phase in_tokens (lexemes_of text)
-  tree ← phase in_grammar (description_of (length text) tokens)
+-- the document of a text in this language, or the cause of its refusal
+unfoldable pub document_in : Language → List ℕ → Result Document Cause
+document_in l text = do
+  tokens ← phase in_tokens (lexemes_of l text)
+  tree ← phase in_grammar (description_of l (length text) tokens)
   named ← phase in_names (resolve tree)
-  unless (tables_cause named.tables) (document_named named)
+  unless (tables_cause named.tables) (document_named l named)
+
+-- the same in the language that the text is of
+abbrev pub document_of : List ℕ → Result Document Cause
+document_of text = document_in (language_of text) text
 
 -- ---- how a fault states a cause
 

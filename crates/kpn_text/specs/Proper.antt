@@ -1,69 +1,78 @@
--- Which trees can be printed and read again: each name is a name, and each number is in range.
-use Rattle.std.specs.Prelude.{ℕ, ◌<◌, ◌^◌, List, Option, Some, None}
+-- Which trees can be printed and read again in a language: each name is a name of it, each mark is one of it, and each
+-- number is in range.
+use Rattle.std.specs.Prelude.{◌≡◌, ℕ, ◌<◌, ◌^◌, true, List, Option, Some, None}
 use Rattle.std.specs.List.{AllByRecursion}
+use Rattle.kpn_text_tokens.specs.declared.tokens.Language.{Language}
+use Rattle.kpn_text_tokens.specs.declared.tokens.Mark.TheVariants as mark
+use Rattle.kpn_text_tokens.specs.Spelling.{has_mark}
 use Rattle.kpn_text_tokens.specs.Rules.{IsName}
-use Rattle.kpn_text_grammar.specs.Syntax.{Name, Term, numeral, variable, minus, negation, binary, Statement, assign, receive, send, choice, loop, Statements, no_statements, statement, Process, Literal, plain, negated, Instance, Item, channel, source, sink, instance, Network, Description}
+use Rattle.kpn_text_grammar.specs.Operators.{operator_mark}
+use Rattle.kpn_text_grammar.specs.Syntax.{Name, Term, numeral, variable, minus, negation, complement, binary, conditional, Statement, assign, receive, send, choice, loop, Statements, no_statements, statement, Process, Literal, plain, negated, Instance, Item, channel, source, sink, instance, Network, Description}
 
--- each name is a name, and each number is below 2 ^ 63
-abbrev pub IsProperTerm : Term → Type 0
-IsProperTerm (numeral n) = n < 2 ^ 63
-IsProperTerm (variable x) = IsName x
-IsProperTerm (minus e) = IsProperTerm e
-IsProperTerm (negation e) = IsProperTerm e
-IsProperTerm (binary op a b) = IsProperTerm a × IsProperTerm b
+-- each name is a name, each number is below 2 ^ 63, and the language has each operator
+abbrev pub IsProperTerm : Language → Term → Type 0
+IsProperTerm l (numeral n) = n < 2 ^ 63
+IsProperTerm l (variable x) = IsName l x
+IsProperTerm l (minus e) = IsProperTerm l e
+IsProperTerm l (negation e) = IsProperTerm l e
+IsProperTerm l (complement e) = (has_mark l mark.BitNot ≡ true) × IsProperTerm l e
+IsProperTerm l (binary op a b) = (has_mark l (operator_mark op) ≡ true) × IsProperTerm l a × IsProperTerm l b
+IsProperTerm l (conditional e a b) =
+    (has_mark l mark.Question ≡ true) × (has_mark l mark.Colon ≡ true) × IsProperTerm l e × IsProperTerm l a
+    × IsProperTerm l b
 
 abbrev mutual
   -- the same of a statement
-  pub IsProperStatement : Statement → Type 0
-  IsProperStatement (assign x e) = IsName x × IsProperTerm e
-  IsProperStatement (receive i x) = IsName i × IsName x
-  IsProperStatement (send o e) = IsName o × IsProperTerm e
-  IsProperStatement (choice e a b) = IsProperTerm e × AreProper a × AreProper b
-  IsProperStatement (loop e b) = IsProperTerm e × AreProper b
+  pub IsProperStatement : Language → Statement → Type 0
+  IsProperStatement l (assign x e) = IsName l x × IsProperTerm l e
+  IsProperStatement l (receive i x) = IsName l i × IsName l x
+  IsProperStatement l (send o e) = IsName l o × IsProperTerm l e
+  IsProperStatement l (choice e a b) = IsProperTerm l e × AreProper l a × AreProper l b
+  IsProperStatement l (loop e b) = IsProperTerm l e × AreProper l b
 
   -- and of several
-  pub AreProper : Statements → Type 0
-  AreProper no_statements = Unit {0}
-  AreProper (statement s ss) = IsProperStatement s × AreProper ss
+  pub AreProper : Language → Statements → Type 0
+  AreProper l no_statements = Unit {0}
+  AreProper l (statement s ss) = IsProperStatement l s × AreProper l ss
 
 -- the same of each of several names
-abbrev pub AreNames : List Name → Type 0
-AreNames = AllByRecursion IsName
+abbrev pub AreNames : Language → List Name → Type 0
+AreNames l = AllByRecursion (IsName l)
 
 -- and of a process
-pub record IsProperProcess (p : Process) : Type 0 where
-  pub name : IsName p.name
-  pub ins : AreNames p.ins
-  pub outs : AreNames p.outs
-  pub pars : AreNames p.pars
-  pub body : AreProper p.body
+pub record IsProperProcess (l : Language) (p : Process) : Type 0 where
+  pub name : IsName l p.name
+  pub ins : AreNames l p.ins
+  pub outs : AreNames l p.outs
+  pub pars : AreNames l p.pars
+  pub body : AreProper l p.body
 
 abbrev pub IsProperLiteral : Literal → Type 0
 IsProperLiteral (plain n) = n < 2 ^ 63
 IsProperLiteral (negated n) = n < 2 ^ 63
 
-pub record IsProperInstance (i : Instance) : Type 0 where
-  pub name : IsName i.name
-  pub program : IsName i.program
-  pub ins : AreNames i.ins
-  pub outs : AreNames i.outs
+pub record IsProperInstance (l : Language) (i : Instance) : Type 0 where
+  pub name : IsName l i.name
+  pub program : IsName l i.program
+  pub ins : AreNames l i.ins
+  pub outs : AreNames l i.outs
   pub values : AllByRecursion IsProperLiteral i.values
 
-abbrev pub IsProperItem : Item → Type 0
-IsProperItem (channel c cap) = IsName c × (cap < 2 ^ 63)
-IsProperItem (source c) = IsName c
-IsProperItem (sink c cap) = IsName c × (cap < 2 ^ 63)
-IsProperItem (instance i) = IsProperInstance i
+abbrev pub IsProperItem : Language → Item → Type 0
+IsProperItem l (channel c cap) = IsName l c × (cap < 2 ^ 63)
+IsProperItem l (source c) = IsName l c
+IsProperItem l (sink c cap) = IsName l c × (cap < 2 ^ 63)
+IsProperItem l (instance i) = IsProperInstance l i
 
 abbrev pub IsProperLimit : Option ℕ → Type 0
 IsProperLimit None = Unit {0}
 IsProperLimit (Some n) = n < 2 ^ 63
 
-pub record IsProperNetwork (n : Network) : Type 0 where
+pub record IsProperNetwork (l : Language) (n : Network) : Type 0 where
   pub limit : IsProperLimit n.limit
-  pub items : AllByRecursion IsProperItem n.items
+  pub items : AllByRecursion (IsProperItem l) n.items
 
--- In a description each name is a name, and each number is below 2 ^ 63.
-pub record IsProper (d : Description) : Type 0 where
-  pub processes : AllByRecursion IsProperProcess d.processes
-  pub network : IsProperNetwork d.network
+-- In a description each name is a name of the language, it has each operator, and each number is below 2 ^ 63.
+pub record IsProper (l : Language) (d : Description) : Type 0 where
+  pub processes : AllByRecursion (IsProperProcess l) d.processes
+  pub network : IsProperNetwork l d.network

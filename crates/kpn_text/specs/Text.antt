@@ -6,8 +6,10 @@ use Rattle.kpn_net.specs.declared.tables.Growth.{Growth}
 use Rattle.kpn_net.specs.declared.tables.Policy.{Policy}
 use Rattle.kpn_text_tokens.specs.declared.tokens.Keyword.{Keyword}
 use Rattle.kpn_text_tokens.specs.declared.tokens.Keyword.TheVariants as keyword
+use Rattle.kpn_text_tokens.specs.declared.tokens.Language.{Language}
+use Rattle.kpn_text_tokens.specs.declared.tokens.Language.TheVariants as language
 use Rattle.kpn_text_tokens.specs.Spelling.{keyword_bytes, mark_bytes}
-use Rattle.kpn_text_grammar.specs.Syntax.{Name, Term, numeral, variable, minus, negation, binary, Statement, assign, receive, send, choice, loop, Statements, no_statements, statement, Process, Literal, plain, negated, Instance, Item, channel, source, sink, instance, Network, Description}
+use Rattle.kpn_text_grammar.specs.Syntax.{Name, Term, numeral, variable, minus, negation, complement, binary, conditional, Statement, assign, receive, send, choice, loop, Statements, no_statements, statement, Process, Literal, plain, negated, Instance, Item, channel, source, sink, instance, Network, Description}
 use Rattle.kpn_text_grammar.specs.Operators.{operator_mark}
 use Rattle.kpn_text_grammar.specs.Words.{growth_word, policy_word}
 
@@ -18,16 +20,19 @@ abbrev pub indented : (level : ℕ) → List ℕ → List ℕ
 indented zero more = more
 indented (suc level) more = codes "  " ++ indented level more
 
--- a number, a name, -e, !e, (a op b)
+-- a number, a name, -e, !e, ~e, (a op b), (e ? a : b)
 abbrev pub term_text : Term → List ℕ → List ℕ
 term_text (numeral n) more = decimal n ++ more
 term_text (variable x) more = x ++ more
 term_text (minus e) more = codes "-" ++ term_text e more
 term_text (negation e) more = codes "!" ++ term_text e more
+term_text (complement e) more = codes "~" ++ term_text e more
 term_text (binary op a b) more =
     codes "("
     ++ term_text a
     (codes " " ++ (mark_bytes (operator_mark op) ++ (codes " " ++ term_text b (codes ")" ++ more))))
+term_text (conditional e a b) more =
+    codes "(" ++ term_text e (codes " ? " ++ term_text a (codes " : " ++ term_text b (codes ")" ++ more)))
 
 abbrev mutual
   -- a statement on lines of its own
@@ -157,6 +162,11 @@ network_text n more =
 
 -- ---- the whole
 
--- the processes and then the network
-abbrev pub description_text : Description → List ℕ
-description_text d = all_text process_text d.processes (network_text d.network [])
+-- the line that a text of language 2 begins with
+abbrev pub language_text : Language → List ℕ → List ℕ
+language_text language.One more = more
+language_text language.Two more = codes "language 2;\n" ++ more
+
+-- the line of the language, the processes and then the network
+abbrev pub description_text : Language → Description → List ℕ
+description_text l d = language_text l (all_text process_text d.processes (network_text d.network []))

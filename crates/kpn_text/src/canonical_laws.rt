@@ -3,6 +3,7 @@
 
 ghost use Rattle.kpn_text.specs.CanonicalLaws.{
   DescriptionIsRead,
+  LanguageIsTold,
   ProcessIsRead,
   ReadDescriptionsAreProper,
   StatementsAreRead,
@@ -27,6 +28,11 @@ pub fn process_is_read()
 /// The tokens of a printed description are its spelling.
 pub fn description_is_read()
     ensures { DescriptionIsRead }
+{}
+
+/// A printed description is of the language in which it is printed.
+pub fn language_is_told()
+    ensures { LanguageIsTold }
 {}
 
 /// A description that was read from a text has names that are names, and numbers in range.

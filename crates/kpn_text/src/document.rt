@@ -11,12 +11,14 @@ use crate::laws::names_are_text;
 use kpn_lang::Sequence;
 use kpn_net::Network;
 use kpn_text_names::{NetworkNames, ProcessNames};
+use kpn_text_tokens::Language;
 use std::marker::Model;
 use std::str;
 
-/// A network with the names of its processes, instances and channels. Some text spells it: only
-/// [`read_network`](crate::read_network) makes one.
+/// A network with the names of its processes, instances and channels, and the language of its text. Some text spells
+/// it: only [`read_network`](crate::read_network) makes one.
 pub struct Document {
+    language: Language,
     network: Network,
     names: NetworkNames,
 }
@@ -24,7 +26,11 @@ pub struct Document {
 /// It is written out, so that a crate that drops a document proves nothing about what is inside.
 impl Drop for Document {
     fn drop(self) {
-        let Document { network, names } = self;
+        let Document {
+            language: _,
+            network,
+            names,
+        } = self;
         drop(network);
         drop(names);
     }
@@ -40,18 +46,29 @@ impl Model for Document {
 
     ghost coded = { Prim.hlevel (codes, parts_code) };
 
-    ghost view = { λ d. spec.document_with d.network d.names };
+    ghost view = { λ d. spec.document_with d.language d.network d.names };
 
-    ghost invariant = { λ d. IsSpelled (spec.document_with d.network d.names) };
+    ghost invariant = { λ d. IsSpelled (spec.document_with d.language d.network d.names) };
 }
 
 impl Document {
-    /// The document of a network with these names, which some text spells.
-    pub(crate) fn new(network: Network, names: NetworkNames) -> Document
-        requires { IsSpelled (spec.document_with network names) }
-        ensures { result ≡ spec.document_with network names }
+    /// The document of a network with these names, which some text of this language spells.
+    pub(crate) fn new(language: Language, network: Network, names: NetworkNames) -> Document
+        requires { IsSpelled (spec.document_with language network names) }
+        ensures { result ≡ spec.document_with language network names }
     {
-        Document { network, names }
+        Document {
+            language,
+            network,
+            names,
+        }
+    }
+
+    /// The language of the texts that spell the document.
+    pub fn language(&self) -> Language
+        ensures { result ≡ self.now.language }
+    {
+        self.language
     }
 
     /// The network.

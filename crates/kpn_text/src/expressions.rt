@@ -11,7 +11,7 @@ use kpn_lang::{Expr, Sequence};
 use kpn_text_grammar::mark_of;
 use std::alloc::AllocError;
 
-/// An expression over variables of these names: `-e`, `!e`, `(e op e)`.
+/// An expression over variables of these names: `-e`, `!e`, `~e`, `(e op e)`, `(e ? e : e)`.
 pub(crate) fn expression(
     out: &mut Vec<u8>,
     vars: &[Sequence<u8>],
@@ -31,6 +31,10 @@ pub(crate) fn expression(
             bytes(out, b"!")?;
             expression(out, vars, operand)
         }
+        Expr::BitNot(operand) => {
+            bytes(out, b"~")?;
+            expression(out, vars, operand)
+        }
         Expr::Bin(op, left, right) => {
             bytes(out, b"(")?;
             expression(out, vars, left)?;
@@ -38,6 +42,15 @@ pub(crate) fn expression(
             bytes(out, mark_of(*op).spelling())?;
             bytes(out, b" ")?;
             expression(out, vars, right)?;
+            bytes(out, b")")
+        }
+        Expr::Choice(test, first, second) => {
+            bytes(out, b"(")?;
+            expression(out, vars, test)?;
+            bytes(out, b" ? ")?;
+            expression(out, vars, first)?;
+            bytes(out, b" : ")?;
+            expression(out, vars, second)?;
             bytes(out, b")")
         }
     }

@@ -4,7 +4,7 @@
 ghost use Rattle.kpn_text.specs.Again.{PrintedTextSpells};
 ghost use Rattle.kpn_text.specs.Laws.{NamesAreText, NamesStandOnce, PhasesGiveWhatIsSpelled, SpelledOnce};
 
-use crate::canonical_laws::{description_is_read, read_descriptions_are_proper};
+use crate::canonical_laws::{description_is_read, language_is_told, read_descriptions_are_proper};
 use kpn_net::laws::capacities_are_in_range;
 use kpn_text_names::blocks_are_the_tree;
 
@@ -25,6 +25,7 @@ pub fn read_again()
     blocks_are_the_tree();
     capacities_are_in_range();
     description_is_read();
+    language_is_told();
     read_descriptions_are_proper();
 }
 

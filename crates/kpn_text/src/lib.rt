@@ -4,7 +4,7 @@
 //! parts, or the fault of the first phase that finds one. The phases are the tokens, the grammar, the names, the
 //! programs in order, and the network. `print_network` returns the canonical text of a document: two spaces for each
 //! level, one statement or item on each line, and no more words than it needs. This crate also passes on the calls of
-//! `kpn_text_items` that read and write item files.
+//! `kpn_text_items` that read and write item files, and `Language`.
 #![tactic(auto)]
 
 mod blocks;
@@ -24,6 +24,7 @@ mod reading;
 pub use document::Document;
 pub use fault::TextFault;
 pub use kpn_text_items::{ItemFault, WriteFault, read_all, read_items, write_items};
+pub use kpn_text_tokens::Language;
 pub use laws::{names_stand_once, phases_give_what_is_spelled, read_again, spelled_once};
 pub use printing::print_network;
 pub use reading::read_network;

@@ -6,7 +6,7 @@ ghost use Rattle.kpn_net.specs.Tables.{channel_at, instance_at};
 ghost use Rattle.kpn_text_names.specs.Names.{name_at};
 ghost use Rattle.kpn_text_names.specs.NetworkNames.{AreNamed, paired};
 ghost use Rattle.kpn_text.specs.Named.{call_named, channel_named, description_named, growth_named, instance_named, limit_named, literal_named, network_named, policy_named, process_named};
-ghost use Rattle.kpn_text.specs.Text.{all_text, call_text, description_text, growth_text, item_text, limit_text, name_text, names_text, network_text, outs_text, policy_text, process_text, values_text};
+ghost use Rattle.kpn_text.specs.Text.{all_text, call_text, description_text, growth_text, item_text, language_text, limit_text, name_text, names_text, network_text, outs_text, policy_text, process_text, values_text};
 ghost use Rattle.kpn_text.specs.Writing.{Writes};
 
 use crate::pieces::{bytes, name, number};
@@ -17,24 +17,37 @@ use kpn_limits::MAX_CAPACITY;
 use kpn_net::{ChannelSpec, End, Growth, Network, Policy};
 use kpn_text_grammar::{growth_word, policy_word};
 use kpn_text_names::{NetworkNames, ProcessNames};
+use kpn_text_tokens::Language;
 use std::alloc::{AllocError, Global};
 
-/// The canonical text of a network with these names.
+/// The canonical text of a network with these names in a language.
 ///
 /// It takes memory only for the text, and the work grows with the length of the text.
 pub fn canonical_text(
     alloc: Global,
+    language: Language,
     network: &Network,
     names: &NetworkNames,
 ) -> Result<Vec<u8>, AllocError>
     requires { AreNamed names.now network.now }
     ensures { IfOk result
-        (λ text. text.items ≡ description_text (description_named names.now network.now)) }
+        (λ text. text.items ≡ description_text language (description_named names.now network.now)) }
 {
     let mut out = Vec::new(alloc);
+    opening(&mut out, language)?;
     processes(&mut out, network, names.processes.as_slice())?;
     items(&mut out, network, names)?;
     Ok(out)
+}
+
+/// The line that a text of language 2 begins with.
+fn opening(out: &mut Vec<u8>, language: Language) -> Result<(), AllocError>
+    ensures { OnOk result (Writes out.old.items out.new.items (language_text language)) }
+{
+    match language {
+        Language::One => Ok(()),
+        Language::Two => bytes(out, b"language 2;\n"),
+    }
 }
 
 /// The network behind the processes.

@@ -13,20 +13,21 @@ use crate::names::names_of;
 use crate::network::network;
 use kpn_text_grammar::description;
 use kpn_text_names::resolve;
-use kpn_text_tokens::lexemes;
+use kpn_text_tokens::{language_of, lexemes};
 use std::alloc::Global;
 
 /// The document that a text spells, phase by phase.
 fn read_text(alloc: Global, text: &[u8]) -> Result<Document, TextFault>
     ensures { Reads text.now result }
 {
-    let tokens = lexemes(alloc, text)?;
-    let tree = description(alloc, tokens.as_slice(), text.len())?;
+    let language = language_of(text);
+    let tokens = lexemes(alloc, language, text)?;
+    let tree = description(alloc, language, tokens.as_slice(), text.len())?;
     let named = resolve(alloc, &tree)?;
     let names = names_of(alloc, &named)?;
     let network = network(alloc, named)?;
     network.known();
-    Ok(Document::new(network, names))
+    Ok(Document::new(language, network, names))
 }
 
 /// The document that a text spells.

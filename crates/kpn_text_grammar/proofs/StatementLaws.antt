@@ -10,7 +10,7 @@ use Rattle.kpn_text_tokens.specs.declared.tokens.Mark.TheVariants as mark_
 use Rattle.kpn_text_tokens.specs.declared.tokens.Keyword.TheVariants as keyword_
 use Rattle.kpn_text_grammar.specs.declared.fault.GrammarFault.TheVariants as fault
 use Rattle.kpn_text_grammar.specs.declared.parser.Scope.{Scope}
-use Rattle.kpn_text_grammar.specs.Syntax.{Term, numeral, variable, minus, negation, binary, Statement, assign, receive, send, choice, loop, Statements, no_statements, statement, statements_of}
+use Rattle.kpn_text_grammar.specs.Syntax.{Term, numeral, variable, minus, negation, complement, binary, conditional, Statement, assign, receive, send, choice, loop, Statements, no_statements, statement, statements_of}
 use Rattle.kpn_text_grammar.specs.Operators.{operator_mark}
 use Rattle.kpn_text_grammar.specs.Spelling.{kinds, spell_term, spell_statement, spell_statements, spell_block, inner_levels, deepest_term, BlockIsWithin, spell_all}
 use Rattle.kpn_text_tokens.specs.Results.{and_then}
@@ -52,11 +52,21 @@ term_longer (numeral n) more = omega arith
 term_longer (variable x) more = omega arith
 term_longer (minus e) more = omega (arith, term_longer e more)
 term_longer (negation e) more = omega (arith, term_longer e more)
+term_longer (complement e) more = omega (arith, term_longer e more)
 term_longer (binary op a b) more =
     omega (
       arith,
       term_longer a (token.Mark (operator_mark op) ∷ spell_term b (token.Mark mark_.RightParen ∷ more)),
       term_longer b (token.Mark mark_.RightParen ∷ more),
+    )
+term_longer (conditional c a b) more =
+    let after_b = token.Mark mark_.RightParen ∷ more in
+    let after_a = token.Mark mark_.Colon ∷ spell_term b after_b in
+    omega (
+      arith,
+      term_longer c (token.Mark mark_.Question ∷ spell_term a after_a),
+      term_longer a after_a,
+      term_longer b after_b,
     )
 
 mutual

@@ -1,6 +1,7 @@
 -- Steps of reading: what a chain of steps returns, and the laws of the parsers of one token.
 use Rattle.std.proofs.Common.{◌≡◌, ℕ, Bool, true, false, cond, List, [], ◌∷◌, Option, Some, None, Result, Ok, Err, IfOk, refl, sym, ap, subst, ◌∙◌}
 use Rattle.std.specs.Str.{bytes_eq}
+use Rattle.std.proofs.lemmas.Bool.{eqb-true}
 use Rattle.std.proofs.lemmas.Slice.Eq.{bytes_eq-Decides}
 use denote.Enum.Bare.{same_true, true_same}
 use Rattle.kpn_text_tokens.specs.declared.tokens.Lexeme.{Lexeme}
@@ -24,8 +25,8 @@ use Rattle.kpn_text_grammar.specs.Operators.{operators, operator_mark, operator_
 use Rattle.kpn_text_grammar.specs.Words.{growth_word, growths, growth_spelled, policy_word, policies, policy_spelled}
 use Rattle.kpn_text_grammar.specs.Spelling.{kinds}
 use Rattle.kpn_text_tokens.specs.Results.{and_then, OkOr}
-use Rattle.kpn_text_grammar.specs.TokenTests.{same_mark, same_keyword, is_mark, is_keyword}
-use Rattle.kpn_text_grammar.specs.Reading.{Fails, Gives, next, mark, keyword, named, name, numbered, number, token_operator, or_fault_at, operator, token_word, word_of}
+use Rattle.kpn_text_grammar.specs.TokenTests.{same_mark, same_keyword, is_mark, is_keyword, is_two}
+use Rattle.kpn_text_grammar.specs.Reading.{Fails, Gives, next, mark, keyword, named, name, numbered, number, token_operator, or_fault_at, operator, token_word, word_of, two}
 use Rattle.kpn_text_tokens.proofs.Pieces.{find_passes}
 
 -- the value of a step that had no fault
@@ -219,6 +220,11 @@ operator_back op.Eq = refl
 operator_back op.Ne = refl
 operator_back op.And = refl
 operator_back op.Or = refl
+operator_back op.BitAnd = refl
+operator_back op.BitOr = refl
+operator_back op.BitXor = refl
+operator_back op.Shl = refl
+operator_back op.Shr = refl
 
 found_is : {A : Type 0} (found : Option A) (start : ℕ) (ls : List Lexeme) (x : A) (rest : List Lexeme)
     → or_fault_at start ls found ≡ Ok (x, rest) → (found ≡ Some x) × (ls ≡ rest)
@@ -344,6 +350,33 @@ pub number_again : (s : Scope) (ls : List Lexeme) (n : ℕ) (more : List Token) 
 number_again s ls n more h =
     let f = front ls (token.Number n) more h in
     (f.rest, number_at s n ls f.lexeme f.rest f.whole f.kind, f.after)
+
+-- ---- the number 2
+
+is_two_true : (t : Token) → is_two t ≡ true → t ≡ token.Number 2
+is_two_true (token.Number n) h = ap token.Number (eqb-true n 2 h)
+is_two_true (token.Name x) h = absurd cc
+is_two_true (token.Mark m) h = absurd cc
+is_two_true (token.Keyword k) h = absurd cc
+
+pub two_takes : (s : Scope) (ls rest : List Lexeme) → two s ls ≡ Ok rest → kinds ls ≡ token.Number 2 ∷ kinds rest
+unfolding two
+two_takes s ls rest h =
+    let b = bind_ok (next s ls) (λ x. cond (is_two x.0.token) (Ok x.1) (Err (fault.Grammar x.0.start))) rest h in
+    let t = test_ok (is_two b.0.0.token) b.0.1 rest (fault.Grammar b.0.0.start) b.2 in
+    ap kinds (next_takes s ls b.0.0 b.0.1 b.1) ∙ ap (λ (u : Token). u ∷ kinds b.0.1) (is_two_true b.0.0.token t.0)
+    ∙ ap (λ (r : List Lexeme). token.Number 2 ∷ kinds r) t.1
+
+two_at : (s : Scope) (ls : List Lexeme) (l : Lexeme) (rest : List Lexeme) → ls ≡ l ∷ rest
+    → is_two l.token ≡ true → two s ls ≡ Ok rest
+unfolding two and_then
+two_at s ls l rest e t = rw (e, next_again s l rest, t) refl
+
+pub two_again : (s : Scope) (ls : List Lexeme) (more : List Token) → kinds ls ≡ token.Number 2 ∷ more
+    → (rest : List Lexeme) × (two s ls ≡ Ok rest) × (kinds rest ≡ more)
+two_again s ls more h =
+    let f = front ls (token.Number 2) more h in
+    (f.rest, two_at s ls f.lexeme f.rest f.whole (ap is_two f.kind), f.after)
 
 -- ---- calls beside what reading returns
 

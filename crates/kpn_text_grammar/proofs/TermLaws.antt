@@ -1,5 +1,5 @@
 -- What is read as an expression is spelled so and nests no deeper than it may, and what is spelled so is read again.
-use Rattle.std.proofs.Common.{◌≡◌, ℕ, zero, suc, ◌-◌, ◌<◌, ◌≤◌, List, [], ◌∷◌, Ok, Err, refl, sym, ap, subst, ◌∙◌, arith}
+use Rattle.std.proofs.Common.{◌≡◌, ℕ, zero, suc, ◌-◌, ◌<◌, ◌≤◌, Bool, true, false, List, [], ◌∷◌, Ok, Err, refl, sym, ap, subst, ◌∙◌, arith}
 use Rattle.kpn_text_tokens.specs.declared.tokens.Lexeme.{Lexeme}
 use Rattle.kpn_text_tokens.specs.declared.tokens.Token.{Token}
 use Rattle.kpn_text_tokens.specs.declared.tokens.Token.TheVariants as token
@@ -8,12 +8,14 @@ use Rattle.kpn_text_grammar.specs.declared.fault.GrammarFault.{GrammarFault}
 use Rattle.kpn_text_grammar.specs.declared.fault.GrammarFault.TheVariants as fault
 use Rattle.kpn_text_grammar.specs.declared.parser.Scope.{Scope}
 use Rattle.kpn_lang.specs.declared.syntax.Op.{Op}
-use Rattle.kpn_text_grammar.specs.Syntax.{Term, numeral, variable, minus, negation, binary}
+use Rattle.kpn_lang.specs.declared.syntax.Op.TheVariants as op
+use Rattle.kpn_text_grammar.specs.Syntax.{Term, numeral, variable, minus, negation, complement, binary, conditional}
 use Rattle.kpn_text_grammar.specs.Operators.{operator_mark}
 use Rattle.kpn_text_grammar.specs.Spelling.{kinds, spell_term, term_level}
 use Rattle.kpn_text_tokens.specs.Results.{and_then}
-use Rattle.kpn_text_grammar.specs.Reading.{Read, next, mark, operator, level_fault, Fails, binary_behind, operand, expression}
-use Rattle.kpn_text_grammar.proofs.Steps.{bind_ok, ok_is, no_value, kind_of, kinds_of, next_takes, next_again, mark_takes, mark_again, operator_takes, operator_again}
+use Rattle.kpn_text_grammar.specs.TokenTests.{is_mark}
+use Rattle.kpn_text_grammar.specs.Reading.{Read, next, mark, operator, level_fault, Fails, first_is, binary_behind, conditional_behind, group_behind, group, operand, expression}
+use Rattle.kpn_text_grammar.proofs.Steps.{bind_ok, by_test, is_mark_same, ok_is, no_value, kind_of, kinds_of, next_takes, next_again, mark_takes, mark_again, operator_takes, operator_again}
 
 -- a level below, as the code counts
 pub expression_at : (s : Scope) (d : ℕ) (ls : List Lexeme) (l : Lexeme) (rest : List Lexeme) → 0 < d
@@ -60,7 +62,20 @@ some_level (numeral n) h = omega arith
 some_level (variable x) h = omega arith
 some_level (minus e) h = omega (arith, h)
 some_level (negation e) h = omega (arith, h)
+some_level (complement e) h = omega (arith, h)
 some_level (binary op a b) h = omega (arith, h)
+some_level (conditional c a b) h = omega (arith, h)
+
+-- no operator is spelled `?`
+no_question : (o : Op) → is_mark mark_.Question (token.Mark (operator_mark o)) ≡ false
+no_question op.Add = refl
+no_question _ = refl
+
+-- the test of the token at the front
+first_kind : (test : Token → Bool) (ls : List Lexeme) (t : Token) (more : List Token) → kinds ls ≡ t ∷ more
+    → first_is test ls ≡ test t
+first_kind test [] t more h = absurd cc
+first_kind test (l ∷ ls) t more h = ap test (kind_of l ls t more h)
 
 -- the same tree and rest
 moved : (d : ℕ) (tokens : List Token) (e f : Term) (rest after : List Lexeme)
@@ -69,22 +84,53 @@ moved d tokens e f rest after h t = subst (λ (p : Term × List Lexeme). TakesTe
     (ok_is (e, rest) (f, after) h) t
 
 module _ (s : Scope) (d : ℕ) (inner : List Lexeme → Read Term) (laws : ReadsTerms d inner) where
-  binary_takes : (ls : List Lexeme) (e : Term) (rest : List Lexeme) → binary_behind s inner ls ≡ Ok (e, rest)
-      → TakesTerm (suc d) (token.Mark mark_.LeftParen ∷ kinds ls) e rest
+  -- behind the parenthesis and the first expression, of which this is known
+  binary_takes : (tokens : List Token) (a : Term) (ls : List Lexeme) (e : Term) (rest : List Lexeme)
+      → TakesTerm d tokens a ls → binary_behind s inner a ls ≡ Ok (e, rest)
+      → TakesTerm (suc d) (token.Mark mark_.LeftParen ∷ tokens) e rest
   unfolding binary_behind
-  binary_takes ls e rest h =
-      let a = bind_ok _ _ _ h in
-      let o = bind_ok _ _ _ a.2 in
+  binary_takes tokens a ls e rest left h =
+      let o = bind_ok _ _ _ h in
       let b = bind_ok _ _ _ o.2 in
       let m = bind_ok _ _ _ b.2 in
-      let left = laws.takes ls a.0.0 a.0.1 a.1 in
-      let sign = operator_takes s a.0.1 o.0.0 o.0.1 o.1 in
+      let sign = operator_takes s ls o.0.0 o.0.1 o.1 in
       let right = laws.takes o.0.1 b.0.0 b.0.1 b.1 in
       let close = mark_takes s mark_.RightParen b.0.1 m.0 m.1 in
-      moved (suc d) _ (binary o.0.0 a.0.0 b.0.0) e m.0 rest m.2 (record {
+      moved (suc d) _ (binary o.0.0 a b.0.0) e m.0 rest m.2 (record {
         spelled = rw (left.spelled, sign, right.spelled, close) refl;
         level = omega (arith, left.level, right.level);
       })
+
+  conditional_takes : (tokens : List Token) (c : Term) (ls : List Lexeme) (e : Term) (rest : List Lexeme)
+      → TakesTerm d tokens c ls → conditional_behind s inner c ls ≡ Ok (e, rest)
+      → TakesTerm (suc d) (token.Mark mark_.LeftParen ∷ tokens) e rest
+  unfolding conditional_behind
+  conditional_takes tokens c ls e rest test h =
+      let q = bind_ok _ _ _ h in
+      let a = bind_ok _ _ _ q.2 in
+      let k = bind_ok _ _ _ a.2 in
+      let b = bind_ok _ _ _ k.2 in
+      let m = bind_ok _ _ _ b.2 in
+      let question = mark_takes s mark_.Question ls q.0 q.1 in
+      let first = laws.takes q.0 a.0.0 a.0.1 a.1 in
+      let colon = mark_takes s mark_.Colon a.0.1 k.0 k.1 in
+      let second = laws.takes k.0 b.0.0 b.0.1 b.1 in
+      let close = mark_takes s mark_.RightParen b.0.1 m.0 m.1 in
+      moved (suc d) _ (conditional c a.0.0 b.0.0) e m.0 rest m.2 (record {
+        spelled = rw (test.spelled, question, first.spelled, colon, second.spelled, close) refl;
+        level = omega (arith, test.level, first.level, second.level);
+      })
+
+  group_takes : (ls : List Lexeme) (e : Term) (rest : List Lexeme) → group s inner ls ≡ Ok (e, rest)
+      → TakesTerm (suc d) (token.Mark mark_.LeftParen ∷ kinds ls) e rest
+  unfolding group group_behind
+  group_takes ls e rest h =
+      let a = bind_ok _ _ _ h in
+      let first = laws.takes ls a.0.0 a.0.1 a.1 in
+      by_test (first_is (is_mark mark_.Question) a.0.1) (conditional_behind s inner a.0.0 a.0.1)
+      (binary_behind s inner a.0.0 a.0.1) (Ok (e, rest)) a.2
+      (λ _ k. conditional_takes (kinds ls) a.0.0 a.0.1 e rest first k)
+      (λ _ k. binary_takes (kinds ls) a.0.0 a.0.1 e rest first k)
 
   operand_takes : (t : Token) (start : ℕ) (ls : List Lexeme) (e : Term) (rest : List Lexeme)
       → operand s inner t start ls ≡ Ok (e, rest) → TakesTerm (suc d) (t ∷ kinds ls) e rest
@@ -109,7 +155,15 @@ module _ (s : Scope) (d : ℕ) (inner : List Lexeme → Read Term) (laws : Reads
             ap (λ (ts : List Token). token.Mark mark_.Not ∷ ts) t.spelled;
         level = omega (arith, t.level);
       })
-  operand_takes (token.Mark mark_.LeftParen) start ls e rest h = binary_takes ls e rest h
+  operand_takes (token.Mark mark_.BitNot) start ls e rest h =
+      let a = bind_ok _ _ _ h in
+      let t = laws.takes ls a.0.0 a.0.1 a.1 in
+      moved (suc d) _ (complement a.0.0) e a.0.1 rest a.2 (record {
+        spelled =
+            ap (λ (ts : List Token). token.Mark mark_.BitNot ∷ ts) t.spelled;
+        level = omega (arith, t.level);
+      })
+  operand_takes (token.Mark mark_.LeftParen) start ls e rest h = group_takes ls e rest h
   operand_takes _ start ls e rest h = absurd (no_value (fault.Grammar start) (e, rest) h)
 
   number_at : (t : Token) (start n : ℕ) (ls : List Lexeme) → t ≡ token.Number n
@@ -132,13 +186,30 @@ module _ (s : Scope) (d : ℕ) (inner : List Lexeme → Read Term) (laws : Reads
   unfolding operand and_then
   negation_at t start ls e rest k i = rw (k, i) refl
 
+  complement_at : (t : Token) (start : ℕ) (ls : List Lexeme) (e : Term) (rest : List Lexeme)
+      → t ≡ token.Mark mark_.BitNot → inner ls ≡ Ok (e, rest) → operand s inner t start ls ≡ Ok (complement e, rest)
+  unfolding operand and_then
+  complement_at t start ls e rest k i = rw (k, i) refl
+
   binary_at : (t : Token) (start : ℕ) (ls : List Lexeme) (op : Op) (a b : Term)
       (after_a after_op after_b rest : List Lexeme) → t ≡ token.Mark mark_.LeftParen
-      → inner ls ≡ Ok (a, after_a) → operator s after_a ≡ Ok (op, after_op) → inner after_op ≡ Ok (b, after_b)
+      → inner ls ≡ Ok (a, after_a) → first_is (is_mark mark_.Question) after_a ≡ false
+      → operator s after_a ≡ Ok (op, after_op) → inner after_op ≡ Ok (b, after_b)
       → mark s mark_.RightParen after_b ≡ Ok rest
       → operand s inner t start ls ≡ Ok (binary op a b, rest)
-  unfolding operand binary_behind and_then
-  binary_at t start ls op a b after_a after_op after_b rest k i o j m = rw (k, i, o, j, m) refl
+  unfolding operand group group_behind binary_behind and_then
+  binary_at t start ls op a b after_a after_op after_b rest k i differs o j m = rw (k, i, differs, o, j, m) refl
+
+  conditional_at : (t : Token) (start : ℕ) (ls : List Lexeme) (c a b : Term)
+      (after_c inside after_a other after_b rest : List Lexeme) → t ≡ token.Mark mark_.LeftParen
+      → inner ls ≡ Ok (c, after_c) → first_is (is_mark mark_.Question) after_c ≡ true
+      → mark s mark_.Question after_c ≡ Ok inside → inner inside ≡ Ok (a, after_a)
+      → mark s mark_.Colon after_a ≡ Ok other → inner other ≡ Ok (b, after_b)
+      → mark s mark_.RightParen after_b ≡ Ok rest
+      → operand s inner t start ls ≡ Ok (conditional c a b, rest)
+  unfolding operand group group_behind conditional_behind and_then
+  conditional_at t start ls c a b after_c inside after_a other after_b rest k i there q ia o ib m =
+      rw (k, i, there, q, ia, o, ib, m) refl
 
   operand_again : (l : Lexeme) (ls : List Lexeme) (e : Term) (more : List Token) → term_level e ≤ suc d
       → kinds (l ∷ ls) ≡ spell_term e more
@@ -157,16 +228,38 @@ module _ (s : Scope) (d : ℕ) (inner : List Lexeme → Read Term) (laws : Reads
       let i = laws.again ls e more (omega (arith, within))
       (kinds_of l ls (token.Mark mark_.Not) (spell_term e more) h) in
       (i.0, negation_at l.token l.start ls e i.0 k i.1, i.2)
+  operand_again l ls (complement e) more within h =
+      let k = kind_of l ls (token.Mark mark_.BitNot) (spell_term e more) h in
+      let i = laws.again ls e more (omega (arith, within))
+      (kinds_of l ls (token.Mark mark_.BitNot) (spell_term e more) h) in
+      (i.0, complement_at l.token l.start ls e i.0 k i.1, i.2)
   operand_again l ls (binary op a b) more within h =
       let after_b = token.Mark mark_.RightParen ∷ more in
       let after_a = token.Mark (operator_mark op) ∷ spell_term b after_b in
       let k = kind_of l ls (token.Mark mark_.LeftParen) (spell_term a after_a) h in
       let i = laws.again ls a after_a (omega (arith, within))
       (kinds_of l ls (token.Mark mark_.LeftParen) (spell_term a after_a) h) in
+      let differs = first_kind (is_mark mark_.Question) i.0 (token.Mark (operator_mark op)) (spell_term b after_b) i.2
+      ∙ no_question op in
       let o = operator_again s i.0 op (spell_term b after_b) i.2 in
       let j = laws.again o.0 b after_b (omega (arith, within)) o.2 in
       let m = mark_again s mark_.RightParen j.0 more j.2 in
-      (m.0, binary_at l.token l.start ls op a b i.0 o.0 j.0 m.0 k i.1 o.1 j.1 m.1, m.2)
+      (m.0, binary_at l.token l.start ls op a b i.0 o.0 j.0 m.0 k i.1 differs o.1 j.1 m.1, m.2)
+  operand_again l ls (conditional c a b) more within h =
+      let after_b = token.Mark mark_.RightParen ∷ more in
+      let after_a = token.Mark mark_.Colon ∷ spell_term b after_b in
+      let after_c = token.Mark mark_.Question ∷ spell_term a after_a in
+      let k = kind_of l ls (token.Mark mark_.LeftParen) (spell_term c after_c) h in
+      let i = laws.again ls c after_c (omega (arith, within))
+      (kinds_of l ls (token.Mark mark_.LeftParen) (spell_term c after_c) h) in
+      let there = first_kind (is_mark mark_.Question) i.0 (token.Mark mark_.Question) (spell_term a after_a) i.2
+      ∙ is_mark_same mark_.Question in
+      let q = mark_again s mark_.Question i.0 (spell_term a after_a) i.2 in
+      let j = laws.again q.0 a after_a (omega (arith, within)) q.2 in
+      let o = mark_again s mark_.Colon j.0 (spell_term b after_b) j.2 in
+      let n = laws.again o.0 b after_b (omega (arith, within)) o.2 in
+      let m = mark_again s mark_.RightParen n.0 more n.2 in
+      (m.0, conditional_at l.token l.start ls c a b i.0 q.0 j.0 o.0 n.0 m.0 k i.1 there q.1 j.1 o.1 n.1 m.1, m.2)
 
 -- the first token of an expression is there
 spelled_front : (ls : List Lexeme) (e : Term) (more : List Token) → kinds ls ≡ spell_term e more → (l : Lexeme)
@@ -175,7 +268,9 @@ spelled_front [] (numeral n) more h = absurd cc
 spelled_front [] (variable x) more h = absurd cc
 spelled_front [] (minus e) more h = absurd cc
 spelled_front [] (negation e) more h = absurd cc
+spelled_front [] (complement e) more h = absurd cc
 spelled_front [] (binary op a b) more h = absurd cc
+spelled_front [] (conditional c a b) more h = absurd cc
 spelled_front (l ∷ ls) e more h = (l, ls, refl)
 
 first_at : (s : Scope) (inner : List Lexeme → Read Term) (ls : List Lexeme) (l : Lexeme) (rest : List Lexeme)

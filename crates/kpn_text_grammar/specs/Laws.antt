@@ -1,5 +1,6 @@
 -- The laws of reading, on which the layers above depend: reading returns what is spelled, and that is one thing.
 use Rattle.std.specs.Prelude.{◌≡◌, ◌↔◌, List, Ok}
+use Rattle.kpn_text_tokens.specs.declared.tokens.Language.{Language}
 use Rattle.kpn_text_tokens.specs.declared.tokens.Lexeme.{Lexeme}
 use Rattle.kpn_text_tokens.specs.declared.tokens.Token.{Token}
 use Rattle.kpn_text_grammar.specs.declared.parser.Scope.{Scope}
@@ -7,11 +8,14 @@ use Rattle.kpn_text_grammar.specs.Syntax.{Description}
 use Rattle.kpn_text_grammar.specs.Spelling.{kinds, IsDescription}
 use Rattle.kpn_text_grammar.specs.Reading.{description}
 
--- Tokens are read as a description if and only if they spell it within the limits, wherever they are in the text.
+-- Tokens are read as a description in a language if and only if they spell it within the limits, wherever they are in
+-- the text.
 abbrev pub ReadWhereSpelled : Type 0
-ReadWhereSpelled = (s : Scope) (ls : List Lexeme) (d : Description)
-    → (description s ls ≡ Ok d) ↔ IsDescription (kinds ls) d
+ReadWhereSpelled = (s : Scope) (l : Language) (ls : List Lexeme) (d : Description)
+    → (description s l ls ≡ Ok d) ↔ IsDescription l (kinds ls) d
 
--- Tokens spell one description at most.
+-- Tokens spell one description of a language at most.
 abbrev pub SpelledOnce : Type 0
-SpelledOnce = (tokens : List Token) (d e : Description) → IsDescription tokens d → IsDescription tokens e → d ≡ e
+SpelledOnce =
+    (l : Language) (tokens : List Token) (d e : Description) → IsDescription l tokens d → IsDescription l tokens e
+    → d ≡ e

@@ -22,11 +22,17 @@ operator_mark op.Eq = mark.Equal
 operator_mark op.Ne = mark.NotEqual
 operator_mark op.And = mark.And
 operator_mark op.Or = mark.Or
+operator_mark op.BitAnd = mark.BitAnd
+operator_mark op.BitOr = mark.BitOr
+operator_mark op.BitXor = mark.BitXor
+operator_mark op.Shl = mark.ShiftLeft
+operator_mark op.Shr = mark.ShiftRight
 
 -- every operator
 abbrev pub operators : List Op
 operators =
-    op.Add ∷ op.Sub ∷ op.Mul ∷ op.Div ∷ op.Rem ∷ op.Lt ∷ op.Le ∷ op.Gt ∷ op.Ge ∷ op.Eq ∷ op.Ne ∷ op.And ∷ op.Or ∷ []
+    op.Add ∷ op.Sub ∷ op.Mul ∷ op.Div ∷ op.Rem ∷ op.Lt ∷ op.Le ∷ op.Gt ∷ op.Ge ∷ op.Eq ∷ op.Ne ∷ op.And ∷ op.Or
+    ∷ op.BitAnd ∷ op.BitOr ∷ op.BitXor ∷ op.Shl ∷ op.Shr ∷ []
 
 -- the operator that a mark stands for, if it stands for one
 unfoldable pub operator_of : Mark → Option Op

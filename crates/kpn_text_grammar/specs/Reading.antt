@@ -4,6 +4,8 @@
 use Rattle.std.specs.Prelude.{◌≡◌, ℕ, zero, suc, ◌+◌, Bool, true, false, not, if◌then◌else◌, List, [], ◌∷◌, length, Option, Some, None, Result, Ok, Err}
 use Rattle.kpn_limits.specs.declared.TheConstants.{MAX_LEVELS}
 use Rattle.kpn_lang.specs.declared.syntax.Op.{Op}
+use Rattle.kpn_text_tokens.specs.declared.tokens.Language.{Language}
+use Rattle.kpn_text_tokens.specs.declared.tokens.Language.TheVariants as language
 use Rattle.kpn_text_tokens.specs.declared.tokens.Lexeme.{Lexeme}
 use Rattle.kpn_text_tokens.specs.declared.tokens.Token.{Token}
 use Rattle.kpn_text_tokens.specs.declared.tokens.Token.TheVariants as token
@@ -15,12 +17,12 @@ use Rattle.kpn_text_tokens.specs.Results.{◌>>=◌}
 use Rattle.kpn_text_grammar.specs.declared.fault.GrammarFault.{GrammarFault}
 use Rattle.kpn_text_grammar.specs.declared.fault.GrammarFault.TheVariants as fault
 use Rattle.kpn_text_grammar.specs.declared.parser.Scope.{Scope}
-use Rattle.kpn_text_grammar.specs.TokenTests.{is_mark, is_keyword, is_name}
+use Rattle.kpn_text_grammar.specs.TokenTests.{is_mark, is_keyword, is_two, is_name}
 use Rattle.kpn_net.specs.declared.tables.Growth.{Growth}
 use Rattle.kpn_net.specs.declared.tables.Policy.{Policy}
 use Rattle.kpn_text_grammar.specs.Operators.{operator_of}
 use Rattle.kpn_text_grammar.specs.Words.{growth_spelled, policy_spelled}
-use Rattle.kpn_text_grammar.specs.Syntax.{Name, Term, numeral, variable, minus, negation, binary, Statement, assign, receive, send, choice, loop, Statements, statements_of, Process, Literal, plain, negated, Instance, Item, channel, source, sink, instance, Network, Description}
+use Rattle.kpn_text_grammar.specs.Syntax.{Name, Term, numeral, variable, minus, negation, complement, binary, conditional, Statement, assign, receive, send, choice, loop, Statements, statements_of, Process, Literal, plain, negated, Instance, Item, channel, source, sink, instance, Network, Description}
 
 -- what was read and the tokens after it, or the first fault
 abbrev pub Read : Type 0 → Type 0
@@ -143,6 +145,7 @@ begins_expression (token.Number n) = true
 begins_expression (token.Name x) = true
 begins_expression (token.Mark mark_.Minus) = true
 begins_expression (token.Mark mark_.Not) = true
+begins_expression (token.Mark mark_.BitNot) = true
 begins_expression (token.Mark mark_.LeftParen) = true
 begins_expression _ = false
 
@@ -150,14 +153,34 @@ begins_expression _ = false
 abbrev pub level_fault : Scope → Lexeme → GrammarFault
 level_fault s l = if begins_expression l.token then fault.TooDeep s.process else fault.Grammar l.start
 
--- behind the opening parenthesis
-unfoldable pub binary_behind : Scope → (List Lexeme → Read Term) → List Lexeme → Read Term
-binary_behind s inner ls = do
-  left ← inner ls
-  op ← operator s left.1
+-- an operator and the right side, behind the left one
+unfoldable pub binary_behind : Scope → (List Lexeme → Read Term) → Term → List Lexeme → Read Term
+binary_behind s inner left ls = do
+  op ← operator s ls
   right ← inner op.1
   rest ← mark s mark_.RightParen right.1
-  Ok (binary op.0 left.0 right.0, rest)
+  Ok (binary op.0 left right.0, rest)
+
+-- `?` and the two values, behind what decides between them
+unfoldable pub conditional_behind : Scope → (List Lexeme → Read Term) → Term → List Lexeme → Read Term
+conditional_behind s inner c ls = do
+  after ← mark s mark_.Question ls
+  a ← inner after
+  other ← mark s mark_.Colon a.1
+  b ← inner other
+  rest ← mark s mark_.RightParen b.1
+  Ok (conditional c a.0 b.0, rest)
+
+-- one of them, behind the first expression
+unfoldable pub group_behind : Scope → (List Lexeme → Read Term) → Term → List Lexeme → Read Term
+group_behind s inner first ls =
+    if first_is (is_mark mark_.Question) ls
+    then conditional_behind s inner first ls
+    else binary_behind s inner first ls
+
+-- behind the opening parenthesis
+unfoldable pub group : Scope → (List Lexeme → Read Term) → List Lexeme → Read Term
+group s inner ls = inner ls >>= λ first. group_behind s inner first.0 first.1
 
 -- behind its first token, which begins at this byte
 unfoldable pub operand : Scope → (List Lexeme → Read Term) → Token → ℕ → List Lexeme → Read Term
@@ -165,7 +188,8 @@ operand s inner (token.Number n) start rest = Ok (numeral n, rest)
 operand s inner (token.Name x) start rest = Ok (variable x, rest)
 operand s inner (token.Mark mark_.Minus) start rest = inner rest >>= λ e. Ok (minus e.0, e.1)
 operand s inner (token.Mark mark_.Not) start rest = inner rest >>= λ e. Ok (negation e.0, e.1)
-operand s inner (token.Mark mark_.LeftParen) start rest = binary_behind s inner rest
+operand s inner (token.Mark mark_.BitNot) start rest = inner rest >>= λ e. Ok (complement e.0, e.1)
+operand s inner (token.Mark mark_.LeftParen) start rest = group s inner rest
 operand s inner _ start rest = Err (fault.Grammar start)
 
 -- an expression of at most so many levels
@@ -444,14 +468,36 @@ unfoldable pub at_end : List Lexeme → Result (Unit {0}) GrammarFault
 at_end [] = Ok tt
 at_end (l ∷ ls) = Err (fault.Grammar l.start)
 
+-- a number of value 2
+unfoldable pub two : Scope → List Lexeme → Result (List Lexeme) GrammarFault
+two s ls = do
+  x ← next s ls
+  if is_two x.0.token then Ok x.1 else Err (fault.Grammar x.0.start)
+
+-- `language 2;`
+unfoldable pub opening : Scope → List Lexeme → Result (List Lexeme) GrammarFault
+opening s ls = do
+  word ← keyword s keyword_.Language ls
+  number ← two s word
+  mark s mark_.Semicolon number
+
+-- the same in language 2, and nothing in language 1
+unfoldable pub language_at : Scope → Language → List Lexeme → Result (List Lexeme) GrammarFault
+language_at s language.One ls = Ok ls
+language_at s language.Two ls = opening s ls
+
 -- the processes, the network and nothing after it
-unfoldable pub description : Scope → List Lexeme → Result Description GrammarFault
-description s ls = do
+unfoldable pub contents : Scope → List Lexeme → Result Description GrammarFault
+contents s ls = do
   ps ← processes s ls
   n ← network s ps.1
   nothing ← at_end n.1
   Ok (record { processes = ps.0; network = n.0 })
 
--- what the tokens of a text of this length are read as, with the processes numbered from 0
-abbrev pub description_of : ℕ → List Lexeme → Result Description GrammarFault
-description_of end ls = description (record { end = end; process = 0 }) ls
+-- the same behind the language
+unfoldable pub description : Scope → Language → List Lexeme → Result Description GrammarFault
+description s l ls = language_at s l ls >>= contents s
+
+-- what the tokens of a text of this length are read as in a language, with the processes numbered from 0
+abbrev pub description_of : Language → ℕ → List Lexeme → Result Description GrammarFault
+description_of l end ls = description (record { end = end; process = 0 }) l ls

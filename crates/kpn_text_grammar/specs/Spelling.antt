@@ -3,6 +3,8 @@
 use Rattle.std.specs.Prelude.{◌≡◌, ◌≤◌, ℕ, suc, max, List, [], ◌∷◌, map, Option, Some, None}
 use Rattle.std.specs.List.{AllByRecursion}
 use Rattle.kpn_limits.specs.declared.TheConstants.{MAX_LEVELS}
+use Rattle.kpn_text_tokens.specs.declared.tokens.Language.{Language}
+use Rattle.kpn_text_tokens.specs.declared.tokens.Language.TheVariants as language
 use Rattle.kpn_text_tokens.specs.declared.tokens.Lexeme.{Lexeme}
 use Rattle.kpn_text_tokens.specs.declared.tokens.Token.{Token}
 use Rattle.kpn_text_tokens.specs.declared.tokens.Token.TheVariants as token
@@ -13,7 +15,7 @@ use Rattle.kpn_net.specs.declared.tables.Growth.{Growth}
 use Rattle.kpn_net.specs.declared.tables.Policy.{Policy}
 use Rattle.kpn_text_grammar.specs.Operators.{operator_mark}
 use Rattle.kpn_text_grammar.specs.Words.{growth_word, policy_word}
-use Rattle.kpn_text_grammar.specs.Syntax.{Name, Term, numeral, variable, minus, negation, binary, Statement, assign, receive, send, choice, loop, Statements, no_statements, statement, Process, Literal, plain, negated, Instance, Item, channel, source, sink, instance, Network, Description}
+use Rattle.kpn_text_grammar.specs.Syntax.{Name, Term, numeral, variable, minus, negation, complement, binary, conditional, Statement, assign, receive, send, choice, loop, Statements, no_statements, statement, Process, Literal, plain, negated, Instance, Item, channel, source, sink, instance, Network, Description}
 
 -- the tokens of a text without their places
 abbrev pub kinds : List Lexeme → List Token
@@ -21,23 +23,29 @@ kinds ls = map (λ l. l.token) ls
 
 -- ---- expressions
 
--- a number, a name, -e, !e, (a op b)
+-- a number, a name, -e, !e, ~e, (a op b), (c ? a : b)
 abbrev pub spell_term : Term → List Token → List Token
 spell_term (numeral n) more = token.Number n ∷ more
 spell_term (variable x) more = token.Name x ∷ more
 spell_term (minus e) more = token.Mark mark.Minus ∷ spell_term e more
 spell_term (negation e) more = token.Mark mark.Not ∷ spell_term e more
+spell_term (complement e) more = token.Mark mark.BitNot ∷ spell_term e more
 spell_term (binary op a b) more =
     token.Mark mark.LeftParen ∷ spell_term a (token.Mark (operator_mark op)
     ∷ spell_term b (token.Mark mark.RightParen ∷ more))
+spell_term (conditional c a b) more =
+    token.Mark mark.LeftParen ∷ spell_term c (token.Mark mark.Question
+    ∷ spell_term a (token.Mark mark.Colon ∷ spell_term b (token.Mark mark.RightParen ∷ more)))
 
--- a number or a name has one level, and an operator one more than its deepest operand
+-- a number or a name has one level, and a sign, an operator or a choice one more than its deepest part
 abbrev pub term_level : Term → ℕ
 term_level (numeral n) = 1
 term_level (variable x) = 1
 term_level (minus e) = suc (term_level e)
 term_level (negation e) = suc (term_level e)
+term_level (complement e) = suc (term_level e)
 term_level (binary op a b) = suc (max (term_level a) (term_level b))
+term_level (conditional c a b) = suc (max (term_level c) (max (term_level a) (term_level b)))
 
 -- ---- statements
 
@@ -219,15 +227,21 @@ spell_network n more =
 
 -- ---- the whole
 
--- the processes and the network, and nothing after it
-abbrev pub spell_description : Description → List Token
-spell_description d = spell_all spell_process d.processes (spell_network d.network [])
+-- `language 2;` in language 2
+abbrev pub spell_language : Language → List Token → List Token
+spell_language language.One more = more
+spell_language language.Two more =
+    token.Keyword keyword.Language ∷ token.Number 2 ∷ token.Mark mark.Semicolon ∷ more
+
+-- the language, the processes and the network, and nothing after it
+abbrev pub spell_description : Language → Description → List Token
+spell_description l d = spell_language l (spell_all spell_process d.processes (spell_network d.network []))
 
 -- the blocks of a process nest at most 32 levels, its body among them, and its expressions at most 32
 abbrev pub ProcessIsWithin : Process → Type 0
 ProcessIsWithin p = BlockIsWithin MAX_LEVELS p.body
 
--- The tokens are those of the description, and it is within the limits of the grammar.
-pub record IsDescription (tokens : List Token) (d : Description) : Type 0 where
-  pub spelled : tokens ≡ spell_description d
+-- The tokens are those of the description in a language, and it is within the limits of the grammar.
+pub record IsDescription (l : Language) (tokens : List Token) (d : Description) : Type 0 where
+  pub spelled : tokens ≡ spell_description l d
   pub within : AllByRecursion ProcessIsWithin d.processes

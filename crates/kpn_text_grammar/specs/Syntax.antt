@@ -15,7 +15,9 @@ pub data Term : Type 0 where
   variable : Name → Term
   minus : Term → Term
   negation : Term → Term
+  complement : Term → Term
   binary : Op → Term → Term → Term
+  conditional : Term → Term → Term → Term
 
 mutual
   -- a statement: x = e;  read i x;  write o e;  if e { .. } else { .. }  while e { .. }

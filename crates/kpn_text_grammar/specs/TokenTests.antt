@@ -1,5 +1,5 @@
--- Which kind of token a token is: this mark, this reserved word, a name.
-use Rattle.std.specs.Prelude.{Bool, true, false}
+-- Which kind of token a token is: this mark, this reserved word, a number of value 2, a name.
+use Rattle.std.specs.Prelude.{Bool, true, false, ◌==◌}
 use denote.Enum.Bare.{sameb}
 use Rattle.kpn_text_tokens.specs.declared.tokens.Token.{Token}
 use Rattle.kpn_text_tokens.specs.declared.tokens.Token.TheVariants as token
@@ -15,7 +15,7 @@ same_mark = sameb mark_type
 abbrev pub same_keyword : Keyword → Keyword → Bool
 same_keyword = sameb keyword_type
 
--- the token is this mark, this reserved word, a name
+-- the token is this mark, this reserved word, a number of value 2, a name
 abbrev pub is_mark : Mark → Token → Bool
 is_mark m (token.Mark n) = same_mark n m
 is_mark m _ = false
@@ -23,6 +23,10 @@ is_mark m _ = false
 abbrev pub is_keyword : Keyword → Token → Bool
 is_keyword k (token.Keyword n) = same_keyword n k
 is_keyword k _ = false
+
+abbrev pub is_two : Token → Bool
+is_two (token.Number n) = n == 2
+is_two _ = false
 
 abbrev pub is_name : Token → Bool
 is_name (token.Name x) = true

@@ -19,7 +19,7 @@ use Rattle.kpn_text_grammar.specs.declared.tree.Statement.TheOpen.{Statement-F}
 use Rattle.kpn_text_grammar.specs.declared.fault.GrammarFault.{GrammarFault}
 use Rattle.kpn_text_grammar.specs.declared.parser.Scope.{Scope}
 use Rattle.kpn_text_grammar.specs.Reading.{HeadParts, Read, Gives}
-use Rattle.kpn_text_grammar.specs.Syntax.{Name, Term, numeral, variable, minus, negation, binary, Statement, assign, receive, send, choice, loop, Statements, statements_of, Process, Literal, plain, negated, Instance, Item, channel, source, sink, instance, Network, Description}
+use Rattle.kpn_text_grammar.specs.Syntax.{Name, Term, numeral, variable, minus, negation, complement, binary, conditional, Statement, assign, receive, send, choice, loop, Statements, statements_of, Process, Literal, plain, negated, Instance, Item, channel, source, sink, instance, Network, Description}
 
 -- names as written
 abbrev pub names_seen : List Identifier → List Name
@@ -31,7 +31,9 @@ term_step (Expression-F.Number n) = numeral n
 term_step (Expression-F.Name x) = variable x.bytes.now
 term_step (Expression-F.Negative e) = minus e.value
 term_step (Expression-F.Not e) = negation e.value
+term_step (Expression-F.BitNot e) = complement e.value
 term_step (Expression-F.Binary op a b) = binary op a.value b.value
+term_step (Expression-F.Choice c a b) = conditional c.value a.value b.value
 
 -- the term of an expression
 abbrev pub term : Expression → Term

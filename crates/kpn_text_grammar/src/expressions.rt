@@ -6,7 +6,7 @@ ghost use Rattle.kpn_text_grammar.specs.Reading as spec;
 ghost use Rattle.kpn_text_grammar.specs.View.{Parses, term};
 
 use crate::fault::GrammarFault;
-use crate::parser::{Read, Scope, Source, mark, next, operator};
+use crate::parser::{Read, Scope, Source, at_mark, mark, next, operator};
 use crate::tree::{Expression, Identifier};
 use kpn_text_tokens::{Lexeme, Mark, Token};
 use std::alloc::Global;
@@ -16,7 +16,7 @@ fn begins_expression(token: &Token<'_>) -> bool
 {
     match token {
         Token::Number(_) | Token::Name(_) => true,
-        Token::Mark(Mark::Minus | Mark::Not | Mark::LeftParen) => true,
+        Token::Mark(Mark::Minus | Mark::Not | Mark::BitNot | Mark::LeftParen) => true,
         _ => false,
     }
 }
@@ -74,22 +74,73 @@ fn operand<'a>(
             let (inner, after) = expression(alloc, source, depth, at)?;
             Ok((Expression::Not(Box::new(alloc, inner)?), after))
         }
-        Token::Mark(Mark::LeftParen) => binary(alloc, source, depth, at),
+        Token::Mark(Mark::BitNot) => {
+            let (inner, after) = expression(alloc, source, depth, at)?;
+            Ok((Expression::BitNot(Box::new(alloc, inner)?), after))
+        }
+        Token::Mark(Mark::LeftParen) => group(alloc, source, depth, at),
         _ => Err(GrammarFault::Grammar(first.start)),
     }
 }
 
-/// Two expressions with an operator between them, behind the opening parenthesis.
+/// What stands between parentheses, behind the opening one: an expression, and then an operator or `?` tells which
+/// form it is.
+#[cycle(expression)]
+#[tactic(auto, unfolding(crate::specs::Reading::group, crate::specs::Reading::group_behind, kpn_text_tokens::specs::Results::and_then))]
+fn group<'a>(alloc: Global, source: Source<'a>, depth: usize, at: usize) -> Read<Expression<'a>>
+    ensures { Parses term
+        (λ s. spec.group s (spec.expression s depth)) source.entry at result }
+{
+    let (first, at) = expression(alloc, source, depth, at)?;
+    if at_mark(source, Mark::Question, at) {
+        choice(alloc, source, depth, first, at)
+    } else {
+        binary(alloc, source, depth, first, at)
+    }
+}
+
+/// An operator and the right side, behind the left one.
 #[cycle(expression)]
 #[tactic(auto, unfolding(crate::specs::Reading::binary_behind, kpn_text_tokens::specs::Results::and_then))]
-fn binary<'a>(alloc: Global, source: Source<'a>, depth: usize, at: usize) -> Read<Expression<'a>>
+fn binary<'a>(
+    alloc: Global,
+    source: Source<'a>,
+    depth: usize,
+    left: Expression<'a>,
+    at: usize,
+) -> Read<Expression<'a>>
     ensures { Parses term
-        (λ s. spec.binary_behind s (spec.expression s depth)) source.entry at result }
+        (λ s. spec.binary_behind s (spec.expression s depth) (term left.entry))
+        source.entry at result }
 {
-    let (left, at) = expression(alloc, source, depth, at)?;
     let (sign, at) = operator(source, at)?;
     let (right, at) = expression(alloc, source, depth, at)?;
     let at = mark(source, Mark::RightParen, at)?;
     let expression = Expression::Binary(sign, Box::new(alloc, left)?, Box::new(alloc, right)?);
     Ok((expression, at))
+}
+
+/// `?` and two values, behind the test that decides between them.
+#[cycle(expression)]
+#[tactic(auto, unfolding(crate::specs::Reading::conditional_behind, kpn_text_tokens::specs::Results::and_then))]
+fn choice<'a>(
+    alloc: Global,
+    source: Source<'a>,
+    depth: usize,
+    test: Expression<'a>,
+    at: usize,
+) -> Read<Expression<'a>>
+    ensures { Parses term
+        (λ s. spec.conditional_behind s (spec.expression s depth) (term test.entry))
+        source.entry at result }
+{
+    let at = mark(source, Mark::Question, at)?;
+    let (first, at) = expression(alloc, source, depth, at)?;
+    let at = mark(source, Mark::Colon, at)?;
+    let (second, at) = expression(alloc, source, depth, at)?;
+    let at = mark(source, Mark::RightParen, at)?;
+    let test = Box::new(alloc, test)?;
+    let first = Box::new(alloc, first)?;
+    let second = Box::new(alloc, second)?;
+    Ok((Expression::Choice(test, first, second), at))
 }

@@ -7,7 +7,7 @@ ghost use Rattle.kpn_text_grammar.specs.Operators as table;
 use kpn_lang::Op;
 use kpn_text_tokens::Mark;
 
-const ALL: [Op; 13] = [
+const ALL: [Op; 18] = [
     Op::Add,
     Op::Sub,
     Op::Mul,
@@ -21,6 +21,11 @@ const ALL: [Op; 13] = [
     Op::Ne,
     Op::And,
     Op::Or,
+    Op::BitAnd,
+    Op::BitOr,
+    Op::BitXor,
+    Op::Shl,
+    Op::Shr,
 ];
 
 /// The mark that stands for an operator between two expressions.
@@ -41,6 +46,11 @@ pub fn mark_of(operator: Op) -> Mark
         Op::Ne => Mark::NotEqual,
         Op::And => Mark::And,
         Op::Or => Mark::Or,
+        Op::BitAnd => Mark::BitAnd,
+        Op::BitOr => Mark::BitOr,
+        Op::BitXor => Mark::BitXor,
+        Op::Shl => Mark::ShiftLeft,
+        Op::Shr => Mark::ShiftRight,
     }
 }
 

@@ -60,6 +60,15 @@ fn is_keyword(token: &Token<'_>, keyword: Keyword) -> bool
     }
 }
 
+fn is_two(token: &Token<'_>) -> bool
+    ensures { result ≡ tests.is_two token.now }
+{
+    match token {
+        Token::Number(number) => number.value() == 2,
+        _ => false,
+    }
+}
+
 /// Whether this mark is at a place.
 pub(crate) fn at_mark(source: Source<'_>, mark: Mark, at: usize) -> bool
     ensures { result ≡ spec.first_is (tests.is_mark mark) (tokens_from source.entry at) }
@@ -151,6 +160,19 @@ pub(crate) fn number(source: Source<'_>, at: usize) -> Read<Number>
     match &first.token {
         Token::Number(number) => Ok((*number, after)),
         _ => Err(GrammarFault::Grammar(first.start)),
+    }
+}
+
+/// A number of value 2.
+#[tactic(auto, unfolding(crate::specs::Reading::two, kpn_text_tokens::specs::Results::and_then))]
+pub(crate) fn two(source: Source<'_>, at: usize) -> Result<usize, GrammarFault>
+    ensures { Passes spec.two source.entry at result }
+{
+    let (first, after) = next(source, at)?;
+    if is_two(&first.token) {
+        Ok(after)
+    } else {
+        Err(GrammarFault::Grammar(first.start))
     }
 }
 

@@ -36,8 +36,12 @@ pub enum Expression<'a> {
     Negative(Box<Expression<'a>>),
     /// `!e`
     Not(Box<Expression<'a>>),
+    /// `~e`
+    BitNot(Box<Expression<'a>>),
     /// `(left op right)`
     Binary(Op, Box<Expression<'a>>, Box<Expression<'a>>),
+    /// `(test ? first : second)`
+    Choice(Box<Expression<'a>>, Box<Expression<'a>>, Box<Expression<'a>>),
 }
 
 /// A statement.

@@ -1,18 +1,18 @@
-//! The whole of a description: its processes, its network, and nothing after it.
+//! The whole of a description: its language, its processes, its network, and nothing after it.
 
 ghost use Rattle.std.specs.Prelude.{◌≡◌, IfOk};
 ghost use Rattle.kpn_text_grammar.specs.Syntax.{Description as Document};
 ghost use Rattle.kpn_text_grammar.specs.Spelling.{IsDescription, kinds};
 ghost use Rattle.kpn_text_tokens.specs.Results.{OkOr};
 ghost use Rattle.kpn_text_grammar.specs.Reading as spec;
-ghost use Rattle.kpn_text_grammar.specs.View.{document, tokens_from};
+ghost use Rattle.kpn_text_grammar.specs.View.{Passes, document, tokens_from};
 
 use crate::fault::GrammarFault;
 use crate::networks::network;
-use crate::parser::{Scope, Source};
+use crate::parser::{Scope, Source, keyword, mark, two};
 use crate::processes::processes;
 use crate::tree::Description;
-use kpn_text_tokens::Lexeme;
+use kpn_text_tokens::{Keyword, Language, Lexeme, Mark};
 use std::alloc::Global;
 
 /// Nothing is at the place.
@@ -26,19 +26,58 @@ fn at_end(source: Source<'_>, at: usize) -> Result<(), GrammarFault>
     }
 }
 
-/// The processes, the network, and nothing after it.
-#[tactic(auto, unfolding(crate::specs::Reading::description, kpn_text_tokens::specs::Results::and_then))]
-fn whole<'a>(alloc: Global, source: Source<'a>) -> Result<Description<'a>, GrammarFault>
-    ensures { spec.Gives document result
-        (spec.description source.entry.scope source.entry.tokens.now) }
+/// `language 2;`
+#[tactic(auto, unfolding(crate::specs::Reading::opening, kpn_text_tokens::specs::Results::and_then))]
+fn opening(source: Source<'_>, at: usize) -> Result<usize, GrammarFault>
+    ensures { Passes spec.opening source.entry at result }
 {
-    let (processes, at) = processes(alloc, source, 0)?;
+    let at = keyword(source, Keyword::Language, at)?;
+    let at = two(source, at)?;
+    mark(source, Mark::Semicolon, at)
+}
+
+/// What begins a text of a language.
+#[tactic(auto, unfolding(crate::specs::Reading::language_at))]
+fn language_at(source: Source<'_>, language: Language, at: usize) -> Result<usize, GrammarFault>
+    ensures { Passes (λ s. spec.language_at s language) source.entry at result }
+{
+    match language {
+        Language::One => Ok(at),
+        Language::Two => opening(source, at),
+    }
+}
+
+/// The processes, the network, and nothing after it.
+#[tactic(auto, unfolding(crate::specs::Reading::contents, kpn_text_tokens::specs::Results::and_then))]
+fn contents<'a>(
+    alloc: Global,
+    source: Source<'a>,
+    at: usize,
+) -> Result<Description<'a>, GrammarFault>
+    ensures { spec.Gives document result
+        (spec.contents source.entry.scope (tokens_from source.entry at)) }
+{
+    let (processes, at) = processes(alloc, source, at)?;
     let (network, at) = network(alloc, source, at)?;
     at_end(source, at)?;
     Ok(Description { processes, network })
 }
 
-/// The description that the tokens of a text are; `end` is the length of the text in bytes.
+/// The same behind the language.
+#[tactic(auto, unfolding(crate::specs::Reading::description, kpn_text_tokens::specs::Results::and_then))]
+fn whole<'a>(
+    alloc: Global,
+    source: Source<'a>,
+    language: Language,
+) -> Result<Description<'a>, GrammarFault>
+    ensures { spec.Gives document result
+        (spec.description source.entry.scope language source.entry.tokens.now) }
+{
+    let at = language_at(source, language, 0)?;
+    contents(alloc, source, at)
+}
+
+/// The description that the tokens of a text of a language are; `end` is the length of the text in bytes.
 ///
 /// # Errors
 ///
@@ -52,17 +91,18 @@ fn whole<'a>(alloc: Global, source: Source<'a>) -> Result<Description<'a>, Gramm
 /// [`GrammarFault::NoMemory`] comes only if memory ran out.
 pub fn description<'a>(
     alloc: Global,
+    language: Language,
     tokens: &'a [Lexeme<'a>],
     end: usize,
 ) -> Result<Description<'a>, GrammarFault>
     // What the call returns is what the tokens spell, within the limits.
-    ensures found { IfOk result (λ d. IsDescription (kinds tokens.now) (document d)) }
+    ensures found { IfOk result (λ d. IsDescription language (kinds tokens.now) (document d)) }
     // It returns what the tokens spell within the limits, unless memory runs out.
-    ensures only { (d : Document) → IsDescription (kinds tokens.now) d
+    ensures only { (d : Document) → IsDescription language (kinds tokens.now) d
         → OkOr GrammarFault.NoMemory result (λ x. document x ≡ d) }
     // Which fault it is.
-    ensures exact { spec.Gives document result (spec.description_of end tokens.now) }
+    ensures exact { spec.Gives document result (spec.description_of language end tokens.now) }
 {
     let scope = Scope { end, process: 0 };
-    whole(alloc, Source { tokens, scope })
+    whole(alloc, Source { tokens, scope }, language)
 }

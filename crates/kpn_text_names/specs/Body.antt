@@ -3,7 +3,7 @@
 use Rattle.std.specs.Prelude.{pos, List, Result, Ok}
 use Rattle.kpn_lang.specs.Syntax as lang
 use Rattle.kpn_lang.specs.Tree.{Tree, End, Assign, Read, Write, If, While}
-use Rattle.kpn_text_grammar.specs.Syntax.{Name, Term, numeral, variable, minus, negation, binary, Statement, assign, receive, send, choice, loop, Statements, no_statements, statement}
+use Rattle.kpn_text_grammar.specs.Syntax.{Name, Term, numeral, variable, minus, negation, complement, binary, conditional, Statement, assign, receive, send, choice, loop, Statements, no_statements, statement}
 use Rattle.kpn_text_names.specs.declared.scope.Scope.{Scope}
 use Rattle.kpn_text_names.specs.Fault.{NameError}
 use Rattle.kpn_text_tokens.specs.Results.{◌>>=◌, and_then}
@@ -16,10 +16,16 @@ term_in vars (numeral n) = Ok (lang.Num (pos n))
 term_in vars (variable x) = known vars x >>= λ k. Ok (lang.Var k)
 term_in vars (minus e) = term_in vars e >>= λ a. Ok (lang.Neg a)
 term_in vars (negation e) = term_in vars e >>= λ a. Ok (lang.Not a)
+term_in vars (complement e) = term_in vars e >>= λ a. Ok (lang.BitNot a)
 term_in vars (binary o e f) = do
   a ← term_in vars e
   b ← term_in vars f
   Ok (lang.Bin o a b)
+term_in vars (conditional e f g) = do
+  a ← term_in vars e
+  b ← term_in vars f
+  c ← term_in vars g
+  Ok (lang.Choice a b c)
 
 unfoldable mutual
   -- a statement in front of what follows, with the names known from there on. The expression of an assignment knows its

@@ -31,12 +31,25 @@ pub(crate) fn expr<'a>(
             let operand = expr(alloc, vars, inner)?;
             Ok(Expr::Not(Box::new(alloc, operand)?))
         }
+        Expression::BitNot(inner) => {
+            let operand = expr(alloc, vars, inner)?;
+            Ok(Expr::BitNot(Box::new(alloc, operand)?))
+        }
         Expression::Binary(operator, left, right) => {
             let left = expr(alloc, vars, left)?;
             let right = expr(alloc, vars, right)?;
             let left = Box::new(alloc, left)?;
             let right = Box::new(alloc, right)?;
             Ok(Expr::Bin(*operator, left, right))
+        }
+        Expression::Choice(test, first, second) => {
+            let test = expr(alloc, vars, test)?;
+            let first = expr(alloc, vars, first)?;
+            let second = expr(alloc, vars, second)?;
+            let test = Box::new(alloc, test)?;
+            let first = Box::new(alloc, first)?;
+            let second = Box::new(alloc, second)?;
+            Ok(Expr::Choice(test, first, second))
         }
     }
 }

@@ -1,7 +1,9 @@
 -- The lemmas. Other crates may cite the public ones: the rules (`Follows`, `TokenLaws`), white space (`Parting`), the
--- tokens without their places (`WithoutPlaces`), and what a search finds (`Pieces`).
+-- tokens without their places (`WithoutPlaces`), the language of a text (`Openings`), and what a search finds
+-- (`Pieces`).
 mod Digits
 pub mod Follows
+pub mod Openings
 pub mod WithoutPlaces
 pub mod Parting
 pub mod Pieces

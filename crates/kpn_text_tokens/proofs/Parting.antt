@@ -9,6 +9,8 @@ use Rattle.std.proofs.lemmas.Bool.Decides.{nat_tests}
 use Rattle.kpn_text_tokens.specs.declared.lexer.Class.{Class}
 use Rattle.kpn_text_tokens.specs.declared.lexer.Class.TheVariants as class
 use Rattle.kpn_text_tokens.specs.declared.lexer.LexFault.{LexFault}
+use Rattle.kpn_text_tokens.specs.declared.tokens.Language.{Language}
+use Rattle.kpn_text_tokens.specs.declared.tokens.Language.TheVariants as language
 use Rattle.kpn_text_tokens.specs.declared.tokens.Lexeme.{Lexeme}
 use Rattle.kpn_text_tokens.specs.declared.tokens.Mark.{Mark}
 use Rattle.kpn_text_tokens.specs.declared.tokens.Mark.TheVariants as mark
@@ -16,7 +18,7 @@ use Rattle.kpn_text_tokens.specs.declared.tokens.Token.{Token}
 use Rattle.kpn_text_tokens.specs.declared.tokens.Token.TheVariants as token
 use Rattle.kpn_text_tokens.specs.Lexing.{is_white_space, is_in, cons_lexeme, scan}
 use Rattle.kpn_text_tokens.specs.Laws.{Separates, WhiteSpaceSeparates, followed_by}
-use Rattle.kpn_text_tokens.specs.Rules.{Stops, EndsBefore, MarkEnds, BeginsNothing, Reads, done, white, comment, spelled, nothing, bad_number, long_name}
+use Rattle.kpn_text_tokens.specs.Rules.{Stops, EndsBefore, MarkEnds, NotDoubled, BeginsNothing, Reads, done, white, comment, spelled, nothing, bad_number, long_name}
 use Rattle.kpn_text_tokens.specs.Spelling.{mark_bytes}
 use Rattle.kpn_text_tokens.proofs.Follows.{scan_rules}
 use Rattle.kpn_text_tokens.proofs.Tables.{mark_is_solid}
@@ -56,29 +58,44 @@ not_begun p text w more e solid fails =
     false_from_ne_true (starts_with nat_eq (text ++ w ∷ more) p)
     (λ starts. true≢false (sym (solid_front p text w more e solid starts) ∙ fails))
 
-mark_ends_before : (m : Mark) (w : ℕ) (rest more : List ℕ) → is_white_space w ≡ true → MarkEnds m rest
-    → MarkEnds m (rest ++ w ∷ more)
-mark_ends_before mark.Assign w rest more e ends = not_begun (codes "=") rest w more e refl ends
-mark_ends_before mark.Less w rest more e ends = not_begun (codes "=") rest w more e refl ends
-mark_ends_before mark.Greater w rest more e ends = not_begun (codes "=") rest w more e refl ends
-mark_ends_before mark.Not w rest more e ends = not_begun (codes "=") rest w more e refl ends
-mark_ends_before _ w rest more e ends = tt
+-- nor does it go on with a byte that it did not go on with
+not_doubled_before : (l : Language) (byte : List ℕ) (w : ℕ) (rest more : List ℕ) → is_white_space w ≡ true
+    → list_all (λ b. not (is_white_space b)) byte ≡ true → NotDoubled l byte rest
+    → NotDoubled l byte (rest ++ w ∷ more)
+not_doubled_before language.One byte w rest more e solid ends = tt
+not_doubled_before language.Two byte w rest more e solid ends = not_begun byte rest w more e solid ends
 
-ends_before : (t : Token) (w : ℕ) (rest more : List ℕ) → is_white_space w ≡ true → EndsBefore t rest
-    → EndsBefore t (rest ++ w ∷ more)
-ends_before (token.Name name) w rest more e ends = stops_before class.Word w rest more (no_word_byte w e) ends
-ends_before (token.Number value) w rest more e ends = stops_before class.Digit w rest more (no_digit_byte w e) ends
-ends_before (token.Mark m) w rest more e ends = mark_ends_before m w rest more e ends
-ends_before (token.Keyword k) w rest more e ends = stops_before class.Word w rest more (no_word_byte w e) ends
+mark_ends_before : (l : Language) (m : Mark) (w : ℕ) (rest more : List ℕ) → is_white_space w ≡ true → MarkEnds l m rest
+    → MarkEnds l m (rest ++ w ∷ more)
+mark_ends_before l mark.Assign w rest more e ends = not_begun (codes "=") rest w more e refl ends
+mark_ends_before l mark.Less w rest more e ends = (
+  not_begun (codes "=") rest w more e refl ends.0,
+  not_doubled_before l (codes "<") w rest more e refl ends.1,
+)
+mark_ends_before l mark.Greater w rest more e ends = (
+  not_begun (codes "=") rest w more e refl ends.0,
+  not_doubled_before l (codes ">") w rest more e refl ends.1,
+)
+mark_ends_before l mark.Not w rest more e ends = not_begun (codes "=") rest w more e refl ends
+mark_ends_before l mark.BitAnd w rest more e ends = not_doubled_before l (codes "&") w rest more e refl ends
+mark_ends_before l mark.BitOr w rest more e ends = not_doubled_before l (codes "|") w rest more e refl ends
+mark_ends_before l _ w rest more e ends = tt
 
-nothing_before : (b : ℕ) (bs : List ℕ) (w : ℕ) (more : List ℕ) → is_white_space w ≡ true → BeginsNothing b bs
-    → BeginsNothing b (bs ++ w ∷ more)
-nothing_before b bs w more e none = record {
+ends_before : (l : Language) (t : Token) (w : ℕ) (rest more : List ℕ) → is_white_space w ≡ true → EndsBefore l t rest
+    → EndsBefore l t (rest ++ w ∷ more)
+ends_before l (token.Name name) w rest more e ends = stops_before class.Word w rest more (no_word_byte w e) ends
+ends_before l (token.Number value) w rest more e ends = stops_before class.Digit w rest more (no_digit_byte w e) ends
+ends_before l (token.Mark m) w rest more e ends = mark_ends_before l m w rest more e ends
+ends_before l (token.Keyword k) w rest more e ends = stops_before class.Word w rest more (no_word_byte w e) ends
+
+nothing_before : (l : Language) (b : ℕ) (bs : List ℕ) (w : ℕ) (more : List ℕ) → is_white_space w ≡ true
+    → BeginsNothing l b bs → BeginsNothing l b (bs ++ w ∷ more)
+nothing_before l b bs w more e none = record {
   no_space = none.no_space;
   no_comment = none.no_comment;
   no_word = none.no_word;
   no_number = none.no_number;
-  no_mark = λ m. not_begun (mark_bytes m) (b ∷ bs) w more e (mark_is_solid m) (none.no_mark m);
+  no_mark = λ m has. not_begun (mark_bytes m) (b ∷ bs) w more e (mark_is_solid m) (none.no_mark m has);
 }
 
 -- what comes further on is parted too
@@ -109,19 +126,19 @@ followed_by-cons l (Ok front) (Err fault) = refl
 followed_by-cons l (Err fault) x = refl
 
 -- regrouped, a text reads as before
-regrouped : {place : ℕ} {r : Result (List Lexeme) LexFault} (front rest more : List ℕ)
-    → Reads place (front ++ (rest ++ more)) r → Reads place (front ++ rest ++ more) r
-regrouped {place} {r} front rest more reads = subst (λ (l : List ℕ). Reads place l r)
+regrouped : {l : Language} {place : ℕ} {r : Result (List Lexeme) LexFault} (front rest more : List ℕ)
+    → Reads l place (front ++ (rest ++ more)) r → Reads l place (front ++ rest ++ more) r
+regrouped {l} {place} {r} front rest more reads = subst (λ (text : List ℕ). Reads l place text r)
     (sym (append_assoc front rest more)) reads
 
 -- what the rules say of a text that white space parts
-parted : {place : ℕ} {before : List ℕ} {r : Result (List Lexeme) LexFault} → Reads place before r
+parted : {l : Language} {place : ℕ} {before : List ℕ} {r : Result (List Lexeme) LexFault} → Reads l place before r
     → (w q : ℕ) (rest : List ℕ) (x : Result (List Lexeme) LexFault) → Separates w before → q ≡ place + length before + 1
-    → Reads q rest x → Reads place (before ++ w ∷ rest) (followed_by r x)
-parted {place} done w q rest x parts at more =
-    let P : ℕ → Type 0 = λ p. Reads p rest x in
-    let here : Reads place (w ∷ rest) x = white parts.0 (subst P (omega arith) more) in
-    subst (λ (r : Result (List Lexeme) LexFault). Reads place (w ∷ rest) r) (followed_by-nil x) here
+    → Reads l q rest x → Reads l place (before ++ w ∷ rest) (followed_by r x)
+parted {l} {place} done w q rest x parts at more =
+    let P : ℕ → Type 0 = λ p. Reads l p rest x in
+    let here : Reads l place (w ∷ rest) x = white parts.0 (subst P (omega arith) more) in
+    subst (λ (r : Result (List Lexeme) LexFault). Reads l place (w ∷ rest) r) (followed_by-nil x) here
 parted (white {b} {rest = back} e tail) w q rest x parts at more =
     white e (parted tail w q rest x (separates_back w (b ∷ []) back parts) (omega arith) more)
 parted (comment said back all stops tail) w q rest x parts at more =
@@ -129,12 +146,13 @@ parted (comment said back all stops tail) w q rest x parts at more =
     (comment_stops_before w said back rest parts stops)
     (parted tail w q rest x (separates_back w (35 ∷ said) back parts) (omega (arith, length-append said back))
     more))
-parted {place} (spelled t bytes back {r} is ends tail) w q rest x parts at more =
-    let l : Lexeme = record { token = t; start = place } in
-    subst (λ (r : Result (List Lexeme) LexFault). Reads place (bytes ++ back ++ w ∷ rest) r) (followed_by-cons l r x)
-    (regrouped bytes back (w ∷ rest) (spelled t bytes (back ++ w ∷ rest) is (ends_before t w back rest parts.0 ends)
+parted {l} {place} (spelled t bytes back {r} is ends tail) w q rest x parts at more =
+    let first : Lexeme = record { token = t; start = place } in
+    subst (λ (r : Result (List Lexeme) LexFault). Reads l place (bytes ++ back ++ w ∷ rest) r)
+    (followed_by-cons first r x)
+    (regrouped bytes back (w ∷ rest) (spelled t bytes (back ++ w ∷ rest) is (ends_before l t w back rest parts.0 ends)
     (parted tail w q rest x (separates_back w bytes back parts) (omega (arith, length-append bytes back)) more)))
-parted (nothing {b} {bs} none) w q rest x parts at more = nothing (nothing_before b bs w rest parts.0 none)
+parted {l} (nothing {b} {bs} none) w q rest x parts at more = nothing (nothing_before l b bs w rest parts.0 none)
 parted (bad_number digits back all some stops bad) w q rest x parts at more =
     regrouped digits back (w ∷ rest) (bad_number digits (back ++ w ∷ rest) all some
     (stops_before class.Digit w back rest (no_digit_byte w parts.0) stops) bad)
@@ -143,6 +161,6 @@ parted (long_name word back is stops long) w q rest x parts at more =
     (stops_before class.Word w back rest (no_word_byte w parts.0) stops) long)
 
 pub white_space_separates : WhiteSpaceSeparates
-white_space_separates place w before rest parts =
+white_space_separates l place w before rest parts =
     let q = place + length before + 1 in
-    rules_scan (parted (scan_rules place before) w q rest (scan 0 q rest) parts refl (scan_rules q rest))
+    rules_scan (parted (scan_rules l place before) w q rest (scan l 0 q rest) parts refl (scan_rules l q rest))

@@ -16,11 +16,12 @@ use Rattle.kpn_text_tokens.specs.declared.lexer.Class.{Class}
 use Rattle.kpn_text_tokens.specs.declared.lexer.Class.TheVariants as class
 use Rattle.kpn_text_tokens.specs.declared.lexer.Piece.{Piece}
 use Rattle.kpn_text_tokens.specs.declared.lexer.Piece.TheVariants as piece
+use Rattle.kpn_text_tokens.specs.declared.tokens.Language.{Language}
 use Rattle.kpn_text_tokens.specs.declared.tokens.Mark.{Mark}
 use Rattle.kpn_text_tokens.specs.declared.tokens.Mark.TheVariants as mark
 use Rattle.kpn_text_tokens.specs.declared.tokens.Token.TheVariants as token
 use Rattle.kpn_text_tokens.specs.Lexing.{is_white_space, begins_name, is_in, TakesWithin, run, word_token, word_piece, number_piece, marked, mark_piece, piece_of}
-use Rattle.kpn_text_tokens.specs.Spelling.{keyword_of, mark_at, mark_bytes, marks}
+use Rattle.kpn_text_tokens.specs.Spelling.{has_mark, keyword_of, mark_at, mark_bytes, marks}
 
 -- what find returns passes the test
 pub find_passes : {X : Type 0} (p : X → Bool) (xs : List X) (x : X) → find p xs ≡ Some x → p x ≡ true
@@ -56,48 +57,37 @@ run_takes c b bs e =
     (omega arith, omega (arith, first, length-take (prefix_len (is_in c) bs) bs))
 
 pub mark_nonempty : (m : Mark) → 1 ≤ length (mark_bytes m)
-mark_nonempty mark.LeftParen = lit≤ tt
-mark_nonempty mark.RightParen = lit≤ tt
-mark_nonempty mark.LeftBrace = lit≤ tt
-mark_nonempty mark.RightBrace = lit≤ tt
-mark_nonempty mark.Semicolon = lit≤ tt
-mark_nonempty mark.Comma = lit≤ tt
-mark_nonempty mark.Assign = lit≤ tt
-mark_nonempty mark.Plus = lit≤ tt
-mark_nonempty mark.Minus = lit≤ tt
-mark_nonempty mark.Star = lit≤ tt
-mark_nonempty mark.Slash = lit≤ tt
-mark_nonempty mark.Percent = lit≤ tt
-mark_nonempty mark.Less = lit≤ tt
 mark_nonempty mark.LessOrEqual = lit≤ tt
-mark_nonempty mark.Greater = lit≤ tt
-mark_nonempty mark.GreaterOrEqual = lit≤ tt
-mark_nonempty mark.Equal = lit≤ tt
-mark_nonempty mark.NotEqual = lit≤ tt
-mark_nonempty mark.And = lit≤ tt
-mark_nonempty mark.Or = lit≤ tt
-mark_nonempty mark.Not = lit≤ tt
+mark_nonempty _ = lit≤ tt
 
-marked_fits : (text : List ℕ) (found : Option Mark) → mark_at text ≡ found → TakesWithin (marked found) (length text)
+-- what a search for a mark returns is a mark of the language, and the text begins with it
+pub record StandsAt (l : Language) (m : Mark) (text : List ℕ) : Type 0 where
+  pub starts : starts_with nat_eq text (mark_bytes m) ≡ true
+  pub has : has_mark l m ≡ true
+
+pub mark_stands : (l : Language) (text : List ℕ) (m : Mark) → mark_at l text ≡ Some m → StandsAt l m text
 unfolding mark_at
-marked_fits text None e = tt
-marked_fits text (Some m) e = (
-  mark_nonempty m,
-  starts_within text (mark_bytes m)
-      (find_passes (λ m. starts_with nat_eq text (mark_bytes m)) marks m e),
-)
+mark_stands l text m e =
+    let both = and_parts (starts_with nat_eq text (mark_bytes m)) (has_mark l m)
+    (find_passes (λ m. starts_with nat_eq text (mark_bytes m) && has_mark l m) marks m e) in
+    record { starts = both.0; has = both.1 }
+
+marked_fits : (l : Language) (text : List ℕ) (found : Option Mark) → mark_at l text ≡ found
+    → TakesWithin (marked found) (length text)
+marked_fits l text None e = tt
+marked_fits l text (Some m) e = (mark_nonempty m, starts_within text (mark_bytes m) (mark_stands l text m e).starts)
 
 -- the same of the mark at the front
-pub mark_takes : (text : List ℕ) → TakesWithin (mark_piece text) (length text)
-mark_takes text = marked_fits text (mark_at text) refl
+pub mark_takes : (l : Language) (text : List ℕ) → TakesWithin (mark_piece l text) (length text)
+mark_takes l text = marked_fits l text (mark_at l text) refl
 
-word_fits : (b : ℕ) (bs : List ℕ) → is_in class.Word b ≡ true
-    → TakesWithin (word_piece (run class.Word (b ∷ bs))) (suc (length bs))
-word_fits b bs e =
+word_fits : (l : Language) (b : ℕ) (bs : List ℕ) → is_in class.Word b ≡ true
+    → TakesWithin (word_piece l (run class.Word (b ∷ bs))) (suc (length bs))
+word_fits l b bs e =
     let word = run class.Word (b ∷ bs) in
     let size = suc (length bs) in
     cond_both (nat_lt MAX_NAME_BYTES (length word)) piece.LongName
-    (piece.Token (word_token (keyword_of word) word) (length word)) (λ p. TakesWithin p size) (λ _. tt)
+    (piece.Token (word_token (keyword_of l word) word) (length word)) (λ p. TakesWithin p size) (λ _. tt)
     (λ _. run_takes class.Word b bs e)
 
 number_fits : (b : ℕ) (bs : List ℕ) → is_in class.Digit b ≡ true
@@ -110,9 +100,9 @@ number_fits b bs e =
     (λ _. run_takes class.Digit b bs e) (λ _. tt)
 
 -- a piece takes at least a byte, and no more than there are
-pub piece_fits : (b : ℕ) (bs : List ℕ) → TakesWithin (piece_of b (b ∷ bs)) (suc (length bs))
+pub piece_fits : (l : Language) (b : ℕ) (bs : List ℕ) → TakesWithin (piece_of l b (b ∷ bs)) (suc (length bs))
 unfolding piece_of
-piece_fits b bs =
+piece_fits l b bs =
     let text = b ∷ bs in
     let P : Piece → Type 0 = λ p. TakesWithin p (suc (length bs)) in
     cond_both (is_white_space b) _ _ P
@@ -120,10 +110,10 @@ piece_fits b bs =
     (λ _. cond_both (b == 35) _ _ P
     (λ e. let hash : is_in class.Comment b ≡ true = grind (arith, nat_tests) in run_takes class.Comment b bs hash)
     (λ _. cond_both (begins_name b) _ _ P
-    (λ e. word_fits b bs (or_left (begins_name b) (is_ascii_digit b) e))
+    (λ e. word_fits l b bs (or_left (begins_name b) (is_ascii_digit b) e))
     (λ _. cond_both (is_ascii_digit b) _ _ P
     (λ e. number_fits b bs e)
-    (λ _. marked_fits text (mark_at text) refl))))
+    (λ _. marked_fits l text (mark_at l text) refl))))
 
 digit_below_ten : (b : ℕ) → is_ascii_digit b ≡ true → digit_value b < 10
 digit_below_ten b e =

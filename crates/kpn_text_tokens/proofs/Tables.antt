@@ -1,190 +1,153 @@
 -- What the tables of marks and of reserved words return, entry by entry.
-use Rattle.std.proofs.Common.{◌≡◌, ℕ, ◌≤◌, Bool, true, false, cond, List, [], ◌∷◌, ◌++◌, length, get_or, Option, Some, None, refl, ◌∙◌, lit≤}
+use Rattle.std.proofs.Common.{◌≡◌, ℕ, ◌≤◌, Bool, true, false, cond, ◌&&◌, List, [], ◌∷◌, ◌++◌, length, get_or, Option, Some, None, refl, ◌∙◌, lit≤}
 use Rattle.std.specs.List.{find, list_all, starts_with}
 use Rattle.std.specs.Prelude.{nat_eq, codes, not}
-use Rattle.std.proofs.lemmas.Bool.{cond_both, cond-false}
+use Rattle.std.proofs.lemmas.Bool.{cond_both, cond-false, cond-true}
 use Rattle.kpn_limits.specs.declared.TheConstants.{MAX_NAME_BYTES}
 use Rattle.kpn_text_tokens.specs.declared.tokens.Keyword.{Keyword}
 use Rattle.kpn_text_tokens.specs.declared.tokens.Keyword.TheVariants as keyword
+use Rattle.kpn_text_tokens.specs.declared.tokens.Language.{Language}
+use Rattle.kpn_text_tokens.specs.declared.tokens.Language.TheVariants as language
 use Rattle.kpn_text_tokens.specs.declared.tokens.Mark.{Mark}
 use Rattle.kpn_text_tokens.specs.declared.tokens.Mark.TheVariants as mark
 use Rattle.kpn_text_tokens.specs.Lexing.{is_white_space, mark_piece, piece_of}
-use Rattle.kpn_text_tokens.specs.Rules.{IsWord, MarkEnds}
-use Rattle.kpn_text_tokens.specs.Spelling.{keyword_bytes, keyword_of, mark_at, mark_bytes, marks}
+use Rattle.kpn_text_tokens.specs.Rules.{IsWord, MarkEnds, NotDoubled}
+use Rattle.kpn_text_tokens.specs.Spelling.{has_keyword, has_mark, is_two, keyword_bytes, keyword_of, mark_at, mark_bytes, marks}
 
 -- a reserved word is a word
 pub keyword_is_word : (k : Keyword) → IsWord (keyword_bytes k)
 keyword_is_word keyword.Process = record { begins = refl; goes_on = refl }
-keyword_is_word keyword.In = record { begins = refl; goes_on = refl }
-keyword_is_word keyword.Out = record { begins = refl; goes_on = refl }
-keyword_is_word keyword.Par = record { begins = refl; goes_on = refl }
-keyword_is_word keyword.Read = record { begins = refl; goes_on = refl }
-keyword_is_word keyword.Write = record { begins = refl; goes_on = refl }
-keyword_is_word keyword.If = record { begins = refl; goes_on = refl }
-keyword_is_word keyword.Else = record { begins = refl; goes_on = refl }
-keyword_is_word keyword.While = record { begins = refl; goes_on = refl }
-keyword_is_word keyword.Network = record { begins = refl; goes_on = refl }
-keyword_is_word keyword.Limit = record { begins = refl; goes_on = refl }
-keyword_is_word keyword.Channel = record { begins = refl; goes_on = refl }
-keyword_is_word keyword.Cap = record { begins = refl; goes_on = refl }
-keyword_is_word keyword.Source = record { begins = refl; goes_on = refl }
-keyword_is_word keyword.Sink = record { begins = refl; goes_on = refl }
-keyword_is_word keyword.Policy = record { begins = refl; goes_on = refl }
-keyword_is_word keyword.Grow = record { begins = refl; goes_on = refl }
+keyword_is_word _ = record { begins = refl; goes_on = refl }
 
 -- a reserved word is short
 pub keyword_is_short : (k : Keyword) → length (keyword_bytes k) ≤ MAX_NAME_BYTES
 keyword_is_short keyword.Process = lit≤ tt
-keyword_is_short keyword.In = lit≤ tt
-keyword_is_short keyword.Out = lit≤ tt
-keyword_is_short keyword.Par = lit≤ tt
-keyword_is_short keyword.Read = lit≤ tt
-keyword_is_short keyword.Write = lit≤ tt
-keyword_is_short keyword.If = lit≤ tt
-keyword_is_short keyword.Else = lit≤ tt
-keyword_is_short keyword.While = lit≤ tt
-keyword_is_short keyword.Network = lit≤ tt
-keyword_is_short keyword.Limit = lit≤ tt
-keyword_is_short keyword.Channel = lit≤ tt
-keyword_is_short keyword.Cap = lit≤ tt
-keyword_is_short keyword.Source = lit≤ tt
-keyword_is_short keyword.Sink = lit≤ tt
-keyword_is_short keyword.Policy = lit≤ tt
-keyword_is_short keyword.Grow = lit≤ tt
+keyword_is_short _ = lit≤ tt
 
--- a reserved word is found
-pub keyword_is_found : (k : Keyword) → keyword_of (keyword_bytes k) ≡ Some k
+-- a reserved word of a language is found
+pub keyword_is_found : (l : Language) (k : Keyword) → has_keyword l k ≡ true → keyword_of l (keyword_bytes k) ≡ Some k
 unfolding keyword_of
-keyword_is_found keyword.Process = refl
-keyword_is_found keyword.In = refl
-keyword_is_found keyword.Out = refl
-keyword_is_found keyword.Par = refl
-keyword_is_found keyword.Read = refl
-keyword_is_found keyword.Write = refl
-keyword_is_found keyword.If = refl
-keyword_is_found keyword.Else = refl
-keyword_is_found keyword.While = refl
-keyword_is_found keyword.Network = refl
-keyword_is_found keyword.Limit = refl
-keyword_is_found keyword.Channel = refl
-keyword_is_found keyword.Cap = refl
-keyword_is_found keyword.Source = refl
-keyword_is_found keyword.Sink = refl
-keyword_is_found keyword.Policy = refl
-keyword_is_found keyword.Grow = refl
+keyword_is_found l keyword.Language has = cond-true (is_two l) _ _ has
+keyword_is_found l keyword.Array has = cond-true (is_two l) _ _ has
+keyword_is_found l keyword.Table has = cond-true (is_two l) _ _ has
+keyword_is_found l _ has = refl
 
 -- a mark begins with none of the bytes that begin white space, comments, words and numbers
-pub mark_is_reached : (m : Mark) (rest : List ℕ) → piece_of (get_or (mark_bytes m ++ rest) 0 0) (mark_bytes m ++ rest) ≡
-    mark_piece (mark_bytes m ++ rest)
+pub mark_is_reached : (l : Language) (m : Mark) (rest : List ℕ)
+    → piece_of l (get_or (mark_bytes m ++ rest) 0 0) (mark_bytes m ++ rest) ≡ mark_piece l (mark_bytes m ++ rest)
 unfolding piece_of
-mark_is_reached mark.LeftParen rest = refl
-mark_is_reached mark.RightParen rest = refl
-mark_is_reached mark.LeftBrace rest = refl
-mark_is_reached mark.RightBrace rest = refl
-mark_is_reached mark.Semicolon rest = refl
-mark_is_reached mark.Comma rest = refl
-mark_is_reached mark.Assign rest = refl
-mark_is_reached mark.Plus rest = refl
-mark_is_reached mark.Minus rest = refl
-mark_is_reached mark.Star rest = refl
-mark_is_reached mark.Slash rest = refl
-mark_is_reached mark.Percent rest = refl
-mark_is_reached mark.Less rest = refl
-mark_is_reached mark.LessOrEqual rest = refl
-mark_is_reached mark.Greater rest = refl
-mark_is_reached mark.GreaterOrEqual rest = refl
-mark_is_reached mark.Equal rest = refl
-mark_is_reached mark.NotEqual rest = refl
-mark_is_reached mark.And rest = refl
-mark_is_reached mark.Or rest = refl
-mark_is_reached mark.Not rest = refl
+mark_is_reached l mark.LessOrEqual rest = refl
+mark_is_reached l _ rest = refl
 
--- a mark is found, unless a `=` makes it another one
-pub mark_is_found : (m : Mark) (rest : List ℕ) → MarkEnds m rest → mark_at (mark_bytes m ++ rest) ≡ Some m
+-- ---- tests of two parts, of which a language may fail the second
+
+fails : (t h : Bool) → t ≡ false → (t && h) ≡ false
+fails true h e = absurd cc
+fails false h e = refl
+
+failed : (t : Bool) → (t && true) ≡ false → t ≡ false
+failed true e = e
+failed false e = refl
+
+fails_if : (t h : Bool) → (h ≡ true → t ≡ false) → (t && h) ≡ false
+fails_if true true never = never refl
+fails_if true false never = refl
+fails_if false h never = refl
+
+failed_if : (t h : Bool) → h ≡ true → (t && h) ≡ false → t ≡ false
+failed_if t true has e = failed t e
+failed_if t false has e = absurd cc
+
+-- the mark of two such bytes is not there
+no_double : (l : Language) (byte rest : List ℕ) → NotDoubled l byte rest
+    → (starts_with nat_eq rest byte && is_two l) ≡ false
+no_double language.One byte rest ends = fails_if (starts_with nat_eq rest byte) false (λ e. absurd cc)
+no_double language.Two byte rest ends = fails (starts_with nat_eq rest byte) true ends
+
+not_doubled : (l : Language) (byte rest : List ℕ) → (starts_with nat_eq rest byte && is_two l) ≡ false
+    → NotDoubled l byte rest
+not_doubled language.One byte rest e = tt
+not_doubled language.Two byte rest e = failed (starts_with nat_eq rest byte) e
+
+-- where language 2 alone has the mark of one such byte
+no_double_of_two : (l : Language) (byte rest : List ℕ) → is_two l ≡ true → NotDoubled l byte rest
+    → (starts_with nat_eq rest byte && true) ≡ false
+no_double_of_two language.One byte rest has ends = absurd cc
+no_double_of_two language.Two byte rest has ends = fails (starts_with nat_eq rest byte) true ends
+
+not_doubled_of : (l : Language) (byte rest : List ℕ) → (starts_with nat_eq rest byte && true) ≡ false
+    → NotDoubled l byte rest
+not_doubled_of language.One byte rest e = tt
+not_doubled_of language.Two byte rest e = failed (starts_with nat_eq rest byte) e
+
+-- ---- a mark is found, unless the next byte makes it another one
+
+-- no `=` follows
+no_equals : (rest : List ℕ) (longer : Mark) (other : Option Mark) → starts_with nat_eq rest (codes "=") ≡ false
+    → cond (starts_with nat_eq rest (codes "=") && true) (Some longer) other ≡ other
+no_equals rest longer other ends =
+    cond-false (starts_with nat_eq rest (codes "=") && true) (Some longer) other
+    (fails (starts_with nat_eq rest (codes "=")) true ends)
+
+pub mark_is_found : (l : Language) (m : Mark) (rest : List ℕ) → has_mark l m ≡ true → MarkEnds l m rest
+    → mark_at l (mark_bytes m ++ rest) ≡ Some m
 unfolding mark_at
-mark_is_found mark.LeftParen rest ends = refl
-mark_is_found mark.RightParen rest ends = refl
-mark_is_found mark.LeftBrace rest ends = refl
-mark_is_found mark.RightBrace rest ends = refl
-mark_is_found mark.Semicolon rest ends = refl
-mark_is_found mark.Comma rest ends = refl
-mark_is_found mark.Assign rest ends = cond-false (starts_with nat_eq rest (codes "=")) (Some mark.Equal)
-    (Some mark.Assign) ends
-mark_is_found mark.Plus rest ends = refl
-mark_is_found mark.Minus rest ends = refl
-mark_is_found mark.Star rest ends = refl
-mark_is_found mark.Slash rest ends = refl
-mark_is_found mark.Percent rest ends = refl
-mark_is_found mark.Less rest ends = cond-false (starts_with nat_eq rest (codes "=")) (Some mark.LessOrEqual)
-    (Some mark.Less) ends
-mark_is_found mark.LessOrEqual rest ends = refl
-mark_is_found mark.Greater rest ends = cond-false (starts_with nat_eq rest (codes "=")) (Some mark.GreaterOrEqual)
-    (Some mark.Greater) ends
-mark_is_found mark.GreaterOrEqual rest ends = refl
-mark_is_found mark.Equal rest ends = refl
-mark_is_found mark.NotEqual rest ends = refl
-mark_is_found mark.And rest ends = refl
-mark_is_found mark.Or rest ends = refl
-mark_is_found mark.Not rest ends = cond-false (starts_with nat_eq rest (codes "=")) (Some mark.NotEqual) (Some mark.Not)
-    ends
+mark_is_found l mark.Assign rest has ends = no_equals rest mark.Equal (Some mark.Assign) ends
+mark_is_found l mark.Not rest has ends = no_equals rest mark.NotEqual (Some mark.Not) ends
+mark_is_found l mark.Less rest has ends =
+    no_equals rest mark.LessOrEqual _ ends.0 ∙ cond-false _ _ _ (no_double l (codes "<") rest ends.1)
+mark_is_found l mark.Greater rest has ends =
+    no_equals rest mark.GreaterOrEqual _ ends.0 ∙ cond-false _ _ _ (no_double l (codes ">") rest ends.1)
+mark_is_found l mark.BitAnd rest has ends =
+    cond-false _ _ _ (no_double_of_two l (codes "&") rest has ends) ∙ cond-true (is_two l) _ _ has
+mark_is_found l mark.BitOr rest has ends =
+    cond-false _ _ _ (no_double_of_two l (codes "|") rest has ends) ∙ cond-true (is_two l) _ _ has
+mark_is_found l mark.LeftBracket rest has ends = cond-true (is_two l) _ _ has
+mark_is_found l mark.RightBracket rest has ends = cond-true (is_two l) _ _ has
+mark_is_found l mark.Question rest has ends = cond-true (is_two l) _ _ has
+mark_is_found l mark.Colon rest has ends = cond-true (is_two l) _ _ has
+mark_is_found l mark.BitNot rest has ends = cond-true (is_two l) _ _ has
+mark_is_found l mark.BitXor rest has ends = cond-true (is_two l) _ _ has
+mark_is_found l mark.ShiftLeft rest has ends = cond-true (is_two l) _ _ has
+mark_is_found l mark.ShiftRight rest has ends = cond-true (is_two l) _ _ has
+mark_is_found l _ rest has ends = refl
+
+-- ---- a mark that is found is not made another one
 
 -- of two marks the first is not taken
-other_mark : (longer m : Mark) (test : Bool) → (longer ≡ m → ⊥) → cond test (Some longer) (Some m) ≡ Some m
-    → test ≡ false
-other_mark longer m true differ e = absurd (differ cc)
-other_mark longer m false differ e = refl
+other_mark : (longer m : Mark) (test : Bool) (other : Option Mark) → (longer ≡ m → ⊥)
+    → cond test (Some longer) other ≡ Some m → (test ≡ false) × (other ≡ Some m)
+other_mark longer m true other differ e = absurd (differ cc)
+other_mark longer m false other differ e = (refl, e)
 
--- a mark that is found is not made another one
-pub mark_ends : (m : Mark) (rest : List ℕ) → mark_at (mark_bytes m ++ rest) ≡ Some m → MarkEnds m rest
+no_equals_follow : (rest : List ℕ) (longer m : Mark) (other : Option Mark) → (longer ≡ m → ⊥)
+    → cond (starts_with nat_eq rest (codes "=") && true) (Some longer) other ≡ Some m
+    → (starts_with nat_eq rest (codes "=") ≡ false) × (other ≡ Some m)
+no_equals_follow rest longer m other differ found =
+    let o = other_mark longer m (starts_with nat_eq rest (codes "=") && true) other differ found in
+    (failed (starts_with nat_eq rest (codes "=")) o.0, o.1)
+
+pub mark_ends : (l : Language) (m : Mark) (rest : List ℕ) → mark_at l (mark_bytes m ++ rest) ≡ Some m
+    → MarkEnds l m rest
 unfolding mark_at
-mark_ends mark.LeftParen rest found = tt
-mark_ends mark.RightParen rest found = tt
-mark_ends mark.LeftBrace rest found = tt
-mark_ends mark.RightBrace rest found = tt
-mark_ends mark.Semicolon rest found = tt
-mark_ends mark.Comma rest found = tt
-mark_ends mark.Assign rest found = other_mark mark.Equal mark.Assign (starts_with nat_eq rest (codes "=")) (λ e. cc)
-    found
-mark_ends mark.Plus rest found = tt
-mark_ends mark.Minus rest found = tt
-mark_ends mark.Star rest found = tt
-mark_ends mark.Slash rest found = tt
-mark_ends mark.Percent rest found = tt
-mark_ends mark.Less rest found = other_mark mark.LessOrEqual mark.Less (starts_with nat_eq rest (codes "=")) (λ e. cc)
-    found
-mark_ends mark.LessOrEqual rest found = tt
-mark_ends mark.Greater rest found = other_mark mark.GreaterOrEqual mark.Greater (starts_with nat_eq rest (codes "="))
-    (λ e. cc) found
-mark_ends mark.GreaterOrEqual rest found = tt
-mark_ends mark.Equal rest found = tt
-mark_ends mark.NotEqual rest found = tt
-mark_ends mark.And rest found = tt
-mark_ends mark.Or rest found = tt
-mark_ends mark.Not rest found = other_mark mark.NotEqual mark.Not (starts_with nat_eq rest (codes "=")) (λ e. cc) found
+mark_ends l mark.Assign rest found = (no_equals_follow rest mark.Equal mark.Assign _ (λ e. cc) found).0
+mark_ends l mark.Not rest found = (no_equals_follow rest mark.NotEqual mark.Not _ (λ e. cc) found).0
+mark_ends l mark.Less rest found =
+    let e = no_equals_follow rest mark.LessOrEqual mark.Less _ (λ e. cc) found in
+    (e.0, not_doubled l (codes "<") rest (other_mark mark.ShiftLeft mark.Less _ _ (λ e. cc) e.1).0)
+mark_ends l mark.Greater rest found =
+    let e = no_equals_follow rest mark.GreaterOrEqual mark.Greater _ (λ e. cc) found in
+    (e.0, not_doubled l (codes ">") rest (other_mark mark.ShiftRight mark.Greater _ _ (λ e. cc) e.1).0)
+mark_ends l mark.BitAnd rest found =
+    not_doubled_of l (codes "&") rest (other_mark mark.And mark.BitAnd _ _ (λ e. cc) found).0
+mark_ends l mark.BitOr rest found =
+    not_doubled_of l (codes "|") rest (other_mark mark.Or mark.BitOr _ _ (λ e. cc) found).0
+mark_ends l _ rest found = tt
 
 -- no white space is in a mark
 pub mark_is_solid : (m : Mark) → list_all (λ b. not (is_white_space b)) (mark_bytes m) ≡ true
-mark_is_solid mark.LeftParen = refl
-mark_is_solid mark.RightParen = refl
-mark_is_solid mark.LeftBrace = refl
-mark_is_solid mark.RightBrace = refl
-mark_is_solid mark.Semicolon = refl
-mark_is_solid mark.Comma = refl
-mark_is_solid mark.Assign = refl
-mark_is_solid mark.Plus = refl
-mark_is_solid mark.Minus = refl
-mark_is_solid mark.Star = refl
-mark_is_solid mark.Slash = refl
-mark_is_solid mark.Percent = refl
-mark_is_solid mark.Less = refl
 mark_is_solid mark.LessOrEqual = refl
-mark_is_solid mark.Greater = refl
-mark_is_solid mark.GreaterOrEqual = refl
-mark_is_solid mark.Equal = refl
-mark_is_solid mark.NotEqual = refl
-mark_is_solid mark.And = refl
-mark_is_solid mark.Or = refl
-mark_is_solid mark.Not = refl
+mark_is_solid _ = refl
 
 -- no element passes
 abbrev NonePasses : {X : Type 0} → (X → Bool) → List X → Type 0
@@ -201,37 +164,51 @@ find_none : {X : Type 0} (p : X → Bool) (xs : List X) → ((x : X) → p x ≡
 find_none p [] fails = refl
 find_none p (x ∷ xs) fails = cond-false (p x) (Some x) (find p xs) (fails x) ∙ find_none p xs fails
 
--- if no mark of the table is found, the text begins with none
+-- if no mark of the table passes, none does
 listed : (p : Mark → Bool) → NonePasses p marks → (m : Mark) → p m ≡ false
-listed p none mark.LeftParen = none.1.1.1.1.1.1.0
-listed p none mark.RightParen = none.1.1.1.1.1.1.1.0
-listed p none mark.LeftBrace = none.1.1.1.1.1.1.1.1.0
-listed p none mark.RightBrace = none.1.1.1.1.1.1.1.1.1.0
-listed p none mark.Semicolon = none.1.1.1.1.1.1.1.1.1.1.0
-listed p none mark.Comma = none.1.1.1.1.1.1.1.1.1.1.1.0
-listed p none mark.Assign = none.1.1.1.1.1.1.1.1.1.1.1.1.0
-listed p none mark.Plus = none.1.1.1.1.1.1.1.1.1.1.1.1.1.0
-listed p none mark.Minus = none.1.1.1.1.1.1.1.1.1.1.1.1.1.1.0
-listed p none mark.Star = none.1.1.1.1.1.1.1.1.1.1.1.1.1.1.1.0
-listed p none mark.Slash = none.1.1.1.1.1.1.1.1.1.1.1.1.1.1.1.1.0
-listed p none mark.Percent = none.1.1.1.1.1.1.1.1.1.1.1.1.1.1.1.1.1.0
-listed p none mark.Less = none.1.1.1.1.1.1.1.1.1.1.1.1.1.1.1.1.1.1.0
+listed p none mark.LeftParen = none.1.1.1.1.1.1.1.1.0
+listed p none mark.RightParen = none.1.1.1.1.1.1.1.1.1.0
+listed p none mark.LeftBrace = none.1.1.1.1.1.1.1.1.1.1.0
+listed p none mark.RightBrace = none.1.1.1.1.1.1.1.1.1.1.1.0
+listed p none mark.Semicolon = none.1.1.1.1.1.1.1.1.1.1.1.1.0
+listed p none mark.Comma = none.1.1.1.1.1.1.1.1.1.1.1.1.1.0
+listed p none mark.Assign = none.1.1.1.1.1.1.1.1.1.1.1.1.1.1.0
+listed p none mark.Plus = none.1.1.1.1.1.1.1.1.1.1.1.1.1.1.1.0
+listed p none mark.Minus = none.1.1.1.1.1.1.1.1.1.1.1.1.1.1.1.1.0
+listed p none mark.Star = none.1.1.1.1.1.1.1.1.1.1.1.1.1.1.1.1.1.0
+listed p none mark.Slash = none.1.1.1.1.1.1.1.1.1.1.1.1.1.1.1.1.1.1.0
+listed p none mark.Percent = none.1.1.1.1.1.1.1.1.1.1.1.1.1.1.1.1.1.1.1.0
+listed p none mark.Less = none.1.1.1.1.1.1.1.1.1.1.1.1.1.1.1.1.1.1.1.1.0
 listed p none mark.LessOrEqual = none.0
-listed p none mark.Greater = none.1.1.1.1.1.1.1.1.1.1.1.1.1.1.1.1.1.1.1.0
+listed p none mark.Greater = none.1.1.1.1.1.1.1.1.1.1.1.1.1.1.1.1.1.1.1.1.1.0
 listed p none mark.GreaterOrEqual = none.1.0
 listed p none mark.Equal = none.1.1.0
 listed p none mark.NotEqual = none.1.1.1.0
 listed p none mark.And = none.1.1.1.1.0
 listed p none mark.Or = none.1.1.1.1.1.0
-listed p none mark.Not = none.1.1.1.1.1.1.1.1.1.1.1.1.1.1.1.1.1.1.1.1.0
+listed p none mark.Not = none.1.1.1.1.1.1.1.1.1.1.1.1.1.1.1.1.1.1.1.1.1.1.0
+listed p none mark.LeftBracket = none.1.1.1.1.1.1.1.1.1.1.1.1.1.1.1.1.1.1.1.1.1.1.1.0
+listed p none mark.RightBracket = none.1.1.1.1.1.1.1.1.1.1.1.1.1.1.1.1.1.1.1.1.1.1.1.1.0
+listed p none mark.Question = none.1.1.1.1.1.1.1.1.1.1.1.1.1.1.1.1.1.1.1.1.1.1.1.1.1.0
+listed p none mark.Colon = none.1.1.1.1.1.1.1.1.1.1.1.1.1.1.1.1.1.1.1.1.1.1.1.1.1.1.0
+listed p none mark.BitNot = none.1.1.1.1.1.1.1.1.1.1.1.1.1.1.1.1.1.1.1.1.1.1.1.1.1.1.1.0
+listed p none mark.BitAnd = none.1.1.1.1.1.1.1.1.1.1.1.1.1.1.1.1.1.1.1.1.1.1.1.1.1.1.1.1.0
+listed p none mark.BitOr = none.1.1.1.1.1.1.1.1.1.1.1.1.1.1.1.1.1.1.1.1.1.1.1.1.1.1.1.1.1.0
+listed p none mark.BitXor = none.1.1.1.1.1.1.1.1.1.1.1.1.1.1.1.1.1.1.1.1.1.1.1.1.1.1.1.1.1.1.0
+listed p none mark.ShiftLeft = none.1.1.1.1.1.1.0
+listed p none mark.ShiftRight = none.1.1.1.1.1.1.1.0
 
-pub no_mark_is_found : (text : List ℕ) → mark_at text ≡ None → (m : Mark)
+-- if no mark of a language is found, the text begins with none
+pub no_mark_is_found : (l : Language) (text : List ℕ) → mark_at l text ≡ None → (m : Mark) → has_mark l m ≡ true
     → starts_with nat_eq text (mark_bytes m) ≡ false
 unfolding mark_at
-no_mark_is_found text e = listed (λ m. starts_with nat_eq text (mark_bytes m))
-    (none_found (λ m. starts_with nat_eq text (mark_bytes m)) marks e)
+no_mark_is_found l text e m has =
+    let test : Mark → Bool = λ m. starts_with nat_eq text (mark_bytes m) && has_mark l m in
+    failed_if (starts_with nat_eq text (mark_bytes m)) (has_mark l m) has (listed test (none_found test marks e) m)
 
-pub no_mark_stands : (text : List ℕ) → ((m : Mark) → starts_with nat_eq text (mark_bytes m) ≡ false)
-    → mark_at text ≡ None
+pub no_mark_stands : (l : Language) (text : List ℕ)
+    → ((m : Mark) → has_mark l m ≡ true → starts_with nat_eq text (mark_bytes m) ≡ false) → mark_at l text ≡ None
 unfolding mark_at
-no_mark_stands text none = find_none (λ m. starts_with nat_eq text (mark_bytes m)) marks none
+no_mark_stands l text none =
+    find_none (λ m. starts_with nat_eq text (mark_bytes m) && has_mark l m) marks
+    (λ m. fails_if (starts_with nat_eq text (mark_bytes m)) (has_mark l m) (none m))

@@ -13,6 +13,7 @@ use Rattle.kpn_text_tokens.specs.declared.lexer.Class.TheVariants as class
 use Rattle.kpn_text_tokens.specs.declared.lexer.LexFault.{LexFault}
 use Rattle.kpn_text_tokens.specs.declared.lexer.Piece.TheVariants as piece
 use Rattle.kpn_text_tokens.specs.declared.tokens.Keyword.{Keyword}
+use Rattle.kpn_text_tokens.specs.declared.tokens.Language.{Language}
 use Rattle.kpn_text_tokens.specs.declared.tokens.Lexeme.{Lexeme}
 use Rattle.kpn_text_tokens.specs.declared.tokens.Mark.{Mark}
 use Rattle.kpn_text_tokens.specs.declared.tokens.Token.{Token}
@@ -20,7 +21,7 @@ use Rattle.kpn_text_tokens.specs.declared.tokens.Token.TheVariants as token
 use Rattle.kpn_text_tokens.specs.Laws.{ShortTextIsScanned}
 use Rattle.kpn_text_tokens.specs.Lexing.{is_white_space, begins_name, run, word_token, word_piece, number_piece, marked, piece_of, cons_lexeme, scan}
 use Rattle.kpn_text_tokens.specs.Rules.{AllIn, Stops, IsWord, IsName, IsNumberOf, IsSpelled, EndsBefore, MarkEnds, BeginsNothing, Reads, done, white, comment, spelled, nothing, bad_number, long_name}
-use Rattle.kpn_text_tokens.specs.Spelling.{keyword_of, keyword_bytes, mark_bytes}
+use Rattle.kpn_text_tokens.specs.Spelling.{has_keyword, has_mark, keyword_of, keyword_bytes, mark_bytes}
 use Rattle.kpn_text_tokens.proofs.Pieces.{mark_nonempty}
 use Rattle.kpn_text_tokens.proofs.Runs.{run_front}
 use Rattle.kpn_text_tokens.proofs.Scanning.{BeginsWith, scan_gap, scan_token, scan_none, scan_long}
@@ -36,71 +37,76 @@ digit_byte : (b : ℕ) → is_ascii_digit b ≡ true → (is_white_space b ≡ f
 digit_byte b e = (grind (arith, nat_tests), grind (arith, nat_tests), grind (arith, nat_tests))
 
 -- where a word begins
-pub word_reached : (b : ℕ) (text : List ℕ) → begins_name b ≡ true → piece_of b text ≡ word_piece (run class.Word text)
+pub word_reached : (l : Language) (b : ℕ) (text : List ℕ) → begins_name b ≡ true
+    → piece_of l b text ≡ word_piece l (run class.Word text)
 unfolding piece_of
-word_reached b text e =
+word_reached l b text e =
     let no = word_byte b e in
     cond-false (is_white_space b) _ _ no.0 ∙ cond-false (b == 35) _ _ no.1 ∙ cond-true (begins_name b) _ _ e
 
 -- where a number begins
-number_reached : (b : ℕ) (text : List ℕ) → is_ascii_digit b ≡ true
-    → piece_of b text ≡ number_piece (run class.Digit text)
+number_reached : (l : Language) (b : ℕ) (text : List ℕ) → is_ascii_digit b ≡ true
+    → piece_of l b text ≡ number_piece (run class.Digit text)
 unfolding piece_of
-number_reached b text e =
+number_reached l b text e =
     let no = digit_byte b e in
     cond-false (is_white_space b) _ _ no.0 ∙ cond-false (b == 35) _ _ no.1 ∙ cond-false (begins_name b) _ _ no.2
     ∙ cond-true (is_ascii_digit b) _ _ e
 
 -- a word is the run at the front
-word_run : (word rest : List ℕ) → IsWord word → Stops class.Word rest
-    → piece_of (get_or (word ++ rest) 0 0) (word ++ rest) ≡ word_piece word
-word_run [] rest is stops = absurd (let no = is.begins in cc)
-word_run (b ∷ bs) rest is stops =
-    word_reached b ((b ∷ bs) ++ rest) is.begins ∙ ap word_piece (run_front class.Word (b ∷ bs) rest is.goes_on stops)
+word_run : (l : Language) (word rest : List ℕ) → IsWord word → Stops class.Word rest
+    → piece_of l (get_or (word ++ rest) 0 0) (word ++ rest) ≡ word_piece l word
+word_run l [] rest is stops = absurd (let no = is.begins in cc)
+word_run l (b ∷ bs) rest is stops =
+    word_reached l b ((b ∷ bs) ++ rest) is.begins
+    ∙ ap (word_piece l) (run_front class.Word (b ∷ bs) rest is.goes_on stops)
 
-short_word : (word : List ℕ) → length word ≤ MAX_NAME_BYTES
-    → word_piece word ≡ piece.Token (word_token (keyword_of word) word) (length word)
-short_word word short = cond-false (nat_lt MAX_NAME_BYTES (length word)) _ _ (le-ltb MAX_NAME_BYTES (length word) short)
+short_word : (l : Language) (word : List ℕ) → length word ≤ MAX_NAME_BYTES
+    → word_piece l word ≡ piece.Token (word_token (keyword_of l word) word) (length word)
+short_word l word short =
+    cond-false (nat_lt MAX_NAME_BYTES (length word)) _ _ (le-ltb MAX_NAME_BYTES (length word) short)
 
 -- the piece that a name is
-name_piece : (name rest : List ℕ) → IsName name → Stops class.Word rest
-    → piece_of (get_or (name ++ rest) 0 0) (name ++ rest) ≡ piece.Token (token.Name name) (length name)
-name_piece name rest is stops =
-    word_run name rest is.word stops ∙ short_word name is.short
+name_piece : (l : Language) (name rest : List ℕ) → IsName l name → Stops class.Word rest
+    → piece_of l (get_or (name ++ rest) 0 0) (name ++ rest) ≡ piece.Token (token.Name name) (length name)
+name_piece l name rest is stops =
+    word_run l name rest is.word stops ∙ short_word l name is.short
     ∙ ap (λ k. piece.Token (word_token k name) (length name)) is.free
 
 -- the piece that a reserved word is
-keyword_piece : (k : Keyword) (rest : List ℕ) → Stops class.Word rest
-    → piece_of (get_or (keyword_bytes k ++ rest) 0 0) (keyword_bytes k ++ rest) ≡ piece.Token (token.Keyword k)
+keyword_piece : (l : Language) (k : Keyword) (rest : List ℕ) → has_keyword l k ≡ true → Stops class.Word rest
+    → piece_of l (get_or (keyword_bytes k ++ rest) 0 0) (keyword_bytes k ++ rest) ≡ piece.Token (token.Keyword k)
     (length (keyword_bytes k))
-keyword_piece k rest stops =
-    word_run (keyword_bytes k) rest (keyword_is_word k) stops ∙ short_word (keyword_bytes k) (keyword_is_short k)
-    ∙ ap (λ found. piece.Token (word_token found (keyword_bytes k)) (length (keyword_bytes k))) (keyword_is_found k)
+keyword_piece l k rest has stops =
+    word_run l (keyword_bytes k) rest (keyword_is_word k) stops ∙ short_word l (keyword_bytes k) (keyword_is_short k)
+    ∙ ap (λ found. piece.Token (word_token found (keyword_bytes k)) (length (keyword_bytes k)))
+    (keyword_is_found l k has)
 
 -- digits are the run at the front
-number_run : (digits rest : List ℕ) → AllIn class.Digit digits → 0 < length digits → Stops class.Digit rest
-    → piece_of (get_or (digits ++ rest) 0 0) (digits ++ rest) ≡ number_piece digits
-number_run [] rest all some stops = absurd (omega arith)
-number_run (b ∷ bs) rest all some stops =
-    number_reached b ((b ∷ bs) ++ rest) (and_parts (is_ascii_digit b) (list_all is_ascii_digit bs) all).0
+number_run : (l : Language) (digits rest : List ℕ) → AllIn class.Digit digits → 0 < length digits
+    → Stops class.Digit rest
+    → piece_of l (get_or (digits ++ rest) 0 0) (digits ++ rest) ≡ number_piece digits
+number_run l [] rest all some stops = absurd (omega arith)
+number_run l (b ∷ bs) rest all some stops =
+    number_reached l b ((b ∷ bs) ++ rest) (and_parts (is_ascii_digit b) (list_all is_ascii_digit bs) all).0
     ∙ ap number_piece (run_front class.Digit (b ∷ bs) rest all stops)
 
 -- the piece that a number is
-digits_piece : (value : ℕ) (digits rest : List ℕ) → IsNumberOf value digits → Stops class.Digit rest
-    → piece_of (get_or (digits ++ rest) 0 0) (digits ++ rest) ≡ piece.Token (token.Number value) (length digits)
-digits_piece value digits rest is stops =
+digits_piece : (l : Language) (value : ℕ) (digits rest : List ℕ) → IsNumberOf value digits → Stops class.Digit rest
+    → piece_of l (get_or (digits ++ rest) 0 0) (digits ++ rest) ≡ piece.Token (token.Number value) (length digits)
+digits_piece l value digits rest is stops =
     let test = nat_le (length digits) MAX_DIGITS && nat_le (digits_value 10 digits) MAX_NUMBER in
     let small : digits_value 10 digits ≤ MAX_NUMBER = rw is.has_value is.small in
     let fits : test ≡ true = and_from (nat_le (length digits) MAX_DIGITS) (nat_le (digits_value 10 digits) MAX_NUMBER)
     (le-leb (length digits) MAX_DIGITS is.few) (le-leb (digits_value 10 digits) MAX_NUMBER small) in
-    number_run digits rest is.digits is.some stops ∙ cond-true test _ _ fits
+    number_run l digits rest is.digits is.some stops ∙ cond-true test _ _ fits
     ∙ ap (λ v. piece.Token (token.Number v) (length digits)) is.has_value
 
 -- the piece that a mark is
-mark_piece_is : (m : Mark) (rest : List ℕ) → MarkEnds m rest
-    → piece_of (get_or (mark_bytes m ++ rest) 0 0) (mark_bytes m ++ rest) ≡ piece.Token (token.Mark m)
+mark_piece_is : (l : Language) (m : Mark) (rest : List ℕ) → has_mark l m ≡ true → MarkEnds l m rest
+    → piece_of l (get_or (mark_bytes m ++ rest) 0 0) (mark_bytes m ++ rest) ≡ piece.Token (token.Mark m)
     (length (mark_bytes m))
-mark_piece_is m rest ends = mark_is_reached m rest ∙ ap marked (mark_is_found m rest ends)
+mark_piece_is l m rest has ends = mark_is_reached l m rest ∙ ap marked (mark_is_found l m rest has ends)
 
 -- a name has a byte
 name_nonempty : (name : List ℕ) → IsWord name → 0 < length name
@@ -111,77 +117,79 @@ front_nonempty : (front rest : List ℕ) → 0 < length front → 0 < length (fr
 front_nonempty front rest some = omega (arith, length-append front rest)
 
 -- a spelled token is the piece at the front
-pub spelled_begins : (t : Token) (bytes rest : List ℕ) → IsSpelled t bytes → EndsBefore t rest
-    → BeginsWith (bytes ++ rest) (piece.Token t (length bytes))
-spelled_begins (token.Name name) bytes rest is ends =
-    let P : List ℕ → Type 0 = λ l. BeginsWith (l ++ rest) (piece.Token (token.Name name) (length l)) in
+pub spelled_begins : (l : Language) (t : Token) (bytes rest : List ℕ) → IsSpelled l t bytes → EndsBefore l t rest
+    → BeginsWith l (bytes ++ rest) (piece.Token t (length bytes))
+spelled_begins l (token.Name name) bytes rest is ends =
+    let P : List ℕ → Type 0 = λ text. BeginsWith l (text ++ rest) (piece.Token (token.Name name) (length text)) in
     subst P (sym is.1) (record {
       some = front_nonempty name rest (name_nonempty name is.0.word);
       is =
-          sym (name_piece name rest is.0 ends);
+          sym (name_piece l name rest is.0 ends);
     })
-spelled_begins (token.Number value) bytes rest is ends =
-    record { some = front_nonempty bytes rest is.some; is = sym (digits_piece value bytes rest is ends) }
-spelled_begins (token.Mark m) bytes rest is ends =
-    let P : List ℕ → Type 0 = λ l. BeginsWith (l ++ rest) (piece.Token (token.Mark m) (length l)) in
-    subst P (sym is) (record {
+spelled_begins l (token.Number value) bytes rest is ends =
+    record { some = front_nonempty bytes rest is.some; is = sym (digits_piece l value bytes rest is ends) }
+spelled_begins l (token.Mark m) bytes rest is ends =
+    let P : List ℕ → Type 0 = λ text. BeginsWith l (text ++ rest) (piece.Token (token.Mark m) (length text)) in
+    subst P (sym is.1) (record {
       some = front_nonempty (mark_bytes m) rest (omega (arith, mark_nonempty m));
       is =
-          sym (mark_piece_is m rest ends);
+          sym (mark_piece_is l m rest is.0 ends);
     })
-spelled_begins (token.Keyword k) bytes rest is ends =
-    let P : List ℕ → Type 0 = λ l. BeginsWith (l ++ rest) (piece.Token (token.Keyword k) (length l)) in
-    subst P (sym is) (record {
+spelled_begins l (token.Keyword k) bytes rest is ends =
+    let P : List ℕ → Type 0 = λ text. BeginsWith l (text ++ rest) (piece.Token (token.Keyword k) (length text)) in
+    subst P (sym is.1) (record {
       some = front_nonempty (keyword_bytes k) rest
           (name_nonempty (keyword_bytes k) (keyword_is_word k));
-      is = sym (keyword_piece k rest ends);
+      is = sym (keyword_piece l k rest is.0 ends);
     })
 
 -- a spelled token is read
-pub scan_spelled : (place : ℕ) (t : Token) (bytes rest : List ℕ) → IsSpelled t bytes → EndsBefore t rest
-    → scan 0 place (bytes ++ rest) ≡ cons_lexeme (record { token = t; start = place })
-    (scan 0 (place + length bytes) rest)
-scan_spelled place t bytes rest is ends =
-    scan_token (bytes ++ rest) place (length bytes) t (spelled_begins t bytes rest is ends)
-    ∙ ap (λ l. cons_lexeme (record { token = t; start = place }) (scan 0 (place + length bytes) l))
+pub scan_spelled : (l : Language) (place : ℕ) (t : Token) (bytes rest : List ℕ) → IsSpelled l t bytes
+    → EndsBefore l t rest → scan l 0 place (bytes ++ rest) ≡ cons_lexeme (record { token = t; start = place })
+    (scan l 0 (place + length bytes) rest)
+scan_spelled l place t bytes rest is ends =
+    scan_token l (bytes ++ rest) place (length bytes) t (spelled_begins l t bytes rest is ends)
+    ∙ ap (λ after. cons_lexeme (record { token = t; start = place }) (scan l 0 (place + length bytes) after))
     (drop_at bytes rest (length bytes) refl)
 
 -- a text within the limit is scanned
 pub short_text : ShortTextIsScanned
-short_text text short = cond-false (nat_lt MAX_TEXT_BYTES (length text)) _ _ (le-ltb MAX_TEXT_BYTES (length text) short)
+short_text l text short =
+    cond-false (nat_lt MAX_TEXT_BYTES (length text)) _ _ (le-ltb MAX_TEXT_BYTES (length text) short)
 
 -- a byte of white space is passed over
-white_begins : (b : ℕ) (rest : List ℕ) → is_white_space b ≡ true → BeginsWith (b ∷ rest) (piece.Gap 1)
+white_begins : (l : Language) (b : ℕ) (rest : List ℕ) → is_white_space b ≡ true → BeginsWith l (b ∷ rest) (piece.Gap 1)
 unfolding piece_of
-white_begins b rest e = record { some = omega arith; is = sym (cond-true (is_white_space b) _ _ e) }
+white_begins l b rest e = record { some = omega arith; is = sym (cond-true (is_white_space b) _ _ e) }
 
-pub scan_white : (place b : ℕ) (rest : List ℕ) → is_white_space b ≡ true
-    → scan 0 place (b ∷ rest) ≡ scan 0 (place + 1) rest
-scan_white place b rest e = scan_gap (b ∷ rest) place 1 (white_begins b rest e)
+pub scan_white : (l : Language) (place b : ℕ) (rest : List ℕ) → is_white_space b ≡ true
+    → scan l 0 place (b ∷ rest) ≡ scan l 0 (place + 1) rest
+scan_white l place b rest e = scan_gap l (b ∷ rest) place 1 (white_begins l b rest e)
 
 -- a comment is passed over
-comment_begins : (said rest : List ℕ) → AllIn class.Comment said → Stops class.Comment rest
-    → BeginsWith (35 ∷ said ++ rest) (piece.Gap (length (35 ∷ said)))
+comment_begins : (l : Language) (said rest : List ℕ) → AllIn class.Comment said → Stops class.Comment rest
+    → BeginsWith l (35 ∷ said ++ rest) (piece.Gap (length (35 ∷ said)))
 unfolding piece_of
-comment_begins said rest all stops =
+comment_begins l said rest all stops =
     let whole : run class.Comment (35 ∷ said ++ rest) ≡ 35
     ∷ said = run_front class.Comment (35 ∷ said) rest all stops in
     record { some = omega arith; is = ap (λ l. piece.Gap (length l)) (sym whole) }
 
 -- where nothing can begin
-nothing_begins : (b : ℕ) (bs : List ℕ) → BeginsNothing b bs → BeginsWith (b ∷ bs) piece.NoToken
+nothing_begins : (l : Language) (b : ℕ) (bs : List ℕ) → BeginsNothing l b bs → BeginsWith l (b ∷ bs) piece.NoToken
 unfolding piece_of
-nothing_begins b bs none = record {
+nothing_begins l b bs none = record {
   some = omega arith;
   is = sym (cond-false (is_white_space b) _ _ none.no_space ∙ cond-false (b == 35) _ _ none.no_comment
       ∙ cond-false (begins_name b) _ _ none.no_word ∙ cond-false (is_ascii_digit b) _ _ none.no_number
-      ∙ ap marked (no_mark_stands (b ∷ bs) none.no_mark));
+      ∙ ap marked (no_mark_stands l (b ∷ bs) none.no_mark));
 }
 
 -- digits that are too many, or too great a number
-bad_number_begins : (digits rest : List ℕ) → AllIn class.Digit digits → 0 < length digits → Stops class.Digit rest
-    → (MAX_DIGITS < length digits) ⊎ (MAX_NUMBER < digits_value 10 digits) → BeginsWith (digits ++ rest) piece.NoToken
-bad_number_begins digits rest all some stops bad =
+bad_number_begins : (l : Language) (digits rest : List ℕ) → AllIn class.Digit digits → 0 < length digits
+    → Stops class.Digit rest → (MAX_DIGITS < length digits) ⊎ (MAX_NUMBER < digits_value 10 digits)
+    → BeginsWith l (digits ++ rest) piece.NoToken
+bad_number_begins l digits rest all some stops bad =
     let few = nat_le (length digits) MAX_DIGITS in
     let small = nat_le (digits_value 10 digits) MAX_NUMBER in
     let fails : (few && small) ≡ false = ⊎_elim (λ many. and_left few small (lt-leb (length digits) MAX_DIGITS many))
@@ -189,32 +197,32 @@ bad_number_begins digits rest all some stops bad =
     record {
       some = front_nonempty digits rest some;
       is =
-          sym (number_run digits rest all some stops ∙ cond-false (few && small) _ _ fails);
+          sym (number_run l digits rest all some stops ∙ cond-false (few && small) _ _ fails);
     }
 
 -- a name that is too long
-long_name_begins : (word rest : List ℕ) → IsWord word → Stops class.Word rest → MAX_NAME_BYTES < length word
-    → BeginsWith (word ++ rest) piece.LongName
-long_name_begins word rest is stops long = record {
+long_name_begins : (l : Language) (word rest : List ℕ) → IsWord word → Stops class.Word rest
+    → MAX_NAME_BYTES < length word → BeginsWith l (word ++ rest) piece.LongName
+long_name_begins l word rest is stops long = record {
   some = front_nonempty word rest (omega arith);
-  is = sym (word_run word rest is stops ∙ cond-true (nat_lt MAX_NAME_BYTES (length word)) _ _
+  is = sym (word_run l word rest is stops ∙ cond-true (nat_lt MAX_NAME_BYTES (length word)) _ _
       (lt-ltb MAX_NAME_BYTES (length word) long));
 }
 
 -- what the rules say is what a scan returns
-pub rules_scan : {place : ℕ} {text : List ℕ} {r : Result (List Lexeme) LexFault} → Reads place text r
-    → scan 0 place text ≡ r
+pub rules_scan : {l : Language} {place : ℕ} {text : List ℕ} {r : Result (List Lexeme) LexFault} → Reads l place text r
+    → scan l 0 place text ≡ r
 rules_scan done = refl
-rules_scan {place} (white {b} {rest} e more) = scan_white place b rest e ∙ rules_scan more
-rules_scan {place} (comment said rest all stops more) =
-    scan_gap (35 ∷ said ++ rest) place (length (35 ∷ said)) (comment_begins said rest all stops)
-    ∙ ap (λ l. scan 0 (place + length (35 ∷ said)) l) (drop_at (35 ∷ said) rest (length (35 ∷ said)) refl)
+rules_scan {l} {place} (white {b} {rest} e more) = scan_white l place b rest e ∙ rules_scan more
+rules_scan {l} {place} (comment said rest all stops more) =
+    scan_gap l (35 ∷ said ++ rest) place (length (35 ∷ said)) (comment_begins l said rest all stops)
+    ∙ ap (λ after. scan l 0 (place + length (35 ∷ said)) after) (drop_at (35 ∷ said) rest (length (35 ∷ said)) refl)
     ∙ rules_scan more
-rules_scan {place} (spelled t bytes rest is ends more) =
-    scan_spelled place t bytes rest is ends ∙ ap (λ r. cons_lexeme (record { token = t; start = place }) r)
+rules_scan {l} {place} (spelled t bytes rest is ends more) =
+    scan_spelled l place t bytes rest is ends ∙ ap (λ r. cons_lexeme (record { token = t; start = place }) r)
     (rules_scan more)
-rules_scan {place} (nothing {b} {bs} none) = scan_none (b ∷ bs) place (nothing_begins b bs none)
-rules_scan {place} (bad_number digits rest all some stops bad) =
-    scan_none (digits ++ rest) place (bad_number_begins digits rest all some stops bad)
-rules_scan {place} (long_name word rest is stops long) =
-    scan_long (word ++ rest) place (long_name_begins word rest is stops long)
+rules_scan {l} {place} (nothing {b} {bs} none) = scan_none l (b ∷ bs) place (nothing_begins l b bs none)
+rules_scan {l} {place} (bad_number digits rest all some stops bad) =
+    scan_none l (digits ++ rest) place (bad_number_begins l digits rest all some stops bad)
+rules_scan {l} {place} (long_name word rest is stops long) =
+    scan_long l (word ++ rest) place (long_name_begins l word rest is stops long)

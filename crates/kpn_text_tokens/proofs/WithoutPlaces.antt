@@ -13,6 +13,7 @@ use Rattle.kpn_text_tokens.specs.declared.lexer.Class.TheVariants as class
 use Rattle.kpn_text_tokens.specs.declared.lexer.LexFault.{LexFault}
 use Rattle.kpn_text_tokens.specs.declared.lexer.Piece.{Piece}
 use Rattle.kpn_text_tokens.specs.declared.lexer.Piece.TheVariants as piece
+use Rattle.kpn_text_tokens.specs.declared.tokens.Language.{Language}
 use Rattle.kpn_text_tokens.specs.declared.tokens.Lexeme.{Lexeme}
 use Rattle.kpn_text_tokens.specs.declared.tokens.Token.{Token}
 use Rattle.kpn_text_tokens.specs.Laws.{DecimalIsSpelled, EmptyTextHasNoTokens, HasSpelling, ReadTokensAreSpelled, SpelledTokenIsRead, TokensKeepTheirKind, WhiteSpaceIsDropped, WhiteSpaceSeparatesTokens, append_tokens, cons_token, followed_by, tokens_in, tokens_of}
@@ -44,38 +45,38 @@ after_kind piece.NoToken i j f g same = refl
 after_kind piece.LongName i j f g same = refl
 
 -- and so does a scan
-scan_kind : (k i j : ℕ) (bs : List ℕ) → tokens_in (scan k i bs) ≡ tokens_in (scan k j bs)
-scan_kind k i j [] = refl
-scan_kind (suc k) i j (b ∷ bs) = scan_kind k (suc i) (suc j) bs
-scan_kind zero i j (b ∷ bs) =
-    after_kind (piece_of b (b ∷ bs)) i j (λ k. scan k (suc i) bs) (λ k. scan k (suc j) bs)
-    (λ k. scan_kind k (suc i) (suc j) bs)
+scan_kind : (l : Language) (k i j : ℕ) (bs : List ℕ) → tokens_in (scan l k i bs) ≡ tokens_in (scan l k j bs)
+scan_kind l k i j [] = refl
+scan_kind l (suc k) i j (b ∷ bs) = scan_kind l k (suc i) (suc j) bs
+scan_kind l zero i j (b ∷ bs) =
+    after_kind (piece_of l b (b ∷ bs)) i j (λ k. scan l k (suc i) bs) (λ k. scan l k (suc j) bs)
+    (λ k. scan_kind l k (suc i) (suc j) bs)
 
 pub tokens_keep : TokensKeepTheirKind
 unfolding tokens_of
-tokens_keep place text = scan_kind 0 place 0 text
+tokens_keep l place text = scan_kind l 0 place 0 text
 
 pub spelled_token : SpelledTokenIsRead
 unfolding tokens_of
-spelled_token t bytes rest is ends =
-    let l : Lexeme = record { token = t; start = 0 } in
-    ap tokens_in (scan_spelled 0 t bytes rest is ends) ∙ tokens_in-cons l (scan 0 (0 + length bytes) rest)
-    ∙ ap (λ ts. cons_token t ts) (scan_kind 0 (0 + length bytes) 0 rest)
+spelled_token l t bytes rest is ends =
+    let first : Lexeme = record { token = t; start = 0 } in
+    ap tokens_in (scan_spelled l 0 t bytes rest is ends) ∙ tokens_in-cons first (scan l 0 (0 + length bytes) rest)
+    ∙ ap (λ ts. cons_token t ts) (scan_kind l 0 (0 + length bytes) 0 rest)
 
 pub empty_text : EmptyTextHasNoTokens
 unfolding tokens_of
-empty_text = refl
+empty_text l = refl
 
 pub white_dropped : WhiteSpaceIsDropped
 unfolding tokens_of
-white_dropped w rest e = ap tokens_in (scan_white 0 w rest e) ∙ scan_kind 0 (0 + 1) 0 rest
+white_dropped l w rest e = ap tokens_in (scan_white l 0 w rest e) ∙ scan_kind l 0 (0 + 1) 0 rest
 
 pub white_separates : WhiteSpaceSeparatesTokens
 unfolding tokens_of
-white_separates w before rest parts =
-    ap tokens_in (white_space_separates 0 w before rest parts)
-    ∙ tokens_in-followed_by (scan 0 0 before) (scan 0 (0 + length before + 1) rest)
-    ∙ ap (λ ts. append_tokens (tokens_in (scan 0 0 before)) ts) (scan_kind 0 (0 + length before + 1) 0 rest)
+white_separates l w before rest parts =
+    ap tokens_in (white_space_separates l 0 w before rest parts)
+    ∙ tokens_in-followed_by (scan l 0 0 before) (scan l 0 (0 + length before + 1) rest)
+    ∙ ap (λ ts. append_tokens (tokens_in (scan l 0 0 before)) ts) (scan_kind l 0 (0 + length before + 1) 0 rest)
 
 -- digits by their value are digits by their range
 all_digits : (ds : List ℕ) → AllDigits 10 ds → AllIn class.Digit ds
@@ -86,7 +87,7 @@ all_digits (d ∷ ds) digits =
     (and_from (nat_le 48 d) (nat_le d 57) (le-leb 48 d range.0) (le-leb d 57 range.1)) (all_digits ds digits.1)
 
 pub decimal_spelled : DecimalIsSpelled
-decimal_spelled n small =
+decimal_spelled l n small =
     let fits : n < 2 ^ 64 = omega arith in
     let numeral = decimal_is_IsNumeral n fits in
     record {
@@ -98,26 +99,27 @@ decimal_spelled n small =
     }
 
 -- what was read has a spelling
-abbrev Spelled : Option (List Token) → Type 0
-Spelled (Some ts) = AllByRecursion HasSpelling ts
-Spelled None = Unit {0}
+abbrev Spelled : Language → Option (List Token) → Type 0
+Spelled l (Some ts) = AllByRecursion (HasSpelling l) ts
+Spelled l None = Unit {0}
 
-cons_spelled : (t : Token) (ts : Option (List Token)) → HasSpelling t → Spelled ts → Spelled (cons_token t ts)
-cons_spelled t (Some ts) is all = (is, all)
-cons_spelled t None is all = tt
+cons_spelled : (l : Language) (t : Token) (ts : Option (List Token)) → HasSpelling l t → Spelled l ts
+    → Spelled l (cons_token t ts)
+cons_spelled l t (Some ts) is all = (is, all)
+cons_spelled l t None is all = tt
 
-reads_spelled : {place : ℕ} {text : List ℕ} {r : Result (List Lexeme) LexFault} → Reads place text r
-    → Spelled (tokens_in r)
+reads_spelled : {l : Language} {place : ℕ} {text : List ℕ} {r : Result (List Lexeme) LexFault} → Reads l place text r
+    → Spelled l (tokens_in r)
 reads_spelled done = tt
 reads_spelled (white e tail) = reads_spelled tail
 reads_spelled (comment said rest all stops tail) = reads_spelled tail
-reads_spelled {place} (spelled t bytes rest {r} is ends tail) =
+reads_spelled {l} {place} (spelled t bytes rest {r} is ends tail) =
     rw (tokens_in-cons (record { token = t; start = place }) r)
-    (cons_spelled t (tokens_in r) (bytes, is) (reads_spelled tail))
+    (cons_spelled l t (tokens_in r) (bytes, is) (reads_spelled tail))
 reads_spelled (nothing none) = tt
 reads_spelled (bad_number digits rest all some stops bad) = tt
 reads_spelled (long_name word rest is stops long) = tt
 
 pub read_spelled : ReadTokensAreSpelled
 unfolding tokens_of
-read_spelled text ts e = rw e at (reads_spelled (scan_rules 0 text))
+read_spelled l text ts e = rw e at (reads_spelled (scan_rules l 0 text))

@@ -1,5 +1,5 @@
--- The tokens of a text, and its first fault. Read from the front, a text is a row of pieces: white space, comments and
--- tokens, each the longest that can be there.
+-- The tokens of a text in a language, and its first fault. Read from the front, a text is a row of pieces: white space,
+-- comments and tokens, each the longest that can be there.
 use Rattle.std.specs.Prelude.{ℕ, zero, suc, ◌-◌, ◌≤◌, Bool, not, ◌&&◌, ◌||◌, ◌==◌, nat_lt, nat_le, if◌then◌else◌, List, [], ◌∷◌, length, Option, Some, None, Result, Ok, Err, Vec, ◌≡◌}
 use Rattle.std.specs.Char.{is_ascii_digit, is_ascii_alphabetic}
 use Rattle.std.specs.List.{take_while}
@@ -13,6 +13,7 @@ use Rattle.kpn_text_tokens.specs.declared.lexer.LexFault.TheVariants as fault
 use Rattle.kpn_text_tokens.specs.declared.lexer.Piece.{Piece}
 use Rattle.kpn_text_tokens.specs.declared.lexer.Piece.TheVariants as piece
 use Rattle.kpn_text_tokens.specs.declared.tokens.Keyword.{Keyword}
+use Rattle.kpn_text_tokens.specs.declared.tokens.Language.{Language}
 use Rattle.kpn_text_tokens.specs.declared.tokens.Lexeme.{Lexeme}
 use Rattle.kpn_text_tokens.specs.declared.tokens.Mark.{Mark}
 use Rattle.kpn_text_tokens.specs.declared.tokens.Token.{Token}
@@ -43,9 +44,9 @@ word_token (Some keyword) word = token.Keyword keyword
 word_token None word = token.Name word
 
 -- a word of more than 32 bytes (MAX_NAME_BYTES) is too long
-abbrev pub word_piece : List ℕ → Piece
-word_piece word = if nat_lt MAX_NAME_BYTES (length word) then piece.LongName else piece.Token
-    (word_token (keyword_of word) word) (length word)
+abbrev pub word_piece : Language → List ℕ → Piece
+word_piece l word = if nat_lt MAX_NAME_BYTES (length word) then piece.LongName else piece.Token
+    (word_token (keyword_of l word) word) (length word)
 
 -- a number has at most 19 digits (MAX_DIGITS) and is at most 2 ^ 63 - 1 (MAX_NUMBER)
 abbrev pub number_piece : List ℕ → Piece
@@ -59,17 +60,17 @@ abbrev pub marked : Option Mark → Piece
 marked (Some mark) = piece.Token (token.Mark mark) (length (mark_bytes mark))
 marked None = piece.NoToken
 
-abbrev pub mark_piece : List ℕ → Piece
-mark_piece text = marked (mark_at text)
+abbrev pub mark_piece : Language → List ℕ → Piece
+mark_piece l text = marked (mark_at l text)
 
--- what is at the front of a text, whose first byte is b
-unfoldable pub piece_of : ℕ → List ℕ → Piece
-piece_of b text =
+-- what is at the front of a text in a language, whose first byte is b
+unfoldable pub piece_of : Language → ℕ → List ℕ → Piece
+piece_of l b text =
     if is_white_space b then piece.Gap 1
     else (if b == 35 then piece.Gap (length (run class.Comment text))
-    else (if begins_name b then word_piece (run class.Word text)
+    else (if begins_name b then word_piece l (run class.Word text)
     else (if is_ascii_digit b then number_piece (run class.Digit text)
-    else mark_piece text)))
+    else mark_piece l text)))
 
 -- Scaffolding, of the one call that finds a piece: it takes a byte or more, and no more than there are.
 abbrev pub TakesWithin : Piece → ℕ → Type 0
@@ -90,16 +91,17 @@ after (piece.Token token n) place follow = cons_lexeme (record { token = token; 
 after piece.NoToken place follow = Err (fault.Token place)
 after piece.LongName place follow = Err (fault.TooLong place)
 
--- The lexemes of a text that begins at a place, or the first fault. Its first `inside` bytes belong to the piece
--- before it and are passed over.
-abbrev pub scan : ℕ → ℕ → List ℕ → Result (List Lexeme) LexFault
-scan inside place [] = Ok []
-scan (suc inside) place (b ∷ bs) = scan inside (suc place) bs
-scan zero place (b ∷ bs) = after (piece_of b (b ∷ bs)) place (λ inside. scan inside (suc place) bs)
+-- The lexemes, in a language, of a text that begins at a place, or the first fault. Its first `inside` bytes belong to
+-- the piece before it and are passed over.
+abbrev pub scan : Language → ℕ → ℕ → List ℕ → Result (List Lexeme) LexFault
+scan l inside place [] = Ok []
+scan l (suc inside) place (b ∷ bs) = scan l inside (suc place) bs
+scan l zero place (b ∷ bs) = after (piece_of l b (b ∷ bs)) place (λ inside. scan l inside (suc place) bs)
 
 -- a description is at most 1,048,576 bytes long (MAX_TEXT_BYTES)
-abbrev pub lexemes_of : List ℕ → Result (List Lexeme) LexFault
-lexemes_of text = if nat_lt MAX_TEXT_BYTES (length text) then Err (fault.TooLong MAX_TEXT_BYTES) else scan 0 0 text
+abbrev pub lexemes_of : Language → List ℕ → Result (List Lexeme) LexFault
+lexemes_of l text =
+    if nat_lt MAX_TEXT_BYTES (length text) then Err (fault.TooLong MAX_TEXT_BYTES) else scan l 0 0 text
 
 -- a call returned the lexemes, or the fault, or ran out of memory
 abbrev pub Gives : {A : Type 0} → Result (Vec Lexeme A) LexFault → Result (List Lexeme) LexFault → Type 0

@@ -5,7 +5,7 @@ ghost use Rattle.std.specs.Prelude.{◌≡◌, ◌<◌, ◌≤◌, length, slice
 ghost use Rattle.std.specs.Str.Parse.{AllDigits, digits_value};
 ghost use Rattle.kpn_text_tokens.specs.Lexing as spec;
 
-use crate::tokens::{Keyword, Lexeme, MAX_NUMBER, Mark, Name, Number, Token};
+use crate::tokens::{Keyword, Language, Lexeme, MAX_NUMBER, Mark, Name, Number, Token};
 use kpn_limits::{MAX_DIGITS, MAX_NAME_BYTES, MAX_TEXT_BYTES};
 use std::alloc::{AllocFailed, Global};
 use thiserror::Error;
@@ -48,7 +48,7 @@ enum Class {
 
 /// What is at the front of a text, and how many bytes it takes.
 #[derive(Drop)]
-enum Piece<'a> {
+pub(crate) enum Piece<'a> {
     /// White space or a comment.
     Gap(usize),
     Token(Token<'a>, usize),
@@ -105,13 +105,13 @@ fn value_of(digits: &[u8]) -> u64
 }
 
 /// A run of letters, digits and `_` as a piece: a reserved word or a name.
-fn word_piece(word: &[u8]) -> Piece<'_>
-    ensures { result ≡ spec.word_piece word.now }
+fn word_piece(language: Language, word: &[u8]) -> Piece<'_>
+    ensures { result ≡ spec.word_piece language word.now }
 {
     if word.len() > MAX_NAME_BYTES {
         return Piece::LongName;
     }
-    let token = match Keyword::spelled(word) {
+    let token = match Keyword::spelled(language, word) {
         Some(keyword) => Token::Keyword(keyword),
         None => Token::Name(Name::new(word)),
     };
@@ -134,20 +134,20 @@ fn number_piece<'a>(digits: &[u8]) -> Piece<'a>
 }
 
 /// The mark at the front of a text as a piece.
-fn mark_piece<'a>(text: &[u8]) -> Piece<'a>
-    ensures { result ≡ spec.mark_piece text.now }
+fn mark_piece<'a>(language: Language, text: &[u8]) -> Piece<'a>
+    ensures { result ≡ spec.mark_piece language text.now }
 {
-    match Mark::at_front(text) {
+    match Mark::at_front(language, text) {
         Some(mark) => Piece::Token(Token::Mark(mark), mark.spelling().len()),
         None => Piece::NoToken,
     }
 }
 
-/// What is at the front of a text.
+/// What is at the front of a text in a language.
 #[tactic(auto, unfolding(crate::specs::Lexing::piece_of))]
-fn first_piece(text: &[u8]) -> Piece<'_>
+pub(crate) fn first_piece(language: Language, text: &[u8]) -> Piece<'_>
     requires { 0 < length text.now }
-    ensures value { result ≡ spec.piece_of (slice_index text.now 0) text.now }
+    ensures value { result ≡ spec.piece_of language (slice_index text.now 0) text.now }
     ensures within { spec.TakesWithin result (length text.now) }
 {
     let first = text[0];
@@ -156,19 +156,19 @@ fn first_piece(text: &[u8]) -> Piece<'_>
     } else if first == b'#' {
         Piece::Gap(run(Class::Comment, text).len())
     } else if begins_name(first) {
-        word_piece(run(Class::Word, text))
+        word_piece(language, run(Class::Word, text))
     } else if first.is_ascii_digit() {
         number_piece(run(Class::Digit, text))
     } else {
-        mark_piece(text)
+        mark_piece(language, text)
     }
 }
 
-/// The tokens of a text, each with the byte at which it begins; or its first fault.
+/// The tokens of a text in a language, each with the byte at which it begins; or its first fault.
 ///
 /// White space (space, tab, carriage return, line feed) and comments (from `#` up to the next line feed, with any bytes
 /// in them) may come between tokens and are dropped. The longest token counts each time, so `12abc` is a number and a
-/// name, and `<=` is one mark.
+/// name, `<=` is one mark, and `<<=` in language 2 is `<<` and `=`.
 ///
 /// # Errors
 ///
@@ -180,8 +180,8 @@ fn first_piece(text: &[u8]) -> Piece<'_>
 /// - [`LexFault::TooLong`] at a name of more than [`MAX_NAME_BYTES`].
 ///
 /// [`LexFault::NoMemory`] comes only if memory ran out.
-pub fn lexemes(alloc: Global, text: &[u8]) -> Result<Vec<Lexeme<'_>>, LexFault>
-    ensures { spec.Gives result (spec.lexemes_of text.now) }
+pub fn lexemes(alloc: Global, language: Language, text: &[u8]) -> Result<Vec<Lexeme<'_>>, LexFault>
+    ensures { spec.Gives result (spec.lexemes_of language text.now) }
 {
     if text.len() > MAX_TEXT_BYTES {
         return Err(LexFault::TooLong(MAX_TEXT_BYTES));
@@ -190,7 +190,7 @@ pub fn lexemes(alloc: Global, text: &[u8]) -> Result<Vec<Lexeme<'_>>, LexFault>
     let mut rest = text;
     let mut start = 0;
     while !rest.is_empty() {
-        let length = match first_piece(rest) {
+        let length = match first_piece(language, rest) {
             Piece::Gap(length) => length,
             Piece::Token(token, length) => {
                 found.push(Lexeme { token, start })?;

@@ -2,12 +2,14 @@
 //!
 //! A description is a text: names, numbers, marks and reserved words, with white space and comments between them. This
 //! crate cuts the text into its tokens, or returns the first byte at which that fails. What the tokens mean together is
-//! a matter for the grammar above. `tokens` says what a token is and how it is spelled, `lexer` cuts a text, and `laws`
-//! states what layers above rely on.
+//! a matter for the grammar above. Of two languages the second has more marks and more reserved words. `tokens` says
+//! what a token is and how it is spelled, `opening` tells the language of a text, `lexer` cuts a text, and `laws` states
+//! what layers above rely on.
 #![tactic(auto)]
 
 mod laws;
 mod lexer;
+mod opening;
 mod tokens;
 
 pub use laws::{
@@ -16,4 +18,5 @@ pub use laws::{
     white_space_separates,
 };
 pub use lexer::{LexFault, lexemes};
-pub use tokens::{Keyword, Lexeme, MAX_NUMBER, Mark, Name, Number, Token};
+pub use opening::language_of;
+pub use tokens::{Keyword, Language, Lexeme, MAX_NUMBER, Mark, Name, Number, Token};

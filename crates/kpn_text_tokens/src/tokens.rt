@@ -1,16 +1,30 @@
-//! What a token is: a name, a number, a mark or a reserved word, and how each mark and each reserved word is spelled.
-//! The lexer and a printer use the same tables of spellings.
+//! What a token is: a name, a number, a mark or a reserved word, how each mark and each reserved word is spelled, and
+//! which language has it. The lexer and a printer use the same tables of spellings.
 
 ghost use Rattle.std.specs.Prelude.{◌≡◌, ◌<◌, ◌^◌, pos};
 ghost use Rattle.std.proofs.Common.{rules};
 ghost use Rattle.std.specs.Cmp.Rules.{comparing};
 ghost use Rattle.std.specs.Str.{bytes_eq};
-ghost use Rattle.kpn_text_tokens.specs.Spelling.{keyword_bytes, keyword_of, mark_at, mark_bytes};
+ghost use Rattle.kpn_text_tokens.specs.Spelling.{
+  has_keyword,
+  has_mark,
+  keyword_bytes,
+  keyword_of,
+  mark_at,
+  mark_bytes,
+};
 
 use std::marker::Model;
 
 /// The greatest number, 9223372036854775807.
 pub const MAX_NUMBER: u64 = i64::MAX as u64;
+
+/// A language of descriptions. The second has more marks and more reserved words.
+#[derive(Clone, Copy, Debug, PartialEq, Eq)]
+pub enum Language {
+    One,
+    Two,
+}
 
 /// A name of the text: a letter or `_`, then letters, digits and `_`, in ASCII, at most
 /// [`MAX_NAME_BYTES`](kpn_limits::MAX_NAME_BYTES) long, and no reserved word. It borrows its bytes from the text, and
@@ -120,17 +134,35 @@ pub enum Mark {
     And,
     Or,
     Not,
+    LeftBracket,
+    RightBracket,
+    Question,
+    Colon,
+    /// `~`
+    BitNot,
+    /// `&`
+    BitAnd,
+    /// `|`
+    BitOr,
+    /// `^`
+    BitXor,
+    /// `<<`
+    ShiftLeft,
+    /// `>>`
+    ShiftRight,
 }
 
 impl Mark {
     /// Every mark, the longer ones first.
-    pub const ALL: [Mark; 21] = [
+    pub const ALL: [Mark; 31] = [
         Mark::LessOrEqual,
         Mark::GreaterOrEqual,
         Mark::Equal,
         Mark::NotEqual,
         Mark::And,
         Mark::Or,
+        Mark::ShiftLeft,
+        Mark::ShiftRight,
         Mark::LeftParen,
         Mark::RightParen,
         Mark::LeftBrace,
@@ -146,17 +178,42 @@ impl Mark {
         Mark::Less,
         Mark::Greater,
         Mark::Not,
+        Mark::LeftBracket,
+        Mark::RightBracket,
+        Mark::Question,
+        Mark::Colon,
+        Mark::BitNot,
+        Mark::BitAnd,
+        Mark::BitOr,
+        Mark::BitXor,
     ];
 
-    /// The longest mark at the front of a text.
-    #[tactic(auto, unfolding(crate::specs::Spelling::mark_at))]
-    pub(crate) fn at_front(text: &[u8]) -> Option<Mark>
-        ensures { result ≡ mark_at text.now }
+    /// Whether a language has the mark.
+    pub fn is_of(self, language: Language) -> bool
+        ensures { result ≡ has_mark language self }
     {
-        Mark::ALL
-            .iter()
-            .copied()
-            .find(|mark| text.starts_with(mark.spelling()))
+        match self {
+            Mark::LeftBracket
+            | Mark::RightBracket
+            | Mark::Question
+            | Mark::Colon
+            | Mark::BitNot
+            | Mark::BitAnd
+            | Mark::BitOr
+            | Mark::BitXor
+            | Mark::ShiftLeft
+            | Mark::ShiftRight => matches!(language, Language::Two),
+            _ => true,
+        }
+    }
+
+    /// The longest mark of a language at the front of a text.
+    #[tactic(auto, unfolding(crate::specs::Spelling::mark_at))]
+    pub(crate) fn at_front(language: Language, text: &[u8]) -> Option<Mark>
+        ensures { result ≡ mark_at language text.now }
+    {
+        Mark::ALL.iter().copied().find(|mark| text.starts_with(mark.spelling())
+            && mark.is_of(language))
     }
 
     /// The mark as the text spells it.
@@ -185,6 +242,16 @@ impl Mark {
             Mark::And => b"&&",
             Mark::Or => b"||",
             Mark::Not => b"!",
+            Mark::LeftBracket => b"[",
+            Mark::RightBracket => b"]",
+            Mark::Question => b"?",
+            Mark::Colon => b":",
+            Mark::BitNot => b"~",
+            Mark::BitAnd => b"&",
+            Mark::BitOr => b"|",
+            Mark::BitXor => b"^",
+            Mark::ShiftLeft => b"<<",
+            Mark::ShiftRight => b">>",
         }
     }
 }
@@ -209,11 +276,14 @@ pub enum Keyword {
     Sink,
     Policy,
     Grow,
+    Language,
+    Array,
+    Table,
 }
 
 impl Keyword {
     /// Every reserved word.
-    pub const ALL: [Keyword; 17] = [
+    pub const ALL: [Keyword; 20] = [
         Keyword::Process,
         Keyword::In,
         Keyword::Out,
@@ -231,17 +301,30 @@ impl Keyword {
         Keyword::Sink,
         Keyword::Policy,
         Keyword::Grow,
+        Keyword::Language,
+        Keyword::Array,
+        Keyword::Table,
     ];
 
-    /// The reserved word that these bytes spell.
-    #[tactic(auto, unfolding(crate::specs::Spelling::keyword_of))]
-    pub(crate) fn spelled(word: &[u8]) -> Option<Keyword>
-        ensures { result ≡ keyword_of word.now }
+    /// Whether a language reserves the word.
+    pub fn is_of(self, language: Language) -> bool
+        ensures { result ≡ has_keyword language self }
     {
-        Keyword::ALL
-            .iter()
-            .copied()
-            .find(|keyword| keyword.spelling() == word)
+        match self {
+            Keyword::Language | Keyword::Array | Keyword::Table => {
+                matches!(language, Language::Two)
+            }
+            _ => true,
+        }
+    }
+
+    /// The reserved word of a language that these bytes spell.
+    #[tactic(auto, unfolding(crate::specs::Spelling::keyword_of))]
+    pub(crate) fn spelled(language: Language, word: &[u8]) -> Option<Keyword>
+        ensures { result ≡ keyword_of language word.now }
+    {
+        Keyword::ALL.iter().copied().find(|keyword| keyword.spelling() == word
+            && keyword.is_of(language))
     }
 
     /// The word as the text spells it.
@@ -266,6 +349,9 @@ impl Keyword {
             Keyword::Sink => b"sink",
             Keyword::Policy => b"policy",
             Keyword::Grow => b"grow",
+            Keyword::Language => b"language",
+            Keyword::Array => b"array",
+            Keyword::Table => b"table",
         }
     }
 }

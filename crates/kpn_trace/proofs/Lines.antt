@@ -1,6 +1,6 @@
 -- The line of an event: its kind comes before the first space, it has no line feed, and the event has no other line.
-use Rattle.std.proofs.Common.{◌≡◌, ℕ, ◌^◌, ◌<◌, List, [], ◌∷◌, ◌++◌, Bool, true, Option, Some, None, refl, sym, ap, ◌∙◌, subst, arith}
-use Rattle.std.specs.Prelude.{ℤ, FitsSigned, MatchOption}
+use Rattle.std.proofs.Common.{◌≡◌, ℕ, ◌^◌, ◌<◌, List, [], ◌∷◌, ◌++◌, Bool, true, false, Option, Some, None, refl, sym, ap, ◌∙◌, subst, arith}
+use Rattle.std.specs.Prelude.{ℤ, FitsSigned, MatchOption, nat_eq}
 use Rattle.std.specs.Int.{w64}
 use Rattle.std.specs.List.{find}
 use Rattle.std.specs.Str.{bytes_eq}
@@ -71,11 +71,25 @@ how_lacks_feed : (how : How) → LacksByte 10 (how_word how)
 how_lacks_feed how.Done = refl
 how_lacks_feed how.Overflow = refl
 how_lacks_feed how.ZeroDivisor = refl
+how_lacks_feed how.Index = refl
+how_lacks_feed how.Shift = refl
+
+-- `index` and `shift` are as long as one another, and differ in their first byte
+abbrev begins_as_index : List ℕ → Bool
+begins_as_index [] = false
+begins_as_index (x ∷ xs) = nat_eq x 105
+
+differs : {a b : How} → true ≡ false → a ≡ b
+differs e = absurd (cc)
 
 same_how : (a b : How) → how_word a ≡ how_word b → a ≡ b
 same_how how.Done how.Done e = refl
 same_how how.Overflow how.Overflow e = refl
 same_how how.ZeroDivisor how.ZeroDivisor e = refl
+same_how how.Index how.Index e = refl
+same_how how.Shift how.Shift e = refl
+same_how how.Index how.Shift e = differs (ap begins_as_index e)
+same_how how.Shift how.Index e = differs (sym (ap begins_as_index e))
 same_how a b e = absurd (cc)
 
 -- ---- a line is its kind, a space, and its parts

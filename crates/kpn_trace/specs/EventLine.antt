@@ -45,6 +45,8 @@ abbrev pub how_word : How → List ℕ
 how_word how.Done = codes "done"
 how_word how.Overflow = codes "overflow"
 how_word how.ZeroDivisor = codes "zero-divisor"
+how_word how.Index = codes "index"
+how_word how.Shift = codes "shift"
 
 -- ---- the line
 

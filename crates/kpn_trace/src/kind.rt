@@ -71,6 +71,8 @@ pub fn how_named(word: &[u8]) -> Option<How>
         b"done" => Some(How::Done),
         b"overflow" => Some(How::Overflow),
         b"zero-divisor" => Some(How::ZeroDivisor),
+        b"index" => Some(How::Index),
+        b"shift" => Some(How::Shift),
         _ => None,
     }
 }
@@ -83,5 +85,7 @@ pub fn how_word(how: How) -> &'static str
         How::Done => "done",
         How::Overflow => "overflow",
         How::ZeroDivisor => "zero-divisor",
+        How::Index => "index",
+        How::Shift => "shift",
     }
 }

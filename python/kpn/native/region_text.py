@@ -231,7 +231,7 @@ class RegionText:
         yield '    made++;'
         yield '    continue;'
         text = '\n'.join(self.body)
-        stops = {'overflow': 'KPN_OVERFLOW', 'zero_divisor': 'KPN_ZERO_DIVISOR',
+        stops = {'overflow': 'KPN_OVERFLOW', 'zero_divisor': 'KPN_ZERO_DIVISOR', 'shift': 'KPN_SHIFT',
                  'starved': 'made ? KPN_PAUSED : KPN_LAPPED'}
         ways = [label for label in stops if f'goto {label};' in text]
         for label in ways:

@@ -15,6 +15,8 @@ SMALL, WIDE = (-2**15, 2**15 - 1), (-2**31, 2**31 - 1)
 # The most values, channels of a region, and periods that have to come before the loop.
 MOST_VALUES, MOST_ENDS, MOST_DEPTH = 1000, 8, 256
 COMPARED = ('<', '<=', '>', '>=', '==', '!=')
+# The operators of which no interval is known, or that may leave an operand out.
+NOT_IN_VECTORS = ('&&', '||', '?', '~', '&', '|', '^', '<<', '>>')
 
 # What a period leaves to the next: a variable of a member, or the place of a first item in a channel.
 State = Tuple[Any, ...]
@@ -95,7 +97,7 @@ class Period:
             if found is None and (p, tree) not in self.carried:
                 return self.values.add('held', p, tree)
             return self.values.add('state', (p, tree)) if found is None else found
-        if tree[0] in ('&&', '||'):
+        if tree[0] in NOT_IN_VECTORS:
             raise NoVectors
         return self.values.add(tree[0], *(self.value(p, it) for it in tree[1:]))
 

@@ -2,7 +2,7 @@
 // The network as a picture, which follows the cursor.
 
 const MARKS = {ready: '\u00b7 ready', get: '\u25b2 gets ', put: '\u25bc puts ', empty: '\u25cb waits ',
-  full: '\u25a0 waits ', done: '\u2713 done', overflow: '\u2717 overflow', 'zero-divisor': '\u2717 zero-divisor'};
+  full: '\u25a0 waits ', done: '\u2713 done', ...Object.fromEntries(FAULTS.map(word => [word, `\u2717 ${word}`]))};
 const GAUGE = 34;
 
 // An element of SVG or, without a name space, of HTML.
@@ -122,7 +122,7 @@ class Graph {
 
   showNode(node, {word, channel}, marks) {
     const {run} = this.app;
-    const kind = word === 'overflow' || word === 'zero-divisor' ? 'fault' : word;
+    const kind = FAULTS.includes(word) ? 'fault' : word;
     const text = MARKS[word] + (channel >= 0 ? run.layout.channels[channel] : '');
     const shown = `node ${kind}${marks}|${text}`;
     if (node.shown === shown) return;

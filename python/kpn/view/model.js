@@ -7,8 +7,9 @@ const KINDS = ['get', 'put', 'wait-empty', 'wait-full', 'end', 'feed', 'close', 
 // What a process does for a while, in the order in which it is drawn from below.
 const DOES = ['put', 'get', 'full', 'empty', 'done', 'fault', 'ready'];
 const [PUTS, GETS, FULLS, EMPTIES, DONE, FAULT, READY] = Array(7).keys();
-const DOES_OF = {put: PUTS, get: GETS, full: FULLS, empty: EMPTIES, done: DONE, overflow: FAULT, 'zero-divisor': FAULT,
-  ready: READY};
+const FAULTS = ['overflow', 'zero-divisor', 'index', 'shift'];
+const DOES_OF = {put: PUTS, get: GETS, full: FULLS, empty: EMPTIES, done: DONE, ready: READY,
+  ...Object.fromEntries(FAULTS.map(word => [word, FAULT]))};
 const TYPES = {b: Int8Array, h: Int16Array, i: Int32Array, q: BigInt64Array};
 
 // Bytes that were packed and written as letters.
@@ -178,8 +179,8 @@ class Model {
     return past ? growths[past - 1].cap : this.run.channels[c].cap;
   }
 
-  // A state has a word (`ready`, `get`, `put`, `empty`, `full`, `done`, `overflow` or `zero-divisor`), a channel, and
-  // the number of its last get or put before, counted from 1.
+  // A state has a word (`ready`, `get`, `put`, `empty`, `full`, `done` or that of a fault), a channel, and the number
+  // of its last get or put before, counted from 1.
   state(p, place) {
     return place.axis === 'event' ? this.stateAfter(p, place.at) : this.stateAt(p, place.at);
   }

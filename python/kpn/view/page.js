@@ -136,9 +136,8 @@ class App {
   stateSentence(p, {word, channel}) {
     const on = channel >= 0 ? this.run.channels[channel].name : '';
     const words = {ready: 'is ready', get: `gets from ${on}`, put: `puts on ${on}`, empty: `waits for an item on ${on}`,
-      full: `waits for room on ${on}`, done: 'has ended', overflow: 'has ended by the fault overflow',
-      'zero-divisor': 'has ended by the fault zero-divisor'};
-    return `${this.run.instances[p].name} ${words[word]}`;
+      full: `waits for room on ${on}`, done: 'has ended'};
+    return `${this.run.instances[p].name} ${words[word] || `has ended by the fault ${word}`}`;
   }
 
   sentence(kind, number) {

@@ -76,7 +76,7 @@ class Panel {
       html('p', {}, `${run.instances.length} processes, ${run.channels.length} channels; `
         + `policy ${run.policy}, grow ${run.grow}`),
       html('h3', {}, 'At the end'),
-      ...list('Ended by a fault', ['overflow', 'zero-divisor'], it => ` (${it.word})`),
+      ...list('Ended by a fault', FAULTS, it => ` (${it.word})`),
       ...list('Wait for room', ['full'], at), ...list('Wait for an item', ['empty'], at),
       ...list('Could go on', ['ready', 'get', 'put'], () => ''), ...list('Done', ['done'], () => ''),
       ...(run.stats.advice.length ? [html('h3', {}, 'Advice on capacities')] : []),

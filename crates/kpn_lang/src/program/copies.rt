@@ -39,7 +39,8 @@ fn copy_stmt(alloc: Global, stmt: &Stmt) -> Result<Stmt, AllocError>
     }
 }
 
-fn copy_expr(alloc: Global, expr: &Expr) -> Result<Expr, AllocError>
+/// A copy of an expression.
+pub fn copy_expr(alloc: Global, expr: &Expr) -> Result<Expr, AllocError>
     ensures { IfOk result (λ copy. term_of copy ≡ term_of expr.now) }
 {
     match expr {
@@ -53,12 +54,25 @@ fn copy_expr(alloc: Global, expr: &Expr) -> Result<Expr, AllocError>
             let operand = copy_expr(alloc, operand)?;
             Ok(Expr::Not(Box::new(alloc, operand)?))
         }
+        Expr::BitNot(operand) => {
+            let operand = copy_expr(alloc, operand)?;
+            Ok(Expr::BitNot(Box::new(alloc, operand)?))
+        }
         Expr::Bin(op, left, right) => {
             let left = copy_expr(alloc, left)?;
             let right = copy_expr(alloc, right)?;
             let left = Box::new(alloc, left)?;
             let right = Box::new(alloc, right)?;
             Ok(Expr::Bin(*op, left, right))
+        }
+        Expr::Choice(test, first, second) => {
+            let test = copy_expr(alloc, test)?;
+            let first = copy_expr(alloc, first)?;
+            let second = copy_expr(alloc, second)?;
+            let test = Box::new(alloc, test)?;
+            let first = Box::new(alloc, first)?;
+            let second = Box::new(alloc, second)?;
+            Ok(Expr::Choice(test, first, second))
         }
     }
 }

@@ -39,8 +39,12 @@ fn same_expr(left: &Expr, right: &Expr) -> bool
         (Expr::Var(x), Expr::Var(y)) => x == y,
         (Expr::Neg(x), Expr::Neg(y)) => same_expr(x, y),
         (Expr::Not(x), Expr::Not(y)) => same_expr(x, y),
+        (Expr::BitNot(x), Expr::BitNot(y)) => same_expr(x, y),
         (Expr::Bin(op, a, b), Expr::Bin(other, c, d)) => {
             same_op(*op, *other) && same_expr(a, c) && same_expr(b, d)
+        }
+        (Expr::Choice(a, b, c), Expr::Choice(d, e, f)) => {
+            same_expr(a, d) && same_expr(b, e) && same_expr(c, f)
         }
         _ => false,
     }

@@ -197,8 +197,14 @@ fn budget_after_expr(expr: &Expr, budget: usize) -> Option<usize>
     let rest = budget.checked_sub(1)?;
     match expr {
         Expr::Num(_) | Expr::Var(_) => Some(rest),
-        Expr::Neg(operand) | Expr::Not(operand) => budget_after_expr(operand, rest),
+        Expr::Neg(operand) | Expr::Not(operand) | Expr::BitNot(operand) => {
+            budget_after_expr(operand, rest)
+        }
         Expr::Bin(_, first, second) => budget_after_expr(second, budget_after_expr(first, rest)?),
+        Expr::Choice(test, first, second) => {
+            let rest = budget_after_expr(test, rest)?;
+            budget_after_expr(second, budget_after_expr(first, rest)?)
+        }
     }
 }
 
@@ -254,8 +260,13 @@ fn names_below(count: usize, expr: &Expr) -> bool
     match expr {
         Expr::Num(_) => true,
         Expr::Var(variable) => *variable < count,
-        Expr::Neg(operand) | Expr::Not(operand) => names_below(count, operand),
+        Expr::Neg(operand) | Expr::Not(operand) | Expr::BitNot(operand) => {
+            names_below(count, operand)
+        }
         Expr::Bin(_, left, right) => names_below(count, left) && names_below(count, right),
+        Expr::Choice(test, first, second) => {
+            names_below(count, test) && names_below(count, first) && names_below(count, second)
+        }
     }
 }
 
@@ -293,9 +304,16 @@ fn is_depth_within(levels: usize, expr: &Expr) -> bool
     }
     match expr {
         Expr::Num(_) | Expr::Var(_) => true,
-        Expr::Neg(operand) | Expr::Not(operand) => is_depth_within(levels - 1, operand),
+        Expr::Neg(operand) | Expr::Not(operand) | Expr::BitNot(operand) => {
+            is_depth_within(levels - 1, operand)
+        }
         Expr::Bin(_, left, right) => {
             is_depth_within(levels - 1, left) && is_depth_within(levels - 1, right)
+        }
+        Expr::Choice(test, first, second) => {
+            is_depth_within(levels - 1, test)
+                && is_depth_within(levels - 1, first)
+                && is_depth_within(levels - 1, second)
         }
     }
 }

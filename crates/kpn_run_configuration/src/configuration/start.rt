@@ -1,8 +1,8 @@
 //! The configuration at the start, when nothing has happened yet.
-ghost use Rattle.std.specs.Prelude.{◌≡◌, ◌<◌, ℕ, [], false, length, replicate, IfOk, Some, None, slice_index_or};
+ghost use Rattle.std.specs.Prelude.{◌≡◌, ◌<◌, ℕ, [], false, length, replicate, IsTrue, IfOk, Some, None, slice_index_or};
 ghost use Rattle.std.specs.Option.{unwrap_or};
 ghost use Rattle.kpn_net.specs.Tables.{channel_at, instance_at, program_of, capacity};
-ghost use Rattle.kpn_step.specs.Frame.{start_frame};
+ghost use Rattle.kpn_step.specs.Frame.{start_frame, fits};
 ghost use Rattle.kpn_chan.specs.Channel.{opened, opened_as};
 ghost use Rattle.kpn_run_history.specs.Keeping.{keeps_items};
 ghost use Rattle.kpn_run_configuration.specs.Configuration.{no_frame, frame_in, channel_in, AreKept};
@@ -89,11 +89,17 @@ fn capacities_at_start<A: Allocator>(alloc: A, network: &Network) -> Result<Vec<
     Ok(capacities)
 }
 
-fn frames_at_start<A: Allocator>(alloc: A, network: &Network) -> Result<Vec<Frame, A>, AllocError>
+/// The frames of the processes of a network at their starts. The error is that memory ran out.
+pub fn frames_at_start<A: Allocator>(
+    alloc: A,
+    network: &Network,
+) -> Result<Vec<Frame, A>, AllocError>
     ensures len { IfOk result (λ frames. length frames.items ≡ length network.now.instances) }
     ensures each { IfOk result (λ frames. (p : ℕ) → p < length network.now.instances
         → slice_index_or frames.items p no_frame
         ≡ start_frame (program_of network.now p) (instance_at network.now p).pars) }
+    ensures fit { IfOk result (λ frames. (p : ℕ) → p < length network.now.instances
+        → IsTrue (fits (program_of network.now p) (slice_index_or frames.items p no_frame))) }
 {
     network.known();
     let mut frames = Vec::with_capacity(alloc, network.instances())?;

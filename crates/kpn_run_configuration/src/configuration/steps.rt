@@ -1,7 +1,7 @@
 //! Steps of a process between its events. They change only its frame, and no event records them.
-ghost use Rattle.std.specs.Prelude.{◌≡◌, ◌<◌, ℕ, List, length, IfSome};
+ghost use Rattle.std.specs.Prelude.{◌≡◌, ◌<◌, List, length};
 ghost use Rattle.kpn_net.specs.Tables.{program_of};
-ghost use Rattle.kpn_step.specs.Stops.{IsAdvance, IsAtPort, IsWithinQuota, StopsAtOnce, advanced_of};
+ghost use Rattle.kpn_step.specs.Stops.{IsAdvance, IsAtPort, IsWithinQuota, advanced_of};
 ghost use Rattle.kpn_run_history.specs.declared.event.Event.{Event};
 ghost use Rattle.kpn_run_configuration.specs.Configuration.{frame_in, with_frame, IsConfiguration};
 ghost use Rattle.kpn_run_configuration.specs.Run.{IsRun};
@@ -31,16 +31,6 @@ impl<A: Allocator> Configuration<A> {
     {
         let frame = &mut self.frames[p];
         frame.run(network.program(p), quota)
-    }
-
-    /// The stop of process `p` where it is, if it takes neither a step nor a walk along an expression.
-    #[inline(always)]
-    pub fn stop_at_once(&self, network: &Network, p: usize) -> Option<Stop>
-        requires shape { IsConfiguration network.now self.now }
-        requires process { p < length network.now.instances }
-        ensures { IfSome result (StopsAtOnce (program_of network.now p) (frame_in self.now p)) }
-    {
-        self.frame(p).stop_at_once(network.program(p))
     }
 
     /// Takes process `p` to this frame, the end of so many steps from its own, and their stop.

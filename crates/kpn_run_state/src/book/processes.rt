@@ -9,7 +9,6 @@ ghost use Rattle.kpn_run_state.specs.InARow.{RunsOn, RunsInVain};
 ghost use Rattle.kpn_run_state.specs.Commits.{Commits};
 ghost use Rattle.kpn_run_state.specs.Refusals.{RefusesCommit, RefusesPutBack};
 ghost use Rattle.kpn_run_state.specs.Stepping.{ClaimsNobody, IsStep, StepsInVain};
-ghost use Rattle.kpn_run_state.specs.AtOnce.{at_once_by};
 
 use super::Book;
 use crate::answers::{Done, Refused};
@@ -126,18 +125,6 @@ impl<'n, A: Allocator> Book<'n, A> {
         let done = self.parts.handle_stop(Hold::Taken, p, stop);
         self.parts.commits += 1;
         Ok(done)
-    }
-
-    /// Commits the first process of the queue where it stands, if it stands at a read or at a write of a number or a
-    /// variable: that takes no step and no expression. It returns whether it did. The error is that memory ran out, and
-    /// then nothing has changed.
-    pub fn commit_at_once(&mut self) -> Result<bool, AllocError>
-    where
-        A: Copy,
-        ensures at_once { IfOk result (λ made. at_once_by made self.old self.new) }
-        ensures as_before { OnErr result (self.new ≡ self.old) }
-    {
-        self.parts.commit_at_once()
     }
 
     /// Puts process `p`, which is held, to the tail of the queue. Its frame stays.

@@ -3,7 +3,7 @@
 ghost use Rattle.std.specs.Prelude.{◌≡◌, ◌≢◌, ◌<◌, ◌≤◌, ◌+◌, ℕ, ℤ, [], true, false, length, option_to_list, IsTrue};
 ghost use Rattle.kpn_net.specs.Tables.{program_of};
 ghost use Rattle.kpn_step.specs.declared.stop.Stop.{Stop as Place};
-ghost use Rattle.kpn_step.specs.declared.stop.Stop.TheVariants.{Faulted, Paused};
+ghost use Rattle.kpn_step.specs.declared.stop.Stop.TheVariants.{Paused};
 ghost use Rattle.kpn_step.specs.Frame.{Frame};
 ghost use Rattle.kpn_step.specs.Stops.{IsAtPort};
 ghost use Rattle.kpn_chan.specs.Channel.{is_full, unread};
@@ -24,7 +24,6 @@ ghost use Rattle.kpn_run_state.specs.Open.{book_of, reserves_by, IsSound, IsHeld
 use super::{Hold, OpenBook, number, wake};
 use crate::answers::Done;
 use crate::schedule::Schedule;
-use kpn_lang::Fault;
 use kpn_run_configuration::{in_channel, out_channel};
 use kpn_run_history::{Event, How, State};
 use kpn_step::Stop;
@@ -80,7 +79,7 @@ impl<'n, A: Allocator> OpenBook<'n, A> {
                 self.write(hold, p, c, item)
             }
             Stop::Done => self.finish(hold, p, How::Done),
-            Stop::Faulted(fault) => self.finish(hold, p, how_of(fault)),
+            Stop::Faulted(fault) => self.finish(hold, p, How::from(fault)),
             Stop::Paused => {
                 put_back(&mut self.schedule, hold, p);
                 Done::Paused
@@ -333,14 +332,5 @@ fn wake_all<A: Allocator>(schedule: &mut Schedule<A>, woken: &[usize])
     'processes: for i in 0..woken.len() {
         let q = woken[i];
         schedule.make_ready(q);
-    }
-}
-
-fn how_of(fault: Fault) -> How
-    ensures { stop_of result ≡ Faulted fault }
-{
-    match fault {
-        Fault::Overflow => How::Overflow,
-        Fault::ZeroDivisor => How::ZeroDivisor,
     }
 }

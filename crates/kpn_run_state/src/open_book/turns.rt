@@ -84,7 +84,7 @@ impl<'n, A: Allocator> OpenBook<'n, A> {
     /// Commits process `p`, which is the first of the queue, at this stop. Returns the sink on which it has put an
     /// item, if it has. The error is that memory ran out, and then nothing has changed.
     #[inline(always)]
-    pub(super) fn handle_first(&mut self, p: usize, stop: Stop) -> Result<Option<usize>, AllocError>
+    fn handle_first(&mut self, p: usize, stop: Stop) -> Result<Option<usize>, AllocError>
     where
         A: Copy,
         requires first { HoldsFirst p self.old.schedule (first_held p self.old.schedule) }

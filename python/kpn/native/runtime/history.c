@@ -82,18 +82,23 @@ static char *number(char *to, int64_t value) {
   return kpn_digits(to, value);
 }
 
+const char *kpn_end_word(enum kpn_stop end) {
+  static const char *const ends[] = {[KPN_DONE] = "done", [KPN_OVERFLOW] = "overflow",
+                                     [KPN_ZERO_DIVISOR] = "zero-divisor", [KPN_INDEX] = "index", [KPN_SHIFT] = "shift"};
+  return ends[end];
+}
+
 /* The line of an event, which takes 64 bytes at most. */
 static char *line_of(char *to, const struct kpn_event *event) {
   static const char *const words[] = {"get", "put", "wait-empty", "wait-full", "end",
                                       "feed", "close", "take", "leave", "grow"};
-  static const char *const causes[] = {[KPN_DONE] = " done", [KPN_OVERFLOW] = " overflow",
-                                       [KPN_ZERO_DIVISOR] = " zero-divisor"};
   to = word(to, words[event->kind]);
   if (event->process != KPN_OUTSIDE) {
     to = number(to, event->process);
   }
   if (event->kind == KPN_END) {
-    to = word(to, causes[event->item]);
+    *to++ = ' ';
+    to = word(to, kpn_end_word((enum kpn_stop)event->item));
   } else {
     to = number(to, event->channel);
   }

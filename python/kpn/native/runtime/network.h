@@ -45,7 +45,13 @@ enum kpn_being { KPN_READY, KPN_STALLED, KPN_WAITING, KPN_OVER, KPN_PARKED };
 
 /* How a turn has ended: with fuel used up, after a talk (only if a turn has one talk), without an item, without room,
    with the last lap that the process may make, or with the end of the process. */
-enum kpn_stop { KPN_PAUSED, KPN_TALKED, KPN_EMPTY, KPN_FULL, KPN_LAPPED, KPN_DONE, KPN_OVERFLOW, KPN_ZERO_DIVISOR };
+enum kpn_stop {
+  KPN_PAUSED, KPN_TALKED, KPN_EMPTY, KPN_FULL, KPN_LAPPED,
+  KPN_DONE, KPN_OVERFLOW, KPN_ZERO_DIVISOR, KPN_INDEX, KPN_SHIFT
+};
+
+/* The word for the end of a process: `done`, or that of its fault. */
+const char *kpn_end_word(enum kpn_stop end);
 
 /* Beside the outcomes of kpn.h: there is none yet. */
 enum { KPN_GOING = 0 };

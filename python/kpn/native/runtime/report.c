@@ -57,7 +57,9 @@ static void add_faults(struct text *text, const struct kpn_network *network) {
     if (process->being == KPN_OVER && process->why != KPN_DONE) {
       add(text, "fault ");
       add(text, network->plan->processes[p].name);
-      add(text, process->why == KPN_OVERFLOW ? " overflow\n" : " zero-divisor\n");
+      add(text, " ");
+      add(text, kpn_end_word(process->why));
+      add(text, "\n");
     }
   }
 }

@@ -3,4 +3,4 @@ use Rattle.kpn_text.proofs.TermLemmas.{term_read}
 use Rattle.kpn_text.proofs.canonical_laws.term_is_read.Goals as goal
 
 pub returns : goal.returns
-returns c e more tokens is ends h = (term_read e more tokens is ends (record { read = h })).read
+returns c l e more tokens is ends h = (term_read {l = l} e more tokens is ends (record { read = h })).read

@@ -3,10 +3,16 @@ use Rattle.std.proofs.Common.{◌+◌, ◌*◌}
 use Rattle.kpn_text_grammar.proofs.expressions.+expression.Given as goal
 
 abbrev pub decreases-binary : goal.decreases-binary
-decreases-binary l = 3 * l.depth + 1
+decreases-binary l = 4 * l.depth + 1
+
+abbrev pub decreases-choice : goal.decreases-choice
+decreases-choice l = 4 * l.depth + 1
 
 abbrev pub decreases-expression : goal.decreases-expression
-decreases-expression l = 3 * l.depth
+decreases-expression l = 4 * l.depth
+
+abbrev pub decreases-group : goal.decreases-group
+decreases-group l = 4 * l.depth + 2
 
 abbrev pub decreases-operand : goal.decreases-operand
-decreases-operand l = 3 * l.depth + 2
+decreases-operand l = 4 * l.depth + 3

@@ -8,8 +8,8 @@ use Rattle.kpn_text_tokens.proofs.TokenLaws.{rules_scan}
 use Rattle.kpn_text_tokens.proofs.laws.scan_follows_the_rules.Goals as goal
 
 pub returns : goal.returns
-returns c place text r = (
-  λ e. subst (λ (r : Result (List Lexeme) LexFault). Reads place text r) e
-      (scan_rules place text),
+returns c l place text r = (
+  λ e. subst (λ (r : Result (List Lexeme) LexFault). Reads l place text r) e
+      (scan_rules l place text),
   rules_scan,
 )

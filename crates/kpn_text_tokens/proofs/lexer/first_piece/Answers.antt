@@ -6,4 +6,4 @@ pub number_piece-requires : goal.number_piece-requires
 number_piece-requires c = rw c.run-then-is_ascii_digit.ensures (run_of_digits c.args.text.now)
 
 pub returns-else-is_ascii_digit-clause-within : goal.returns-else-is_ascii_digit-clause-within
-returns-else-is_ascii_digit-clause-within c = rw c.mark_piece.ensures (mark_takes c.args.text.now)
+returns-else-is_ascii_digit-clause-within c = rw c.mark_piece.ensures (mark_takes c.args.language c.args.text.now)

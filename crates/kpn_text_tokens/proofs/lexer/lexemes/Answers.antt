@@ -8,12 +8,12 @@ pub loop-rest-preserved : goal.loop-rest-preserved
 loop-rest-preserved c =
     let rest = c.loop-rest.rest.now in
     let some : 0 < length rest = grind arith in
-    let turn : Advances c.loop-rest.start rest c.loop-rest.found.items c.match-first_piece.length
+    let turn : Advances c.args.language c.loop-rest.start rest c.loop-rest.found.items c.match-first_piece.length
     c.match-first_piece.found.items = elim c.match-first_piece.branch [
-      | in-Gap w ↦ rw (w.length-is, w.found-is) (gap_advances _ _ rest _
+      | in-Gap w ↦ rw (w.length-is, w.found-is) (gap_advances _ _ _ rest _
           (record { some = some; is = w.in-Gap.ensures.value }))
       | in-Token+in_ok-push-in-Token w ↦ rw (w.length-is, w.found-is, w.in_ok-push-in-Token.ensures.items)
-          (token_advances _ _ rest _ _ (record { some = some; is = w.in-Token.ensures.value }))
+          (token_advances _ _ _ rest _ _ (record { some = some; is = w.in-Token.ensures.value }))
     ] in
     record {
       whole = rw c.split_at.ensures.back (turn.whole ∙ c.loop-rest.invariant.whole);

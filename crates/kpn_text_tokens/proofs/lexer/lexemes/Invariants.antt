@@ -6,7 +6,7 @@ use Rattle.kpn_text_tokens.proofs.lexer.lexemes.Given as goal
 
 abbrev pub invariant-loop-rest : goal.invariant-loop-rest
 invariant-loop-rest l = record {
-  whole : with_front l.found.items (scan 0 l.start l.rest) ≡ scan 0 0 l.text;
+  whole : with_front l.found.items (scan l.language 0 l.start l.rest) ≡ scan l.language 0 0 l.text;
   place : l.start + length l.rest ≡ length l.text;
 }
 

@@ -1,7 +1,7 @@
-use Rattle.std.proofs.Common.{◌≡◌, length, ap, sym, ◌∙◌, arith}
+use Rattle.std.proofs.Common.{◌≡◌, length, ap, sym, ◌∙◌, subst, arith, IsTrue}
 use Rattle.kpn_net.specs.Tables.{instance_at, program_of}
 use Rattle.kpn_net.proofs.Networks.{IsInstance-of}
-use Rattle.kpn_step.specs.Frame.{start_frame}
+use Rattle.kpn_step.specs.Frame.{start_frame, fits}
 use Rattle.kpn_run_configuration.specs.Configuration.{no_frame}
 use Rattle.kpn_run_configuration.proofs.Starting.{len_push, each_push}
 use Rattle.kpn_run_configuration.proofs.configuration.start.frames_at_start.Goals as goal
@@ -23,4 +23,8 @@ loop-p-preserved g c =
           no_frame loop.p c.in_ok-push.ensures.items loop.invariant.len loop.invariant.each
           (c.start.ensures.frame ∙ ap (λ y. start_frame y c.pars.result.now) c.program.ensures
           ∙ ap (start_frame (program_of t loop.p)) c.pars.ensures);
+      fit =
+          each_push (λ k f. IsTrue (fits (program_of t k) f)) loop.frames.items _ c.start.result no_frame loop.p
+          c.in_ok-push.ensures.items loop.invariant.len loop.invariant.fit
+          (subst (λ x. IsTrue (fits x c.start.result)) c.program.ensures c.start.ensures.fits);
     }

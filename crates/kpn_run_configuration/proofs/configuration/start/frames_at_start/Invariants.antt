@@ -1,6 +1,6 @@
-use Rattle.std.proofs.Common.{◌≡◌, ℕ, ◌<◌, length, get_or}
+use Rattle.std.proofs.Common.{◌≡◌, ℕ, ◌<◌, length, get_or, IsTrue}
 use Rattle.kpn_net.specs.Tables.{instance_at, program_of}
-use Rattle.kpn_step.specs.Frame.{start_frame}
+use Rattle.kpn_step.specs.Frame.{start_frame, fits}
 use Rattle.kpn_run_configuration.specs.Configuration.{no_frame}
 use Rattle.kpn_run_configuration.proofs.configuration.start.frames_at_start.Given as goal
 
@@ -9,4 +9,5 @@ invariant-loop-p g l = record {
   len : length l.frames.items ≡ l.p;
   each : (k : ℕ) → k < l.p
       → get_or l.frames.items k no_frame ≡ start_frame (program_of l.network k) (instance_at l.network k).pars;
+  fit : (k : ℕ) → k < l.p → IsTrue (fits (program_of l.network k) (get_or l.frames.items k no_frame));
 }

@@ -9,7 +9,8 @@ use Rattle.kpn_run_state.specs.Commits.{IsReadFrom, IsWriteTo}
 use Rattle.kpn_run_state.specs.Open.{book_of, held_by, MayCommit, Answered}
 use Rattle.std.proofs.lemmas.Int.{to_z-of_z}
 use Rattle.kpn_step.specs.declared.stop.Stop.{Stop}
-use Rattle.kpn_run_configuration.specs.Due.{stop_of}
+use Rattle.kpn_run_configuration.specs.Due.{Stands, stop_of}
+use Rattle.kpn_run_configuration.proofs.Due.{stop_of-fault}
 use Rattle.kpn_run_state.proofs.Committing.{reads_from, writes_to}
 use Rattle.kpn_run_state.proofs.Following.{held_is_there, recorded}
 use Rattle.kpn_run_state.proofs.Answering.{asked_otherwise, answered_paused}
@@ -64,6 +65,11 @@ pub finish-requires-in-Faulted-clause-may : goal.finish-requires-in-Faulted-clau
 finish-requires-in-Faulted-clause-may g c =
     may g (goal.at.finish-requires-in-Faulted-clause-may g c).After-known
     (λ paused. let clash : stop.Faulted c.in-Faulted.fault ≡ stop.Paused = sym c.in-Faulted.is ∙ paused in absurd cc)
+
+pub finish-requires-in-Faulted-clause-stands : goal.finish-requires-in-Faulted-clause-stands
+finish-requires-in-Faulted-clause-stands g c =
+    subst (λ s. Stands c.args.self.now.network.now c.args.self.now.configuration c.args.p s)
+    (c.in-Faulted.is ∙ sym (ap stop_of c.from.ensures ∙ stop_of-fault c.in-Faulted.fault)) c.requires.stands
 
 pub write-requires-clause-reserved : goal.write-requires-clause-reserved
 write-requires-clause-reserved g c =
@@ -143,8 +149,9 @@ returns-in-Faulted g c =
     let o = held_by c.args.hold c.args.p (book_of c.args.self.now) in
     record {
       answered =
-          asked_otherwise c.args.p (λ (s : Stop). s ≡ stop_of c.how_of.result) (λ s. s ≡ c.args.stop)
+          asked_otherwise c.args.p (λ (s : Stop). s ≡ stop_of c.from.result) (λ s. s ≡ c.args.stop)
           c.finish-in-Faulted.result o (book_of c.finish-in-Faulted.new.self)
-          (λ s is. is ∙ c.in-Faulted.is ∙ sym c.how_of.ensures) c.finish-in-Faulted.ensures.answered;
+          (λ s is. is ∙ c.in-Faulted.is ∙ sym (ap stop_of c.from.ensures ∙ stop_of-fault c.in-Faulted.fault))
+          c.finish-in-Faulted.ensures.answered;
       room = c.finish-in-Faulted.ensures.room;
     }

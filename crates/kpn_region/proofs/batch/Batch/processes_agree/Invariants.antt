@@ -1,0 +1,6 @@
+use Rattle.std.proofs.Common.{ℕ, ◌<◌}
+use Rattle.kpn_region.specs.Joining.{ProcessAgrees}
+use Rattle.kpn_region.proofs.batch.Batch.processes_agree.Given as goal
+
+abbrev pub invariant-processes : goal.invariant-processes
+invariant-processes g l = (q : ℕ) → q < l.p → ProcessAgrees l.self.first l.configuration q

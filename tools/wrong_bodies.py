@@ -1,0 +1,84 @@
+#!/usr/bin/env python3
+"""Tries the wrong bodies that no must-fail edit has, since a compared run or a test refuses them.
+
+usage: tools/wrong_bodies.py [NAME ..]
+
+Each stands in a file CRATE/must-fail/NAME.md: lines `file:`, `old:` and `new:` as in an edit, and a line `refused by:`
+that begins with the crate whose run or tests refuse it. The gate runs these as they are. This puts a wrong body into a
+copy and runs them unproved: what comes out has to differ. With a NAME it tries those whose names contain one.
+"""
+import pathlib
+import shutil
+import subprocess
+import sys
+import tempfile
+
+import prover
+from check import TOP, edited
+
+REFUSED_BY = 'refused by: '
+# A wrong body may keep a run from its end.
+SECONDS = 600
+
+
+def copy_of(crate, wrong_body, top):
+    """Copies the repository into the folder `top`, with the wrong body. Returns why it can't be put in, if so."""
+    for name in ('crates.txt', 'HANDLES'):
+        shutil.copy(TOP / name, top)
+    for folder in (TOP / 'crates').iterdir():
+        if folder.name != crate.name:
+            shutil.copytree(folder, top / 'crates' / folder.name, ignore=shutil.ignore_patterns('out'))
+    return edited(crate, wrong_body, top / 'crates' / crate.name)
+
+
+def words_of_run(crate):
+    """The words that run a program on its data, or the tests of a library."""
+    if not crate.is_program:
+        return ['rt', 'try', '--test']
+    data, words = crate.folder / 'data', crate.folder / 'args'
+    files = [file for file in sorted(data.rglob('*')) if file.is_file()]
+    flags = [it for file in files for it in ('--data', f'{file.relative_to(data)}={file}')]
+    return ['rt', 'try', *flags, '--', *(words.read_text().splitlines() if words.exists() else [])]
+
+
+def run_on(crate):
+    """Runs a program or the tests of a library, unproved. Returns what comes of it."""
+    given = crate.folder / 'stdin'
+    given = given.read_bytes() if crate.is_program and given.exists() else b''
+    try:
+        done = subprocess.run(words_of_run(crate), cwd=crate.folder, capture_output=True, input=given, timeout=SECONDS)
+    except subprocess.TimeoutExpired:
+        return 'refused'
+    if b'run=none' in done.stderr:
+        return 'NOT TRIED: it does not compile'
+    is_right = done.stdout == (crate.folder / 'stdout').read_bytes() if crate.is_program else done.returncode == 0
+    return 'NOT REFUSED' if is_right else 'refused'
+
+
+def verdict_on(crate, wrong_body):
+    tellers = [line for line in wrong_body.read_text().splitlines() if line.startswith(REFUSED_BY)]
+    if not tellers:
+        return f'NOT TRIED: it has no line `{REFUSED_BY}`'
+    teller = tellers[0].removeprefix(REFUSED_BY).split()[0].rstrip(',:')
+    with tempfile.TemporaryDirectory(prefix='kpn-wrong-') as folder:
+        top = pathlib.Path(folder)
+        why = copy_of(crate, wrong_body, top)
+        return f'NOT TRIED: {why}' if why else f'{run_on(prover.read_crates(top)[teller])}, by {teller}'
+
+
+def main():
+    names = sys.argv[1:]
+    if names[:1] in (['-h'], ['--help']):
+        print(__doc__)
+        return 0
+    found = []
+    for crate in prover.read_crates(TOP).values():
+        for file in sorted((crate.folder / 'must-fail').glob('*.md')):
+            if not names or any(name in file.stem for name in names):
+                found.append(verdict_on(crate, file))
+                print(f'{crate.name}/{file.stem}: {found[-1]}', flush=True)
+    return 0 if found and all(it.startswith('refused') for it in found) else 1
+
+
+if __name__ == '__main__':
+    sys.exit(main())
