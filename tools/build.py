@@ -1,9 +1,11 @@
 #!/usr/bin/env python3
 """Proves and builds the program `kpn` and the libraries below it, and reports on standard error how far it is.
 
-usage: tools/build.py [--below CRATE]
+usage: tools/build.py [--below CRATE] [--keep-going]
 
-With --below it makes the libraries below a crate, and no program: those of `kpn_c` are what the C library needs.
+With --below it makes the libraries below a crate, and no program: those of `kpn_c` are what the C library needs. If a
+crate is not proved, it stops, and what is being proved then is lost. With --keep-going it goes on with all crates that
+do not stand on that one.
 
 It calls the prover itself, side by side for crates that do not depend on one another, first for those with the longest
 chain of crates above. It makes a library with its statements only, which crates above read in less time than its
@@ -86,8 +88,8 @@ def unpack(crate, room):
 class Build:
     """The crates that are still to be made, those that are being made, and the folder of unpacked libraries."""
 
-    def __init__(self, kit, room, crates, progress):
-        self.kit, self.room, self.progress = kit, room, progress
+    def __init__(self, kit, room, crates, progress, goes_on):
+        self.kit, self.room, self.progress, self.goes_on = kit, room, progress, goes_on
         self.waiting, self.running = [it for it in crates if not it.sum], []
         self.most = max(1, min(len(os.sched_getaffinity(0)), free_memory() // BYTES_FOR_A_CRATE))
         # For each crate how much there is to read and to prove on the longest chain from it up to the program.
@@ -98,20 +100,22 @@ class Build:
             self.height[crate] = size + max(above, default=0)
 
     def make_all(self):
-        """Makes all; returns the first crate that is not proved, if there is one."""
+        """Makes all that it can; returns the crates that are not proved."""
+        failed = []
         try:
-            while self.waiting or self.running:
+            while (self.waiting or self.running) and (self.goes_on or not failed):
                 self.start_ready()
                 self.progress.show([it.name for it in self.running])
                 time.sleep(0.1)
                 for crate in [it for it in self.running if it.run.poll() is not None]:
                     if not self.finish(crate):
-                        return crate
+                        failed.append(crate)
+                        self.waiting = [it for it in self.waiting if crate not in it.below]
         finally:
             for crate in [it for it in self.running if it.run.poll() is None]:
                 os.killpg(crate.run.pid, signal.SIGKILL)
                 crate.run.wait()
-        return None
+        return failed
 
     def start_ready(self):
         """Starts what may run now, longest chain first. The crates share the processors, but one whose chain is about
@@ -220,7 +224,7 @@ def last_build():
     return f'the last time it took {clock(was["seconds"])} for {counted(was["crates"])}'
 
 
-def make(kit, crates, number):
+def make(kit, crates, number, goes_on):
     """Makes what is not current, and returns whether all of it was proved."""
     progress, is_program = Progress(number), crates[-1].is_program
     what = 'the program is proved and built' if is_program else 'libraries are proved'
@@ -231,13 +235,14 @@ def make(kit, crates, number):
     try:
         for crate in [it for it in crates if it.sum]:
             unpack(crate, room)
-        failed = Build(kit, room, crates, progress).make_all()
+        failed = Build(kit, room, crates, progress, goes_on).make_all()
     finally:
         shutil.rmtree(room, ignore_errors=True)
+    for crate in failed:
+        progress.line('\n'.join(it for it in crate.log.read_text().splitlines() if not QUIET.match(it)))
+        log = crate.log.relative_to(TOP)
+        progress.line(f'kpn: {crate.name} is not proved: what is wrong stands above, and in {log}')
     if failed:
-        progress.line('\n'.join(it for it in failed.log.read_text().splitlines() if not QUIET.match(it)))
-        log = failed.log.relative_to(TOP)
-        progress.line(f'kpn: {failed.name} is not proved: what is wrong stands above, and in {log}')
         return False
     seconds = round(time.monotonic() - progress.began)
     (OUT / 'last_build').write_text(json.dumps({'crates': number, 'seconds': seconds}))
@@ -245,12 +250,12 @@ def make(kit, crates, number):
     return True
 
 
-def build(crates):
+def build(crates, goes_on):
     """Makes these crates, each of which comes after those below it. If the program is the last one, it notes what that
     was made from. Returns the status to end with."""
     began, kit, last = time.time(), find_kit(), crates[-1]
     number = sum(not it.look(kit) for it in crates)
-    if number and not make(kit, crates, number):
+    if number and not make(kit, crates, number, goes_on):
         return 1
     if last.is_program:
         (OUT / 'needed').write_text('\n'.join(needed_by(crates)) + '\n')
@@ -259,7 +264,7 @@ def build(crates):
     return 0
 
 
-def build_alone(crates):
+def build_alone(crates, goes_on):
     """Builds while no other one does."""
     for name in ('libraries', 'logs'):
         (OUT / name).mkdir(parents=True, exist_ok=True)
@@ -269,20 +274,22 @@ def build_alone(crates):
         except BlockingIOError:
             print('kpn: waiting for another build of it to end', file=sys.stderr)
             fcntl.flock(lock, fcntl.LOCK_EX)
-        return build(crates)
+        return build(crates, goes_on)
 
 
 def main():
     parser = argparse.ArgumentParser(description=__doc__, formatter_class=argparse.RawDescriptionHelpFormatter)
     known = read_crates(TOP, Target)
     parser.add_argument('--below', metavar='CRATE', choices=known, help='makes the libraries below this crate')
-    below = parser.parse_args().below
+    parser.add_argument('--keep-going', action='store_true', help='goes on with what does not stand on a failed crate')
+    asked = parser.parse_args()
+    below = asked.below
     crates = known[below].below if below else [*known[PROGRAM].below, known[PROGRAM]]
     if not crates:
         return 0
     signal.signal(signal.SIGTERM, signal.default_int_handler)
     try:
-        return build_alone(crates)
+        return build_alone(crates, asked.keep_going)
     except KeyboardInterrupt:
         print('\nkpn: interrupted; the next start goes on from here', file=sys.stderr)
         return 130

@@ -21,7 +21,7 @@ LONG = 25
 # The most words of each document, and of all.
 BUDGETS = {
     'README.md': 1_940,
-    'docs/ARCHITECTURE.md': 3_160,
+    'docs/ARCHITECTURE.md': 3_200,
     'docs/COMPILED.md': 1_690,
     'docs/DECISIONS.md': 3_000,
     'docs/DEFINITIONS.md': 2_440,
@@ -30,7 +30,7 @@ BUDGETS = {
     'docs/GUIDE.md': 1_020,
     'docs/LANGUAGE.md': 1_760,
     'docs/LIBRARY.md': 2_240,
-    'docs/PROVING.md': 2_840,
+    'docs/PROVING.md': 2_960,
     'docs/RUNS.md': 2_040,
     'docs/STREAMS.md': 1_290,
     'docs/TRACES.md': 850,
