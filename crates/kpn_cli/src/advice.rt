@@ -1,7 +1,9 @@
 //! What to do about an outcome: about a ring of processes or a fault, about a run that is clogged, jammed or stopped,
 //! and about a source without items.
 
-use crate::pieces::{STANDARD, file_in, has_name, has_one, is_of, is_plain, push, push_name, text_of};
+use crate::pieces::{
+    STANDARD, file_in, has_name, has_one, is_of, is_plain, push, push_name, text_of,
+};
 use crate::room::push_room;
 use crate::stopped::{push_looks, push_others};
 use crate::waits::{push_faults, waits_in};
