@@ -56,7 +56,9 @@ statement_sync = let trees = tree_sync in search (crosses, sendable) depth 40
 
 chain_sync : IsSync Chain.the_field.row
 chain_sync =
-    let spines = spine_sync in search (start.the_field_sync, link.the_field_sync, crosses, sendable) depth 40
+    let spines = spine_sync in
+    let trees = tree_sync in
+    search (start.the_field_sync, link.the_field_sync, crosses, sendable) depth 40
 
 -- a large enum, for which the search counts further
 code_sync : IsSync Code.the_field.row
