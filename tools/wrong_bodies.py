@@ -17,8 +17,6 @@ import prover
 from check import TOP, edited
 
 REFUSED_BY = 'refused by: '
-# A wrong body may keep a run from its end.
-SECONDS = 600
 
 
 def copy_of(crate, wrong_body, top):
@@ -45,10 +43,8 @@ def run_on(crate):
     """Runs a program or the tests of a library, unproved. Returns what comes of it."""
     given = crate.folder / 'stdin'
     given = given.read_bytes() if crate.is_program and given.exists() else b''
-    try:
-        done = subprocess.run(words_of_run(crate), cwd=crate.folder, capture_output=True, input=given, timeout=SECONDS)
-    except subprocess.TimeoutExpired:
-        return 'refused'
+    # A wrong body may keep a run from its end: `rt try` ends it after a minute.
+    done = subprocess.run(words_of_run(crate), cwd=crate.folder, capture_output=True, input=given)
     if b'run=none' in done.stderr:
         return 'NOT TRIED: it does not compile'
     is_right = done.stdout == (crate.folder / 'stdout').read_bytes() if crate.is_program else done.returncode == 0
