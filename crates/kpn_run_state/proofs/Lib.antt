@@ -18,3 +18,4 @@ pub mod Starting
 pub mod Agreeing
 pub mod Journals
 pub mod Snapshots
+pub mod Regions

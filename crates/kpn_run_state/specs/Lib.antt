@@ -12,3 +12,4 @@ pub mod Kept
 pub mod Open
 pub mod Snapshot
 pub mod Detached
+pub mod Regions

@@ -16,6 +16,7 @@ use std::alloc::Allocator;
 
 mod commits;
 mod outside;
+pub(crate) mod regions;
 mod turns;
 
 /// How a process is held that is committed.
