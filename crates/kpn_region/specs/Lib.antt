@@ -1,3 +1,4 @@
 pub mod Local
 pub mod Batch
 pub mod Turn
+pub mod Joining

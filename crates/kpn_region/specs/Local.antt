@@ -1,6 +1,6 @@
 -- What a region of a network knows while it runs by itself: the frames of its processes, and of each channel the items
 -- that it was handed and those that it has put.
-use Rattle.std.specs.Prelude.{◌≡◌, ℕ, ◌+◌, ◌<◌, ℤ, Bool, true, false, IsTrue, List, [], ◌∷◌, ◌++◌, length, take, drop, Option, Some, None, slice_get, slice_index_or, slice_set}
+use Rattle.std.specs.Prelude.{◌≡◌, ℕ, ◌+◌, ◌<◌, max, ℤ, Bool, true, false, IsTrue, List, [], ◌∷◌, ◌++◌, length, take, drop, Option, Some, slice_get, slice_index_or, slice_set}
 use Rattle.kpn_net.specs.Tables.{Tables, program_of}
 use Rattle.kpn_step.specs.declared.stop.Stop.{Stop}
 use Rattle.kpn_step.specs.Frame.{Frame, fits}
@@ -24,15 +24,17 @@ pub record SideState : Type 0 where
   pub room : ℕ
   -- whether it is a sink that the region empties
   pub is_drained : Bool
+  -- the most items that were there and not taken when the region had put one; 0 if it has put none
+  pub most : ℕ
 
 -- a channel of which the region sees nothing
 abbrev pub no_side : SideState
-no_side = record { items = []; claimed = 0; taken = 0; room = 0; is_drained = false }
+no_side = record { items = []; claimed = 0; taken = 0; room = 0; is_drained = false; most = 0 }
 
 -- a channel as it was claimed
 abbrev pub claimed_with : List ℤ → (room : ℕ) → (is_drained : Bool) → SideState
 claimed_with items room is_drained =
-    record { items = items; claimed = length items; taken = 0; room = room; is_drained = is_drained }
+    record { items = items; claimed = length items; taken = 0; room = room; is_drained = is_drained; most = 0 }
 
 -- the items that are there and not taken, oldest first
 abbrev pub untaken : SideState → List ℤ
@@ -48,11 +50,11 @@ with_next_taken s = record s { taken = s.taken + 1 }
 
 -- one item more is put
 abbrev pub with_item : ℤ → SideState → SideState
-with_item v s = record s { items = s.items ++ v ∷ [] }
+with_item v s = record s { items = s.items ++ v ∷ []; most = max s.most (length (untaken s) + 1) }
 
 -- the channel when it was claimed
 abbrev pub as_claimed : SideState → SideState
-as_claimed s = record s { items = take s.claimed s.items; taken = 0 }
+as_claimed s = record s { items = take s.claimed s.items; taken = 0; most = 0 }
 
 -- ---- a local state
 

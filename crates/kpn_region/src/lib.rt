@@ -3,6 +3,7 @@
 #![tactic(auto)]
 
 mod batch;
+pub mod laws;
 mod ready;
 mod side;
 mod traffic;

@@ -17,6 +17,8 @@ pub struct Side<A: Allocator = Global> {
     taken: usize,
     room: u64,
     drains: bool,
+    // the most items that were there and not taken when the region had put one
+    most: usize,
     // the process that can't go on because of this channel
     stuck: u16,
 }
@@ -33,6 +35,7 @@ impl<A: Allocator> Model for Side<A> {
       taken = s.taken;
       room = s.room;
       is_drained = s.drains;
+      most = s.most;
     } };
 
     ghost invariant = { λ s. (s.claimed ≤ length s.items.items) × (s.taken ≤ length s.items.items) };
@@ -49,6 +52,7 @@ impl<A: Allocator> Side<A> {
             taken: 0,
             room: 0,
             drains: false,
+            most: 0,
             stuck: NOBODY,
         }
     }
@@ -62,6 +66,7 @@ impl<A: Allocator> Side<A> {
         self.taken = 0;
         self.room = 0;
         self.drains = false;
+        self.most = 0;
         self.stuck = NOBODY;
     }
 
@@ -141,6 +146,7 @@ impl<A: Allocator> Side<A> {
         ensures claimed { as_claimed self.new ≡ as_claimed self.old }
     {
         self.items.push(item)?;
+        self.most = self.most.max(self.items.len() - self.taken);
         Ok(())
     }
 

@@ -76,6 +76,35 @@ module _ (t : Tables) (H : List Event) (c : ℕ) (ch : ChannelState) (holds : Ho
   pub empty_same : unread ch ≡ [] → is_empty H c ≡ true
   empty_same e = ap (λ xs. eqb (length xs) 0) (sym unread_same ∙ e)
 
+-- ---- what a process says next
+
+module _ (t : Tables) (network : IsNetwork t) (H : List Event) (s : Configuration) (run : IsRun t H s) (p : ℕ)
+    (there : p < length t.instances) where
+  pub says_got : (c : ℕ) (v : ℤ) → ReadsFrom t s p c
+      → CanSay t p (read_on (H ++ Get p c v ∷ [])) (talk_of H p ++ said.Got c v ∷ [])
+  says_got c v reads =
+      subst (λ d. CanSay t p (read_on (H ++ Get p c v ∷ [])) (talk_of H p ++ said.Got d v ∷ [])) (reads.channel.1)
+      (CanSay-next t network H run.legal p there (frame_in s p) (run.leads.frames p there)
+      (stop.WantRead reads.port) reads.stands (λ e. absurd cc)
+      (read_on (H ++ Get p c v ∷ [])) (λ d. read_in d (Get p c v)) (read_on-push H (Get p c v))
+      (said.Got reads.port v) (
+        refl,
+        (
+          [],
+          get_or-map (λ d. read_in d (Get p c v)) (instance_at t p).ins reads.port 0 []
+              (reads.channel.0) ∙ ap (λ d. read_in d (Get p c v)) (reads.channel.1)
+              ∙ item_here c v,
+        ),
+      ))
+
+  pub says_put : (c : ℕ) (v : ℤ) → WritesTo t s p c v → CanSay t p (read_on H) (talk_of H p ++ said.Put c v ∷ [])
+  says_put c v writes =
+      subst (λ d. CanSay t p (read_on H) (talk_of H p ++ said.Put d v ∷ [])) (writes.channel.1)
+      (CanSay-next t network H run.legal p there (frame_in s p) (run.leads.frames p there)
+      (stop.WantWrite writes.port v) writes.stands (λ e. absurd cc)
+      (read_on H) (λ d. []) (λ d. sym (append-nil (read_on H d)))
+      (said.Put writes.port v) (refl, refl))
+
 -- ---- events of a process
 
 module _ (t : Tables) (network : IsNetwork t) (H : List Event) (s : Configuration) (run : IsRun t H s)
@@ -99,34 +128,14 @@ module _ (t : Tables) (network : IsNetwork t) (H : List Event) (s : Configuratio
     Legal-got c v below reads ready =
         legal_with (Get p c v) (there, below) (may_go p there free) (
           oldest t H c (channel_in s c) (run.leads.channels c below) v ready,
-          subst (λ d. CanSay t p (read_on (H ++ Get p c v ∷ [])) (talk_of H p ++ said.Got d v ∷ [])) (reads.channel.1)
-              (CanSay-next t network H run.legal p there (frame_in s p) (run.leads.frames p there)
-              (stop.WantRead reads.port) reads.stands (λ e. absurd cc)
-              (read_on (H ++ Get p c v ∷ [])) (λ d. read_in d (Get p c v)) (read_on-push H (Get p c v))
-              (said.Got reads.port v) (
-                refl,
-                (
-                  [],
-                  get_or-map (λ d. read_in d (Get p c v)) (instance_at t p).ins reads.port 0 []
-                      (reads.channel.0) ∙ ap (λ d. read_in d (Get p c v)) (reads.channel.1)
-                      ∙ item_here c v,
-                ),
-              )),
+          says_got t network H s run p there c v reads,
         )
-
-    says_put : (c : ℕ) (v : ℤ) → WritesTo t s p c v → CanSay t p (read_on H) (talk_of H p ++ said.Put c v ∷ [])
-    says_put c v writes =
-        subst (λ d. CanSay t p (read_on H) (talk_of H p ++ said.Put d v ∷ [])) (writes.channel.1)
-        (CanSay-next t network H run.legal p there (frame_in s p) (run.leads.frames p there)
-        (stop.WantWrite writes.port v) writes.stands (λ e. absurd cc)
-        (read_on H) (λ d. []) (λ d. sym (append-nil (read_on H d)))
-        (said.Put writes.port v) (refl, refl))
 
     pub Legal-put : (c : ℕ) (v : ℤ) → c < length t.channels → WritesTo t s p c v
         → chan.is_full (channel_in s c) ≡ false → Legal t (H ++ Put p c v ∷ [])
     Legal-put c v below writes ready =
         legal_with (Put p c v) (there, below) (may_go p there free)
-        (sym (full_same t H c (channel_in s c) (run.leads.channels c below)) ∙ ready, says_put c v writes)
+        (sym (full_same t H c (channel_in s c) (run.leads.channels c below)) ∙ ready, says_put t network H s run p there c v writes)
 
     pub Legal-wait_full : (c : ℕ) (v : ℤ) → c < length t.channels → WritesTo t s p c v
         → chan.is_full (channel_in s c) ≡ true → Legal t (H ++ WaitFull p c ∷ [])
@@ -135,7 +144,7 @@ module _ (t : Tables) (network : IsNetwork t) (H : List Event) (s : Configuratio
           may_go p there free,
           record {
             item = v;
-            next = says_put c v writes;
+            next = says_put t network H s run p there c v writes;
             full = sym (full_same t H c (channel_in s c) (run.leads.channels c below)) ∙ ready;
           },
         ) tt

@@ -2,6 +2,7 @@ pub mod Calls
 pub mod Due
 pub mod Ending
 pub mod Exact
+pub mod Going
 pub mod Growing
 pub mod Keeping
 pub mod Leading

@@ -1,5 +1,5 @@
 //! What holds of each configuration, as contracts of functions that do nothing. The layers above cite them.
-ghost use Rattle.std.specs.Prelude.{◌≡◌, ◌≢◌, ◌↔◌, ◌⊎◌, ℕ, ◌<◌, ◌≤◌, true, false, List, [], ◌∷◌, ◌++◌, length, map, Option, Some, is_some, Contains};
+ghost use Rattle.std.specs.Prelude.{◌≡◌, ◌≢◌, ◌↔◌, ◌⊎◌, ℕ, ◌<◌, ◌≤◌, true, false, ℤ, List, [], ◌∷◌, ◌++◌, length, map, Option, Some, is_some, Contains};
 ghost use Rattle.std.specs.List.{filter_map};
 ghost use Rattle.kpn_lang.specs.declared.talk.Said.{Said};
 ghost use Rattle.kpn_lang.specs.Alone.{alone};
@@ -24,7 +24,7 @@ ghost use Rattle.kpn_step.specs.declared.stop.Stop.TheVariants.{Paused};
 ghost use Rattle.kpn_run_history.specs.Talks.{is_of, is_of_process, talk_of};
 ghost use Rattle.kpn_run_history.specs.Legal.{HasNumbers, Legal, OwesGrowth, growth_after};
 ghost use Rattle.kpn_run_history.specs.Stops.{OwesNothing};
-ghost use Rattle.kpn_chan.specs.Channel.{unread, next_item};
+ghost use Rattle.kpn_chan.specs.Channel.{unread, is_full, next_item};
 ghost use Rattle.kpn_run_configuration.specs.Configuration.{Configuration, IsConfiguration, channel_in, wait_in, end_in, frame_in, capacities, IsFree};
 ghost use Rattle.kpn_run_configuration.specs.Woken.{waiting_writer, waiting_reader};
 ghost use Rattle.kpn_run_configuration.specs.Quiet.{IsQuietNow};
@@ -32,7 +32,7 @@ ghost use Rattle.kpn_run_configuration.specs.Settled.{IsSettledNow, IsVerdictNow
 ghost use Rattle.kpn_run_configuration.specs.Run.{IsRun};
 ghost use Rattle.kpn_run_configuration.specs.Changes.{Changes};
 ghost use Rattle.kpn_run_configuration.specs.Determined.{AreSame};
-ghost use Rattle.kpn_run_configuration.specs.Due.{Stands, ReadsFrom, IsDueNow};
+ghost use Rattle.kpn_run_configuration.specs.Due.{Stands, ReadsFrom, WritesTo, IsDueNow};
 
 /// If a history leads to a configuration, and an event that may follow it changes this configuration into another, the
 /// history with the event leads to the other.
@@ -85,6 +85,16 @@ pub fn a_reader_is_there()
     ensures waits { (t : Tables) → IsNetwork t → (H : List Event) (s : Configuration)
         → IsRun t H s → (p c : ℕ) → p < length t.instances → IsFree s p → ReadsFrom t s p c
         → is_some (next_item (channel_in s c)) ≡ false → unread (channel_in s c) ≡ [] }
+{}
+
+/// A process whose next read or write can take place waits for nobody.
+pub fn who_can_go_on_is_awake()
+    ensures reads { (t : Tables) → IsNetwork t → (H : List Event) (s : Configuration) → IsRun t H s
+        → (p c : ℕ) (item : ℤ) → p < length t.instances → ReadsFrom t s p c
+        → next_item (channel_in s c) ≡ Some item → wait_in s p ≡ Nobody }
+    ensures writes { (t : Tables) → IsNetwork t → (H : List Event) (s : Configuration) → IsRun t H s
+        → (p c : ℕ) (item : ℤ) → p < length t.instances → WritesTo t s p c item
+        → is_full (channel_in s c) ≡ false → wait_in s p ≡ Nobody }
 {}
 
 /// At every moment of a run the journal of a channel is what was read from it and then what is unread, and is below the
