@@ -19,3 +19,4 @@ pub mod Agreeing
 pub mod Journals
 pub mod Snapshots
 pub mod Regions
+pub mod Joined

@@ -13,3 +13,4 @@ pub mod Open
 pub mod Snapshot
 pub mod Detached
 pub mod Regions
+pub mod BatchCommits
