@@ -19,4 +19,5 @@ pub mod Agreeing
 pub mod Journals
 pub mod Snapshots
 pub mod Regions
+pub mod Settling
 pub mod Joined

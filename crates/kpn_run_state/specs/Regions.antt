@@ -1,16 +1,21 @@
--- Regions on the book: the processes of a region are held together, and put back together.
-use Rattle.std.specs.Prelude.{ℕ, Bool, true, false, not, ◌&&◌, if◌then◌else◌, List, [], ◌∷◌, length, slice_set}
+-- Regions on the book: the processes of a region are held together, and put back together, or committed at the stops of
+-- a batch.
+use Rattle.std.specs.Prelude.{◌≡◌, ◌≢◌, ℕ, ◌+◌, Bool, true, false, not, ◌&&◌, if◌then◌else◌, List, [], ◌∷◌, length, slice_set, Option, Some, None}
 use Rattle.std.specs.List.{filter, range_with_len}
 use Rattle.kpn_net.specs.declared.wait.Wait.{Wait}
 use Rattle.kpn_net.specs.declared.wait.Wait.TheVariants.{Nobody}
 use Rattle.kpn_net.specs.Waits.{wait_at}
+use Rattle.kpn_step.specs.declared.stop.Stop.{Stop}
+use Rattle.kpn_step.specs.declared.stop.Stop.TheVariants.{Paused}
 use Rattle.kpn_run_history.specs.declared.state.State.{State}
 use Rattle.kpn_run_history.specs.declared.state.State.TheVariants.{Held, WaitsEmpty, WaitsFull}
 use Rattle.kpn_run_history.specs.Views.{is_held}
 use Rattle.kpn_region.specs.Local.{is_within}
-use Rattle.kpn_region.specs.Batch.{Batch}
+use Rattle.kpn_region.specs.Batch.{Batch, stop_of}
+use Rattle.kpn_run_state.specs.declared.answers.Done.{Done}
 use Rattle.kpn_run_state.specs.Schedule.{Schedule, state_at, first_held, made_ready, with_state}
-use Rattle.kpn_run_state.specs.Book.{Book}
+use Rattle.kpn_run_state.specs.Book.{Book, put_back}
+use Rattle.kpn_run_state.specs.Commits.{HandlesStop}
 
 -- ---- a claim
 
@@ -73,3 +78,33 @@ all_woken within waits (p ∷ ps) s = all_woken within waits ps (woken_if (withi
 -- those who wait no more are woken, in order of number
 abbrev pub region_woken : (within : ℕ → Bool) → List Wait → Schedule → Schedule
 region_woken within waits s = all_woken within waits (range_with_len 0 (length s.states)) s
+
+-- ---- what becomes of the processes of a batch after its events
+
+-- process p, which is held, is committed at this stop, or memory for that ran out and it is put back
+abbrev pub commits_or_not : (memory : Bool) → (p : ℕ) → Stop → (before after : Book) → Type 0
+commits_or_not true p s before after = (answer : Done) × HandlesStop p s answer before after
+commits_or_not false p s before after = (s ≢ Paused) × (after ≡ put_back p before)
+
+-- process p, which is held, is committed at the stop at which it can't go on; if it has none, it is put back
+abbrev pub goes_to : (memory : Bool) → (p : ℕ) → Option Stop → (before after : Book) → Type 0
+goes_to memory p (Some s) before after = commits_or_not memory p s before after
+goes_to memory p None before after = (memory ≡ true) × (after ≡ put_back p before)
+
+-- the batch has to do with process p now: it is of the region, and held
+abbrev pub has_part : Batch → (p : ℕ) → Book → Bool
+has_part b p book = is_within b.now p && is_held (state_at book.schedule.states p)
+
+abbrev pub settles_if : (part : Bool) → (memory : Bool) → Batch → (p : ℕ) → (before after : Book) → Type 0
+settles_if true memory b p before after = goes_to memory p (stop_of b p) before after
+settles_if false memory b p before after = (memory ≡ true) × (after ≡ before)
+
+-- what becomes of process p
+abbrev pub Settles : (memory : Bool) → Batch → (p : ℕ) → (before after : Book) → Type 0
+Settles memory b p before after = settles_if (has_part b p before) memory b p before after
+
+-- this becomes of the processes below n, in order of number; memory says whether there was enough for all of them
+pub data SettleBelow (b : Batch) (first : Book) : (n : ℕ) → (memory : Bool) → Book → Type 0 where
+  none_yet : SettleBelow b first 0 true first
+  one_more : {n : ℕ} {memory : Bool} (enough : Bool) (before after : Book) → SettleBelow b first n memory before
+      → Settles enough b n before after → SettleBelow b first (n + 1) (enough && memory) after

@@ -1,15 +1,104 @@
-//! Regions: their processes are held together, put back or woken.
-ghost use Rattle.std.specs.Prelude.{◌≡◌, ◌<◌, length, slice_get, Some};
+//! Regions: their processes are held together, put back or woken, and committed at the stops of a batch.
+ghost use Rattle.std.specs.Prelude.{◌≡◌, ◌≢◌, ℕ, ◌<◌, true, length, slice_get, Some};
+ghost use Rattle.kpn_net.specs.Tables.{program_of};
+ghost use Rattle.kpn_step.specs.Frame.{Frame};
+ghost use Rattle.kpn_step.specs.Stops.{IsAtPort};
 ghost use Rattle.kpn_run_history.specs.Views.{is_held};
-ghost use Rattle.kpn_region.specs.Local.{is_within};
-ghost use Rattle.kpn_run_state.specs.Regions.{turned_if, region_held, put_back_if, region_put_back, is_woken, woken_if, region_woken};
+ghost use Rattle.kpn_run_configuration.specs.Configuration.{frame_in};
+ghost use Rattle.kpn_run_configuration.specs.Due.{Stands};
+ghost use Rattle.kpn_region.specs.Local.{is_within, frame_at};
+ghost use Rattle.kpn_run_state.specs.Book.{IsHeld};
+ghost use Rattle.kpn_run_state.specs.Kept.{IsKept};
+ghost use Rattle.kpn_run_state.specs.Open.{book_of};
+ghost use Rattle.kpn_run_state.specs.Regions.{turned_if, region_held, put_back_if, region_put_back, is_woken, woken_if, region_woken, commits_or_not, has_part, Settles, SettleBelow};
 
+use super::{Hold, OpenBook};
 use crate::schedule::Schedule;
 use kpn_net::Wait;
 use kpn_region::Batch;
 use kpn_run_configuration::Configuration;
 use kpn_run_history::State;
+use kpn_step::Stop;
 use std::alloc::Allocator;
+
+impl<'n, A: Allocator> OpenBook<'n, A> {
+    /// What becomes of the processes of a batch once its events are appended: each that is held is committed at the
+    /// stop at which it can't go on, or put back if it has none. Returns whether there was memory for all of it; a
+    /// process for which there was none is put back.
+    pub(crate) fn settle_region<B: Allocator>(&mut self, batch: &Batch<'n, B>) -> bool
+    where
+        A: Copy,
+        requires tables { batch.now.tables ≡ self.old.network.now }
+        requires kept { IsKept (book_of self.old) }
+        requires frames { (p : ℕ) → is_within batch.now.now p ≡ true
+            → frame_in self.old.configuration p ≡ frame_at batch.now.now p }
+        ensures settle { SettleBelow batch.now (book_of self.old)
+            (length self.old.network.now.instances) result (book_of self.new) }
+        ensures kept { IsKept (book_of self.new) }
+    {
+        let network = self.network;
+        let mut memory = true;
+        'processes: for p in 0..network.instances() {
+            memory = self.settle(batch, p) && memory;
+        }
+        memory
+    }
+
+    /// What becomes of process `p`.
+    fn settle<B: Allocator>(&mut self, batch: &Batch<'n, B>, p: usize) -> bool
+    where
+        A: Copy,
+        requires tables { batch.now.tables ≡ self.old.network.now }
+        requires process { p < length self.old.network.now.instances }
+        requires kept { IsKept (book_of self.old) }
+        requires frame { is_within batch.now.now p ≡ true
+            → frame_in self.old.configuration p ≡ frame_at batch.now.now p }
+        ensures settles { Settles result batch.now p (book_of self.old) (book_of self.new) }
+        ensures kept { IsKept (book_of self.new) }
+    {
+        batch.known();
+        if !self.has_part(batch, p) {
+            return true;
+        }
+        let Some(stop) = batch.stop(p) else {
+            self.schedule.put_back(p);
+            return true;
+        };
+        self.commit_or_put_back(p, stop)
+    }
+
+    /// Whether process `p` is of the region of a batch, and held.
+    fn has_part<B: Allocator>(&self, batch: &Batch<'n, B>, p: usize) -> bool
+        requires region { p < length batch.now.tables.instances }
+        requires process { p < length self.now.schedule.states }
+        ensures { result ≡ has_part batch.now p (book_of self.now) }
+    {
+        batch.is_within(p) && is_held(self.schedule.state(p))
+    }
+
+    /// Commits process `p`, which is held, at the stop where it stands. Returns whether there was memory for it; if not,
+    /// the process is put back.
+    fn commit_or_put_back(&mut self, p: usize, stop: Stop) -> bool
+    where
+        A: Copy,
+        requires held { IsHeld (book_of self.old) p }
+        requires kept { IsKept (book_of self.old) }
+        requires stands { Stands self.old.network.now self.old.configuration p stop }
+        requires port { (f : Frame) × IsAtPort (program_of self.old.network.now p) f stop }
+        ensures commits { commits_or_not result p stop (book_of self.old) (book_of self.new) }
+        ensures kept { IsKept (book_of self.new) }
+    {
+        let network = self.network;
+        network.known();
+        if let Err(_error) = self.reserve(p, stop) {
+            self.schedule.put_back(p);
+            return false;
+        }
+        let _done = self.handle_stop(Hold::Taken, p, stop);
+        self.commits += 1;
+        true
+    }
+}
 
 /// The ready processes of a region become held, and leave the queue.
 pub(crate) fn hold_region<A: Allocator, B: Allocator>(
