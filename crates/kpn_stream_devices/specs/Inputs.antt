@@ -76,8 +76,8 @@ IsAtHand {F = F} inputs source =
     → get_or inputs.each.now.items i input ≡ input → Waits input → ⊥
 
 -- What a look at an input does: what has come moves from the device to the window, and nothing else happens; or a fault
--- is kept, which the next call tells, and the window stays. If the answer is at hand, no device is looked at, and a kept
--- fault stays.
+-- is kept, which the next call tells, and the window stays. If the answer is at hand, no device is looked at, and a
+-- kept fault stays.
 pub record InputLooks {I F : Type 0} (left : I → Option (List ℕ)) (left_in : F → Option (List ℕ))
     (standard : I) (input : Input F) (read : I) (after : Input F) : Type 0 where
   pub channel : after.channel ≡ input.channel
