@@ -57,39 +57,56 @@ def description(file):
 
 # ---- the canonical text
 
-def expression(tree):
+def expression(tree, language, least=1):
+    """An expression where only operators that bind so tightly may stand without parentheses. Those of language 1 always
+    have them."""
     if not isinstance(tree, tuple):
         return str(tree)
     mark, *parts = tree
     if len(parts) == 1:
-        return mark + expression(parts[0])
+        return mark + expression(parts[0], language, rounds.OPERAND)
     if mark == '?':
-        return f'({expression(parts[0])} ? {expression(parts[1])} : {expression(parts[2])})'
-    return f'({expression(parts[0])} {mark} {expression(parts[1])})'
+        return '({} ? {} : {})'.format(*(expression(part, language) for part in parts))
+    left, right = (expression(part, language, side) for part, side in zip(parts, rounds.sides(mark)))
+    is_free = language == 2 and rounds.TIGHTNESS[mark] >= least
+    return f'{left} {mark} {right}' if is_free else f'({left} {mark} {right})'
 
 
-def block(statements, indent):
+def block(statements, indent, language):
     lines = []
     for word, *rest in statements:
         if word == 'if':
-            lines += [f'{indent}if {expression(rest[0])} {{', *block(rest[1], indent + '  ')]
-            lines += [f'{indent}}} else {{', *block(rest[2], indent + '  '), indent + '}']
+            condition, *behind = branch(rest, indent, language)
+            lines += [f'{indent}if {condition}', *behind]
         elif word == 'while':
-            lines += [f'{indent}while {expression(rest[0])} {{', *block(rest[1], indent + '  '), indent + '}']
+            lines += [f'{indent}while {expression(rest[0], language)} {{', *block(rest[1], indent + '  ', language),
+                      indent + '}']
         elif word == 'assign':
-            lines.append(f'{indent}{rest[0]} = {expression(rest[1])};')
+            lines.append(f'{indent}{rest[0]} = {expression(rest[1], language)};')
         elif word == 'read':
             lines.append(f'{indent}read {rest[0]} {rest[1]};')
         else:
-            lines.append(f'{indent}write {rest[0]} {expression(rest[1])};')
+            lines.append(f'{indent}write {rest[0]} {expression(rest[1], language)};')
     return lines
 
 
-def canonical(processes, channels, instances, growing):
-    lines = []
+def branch(parts, indent, language):
+    """The lines of an `if` from its condition on. Language 2 leaves out what it can of an `else`."""
+    test, first, second = parts
+    lines = [f'{expression(test, language)} {{', *block(first, indent + '  ', language)]
+    if language == 2 and not second:
+        return [*lines, indent + '}']
+    if language == 2 and len(second) == 1 and second[0][0] == 'if':
+        condition, *behind = branch(second[0][1:], indent, language)
+        return [*lines, f'{indent}}} else if {condition}', *behind]
+    return [*lines, indent + '} else {', *block(second, indent + '  ', language), indent + '}']
+
+
+def canonical(processes, channels, instances, growing, language=1):
+    lines = ['language 2;'] * (language == 2)
     for name, (parts, body) in processes.items():
         head = '; '.join(f'{part} {", ".join(names)}' for part, names in parts.items() if names)
-        lines += [f'process {name}({head}) {{', *block(body, '  '), '}']
+        lines += [f'process {name}({head}) {{', *block(body, '  ', language), '}']
     lines.append('network {')
     if growing.limit < rounds.LARGEST_CAPACITY:
         lines.append(f'  limit {growing.limit};')
@@ -114,8 +131,7 @@ def check(file):
 
 def print_text(file):
     text, *parts = description(file)
-    opening = 'language 2;\n' if rounds.Parser(text).took('language') else ''
-    return opening + canonical(*parts)
+    return canonical(*parts, 2 if rounds.Parser(text).took('language') else 1)
 
 
 def lists_of(channels, options):

@@ -13,6 +13,11 @@ import typing
 TOKEN = re.compile(r'\s+|#[^\n]*|([A-Za-z_]\w*|\d+|<=|>=|==|!=|&&|\|\||<<|>>|[-(){};,=+*/%<>!?:~&|^])')
 SMALLEST, LARGEST = -2**63, 2**63 - 1
 LARGEST_CAPACITY = 1_048_576
+# How tightly each operator binds, from the loosest on. Those of one row go from the left.
+ROWS = (('||',), ('&&',), ('<', '<=', '>', '>=', '==', '!='), ('|',), ('^',), ('&',), ('<<', '>>'), ('+', '-'),
+        ('*', '/', '%'))
+TIGHTNESS = {mark: number for number, row in enumerate(ROWS, 1) for mark in row}
+COMPARING, SHIFTING, OPERAND = TIGHTNESS['<'], TIGHTNESS['<<'], len(ROWS) + 1
 
 
 class Fault(Exception):
@@ -103,8 +108,7 @@ class Parser:
         word = self.next()
         if word == 'if':
             test, first = self.expression(), self.block()
-            self.next('else')
-            return word, test, first, self.block()
+            return word, test, first, self.otherwise()
         if word == 'while':
             return word, self.expression(), self.block()
         if word == 'read':
@@ -117,17 +121,36 @@ class Parser:
         self.next(';')
         return found
 
-    def expression(self):
+    def otherwise(self):
+        """The block behind `else`, if there is one."""
+        if not self.took('else'):
+            return []
+        return [self.statement()] if self.peek() == 'if' else self.block()
+
+    def expression(self, least=1):
+        """An expression with no operator looser than this outside parentheses. Its operators go from the left."""
+        found, most = self.operand(), OPERAND
+        while self.peek() in TIGHTNESS:
+            mark, tightness = self.peek(), TIGHTNESS[self.peek()]
+            is_loose = tightness == COMPARING and most < SHIFTING
+            if is_loose or not least <= tightness <= most:
+                break
+            self.next()
+            found = mark, found, self.expression(sides(mark)[1])
+            # Nothing but `&&` and `||` goes on behind a comparison.
+            most = tightness - (tightness == COMPARING)
+        return found
+
+    def operand(self):
         token = self.next()
         if token in ('-', '!', '~'):
-            return token, self.expression()
+            return token, self.operand()
         if token == '(':
-            left, mark, right = self.expression(), self.next(), self.expression()
-            if mark == '?':
+            found = self.expression()
+            if self.took('?'):
+                first = self.expression()
                 self.next(':')
-                found = mark, left, right, self.expression()
-            else:
-                found = mark, left, right
+                found = '?', found, first, self.expression()
             self.next(')')
             return found
         return int(token) if token.isdigit() else token
@@ -172,6 +195,12 @@ class Parser:
         values = self.listed(self.number) if self.took(';') else []
         self.next(')')
         return program, ins, outs, values
+
+
+def sides(mark):
+    """How tightly what stands on each side of an operator has to bind."""
+    tightness = TIGHTNESS[mark]
+    return (SHIFTING, SHIFTING) if tightness == COMPARING else (tightness, tightness + 1)
 
 
 def exact(value):

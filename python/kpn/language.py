@@ -1,9 +1,11 @@
-"""The languages of networks: reads their texts, and writes them in their one canonical form.
+"""The languages of networks: reads their texts, and writes them line by line.
 
 A text that begins with `language 2;` is of language 2, and any other of language 1. A text is read only so far as the
 package has to know it: its form, the ports and the parameters of its processes, and the network. Whether the names and
-the rules are right is for `kpn` to say. The canonical form has the same tokens as the text that it is made from; only
-white space, comments and leading zeros differ. So a place in it is found again in the text by the number of its token.
+the rules are right is for `kpn` to say. The lines have the same tokens as the text that they are made from; only white
+space, comments and leading zeros differ. So a place in them is found again in the text by the number of its token. In
+language 1 they are the canonical form. In language 2 that leaves out parentheses and `else` where it can, and the lines
+keep them.
 """
 from __future__ import annotations
 
@@ -24,8 +26,12 @@ MOST_LEVELS = 32
 NUMBER = re.compile(r'[0-9]{1,19}')
 NAME = re.compile(r'[A-Za-z_][A-Za-z0-9_]*')
 SIGNS = {1: frozenset('-!'), 2: frozenset('-!~')}
-OPERATORS = {1: frozenset('+ - * / % < <= > >= == != && ||'.split())}
-OPERATORS[2] = OPERATORS[1] | frozenset('& | ^ << >>'.split())
+# How tightly each operator of language 2 binds. Those of one row go from the left, but a comparison stands alone.
+ROWS = (('||',), ('&&',), ('<', '<=', '>', '>=', '==', '!='), ('|',), ('^',), ('&',), ('<<', '>>'), ('+', '-'),
+        ('*', '/', '%'))
+TIGHTNESS = {mark: number for number, row in enumerate(ROWS, 1) for mark in row}
+COMPARING, SHIFTING, OPERAND = TIGHTNESS['<'], TIGHTNESS['<<'], len(ROWS) + 1
+OPERATORS_OF_ONE = frozenset(TIGHTNESS) - frozenset('& | ^ << >>'.split())
 SPACE = re.compile(r'(?:[ \t\r\n]|#[^\n]*)*')
 TOKEN = re.compile(r'[A-Za-z_][A-Za-z0-9_]*|[0-9]+|<=|>=|==|!=|&&|\|\||<<|>>|[-(){};,=+*/%<>!~&|^?:]')
 
@@ -68,11 +74,16 @@ def tokens_of(text: str) -> List[Token]:
         place = match.end()
 
 
-def same_place(canonical: str, place: int, text: str) -> int:
-    """The place in a text that is the given place in its canonical form."""
-    number = sum(it.start < place for it in tokens_of(canonical))
+def same_place(lines: str, place: int, text: str) -> int:
+    """The place in a text that is the given place in its lines."""
+    number = sum(it.start < place for it in tokens_of(lines))
     tokens = tokens_of(text)
     return tokens[min(number, len(tokens) - 1)].start
+
+
+def right_tightness(mark: str) -> int:
+    """How tightly the right side of an operator has to bind in language 2, to stand without parentheses."""
+    return SHIFTING if TIGHTNESS[mark] == COMPARING else TIGHTNESS[mark] + 1
 
 
 def is_name(word: str, language: int = 1) -> bool:
@@ -87,7 +98,7 @@ def is_number(word: str) -> bool:
 
 
 class Reader:
-    """Reads a text, and gives its processes as canonical lines."""
+    """Reads a text, and gives its processes as lines."""
 
     def __init__(self, text: str, what: str = 'text'):
         self.text, self.what = text, what
@@ -152,31 +163,31 @@ class Reader:
             if word not in left:
                 self.fail()
         self.need(')')
-        body = tuple(self.block('  '))
+        if len({it for names in parts.values() for it in names}) < sum(map(len, parts.values())):
+            self.fail()
+        body = tuple(self.block(1, '  '))
         last = self.tokens[self.place - 1].start + 1
-        return Process(name, parts['in'], parts['out'], parts['par'], body, self.text[start:last])
+        return Process(name, parts['in'], parts['out'], parts['par'], body, self.text[start:last], self.language)
 
-    def block(self, indent: str) -> List[str]:
-        """Reads a block, and gives its canonical lines without the braces."""
-        if len(indent) > 2 * MOST_LEVELS:
+    def block(self, level: int, indent: str) -> List[str]:
+        """Reads a block of a level, and gives its lines without the braces."""
+        if level > MOST_LEVELS:
             self.fail()
         self.need('{')
         lines: List[str] = []
         while self.peek() != '}':
-            lines += self.statement(indent)
+            lines += self.statement(level, indent)
         self.need('}')
         return lines
 
-    def statement(self, indent: str) -> List[str]:
-        """Reads a statement, and gives its canonical lines."""
+    def statement(self, level: int, indent: str) -> List[str]:
+        """Reads a statement, and gives its lines."""
         word = self.peek()
-        if word in ('if', 'while'):
+        if word == 'if':
+            return self.branch(level, indent, indent)
+        if word == 'while':
             self.place += 1
-            lines = [f'{indent}{word} {self.expression()} {{', *self.block(indent + '  ')]
-            if word == 'if':
-                self.need('else')
-                lines += [indent + '} else {', *self.block(indent + '  ')]
-            return [*lines, indent + '}']
+            return [f'{indent}while {self.expression()} {{', *self.block(level + 1, indent + '  '), indent + '}']
         if word == 'read':
             self.place += 1
             line = f'read {self.name()} {self.name()};'
@@ -190,30 +201,73 @@ class Reader:
         self.need(';')
         return [indent + line]
 
-    def expression(self, level: int = 1) -> str:
-        """Reads an expression, and gives its canonical form."""
+    def branch(self, level: int, indent: str, before: str) -> List[str]:
+        """Reads an `if`, and gives its lines, the first of them behind this."""
+        self.need('if')
+        lines = [f'{before}if {self.expression()} {{', *self.block(level + 1, indent + '  ')]
+        if self.language == 1 or self.peek() == 'else':
+            self.need('else')
+            if self.language == 2 and self.peek() == 'if':
+                return [*lines, *self.branch(level + 1, indent, indent + '} else ')]
+            lines += [indent + '} else {', *self.block(level + 1, indent + '  ')]
+        return [*lines, indent + '}']
+
+    def expression(self) -> str:
+        """Reads an expression, and gives it with one space around each operator with two sides."""
+        text, levels = self.operand(0) if self.language == 1 else self.operation(0, 1)
+        if levels > MOST_LEVELS:
+            self.fail()
+        return text
+
+    def operation(self, around: int, least: int) -> Tuple[str, int]:
+        """Reads operators of language 2 that bind at least so tightly, from the left, with so many signs and
+        parentheses around. It gives the text and its levels."""
+        (text, levels), most = self.operand(around), OPERAND
+        while self.peek() in TIGHTNESS:
+            mark, tightness = self.peek(), TIGHTNESS[self.peek()]
+            is_loose = tightness == COMPARING and most < SHIFTING
+            if is_loose or not least <= tightness <= most:
+                break
+            self.place += 1
+            right, others = self.operation(around, right_tightness(mark))
+            text, levels = f'{text} {mark} {right}', 1 + max(levels, others)
+            # Nothing but `&&` and `||` goes on behind a comparison.
+            most = tightness - (tightness == COMPARING)
+        return text, levels
+
+    def operand(self, around: int) -> Tuple[str, int]:
+        """Reads an operand, with so many signs and parentheses around it, and gives its text and its levels."""
         token = self.peek()
-        if level > MOST_LEVELS:
+        if around == MOST_LEVELS:
             self.fail()
         if token in SIGNS[self.language]:
             self.place += 1
-            return token + self.expression(level + 1)
+            text, levels = self.operand(around + 1)
+            return token + text, levels + 1
         if is_number(token):
-            return str(self.number())
+            return str(self.number()), 1
         if token != '(':
-            return self.name()
+            return self.name(), 1
         self.place += 1
-        left, operator = self.expression(level + 1), self.peek()
-        is_choice = operator == '?' and self.language == 2
-        if operator not in OPERATORS[self.language] and not is_choice:
-            self.fail()
-        self.place += 1
-        right = self.expression(level + 1)
-        if is_choice:
-            self.need(':')
-            right += f' : {self.expression(level + 1)}'
+        text, levels = self.within(around + 1)
         self.need(')')
-        return f'({left} {operator} {right})'
+        return f'({text})', levels
+
+    def within(self, around: int) -> Tuple[str, int]:
+        """Reads what stands in parentheses, and gives its text and its levels."""
+        if self.language == 1:
+            parts, marks = [self.operand(around)], [self.peek()]
+            if self.peek() not in OPERATORS_OF_ONE:
+                self.fail()
+        else:
+            parts, marks = [self.operation(around, 1)], ['?', ':']
+            if self.peek() != '?':
+                return parts[0]
+        for mark in marks:
+            self.need(mark)
+            parts.append(self.operand(around) if self.language == 1 else self.operation(around, 1))
+        text = parts[0][0] + ''.join(f' {mark} {part}' for mark, (part, _) in zip(marks, parts[1:]))
+        return text, 1 + max(levels for _, levels in parts)
 
     def description(self) -> Description:
         """Reads a whole text."""

@@ -71,7 +71,8 @@ class Layout(NamedTuple):
 
 
 class Network:
-    """A network that is being built. Its text is `str(net)`, the one that `kpn print` gives.
+    """A network that is being built. Its text is `str(net)`, the one that `kpn print` gives. In a network of language 2
+    each process keeps the parentheses and the `else` of its own text, some of which `kpn print` leaves out.
 
     `limit`, 1 to 1,048,576, is the largest capacity that a channel may grow to, `policy` is `cycles` or `all`, and
     `grow` is `one` or `double`: Combrieks' docs/RUNS.md tells which to choose. A stream that is used again is an
@@ -321,7 +322,7 @@ class Network:
 
     @property
     def language(self) -> int:
-        """The language of its text: 2 if it was read from such a text, or if a process needs that, and else 1."""
+        """The language of its text: 2 if it or one of its processes was read from such a text, and else 1."""
         return max([self._language, *(it.language for it in self._processes),
                     *(it.process.language for it in self._instances)])
 

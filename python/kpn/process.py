@@ -2,7 +2,6 @@
 from __future__ import annotations
 
 import operator
-import re
 from dataclasses import dataclass, field, replace
 from typing import TYPE_CHECKING, Any, List, Mapping, Optional, Sequence, Tuple, Union
 
@@ -16,8 +15,6 @@ MOST_PORTS = 16
 LARGEST_VALUE = 2**63 - 1
 # The capacities of the channels at the out ports: of all, by place, or by the name of the port.
 Capacities = Union[None, int, Sequence[int], Mapping[str, int]]
-# A mark that language 1 lacks.
-MARK_OF_TWO = re.compile(r'(?<!&)&(?!&)|(?<!\|)\|(?!\|)|<<|>>|[~^?]')
 # What a call of a process gives: nothing, a stream, or one for each out port.
 Outputs = Any
 
@@ -41,6 +38,8 @@ class Process:
     pars: Tuple[str, ...]
     body: Tuple[str, ...]
     source: str = field(default='', compare=False, repr=False)
+    # The language of the text that it stands in, 1 or 2.
+    language: int = field(default=1, compare=False, repr=False)
 
     def __post_init__(self) -> None:
         for ports, what in ((self.ins, 'in'), (self.outs, 'out')):
@@ -52,17 +51,12 @@ class Process:
     def from_text(cls, text: str) -> Process:
         """Reads a process, as in `Process.from_text("process gain(in i; out o; par k) { .. }")`.
 
-        One with operators of language 2 stands behind `language 2;`.
+        One of language 2 stands behind `language 2;`.
 
         Raises KpnError with the place if no text of the language goes on so; a wrong name is found when it runs.
         """
         from .language import read_process  # it gives processes, so it needs this class first
         return read_process(text)
-
-    @property
-    def language(self) -> int:
-        """The least language that the process may be written in, 1 or 2."""
-        return 2 if any(MARK_OF_TWO.search(line) for line in self.body) else 1
 
     def renamed(self, name: str) -> Process:
         """A process that differs in its name only."""

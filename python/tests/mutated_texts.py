@@ -12,13 +12,14 @@ import tempfile
 from support import GALLERY, TOP, kpn
 
 from kpn.language import tokens_of
-from kpn.program import as_bytes, call
+from kpn.program import answer, as_bytes, call
 from random_networks import Maker
 
 TEXTS = [file.read_text() for folder in (TOP / 'examples', TOP / 'examples/language2', GALLERY)
          for file in sorted(folder.glob('*.kpn'))]
 TOKENS = ('(', ')', '{', '}', ';', ',', '=', '-', '0', '1', '007', '1048577', '9223372036854775808', 'x', 'cap',
-          'limit', 'policy', 'grow', 'all', 'double', 'source', 'sink', 'channel', 'read', 'in', 'out', '_' * 33, '&', '~', '?', ':', '<<', 'language', 'table')
+          'limit', 'policy', 'grow', 'all', 'double', 'source', 'sink', 'channel', 'read', 'in', 'out', '_' * 33, '&',
+          '~', '?', ':', '<<', '+', '==', 'language', 'table', 'if', 'else')
 CHARACTERS = ('', *'(){};,=-1x#\n\r\t\x00\x0b&', '\u00b2', '\ufeff', '\udc80', '# \u00e9 \ud800\n', '\r\n')
 PARTS = re.compile(r'(\w+ = \w+\()([^;)]*);([^;)]*)(;[^;)]*)?\);')
 
@@ -102,7 +103,8 @@ def read(text):
         net.check()
     except kpn.KpnError as error:
         return '', error.error, False
-    return str(net), None, True
+    # A text of language 2 keeps parentheses that `kpn print` leaves out.
+    return (answer('print', str(net)) if net.language == 2 else str(net)), None, True
 
 
 def compare(text):

@@ -48,6 +48,25 @@ class RoundTrips(unittest.TestCase):
             self.assertEqual(caught.exception.error, error)
         self.assertEqual(str(kpn.Network.from_text('network { } # \udc80 \ud800')), 'network {\n}\n')
 
+    def test_language_2(self):
+        """A process of language 2 keeps its parentheses, and what is wrong in it is found where it stands."""
+        head, tail = 'language 2; process p(in i; out o) { read i x; ', 'network { source s; sink z cap 1; a = p(s; z); }'
+        text = head + 'if ((x & 1)) == 0 { write o (x) + 1 * 2; } else if x { } else { } } ' + tail
+        net = kpn.Network.from_text(text)
+        lines = '  if ((x & 1)) == 0 {\n    write o (x) + 1 * 2;\n  } else if x {\n  } else {\n  }\n}\n'
+        self.assertIn(lines, str(net))
+        printed = '  if (x & 1) == 0 {\n    write o x + 1 * 2;\n  } else if x {\n  }\n}\n'
+        self.assertIn(printed, answer('print', text))
+        self.assertEqual(answer('print', str(net)), answer('print', text))
+        with self.assertRaises(kpn.KpnError) as caught:
+            kpn.Process.from_text(head + 'write o x & 1 == 0; }')
+        self.assertEqual(caught.exception.error, f'21 Grammar at {len(head) + 14}')
+        net = kpn.Network()
+        net.sink('z', kpn.Process.from_text(head + 'if ((x)) { } write o ((x)) + y; }')(net.source('s')))
+        with self.assertRaises(kpn.KpnError) as caught:
+            net.check()
+        self.assertEqual(caught.exception.place.column, len(head) - len('language 2; ') + 30)
+
     def test_deep_texts(self):
         for depth in (31, 32, 5_000):
             for text in ('(' * depth + 'x' + ' + 1)' * depth, '-' * depth + 'x'):

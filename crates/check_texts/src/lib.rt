@@ -12,4 +12,6 @@ mod lines;
 #[cfg(test)]
 mod memory;
 #[cfg(test)]
+mod precedence;
+#[cfg(test)]
 mod tokens;

@@ -178,12 +178,12 @@ pub description_read : (l : Language) (d : Description) → IsProper l d
     → IsReadAs l (description_text l d) (spell_description l d)
 description_read l d is =
     language_read l _ _
-    (all_read process_text spell_process (IsProperProcess l) process_read d.processes _ _ is.processes
+    (all_read (process_text l) (spell_process l) (IsProperProcess l) process_read d.processes _ _ is.processes
     (network_read d.network [] [] is.network (nothing_read l)))
 
 -- a text of language 1 begins with one of two words
 words_told : (ps : List Process) (n : Network)
-    → language_of (all_text process_text ps (network_text n [])) ≡ language.One
+    → language_of (all_text (process_text language.One) ps (network_text n [])) ≡ language.One
 words_told [] n = network_told _
 words_told (p ∷ ps) n = process_told _
 
@@ -191,4 +191,4 @@ words_told (p ∷ ps) n = process_told _
 pub description_told : (l : Language) (d : Description) → language_of (description_text l d) ≡ l
 description_told language.One d = words_told d.processes d.network
 description_told language.Two d =
-    two_told (codes "\n" ++ all_text process_text d.processes (network_text d.network []))
+    two_told (codes "\n" ++ all_text (process_text language.Two) d.processes (network_text d.network []))

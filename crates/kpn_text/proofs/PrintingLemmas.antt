@@ -5,6 +5,7 @@ use Rattle.std.specs.Prelude.{◌==◌}
 use Rattle.std.proofs.lemmas.Bool.{cond-true, lt-ltb}
 use Rattle.std.proofs.lemmas.List.{drop_more}
 use Rattle.kpn_limits.specs.declared.TheConstants.{MAX_CAPACITY}
+use Rattle.kpn_text_tokens.specs.declared.tokens.Language.{Language}
 use Rattle.kpn_text.specs.Named.{number_named, literal_named, limit_named}
 use Rattle.kpn_text.specs.Text.{all_text, further_text, indented, names_text, outs_text, term_text, literal_text}
 use Rattle.kpn_text.specs.Writing.{Writes}
@@ -41,9 +42,10 @@ indented_more a now next level step below so_far put more =
     put (indented (level - (step + 1)) more) ∙ (rw left at (so_far more))
 
 -- a whole number as an expression, and as a value
-pub number_text : (z : ℤ) (more : List ℕ) → signed_decimal z ++ more ≡ term_text (number_named z) more
-number_text (pos n) more = refl
-number_text (negsuc n) more = refl
+pub number_text : (l : Language) (tight : ℕ) (z : ℤ) (more : List ℕ)
+    → signed_decimal z ++ more ≡ term_text l tight (number_named z) more
+number_text l tight (pos n) more = refl
+number_text l tight (negsuc n) more = refl
 
 pub value_text : (z : ℤ) (more : List ℕ) → signed_decimal z ++ more ≡ literal_text (literal_named z) more
 value_text (pos n) more = refl

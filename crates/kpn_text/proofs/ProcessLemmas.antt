@@ -55,12 +55,12 @@ parts_read [] [] pars more tokens a b c ends h = part_read keyword.Par pars more
 
 pub process_read : {l : Language} (p : Process) (more : List ℕ) (tokens : List Token) → IsProperProcess l p
     → IsReadAs l more tokens
-    → IsReadAs l (process_text p more) (spell_process p tokens)
+    → IsReadAs l (process_text l p more) (spell_process l p tokens)
 process_read {l} p more tokens is h =
     let end : IsReadAs l (codes "}\n" ++ more) (token.Mark mark.RightBrace ∷ tokens) = close_read 0 more tokens h in
     let body = statements_read 1 p.body _ _ is.body end in
     let opened =
-    mark_read mark.RightParen (codes " {\n" ++ statements_text 1 p.body (codes "}\n" ++ more)) _ refl tt
+    mark_read mark.RightParen (codes " {\n" ++ statements_text l 1 p.body (codes "}\n" ++ more)) _ refl tt
     (open_read _ _ body) in
     let head = parts_read p.ins p.outs p.pars _ _ is.ins is.outs is.pars refl opened in
     let named = name_read p.name _ _ is.name refl (mark_read mark.LeftParen _ _ refl tt head) in

@@ -1,5 +1,5 @@
 -- What was read from a text is proper: each name is a name, and each number is in range.
-use Rattle.std.proofs.Common.{◌≡◌, ℕ, ◌<◌, ◌^◌, true, List, [], ◌∷◌, Option, Some, None, arith}
+use Rattle.std.proofs.Common.{◌≡◌, ℕ, ◌<◌, ◌^◌, true, List, [], ◌∷◌, Option, Some, None, subst, arith}
 use Rattle.std.specs.List.{AllByRecursion}
 use Rattle.kpn_net.specs.declared.tables.Growth.{Growth}
 use Rattle.kpn_net.specs.declared.tables.Policy.{Policy}
@@ -16,8 +16,9 @@ use Rattle.kpn_text_tokens.specs.Rules.{IsName}
 use Rattle.kpn_text_tokens.specs.Spelling.{has_mark}
 use Rattle.kpn_text_grammar.specs.Operators.{operator_mark}
 use Rattle.kpn_text_tokens.proofs.WithoutPlaces.{read_spelled}
+use Rattle.kpn_text_grammar.proofs.CanonicalLaws.{description_rules}
 use Rattle.kpn_text_grammar.specs.Syntax.{Name, Term, numeral, variable, minus, negation, complement, binary, conditional, Statement, assign, receive, send, choice, loop, Statements, no_statements, statement, Process, Literal, plain, negated, Item, channel, source, sink, instance, Network, Description}
-use Rattle.kpn_text_grammar.specs.Spelling.{spell_term, spell_statement, spell_statements, spell_all, spell_further, spell_list, spell_name, spell_names, spell_part, spell_later_part, spell_parts, spell_process, spell_literal, spell_values, spell_item, spell_limit, spell_policy, spell_growth, spell_network, spell_language, spell_description}
+use Rattle.kpn_text_grammar.specs.Spelling.{spell_term, SpellsTight, as_number, as_name, as_minus, as_negation, as_complement, in_parentheses, as_conditional, as_binary, SpellsTerm, SpellsStatement, as_assignment, as_read, as_write, as_if, as_while, SpellsStatements, nothing, one_more, SpellsElse, left_out, behind_else, SpellsSecond, with_braces, as_branch, SpellsProcess, SpellsAll, IsDescription, spell_all, spell_further, spell_list, spell_name, spell_names, spell_part, spell_later_part, spell_parts, spell_literal, spell_values, spell_item, spell_limit, spell_policy, spell_growth, spell_network, spell_language}
 use Rattle.kpn_text.specs.Proper.{IsProperTerm, IsProperStatement, AreProper, AreNames, IsProperProcess, IsProperLiteral, IsProperItem, IsProperLimit, IsProperNetwork, IsProper}
 
 -- each of the tokens can be spelled
@@ -70,33 +71,85 @@ term_is l (conditional e a b) more h =
       rest = second.rest.1;
     }
 
+-- the same by the rules of language 2
+tight_is : {depth n : ℕ} (e : Term) {tokens more : List Token} → SpellsTight depth n e tokens more
+    → AreSpelled language.Two tokens → And language.Two (IsProperTerm language.Two e) more
+tight_is (numeral n) as_number h = record { is = number_small language.Two n h.0; rest = h.1 }
+tight_is (variable x) as_name h = record { is = is_name language.Two x h.0; rest = h.1 }
+tight_is (minus e) (as_minus s) h = tight_is e s h.1
+tight_is (negation e) (as_negation s) h = tight_is e s h.1
+tight_is (complement e) (as_complement s) h =
+    let inner = tight_is e s h.1 in
+    record { is = (has_this language.Two mark.BitNot h.0, inner.is); rest = inner.rest }
+tight_is e (in_parentheses s) h =
+    let inner = tight_is e s h.1 in
+    record { is = inner.is; rest = inner.rest.1 }
+tight_is (conditional e a b) (as_conditional s t u) h =
+    let test = tight_is e s h.1 in
+    let first = tight_is a t test.rest.1 in
+    let second = tight_is b u first.rest.1 in
+    record {
+      is = (
+        has_this language.Two mark.Question test.rest.0,
+        has_this language.Two mark.Colon first.rest.0,
+        test.is,
+        first.is,
+        second.is,
+      );
+      rest = second.rest.1;
+    }
+tight_is (binary op a b) (as_binary fits s t) h =
+    let left = tight_is a s h in
+    let right = tight_is b t left.rest.1 in
+    record { is = (has_this language.Two (operator_mark op) left.rest.0, left.is, right.is); rest = right.rest }
+
+-- an expression of a statement
+whole_is : (l : Language) (e : Term) (tokens more : List Token) → SpellsTerm l e tokens more → AreSpelled l tokens
+    → And l (IsProperTerm l e) more
+whole_is language.One e tokens more s h = term_is language.One e more (subst (λ ts. AreSpelled language.One ts) s h)
+whole_is language.Two e tokens more s h = tight_is e s h
+
 mutual
-  statement_is : (l : Language) (s : Statement) (more : List Token) → AreSpelled l (spell_statement s more)
-      → And l (IsProperStatement l s) more
-  statement_is l (assign x e) more h =
-      let value = term_is l e _ h.1.1 in
+  statement_is : (l : Language) (s : Statement) {tokens more : List Token} → SpellsStatement l s tokens more
+      → AreSpelled l tokens → And l (IsProperStatement l s) more
+  statement_is l (assign x e) (as_assignment s) h =
+      let value = whole_is l e _ _ s h.1.1 in
       record { is = (is_name l x h.0, value.is); rest = value.rest.1 }
-  statement_is l (receive i x) more h = record { is = (is_name l i h.1.0, is_name l x h.1.1.0); rest = h.1.1.1.1 }
-  statement_is l (send o e) more h =
-      let value = term_is l e _ h.1.1 in
+  statement_is l (receive i x) as_read h = record { is = (is_name l i h.1.0, is_name l x h.1.1.0); rest = h.1.1.1.1 }
+  statement_is l (send o e) (as_write s) h =
+      let value = whole_is l e _ _ s h.1.1 in
       record { is = (is_name l o h.1.0, value.is); rest = value.rest.1 }
-  statement_is l (choice e a b) more h =
-      let test = term_is l e _ h.1 in
-      let first = statements_are l a _ test.rest.1 in
-      let second = statements_are l b _ first.rest.1.1.1 in
-      record { is = (test.is, first.is, second.is); rest = second.rest.1 }
-  statement_is l (loop e b) more h =
-      let test = term_is l e _ h.1 in
-      let body = statements_are l b _ test.rest.1 in
+  statement_is l (choice e a b) (as_if s t u) h =
+      let test = whole_is l e _ _ s h.1 in
+      let first = statements_are l a t test.rest.1 in
+      let second = else_is l b u first.rest.1 in
+      record { is = (test.is, first.is, second.is); rest = second.rest }
+  statement_is l (loop e b) (as_while s t) h =
+      let test = whole_is l e _ _ s h.1 in
+      let body = statements_are l b t test.rest.1 in
       record { is = (test.is, body.is); rest = body.rest.1 }
 
-  statements_are : (l : Language) (ss : Statements) (more : List Token) → AreSpelled l (spell_statements ss more)
-      → And l (AreProper l ss) more
-  statements_are l no_statements more h = record { is = tt; rest = h }
-  statements_are l (statement s ss) more h =
-      let first = statement_is l s _ h in
-      let others = statements_are l ss more first.rest in
+  statements_are : (l : Language) (ss : Statements) {tokens more : List Token} → SpellsStatements l ss tokens more
+      → AreSpelled l tokens → And l (AreProper l ss) more
+  statements_are l no_statements nothing h = record { is = tt; rest = h }
+  statements_are l (statement s ss) (one_more t u) h =
+      let first = statement_is l s t h in
+      let others = statements_are l ss u first.rest in
       record { is = (first.is, others.is); rest = others.rest }
+
+  else_is : (l : Language) (b : Statements) {tokens more : List Token} → SpellsElse l b tokens more
+      → AreSpelled l tokens → And l (AreProper l b) more
+  else_is l no_statements (left_out two ends) h = record { is = tt; rest = h }
+  else_is l b (behind_else s) h = second_is l b s h.1
+
+  second_is : (l : Language) (b : Statements) {tokens more : List Token} → SpellsSecond l b tokens more
+      → AreSpelled l tokens → And l (AreProper l b) more
+  second_is l b (with_braces s) h =
+      let inside = statements_are l b s h.1 in
+      record { is = inside.is; rest = inside.rest.1 }
+  second_is l (statement (choice e a b) no_statements) (as_branch two s) h =
+      let branch = statement_is l (choice e a b) s h in
+      record { is = (branch.is, tt); rest = branch.rest }
 
 -- ---- lists, by their items
 
@@ -166,11 +219,12 @@ parts_are l [] [] c more h =
     let pars = part_is l keyword.Par c more h in
     record { is = record { ins = tt; outs = tt; pars = pars.is }; rest = pars.rest }
 
-process_is : (l : Language) (p : Process) (more : List Token) → AreSpelled l (spell_process p more)
-    → And l (IsProperProcess l p) more
-process_is l p more h =
+process_is : (l : Language) (p : Process) (tokens more : List Token) → SpellsProcess l p tokens more
+    → AreSpelled l tokens → And l (IsProperProcess l p) more
+process_is l p tokens more s spelled =
+    let h = subst (λ ts. AreSpelled l ts) s.head spelled in
     let parts = parts_are l p.ins p.outs p.pars _ h.1.1.1 in
-    let body = statements_are l p.body _ parts.rest.1.1 in
+    let body = statements_are l p.body s.body parts.rest.1.1 in
     record {
       is =
           record {
@@ -182,6 +236,15 @@ process_is l p more h =
           };
       rest = body.rest.1;
     }
+
+processes_are : (l : Language) (ps : List Process) (tokens more : List Token)
+    → SpellsAll (SpellsProcess l) ps tokens more → AreSpelled l tokens
+    → And l (AllByRecursion (IsProperProcess l) ps) more
+processes_are l [] tokens more s h = record { is = tt; rest = subst (λ ts. AreSpelled l ts) s h }
+processes_are l (p ∷ ps) tokens more s h =
+    let first = process_is l p tokens s.0 s.1 h in
+    let others = processes_are l ps s.0 more s.2 first.rest in
+    record { is = (first.is, others.is); rest = others.rest }
 
 -- ---- networks
 
@@ -244,11 +307,11 @@ language_is : (l : Language) (more : List Token) → AreSpelled l (spell_languag
 language_is language.One more h = h
 language_is language.Two more h = h.1.1.1
 
-pub description_is : (l : Language) (text : List ℕ) (d : Description) → tokens_of l text ≡ Some (spell_description l d)
-    → IsProper l d
-description_is l text d h =
-    let processes =
-    all_are l spell_process (IsProperProcess l) (process_is l) d.processes _
-    (language_is l _ (read_spelled l text (spell_description l d) h)) in
+pub description_is : (l : Language) (text : List ℕ) (tokens : List Token) (d : Description)
+    → tokens_of l text ≡ Some tokens → IsDescription l tokens d → IsProper l d
+description_is l text tokens d read s =
+    let rules = description_rules l tokens d s in
+    let spelled = subst (λ ts. AreSpelled l ts) rules.opening (read_spelled l text tokens read) in
+    let processes = processes_are l d.processes _ _ rules.processes (language_is l _ spelled) in
     let network = network_is l d.network [] processes.rest in
     record { processes = processes.is; network = network.is }

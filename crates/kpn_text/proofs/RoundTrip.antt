@@ -13,6 +13,7 @@ use Rattle.kpn_net.specs.Faults.{IsNetwork}
 use Rattle.kpn_text_tokens.specs.declared.tokens.Language.{Language}
 use Rattle.kpn_text_tokens.specs.Laws.{tokens_of}
 use Rattle.kpn_text_tokens.specs.Opening.{language_of}
+use Rattle.kpn_text_grammar.specs.Laws.{CanonicalSpells}
 use Rattle.kpn_text_grammar.specs.Syntax.{Description}
 use Rattle.kpn_text_grammar.specs.Spelling.{spell_description, ProcessIsWithin, IsDescription}
 use Rattle.kpn_text_tokens.specs.Results.{and_then}
@@ -143,17 +144,17 @@ pub proper : (text : List ℕ) (d : Document) (s : Spells text d) → ReadDescri
     → Kept d.language s.tree s.named → IsProper d.language (printed s.named)
 proper text d s read k =
     let l : Language = d.language in
-    let was : IsProper l s.tree = read l text s.tree (s.read ∙ ap (λ ts. Some ts) s.spelled.spelled) in
+    let was : IsProper l s.tree = read l text s.tokens s.tree s.read s.spelled in
     record {
       processes = subst (λ ps. AllByRecursion (IsProperProcess l) ps) k.processes was.processes;
       network = record { limit = k.limit; items = k.items was.network.items };
     }
 
 -- each of its processes is within the limits of the grammar
-printed_fits : (text : List ℕ) (d : Document) (s : Spells text d) → Kept d.language s.tree s.named
+printed_fits : CanonicalSpells → (text : List ℕ) (d : Document) (s : Spells text d) → Kept d.language s.tree s.named
     → IsDescription d.language (spell_description d.language (printed s.named)) (printed s.named)
-printed_fits text d s k =
-    record { spelled = refl; within = subst (λ ps. AllByRecursion ProcessIsWithin ps) k.processes s.spelled.within }
+printed_fits spells text d s k =
+    spells d.language (printed s.named) (subst (λ ps. AllByRecursion ProcessIsWithin ps) k.processes s.spelled.within)
 
 pub spelled_kept : BlocksAreTheTree → LimitsAreInRange → (text : List ℕ) (d : Document) (s : Spells text d)
     → Kept d.language s.tree s.named
@@ -161,9 +162,9 @@ spelled_kept flat limits text d s =
     kept flat limits d.language s.tree s.named s.resolved
     (subst (λ (e : Document). IsNetwork e.tables) (sym s.is) s.keeps)
 
-pub printed_spells : BlocksAreTheTree → LimitsAreInRange → DescriptionIsRead → LanguageIsTold
+pub printed_spells : BlocksAreTheTree → LimitsAreInRange → CanonicalSpells → DescriptionIsRead → LanguageIsTold
     → ReadDescriptionsAreProper → PrintedTextSpells
-printed_spells flat limits is_read is_told are_proper d h short =
+printed_spells flat limits spells is_read is_told are_proper d h short =
     let l : Language = d.language in
     let s = h.1 in
     let k = spelled_kept flat limits h.0 d s in
@@ -175,7 +176,7 @@ printed_spells flat limits is_read is_told are_proper d h short =
       tokens = spell_description l (printed s.named);
       read = ap (λ t. tokens_of l t) (sym same) ∙ is_read l (printed s.named) (proper h.0 d s are_proper k);
       tree = printed s.named;
-      spelled = printed_fits h.0 d s k;
+      spelled = printed_fits spells h.0 d s k;
       named = s.named;
       resolved = k.again;
       is = s.is;

@@ -1,5 +1,5 @@
 -- How a printed expression is read.
-use Rattle.std.proofs.Common.{◌≡◌, ℕ, ◌<◌, ◌^◌, true, false, ◌&&◌, List, [], ◌∷◌, ◌++◌, codes, length, refl, arith}
+use Rattle.std.proofs.Common.{◌≡◌, ℕ, ◌<◌, ◌^◌, Bool, true, false, ◌&&◌, if◌then◌else◌, nat_le, List, [], ◌∷◌, ◌++◌, codes, length, refl, arith}
 use Rattle.std.specs.Char.{is_ascii_digit}
 use Rattle.std.specs.Fmt.{decimal}
 use Rattle.std.specs.List.{list_all, starts_with}
@@ -18,11 +18,11 @@ use Rattle.kpn_text_tokens.proofs.WithoutPlaces.{decimal_spelled}
 use Rattle.kpn_lang.specs.declared.syntax.Op.{Op}
 use Rattle.kpn_lang.specs.declared.syntax.Op.TheVariants as operator
 use Rattle.kpn_text_grammar.specs.Syntax.{Term, numeral, variable, minus, negation, complement, binary, conditional}
-use Rattle.kpn_text_grammar.specs.Operators.{operator_mark}
-use Rattle.kpn_text_grammar.specs.Spelling.{spell_term}
+use Rattle.kpn_text_grammar.specs.Operators.{operator_mark, tightness, left_side, right_side, LOOSEST, OPERAND}
+use Rattle.kpn_text_grammar.specs.Spelling.{spell_term, spell_tight, spell_expression}
 use Rattle.kpn_text.specs.CanonicalLaws.{EndsWord}
 use Rattle.kpn_text.specs.Proper.{IsProperTerm}
-use Rattle.kpn_text.specs.Text.{term_text}
+use Rattle.kpn_text.specs.Text.{is_free, open_text, close_text, term_text, whole_text}
 use Rattle.kpn_text.proofs.TokenLemmas.{IsReadAs, name_read, number_read, mark_read, space_read}
 
 -- a space comes behind each operator
@@ -83,47 +83,127 @@ number_no_equals l n more small =
     digits_no_equals (decimal n) more is.digits is.some
 
 -- so no expression does
-term_no_equals : (l : Language) (e : Term) (more : List ℕ) → IsProperTerm l e
-    → starts_with nat_eq (term_text e more) (codes "=") ≡ false
-term_no_equals l (numeral n) more is = number_no_equals l n more is
-term_no_equals l (variable x) more is = name_no_equals l x more is
-term_no_equals l (minus e) more is = refl
-term_no_equals l (negation e) more is = refl
-term_no_equals l (complement e) more is = refl
-term_no_equals l (binary op a b) more is = refl
-term_no_equals l (conditional e a b) more is = refl
+open_no_equals : (free : Bool) (text : List ℕ) → starts_with nat_eq text (codes "=") ≡ false
+    → starts_with nat_eq (open_text free text) (codes "=") ≡ false
+open_no_equals true text h = h
+open_no_equals false text h = refl
 
-pub term_read : {l : Language} (e : Term) (more : List ℕ) (tokens : List Token) → IsProperTerm l e → EndsWord more
-    → IsReadAs l more tokens → IsReadAs l (term_text e more) (spell_term e tokens)
-term_read (numeral n) more tokens is ends h = number_read n more tokens is ends h
-term_read (variable x) more tokens is ends h = name_read x more tokens is ends h
-term_read (minus e) more tokens is ends h =
-    mark_read mark.Minus (term_text e more) (spell_term e tokens) refl tt (term_read e more tokens is ends h)
-term_read {l} (negation e) more tokens is ends h =
-    mark_read mark.Not (term_text e more) (spell_term e tokens) refl (term_no_equals l e more is)
-    (term_read e more tokens is ends h)
-term_read (complement e) more tokens is ends h =
-    mark_read mark.BitNot (term_text e more) (spell_term e tokens) is.0 tt (term_read e more tokens is.1 ends h)
-term_read {l} (binary op a b) more tokens is ends h =
-    let closed : IsReadAs l (codes ")" ++ more) (token.Mark mark.RightParen ∷ tokens) =
-    mark_read mark.RightParen more tokens refl tt h in
-    let right = term_read b (codes ")" ++ more) (token.Mark mark.RightParen ∷ tokens) is.2 refl closed in
-    let sign =
-    operator_read op (term_text b (codes ")" ++ more)) (spell_term b (token.Mark mark.RightParen ∷ tokens)) is.0
-    right in
-    let left = term_read a _ _ is.1 refl sign in
-    mark_read mark.LeftParen _ _ refl tt left
-term_read {l} (conditional e a b) more tokens is ends h =
-    let closed : IsReadAs l (codes ")" ++ more) (token.Mark mark.RightParen ∷ tokens) =
-    mark_read mark.RightParen more tokens refl tt h in
-    let second = term_read b (codes ")" ++ more) (token.Mark mark.RightParen ∷ tokens) is.4 refl closed in
-    let colon : IsReadAs l (codes " : " ++ term_text b (codes ")" ++ more)) _ =
+term_no_equals : (l : Language) (n : ℕ) (e : Term) (more : List ℕ) → IsProperTerm l e
+    → starts_with nat_eq (term_text l n e more) (codes "=") ≡ false
+term_no_equals l n (numeral k) more is = number_no_equals l k more is
+term_no_equals l n (variable x) more is = name_no_equals l x more is
+term_no_equals l n (minus e) more is = refl
+term_no_equals l n (negation e) more is = refl
+term_no_equals l n (complement e) more is = refl
+term_no_equals l n (binary op a b) more is =
+    open_no_equals (is_free l n op) _ (term_no_equals l (left_side op) a _ is.1)
+term_no_equals l n (conditional e a b) more is = refl
+
+-- a text that is read as tokens, whatever follows it but a letter, a digit or `_`
+abbrev IsRead : Language → (List ℕ → List ℕ) → (List Token → List Token) → Type 0
+IsRead l text spell =
+    (more : List ℕ) (tokens : List Token) → EndsWord more → IsReadAs l more tokens
+    → IsReadAs l (text more) (spell tokens)
+
+closed_read : {l : Language} (more : List ℕ) (tokens : List Token) → IsReadAs l more tokens
+    → IsReadAs l (codes ")" ++ more) (token.Mark mark.RightParen ∷ tokens)
+closed_read more tokens h = mark_read mark.RightParen more tokens refl tt h
+
+-- the forms with parts
+negation_read : {l : Language} (n : ℕ) (e : Term) (spell : List Token → List Token) → IsProperTerm l e
+    → IsRead l (λ more. term_text l n e more) spell
+    → IsRead l (λ more. codes "!" ++ term_text l n e more) (λ tokens. token.Mark mark.Not ∷ spell tokens)
+negation_read {l} n e spell is inner more tokens ends h =
+    mark_read mark.Not (term_text l n e more) _ refl (term_no_equals l n e more is) (inner more tokens ends h)
+
+sides_read : {l : Language} (op : Op) (left right : List ℕ → List ℕ) (first second : List Token → List Token)
+    → has_mark l (operator_mark op) ≡ true → IsRead l left first → IsRead l right second
+    → IsRead l (λ more. left (codes " " ++ (mark_bytes (operator_mark op) ++ (codes " " ++ right more))))
+    (λ tokens. first (token.Mark (operator_mark op) ∷ second tokens))
+sides_read op left right first second has a b more tokens ends h =
+    a _ _ refl (operator_read op (right more) (second tokens) has (b more tokens ends h))
+
+enclosed_read : {l : Language} (text : List ℕ → List ℕ) (spell : List Token → List Token) → IsRead l text spell
+    → IsRead l (λ more. codes "(" ++ text (codes ")" ++ more))
+    (λ tokens. token.Mark mark.LeftParen ∷ spell (token.Mark mark.RightParen ∷ tokens))
+enclosed_read text spell inner more tokens ends h =
+    mark_read mark.LeftParen _ _ refl tt (inner _ _ refl (closed_read more tokens h))
+
+free_read : {l : Language} (free : Bool) (text : List ℕ → List ℕ) (spell : List Token → List Token)
+    → IsRead l text spell
+    → IsRead l (λ more. open_text free (text (close_text free more)))
+    (λ tokens. if free
+    then spell tokens
+    else (token.Mark mark.LeftParen ∷ spell (token.Mark mark.RightParen ∷ tokens)))
+free_read true text spell inner = inner
+free_read false text spell inner = enclosed_read text spell inner
+
+choice_read : {l : Language} (test first second : List ℕ → List ℕ) (c a b : List Token → List Token)
+    → has_mark l mark.Question ≡ true → has_mark l mark.Colon ≡ true → IsRead l test c → IsRead l first a
+    → IsRead l second b
+    → IsRead l (λ more. codes "(" ++ test (codes " ? " ++ first (codes " : " ++ second (codes ")" ++ more))))
+    (λ tokens. token.Mark mark.LeftParen ∷ c (token.Mark mark.Question ∷ a (token.Mark mark.Colon
+    ∷ b (token.Mark mark.RightParen ∷ tokens))))
+choice_read test first second c a b question colon is_c is_a is_b more tokens ends h =
+    let last = is_b (codes ")" ++ more) _ refl (closed_read more tokens h) in
+    let between =
+    space_read _ _ (mark_read mark.Colon (codes " " ++ second (codes ")" ++ more)) _ colon tt (space_read _ _ last)) in
+    let middle = is_a (codes " : " ++ second (codes ")" ++ more)) _ refl between in
+    let mark_of_test =
     space_read _ _
-    (mark_read mark.Colon (codes " " ++ term_text b (codes ")" ++ more)) _ is.1 tt (space_read _ _ second)) in
-    let first = term_read a _ _ is.3 refl colon in
-    let question =
-    space_read _ _
-    (mark_read mark.Question (codes " " ++ term_text a (codes " : " ++ term_text b (codes ")" ++ more))) _ is.0 tt
-    (space_read _ _ first)) in
-    let test = term_read e _ _ is.2 refl question in
-    mark_read mark.LeftParen _ _ refl tt test
+    (mark_read mark.Question (codes " " ++ first (codes " : " ++ second (codes ")" ++ more))) _ question tt
+    (space_read _ _ middle)) in
+    mark_read mark.LeftParen _ _ refl tt (is_c _ _ refl mark_of_test)
+
+-- in language 1
+term_read : (n : ℕ) (e : Term) → IsProperTerm language.One e
+    → IsRead language.One (λ more. term_text language.One n e more) (λ tokens. spell_term e tokens)
+term_read n (numeral k) is more tokens ends h = number_read k more tokens is ends h
+term_read n (variable x) is more tokens ends h = name_read x more tokens is ends h
+term_read n (minus e) is more tokens ends h =
+    mark_read mark.Minus (term_text language.One OPERAND e more) _ refl tt (term_read OPERAND e is more tokens ends h)
+term_read n (negation e) is more tokens ends h =
+    negation_read OPERAND e (λ tokens. spell_term e tokens) is (term_read OPERAND e is) more tokens ends h
+term_read n (complement e) is more tokens ends h =
+    mark_read mark.BitNot (term_text language.One OPERAND e more) _ is.0 tt
+    (term_read OPERAND e is.1 more tokens ends h)
+term_read n (binary op a b) is more tokens ends h =
+    enclosed_read _ _
+    (sides_read op _ _ (λ tokens. spell_term a tokens) (λ tokens. spell_term b tokens) is.0
+    (term_read (left_side op) a is.1) (term_read (right_side op) b is.2)) more tokens ends h
+term_read n (conditional e a b) is more tokens ends h =
+    choice_read _ _ _ (λ tokens. spell_term e tokens) (λ tokens. spell_term a tokens) (λ tokens. spell_term b tokens)
+    is.0 is.1 (term_read LOOSEST e is.2) (term_read LOOSEST a is.3) (term_read LOOSEST b is.4)
+    more tokens ends h
+
+-- in language 2
+tight_read : (n : ℕ) (e : Term) → IsProperTerm language.Two e
+    → IsRead language.Two (λ more. term_text language.Two n e more) (λ tokens. spell_tight n e tokens)
+tight_read n (numeral k) is more tokens ends h = number_read k more tokens is ends h
+tight_read n (variable x) is more tokens ends h = name_read x more tokens is ends h
+tight_read n (minus e) is more tokens ends h =
+    mark_read mark.Minus (term_text language.Two OPERAND e more) _ refl tt (tight_read OPERAND e is more tokens ends h)
+tight_read n (negation e) is more tokens ends h =
+    negation_read OPERAND e (λ tokens. spell_tight OPERAND e tokens) is (tight_read OPERAND e is)
+    more tokens ends h
+tight_read n (complement e) is more tokens ends h =
+    mark_read mark.BitNot (term_text language.Two OPERAND e more) _ is.0 tt
+    (tight_read OPERAND e is.1 more tokens ends h)
+tight_read n (binary op a b) is more tokens ends h =
+    free_read (nat_le n (tightness op)) _ _
+    (sides_read op _ _ (λ tokens. spell_tight (left_side op) a tokens)
+    (λ tokens. spell_tight (right_side op) b tokens) is.0 (tight_read (left_side op) a is.1)
+    (tight_read (right_side op) b is.2)) more tokens ends h
+tight_read n (conditional e a b) is more tokens ends h =
+    choice_read _ _ _ (λ tokens. spell_tight LOOSEST e tokens) (λ tokens. spell_tight LOOSEST a tokens)
+    (λ tokens. spell_tight LOOSEST b tokens) is.0 is.1 (tight_read LOOSEST e is.2) (tight_read LOOSEST a is.3)
+    (tight_read LOOSEST b is.4) more tokens ends h
+
+read_in : (l : Language) (e : Term) (more : List ℕ) (tokens : List Token) → IsProperTerm l e → EndsWord more
+    → IsReadAs l more tokens → IsReadAs l (whole_text l e more) (spell_expression l e tokens)
+read_in language.One e more tokens is ends h = term_read LOOSEST e is more tokens ends h
+read_in language.Two e more tokens is ends h = tight_read LOOSEST e is more tokens ends h
+
+pub whole_read : {l : Language} (e : Term) (more : List ℕ) (tokens : List Token) → IsProperTerm l e → EndsWord more
+    → IsReadAs l more tokens → IsReadAs l (whole_text l e more) (spell_expression l e tokens)
+whole_read {l} e more tokens is ends h = read_in l e more tokens is ends h

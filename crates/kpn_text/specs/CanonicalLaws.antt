@@ -7,9 +7,9 @@ use Rattle.kpn_text_tokens.specs.Laws.{tokens_of}
 use Rattle.kpn_text_tokens.specs.Lexing.{begins_name}
 use Rattle.kpn_text_tokens.specs.Opening.{language_of}
 use Rattle.kpn_text_grammar.specs.Syntax.{Term, Statements, Process, Description}
-use Rattle.kpn_text_grammar.specs.Spelling.{spell_term, spell_statements, spell_process, spell_description}
+use Rattle.kpn_text_grammar.specs.Spelling.{spell_expression, spell_statements, spell_process, spell_description, IsDescription}
 use Rattle.kpn_text.specs.Proper.{IsProperTerm, AreProper, IsProperProcess, IsProper}
-use Rattle.kpn_text.specs.Text.{term_text, statements_text, process_text, description_text}
+use Rattle.kpn_text.specs.Text.{whole_text, statements_text, process_text, description_text}
 
 -- the text does not go on with a letter, a digit or `_`
 abbrev pub EndsWord : List ℕ → Type 0
@@ -20,19 +20,20 @@ EndsWord (b ∷ bs) = (begins_name b || is_ascii_digit b) ≡ false
 abbrev pub TermIsRead : Type 0
 TermIsRead =
     (l : Language) (e : Term) (more : List ℕ) (tokens : List Token) → IsProperTerm l e → EndsWord more
-    → tokens_of l more ≡ Some tokens → tokens_of l (term_text e more) ≡ Some (spell_term e tokens)
+    → tokens_of l more ≡ Some tokens → tokens_of l (whole_text l e more) ≡ Some (spell_expression l e tokens)
 
 -- Statements are read as their spelling, and then what follows them.
 abbrev pub StatementsAreRead : Type 0
 StatementsAreRead =
     (l : Language) (level : ℕ) (ss : Statements) (more : List ℕ) (tokens : List Token) → AreProper l ss
-    → tokens_of l more ≡ Some tokens → tokens_of l (statements_text level ss more) ≡ Some (spell_statements ss tokens)
+    → tokens_of l more ≡ Some tokens
+    → tokens_of l (statements_text l level ss more) ≡ Some (spell_statements l ss tokens)
 
 -- A process is read as its spelling, and then what follows it.
 abbrev pub ProcessIsRead : Type 0
 ProcessIsRead =
     (l : Language) (p : Process) (more : List ℕ) (tokens : List Token) → IsProperProcess l p
-    → tokens_of l more ≡ Some tokens → tokens_of l (process_text p more) ≡ Some (spell_process p tokens)
+    → tokens_of l more ≡ Some tokens → tokens_of l (process_text l p more) ≡ Some (spell_process l p tokens)
 
 -- A printed description is read as its spelling.
 abbrev pub DescriptionIsRead : Type 0
@@ -43,7 +44,8 @@ DescriptionIsRead =
 abbrev pub LanguageIsTold : Type 0
 LanguageIsTold = (l : Language) (d : Description) → language_of (description_text l d) ≡ l
 
--- A description whose spelling was read from a text is proper.
+-- A description that the tokens of a text spell is proper.
 abbrev pub ReadDescriptionsAreProper : Type 0
 ReadDescriptionsAreProper =
-    (l : Language) (text : List ℕ) (d : Description) → tokens_of l text ≡ Some (spell_description l d) → IsProper l d
+    (l : Language) (text : List ℕ) (tokens : List Token) (d : Description) → tokens_of l text ≡ Some tokens
+    → IsDescription l tokens d → IsProper l d

@@ -14,3 +14,4 @@ pub mod Proper
 pub mod CanonicalLaws
 pub mod Named
 pub mod Writing
+pub mod Seconds

@@ -1,7 +1,8 @@
 -- The canonical text of a description, as bytes: two spaces for each level, one statement or item on each line, a line
 -- feed after each line, numbers without leading zeros. Each text comes in front of the text that follows it.
-use Rattle.std.specs.Prelude.{ℕ, zero, suc, List, [], ◌∷◌, ◌++◌, codes, Option, Some, None}
+use Rattle.std.specs.Prelude.{ℕ, zero, suc, Bool, true, false, nat_le, List, [], ◌∷◌, ◌++◌, codes, Option, Some, None}
 use Rattle.std.specs.Fmt.{decimal}
+use Rattle.kpn_lang.specs.declared.syntax.Op.{Op}
 use Rattle.kpn_net.specs.declared.tables.Growth.{Growth}
 use Rattle.kpn_net.specs.declared.tables.Policy.{Policy}
 use Rattle.kpn_text_tokens.specs.declared.tokens.Keyword.{Keyword}
@@ -10,7 +11,7 @@ use Rattle.kpn_text_tokens.specs.declared.tokens.Language.{Language}
 use Rattle.kpn_text_tokens.specs.declared.tokens.Language.TheVariants as language
 use Rattle.kpn_text_tokens.specs.Spelling.{keyword_bytes, mark_bytes}
 use Rattle.kpn_text_grammar.specs.Syntax.{Name, Term, numeral, variable, minus, negation, complement, binary, conditional, Statement, assign, receive, send, choice, loop, Statements, no_statements, statement, Process, Literal, plain, negated, Instance, Item, channel, source, sink, instance, Network, Description}
-use Rattle.kpn_text_grammar.specs.Operators.{operator_mark}
+use Rattle.kpn_text_grammar.specs.Operators.{operator_mark, tightness, left_side, right_side, LOOSEST, OPERAND}
 use Rattle.kpn_text_grammar.specs.Words.{growth_word, policy_word}
 
 -- ---- expressions and statements
@@ -20,46 +21,85 @@ abbrev pub indented : (level : ℕ) → List ℕ → List ℕ
 indented zero more = more
 indented (suc level) more = codes "  " ++ indented level more
 
--- a number, a name, -e, !e, ~e, (a op b), (e ? a : b)
-abbrev pub term_text : Term → List ℕ → List ℕ
-term_text (numeral n) more = decimal n ++ more
-term_text (variable x) more = x ++ more
-term_text (minus e) more = codes "-" ++ term_text e more
-term_text (negation e) more = codes "!" ++ term_text e more
-term_text (complement e) more = codes "~" ++ term_text e more
-term_text (binary op a b) more =
+-- whether an operator needs no parentheses where an expression has to bind as tight as this; in language 1 it always
+-- has them
+abbrev pub is_free : Language → ℕ → Op → Bool
+is_free language.One n op = false
+is_free language.Two n op = nat_le n (tightness op)
+
+-- the parentheses around an operator, unless it needs none
+abbrev pub open_text : Bool → List ℕ → List ℕ
+open_text true more = more
+open_text false more = codes "(" ++ more
+
+abbrev pub close_text : Bool → List ℕ → List ℕ
+close_text true more = more
+close_text false more = codes ")" ++ more
+
+-- where an expression has to bind as tight as this: a number, a name, -e, !e, ~e, a op b, (a op b), (e ? a : b)
+abbrev pub term_text : Language → ℕ → Term → List ℕ → List ℕ
+term_text l n (numeral k) more = decimal k ++ more
+term_text l n (variable x) more = x ++ more
+term_text l n (minus e) more = codes "-" ++ term_text l OPERAND e more
+term_text l n (negation e) more = codes "!" ++ term_text l OPERAND e more
+term_text l n (complement e) more = codes "~" ++ term_text l OPERAND e more
+term_text l n (binary op a b) more =
+    open_text (is_free l n op)
+    (term_text l (left_side op) a
+    (codes " "
+    ++ (mark_bytes (operator_mark op)
+    ++ (codes " " ++ term_text l (right_side op) b (close_text (is_free l n op) more)))))
+term_text l n (conditional e a b) more =
     codes "("
-    ++ term_text a
-    (codes " " ++ (mark_bytes (operator_mark op) ++ (codes " " ++ term_text b (codes ")" ++ more))))
-term_text (conditional e a b) more =
-    codes "(" ++ term_text e (codes " ? " ++ term_text a (codes " : " ++ term_text b (codes ")" ++ more)))
+    ++ term_text l LOOSEST e
+    (codes " ? " ++ term_text l LOOSEST a (codes " : " ++ term_text l LOOSEST b (codes ")" ++ more)))
+
+-- an expression of a statement
+abbrev pub whole_text : Language → Term → List ℕ → List ℕ
+whole_text l e more = term_text l LOOSEST e more
+
+-- From the end of the first block of an `if` on: } else { .. }, where `inside` is the second block, one level in. In
+-- language 2 there is no `else` if the block is empty, and } else if .. if it is an `if` and nothing else, which is
+-- `branch` then.
+abbrev pub otherwise_text : Language → (level : ℕ) → Statements → (inside branch : List ℕ → List ℕ) → List ℕ → List ℕ
+otherwise_text language.Two level no_statements inside branch more = indented level (codes "}\n" ++ more)
+otherwise_text language.Two level (statement (choice e a b) no_statements) inside branch more =
+    indented level (codes "} else " ++ branch more)
+otherwise_text l level b inside branch more =
+    indented level (codes "} else {\n" ++ inside (indented level (codes "}\n" ++ more)))
 
 abbrev mutual
-  -- a statement on lines of its own
-  pub statement_text : (level : ℕ) → Statement → List ℕ → List ℕ
-  statement_text level (assign x e) more = indented level (x ++ (codes " = " ++ term_text e (codes ";\n" ++ more)))
-  statement_text level (receive i x) more =
-      indented level (codes "read " ++ (i ++ (codes " " ++ (x ++ (codes ";\n" ++ more)))))
-  statement_text level (send o e) more =
-      indented level (codes "write " ++ (o ++ (codes " " ++ term_text e (codes ";\n" ++ more))))
-  statement_text level (choice e a b) more =
-      indented level
-      (codes "if "
-      ++ term_text e
+  -- a statement from its first word on, up to the end of its last line
+  pub statement_text : Language → (level : ℕ) → Statement → List ℕ → List ℕ
+  statement_text l level (assign x e) more = x ++ (codes " = " ++ whole_text l e (codes ";\n" ++ more))
+  statement_text l level (receive i x) more = codes "read " ++ (i ++ (codes " " ++ (x ++ (codes ";\n" ++ more))))
+  statement_text l level (send o e) more =
+      codes "write " ++ (o ++ (codes " " ++ whole_text l e (codes ";\n" ++ more)))
+  statement_text l level (choice e a b) more =
+      codes "if "
+      ++ whole_text l e
       (codes " {\n"
-      ++ statements_text (suc level) a
-      (indented level
-      (codes "} else {\n"
-      ++ statements_text (suc level) b (indented level (codes "}\n" ++ more))))))
-  statement_text level (loop e b) more =
-      indented level
-      (codes "while "
-      ++ term_text e (codes " {\n" ++ statements_text (suc level) b (indented level (codes "}\n" ++ more))))
+      ++ statements_text l (suc level) a
+      (otherwise_text l level b (statements_text l (suc level) b) (unindented_text l level b) more))
+  statement_text l level (loop e b) more =
+      codes "while "
+      ++ whole_text l e (codes " {\n" ++ statements_text l (suc level) b (indented level (codes "}\n" ++ more)))
 
-  -- one after the other
-  pub statements_text : (level : ℕ) → Statements → List ℕ → List ℕ
-  statements_text level no_statements more = more
-  statements_text level (statement s ss) more = statement_text level s (statements_text level ss more)
+  -- one after the other, each on lines of its own
+  pub statements_text : Language → (level : ℕ) → Statements → List ℕ → List ℕ
+  statements_text l level no_statements more = more
+  statements_text l level (statement s ss) more =
+      indented level (statement_text l level s (statements_text l level ss more))
+
+  -- the same from the first word on
+  pub unindented_text : Language → (level : ℕ) → Statements → List ℕ → List ℕ
+  unindented_text l level no_statements more = more
+  unindented_text l level (statement s ss) more = statement_text l level s (statements_text l level ss more)
+
+-- from the end of the first block of an `if` on, up to the end of its last line
+abbrev pub else_text : Language → (level : ℕ) → Statements → List ℕ → List ℕ
+else_text l level b more =
+    otherwise_text l level b (statements_text l (suc level) b) (unindented_text l level b) more
 
 -- ---- lists
 
@@ -100,12 +140,12 @@ parts_text [] (x ∷ xs) pars more = part_text [] keyword.Out (x ∷ xs) (part_t
 parts_text [] [] pars more = part_text [] keyword.Par pars more
 
 -- process p(..) {  its body, one level in, and  }
-abbrev pub process_text : Process → List ℕ → List ℕ
-process_text p more =
+abbrev pub process_text : Language → Process → List ℕ → List ℕ
+process_text l p more =
     codes "process "
     ++ (p.name
     ++ (codes "("
-    ++ parts_text p.ins p.outs p.pars (codes ") {\n" ++ statements_text 1 p.body (codes "}\n" ++ more))))
+    ++ parts_text p.ins p.outs p.pars (codes ") {\n" ++ statements_text l 1 p.body (codes "}\n" ++ more))))
 
 -- ---- networks
 
@@ -169,4 +209,4 @@ language_text language.Two more = codes "language 2;\n" ++ more
 
 -- the line of the language, the processes and then the network
 abbrev pub description_text : Language → Description → List ℕ
-description_text l d = language_text l (all_text process_text d.processes (network_text d.network []))
+description_text l d = language_text l (all_text (process_text l) d.processes (network_text d.network []))

@@ -6,6 +6,7 @@ ghost use Rattle.kpn_text.specs.Laws.{NamesAreText, NamesStandOnce, PhasesGiveWh
 
 use crate::canonical_laws::{description_is_read, language_is_told, read_descriptions_are_proper};
 use kpn_net::laws::capacities_are_in_range;
+use kpn_text_grammar::canonical_spells;
 use kpn_text_names::blocks_are_the_tree;
 
 /// The phases return a document if and only if the text spells it.
@@ -24,6 +25,7 @@ pub fn read_again()
 {
     blocks_are_the_tree();
     capacities_are_in_range();
+    canonical_spells();
     description_is_read();
     language_is_told();
     read_descriptions_are_proper();

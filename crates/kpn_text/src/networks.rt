@@ -35,7 +35,7 @@ pub fn canonical_text(
 {
     let mut out = Vec::new(alloc);
     opening(&mut out, language)?;
-    processes(&mut out, network, names.processes.as_slice())?;
+    processes(&mut out, language, network, names.processes.as_slice())?;
     items(&mut out, network, names)?;
     Ok(out)
 }
@@ -64,13 +64,18 @@ fn items(out: &mut Vec<u8>, network: &Network, names: &NetworkNames) -> Result<(
     bytes(out, b"}\n")
 }
 
-fn processes(out: &mut Vec<u8>, network: &Network, names: &[ProcessNames]) -> Result<(), AllocError>
+fn processes(
+    out: &mut Vec<u8>,
+    language: Language,
+    network: &Network,
+    names: &[ProcessNames],
+) -> Result<(), AllocError>
     requires { length names.now ≡ length network.now.programs }
     ensures { OnOk result (Writes out.old.items out.new.items
-        (all_text process_text (paired process_named names.now network.now.programs))) }
+        (all_text (process_text language) (paired process_named names.now network.now.programs))) }
 {
     for (i, own) in names.iter().enumerate() {
-        process(out, own, network.program_at(i))?;
+        process(out, language, own, network.program_at(i))?;
     }
     Ok(())
 }

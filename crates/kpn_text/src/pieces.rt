@@ -1,8 +1,9 @@
 //! The pieces of which a text is printed. Each goes behind the bytes so far. If memory runs out, the contracts leave
 //! open how much was put by then.
 
-ghost use Rattle.std.specs.Prelude.{◌++◌, OnOk};
+ghost use Rattle.std.specs.Prelude.{ℕ, ◌++◌, OnOk};
 ghost use Rattle.kpn_text_names.specs.Names.{name_at};
+ghost use Rattle.kpn_text_tokens.specs.declared.tokens.Language.{Language};
 ghost use Rattle.kpn_text.specs.Named.{literal_named, number_named};
 ghost use Rattle.kpn_text.specs.Text.{indented, literal_text, name_text, names_text, term_text};
 ghost use Rattle.kpn_text.specs.Writing.{Writes};
@@ -21,8 +22,8 @@ pub(crate) fn bytes(out: &mut Vec<u8>, bytes: &[u8]) -> Result<(), AllocError>
 
 /// A number without leading zeros, behind a minus if it is below 0.
 pub(crate) fn number(out: &mut Vec<u8>, number: &i64) -> Result<(), AllocError>
-    ensures expression { OnOk result
-        (Writes out.old.items out.new.items (term_text (number_named number.now))) }
+    ensures expression { (l : Language) (tight : ℕ) → OnOk result
+        (Writes out.old.items out.new.items (term_text l tight (number_named number.now))) }
     ensures value { OnOk result
         (Writes out.old.items out.new.items (literal_text (literal_named number.now))) }
 {

@@ -9,22 +9,28 @@ use crate::blocks::Body;
 use crate::pieces::{bytes, names};
 use kpn_lang::{Program, Sequence};
 use kpn_text_names::ProcessNames;
-use kpn_text_tokens::Keyword;
+use kpn_text_tokens::{Keyword, Language};
 use std::alloc::AllocError;
 
-/// A process with its names.
+/// A process with its names, in a language.
 pub(crate) fn process(
     out: &mut Vec<u8>,
+    language: Language,
     names: &ProcessNames,
     program: &Program,
 ) -> Result<(), AllocError>
     ensures { OnOk result
         (Writes out.old.items out.new.items
-        (process_text (process_named names.now program.now))) }
+        (process_text language (process_named names.now program.now))) }
 {
     program.known();
     head(out, names, program.pars())?;
-    Body { names, program }.block(out, 0, 1)?;
+    let body = Body {
+        language,
+        names,
+        program,
+    };
+    body.block(out, 0, 1, 1)?;
     bytes(out, b"}\n")
 }
 

@@ -9,12 +9,13 @@ use Rattle.kpn_text_tokens.specs.declared.tokens.Token.{Token}
 use Rattle.kpn_text_tokens.specs.declared.tokens.Keyword.TheVariants as keyword_
 use Rattle.kpn_text_grammar.specs.declared.parser.Scope.{Scope}
 use Rattle.kpn_text_grammar.specs.Syntax.{Process, Description}
-use Rattle.kpn_text_grammar.specs.Spelling.{kinds, spell_all, spell_language, spell_process, spell_network, ProcessIsWithin, IsDescription}
+use Rattle.kpn_text_grammar.specs.Spelling.{kinds, SpellsAll, SpellsProcess, spell_language, spell_network, ProcessIsWithin, IsDescription}
 use Rattle.kpn_text_tokens.specs.Results.{and_then}
 use Rattle.kpn_text_grammar.specs.TokenTests.{is_keyword}
 use Rattle.kpn_text_grammar.specs.Reading.{keyword, language_at, mark, numbered_process, opening, processes, network, at_end, contents, description, two}
 use Rattle.kpn_text_grammar.proofs.Steps.{bind_ok, keyword_again, keyword_takes, mark_again, mark_takes, moved, ok_is, two_again, two_takes}
-use Rattle.kpn_text_grammar.proofs.ManyLaws.{TakesOne, begins, many_takes, many_again}
+use Rattle.kpn_text_grammar.proofs.CanonicalLaws.{by_rules, description_rules}
+use Rattle.kpn_text_grammar.proofs.ManyLaws.{TakesSpelled, begins, all_taken, all_again}
 use Rattle.kpn_text_grammar.proofs.HeadLaws.{process_shape, process_laws}
 use Rattle.kpn_text_grammar.proofs.NetworkLaws.{network_takes, network_again}
 
@@ -29,21 +30,28 @@ at_end_again [] h = refl
 at_end_again (l ∷ ls) h = absurd cc
 
 processes_takes : (s : Scope) (ls : List Lexeme) (ps : List Process) (rest : List Lexeme)
-    → processes s ls ≡ Ok (ps, rest) → TakesOne (spell_all spell_process) (AllByRecursion ProcessIsWithin) ls ps rest
+    → processes s ls ≡ Ok (ps, rest)
+    → TakesSpelled (SpellsAll (SpellsProcess s.language)) (AllByRecursion ProcessIsWithin) ls ps rest
 unfolding processes
-processes_takes s ls ps rest h = many_takes (is_keyword keyword_.Process) spell_process ProcessIsWithin
-    (numbered_process s) process_shape (process_laws s) 0 (length ls) ls ps rest h
+processes_takes s ls ps rest h = all_taken (is_keyword keyword_.Process) (SpellsProcess s.language) ProcessIsWithin
+    (numbered_process s) (process_shape s.language) (process_laws s) 0 (length ls) ls ps rest h
 
 processes_again : (s : Scope) (ls : List Lexeme) (ps : List Process) (more : List Token)
     → AllByRecursion ProcessIsWithin ps → begins (is_keyword keyword_.Process) more ≡ false
-    → kinds ls ≡ spell_all spell_process ps more
+    → SpellsAll (SpellsProcess s.language) ps (kinds ls) more
     → (rest : List Lexeme) × (processes s ls ≡ Ok (ps, rest)) × (kinds rest ≡ more)
 unfolding processes
-processes_again s ls ps more within ends h = many_again (is_keyword keyword_.Process) spell_process ProcessIsWithin
-    (numbered_process s) process_shape (process_laws s) 0 (length ls) ls ps more (omega arith) within ends h
+processes_again s ls ps more within ends h = all_again (is_keyword keyword_.Process) (SpellsProcess s.language)
+    ProcessIsWithin (numbered_process s) (process_shape s.language) (process_laws s) 0 (length ls) ls ps more
+    (omega arith) within ends h
+
+-- what is read behind the language
+record TakesContents (l : Language) (tokens : List Token) (d : Description) : Type 0 where
+  spelled : SpellsAll (SpellsProcess l) d.processes tokens (spell_network d.network [])
+  within : AllByRecursion ProcessIsWithin d.processes
 
 contents_takes : (s : Scope) (ls : List Lexeme) (d : Description) → contents s ls ≡ Ok d
-    → IsDescription language.One (kinds ls) d
+    → TakesContents s.language (kinds ls) d
 unfolding contents
 contents_takes s ls d h =
     let p = bind_ok _ _ _ h in
@@ -52,8 +60,9 @@ contents_takes s ls d h =
     let ps = processes_takes s ls p.0.0 p.0.1 p.1 in
     let net = network_takes s p.0.1 n.0.0 n.0.1 n.1 in
     let ends = at_end_takes n.0.1 e.0 e.1 in
-    moved (IsDescription language.One (kinds ls)) (record { processes = p.0.0; network = n.0.0 }) d e.2 (record {
-      spelled = ps.spelled ∙ ap (spell_all spell_process p.0.0) (net ∙ ap (spell_network n.0.0) ends);
+    moved (TakesContents s.language (kinds ls)) (record { processes = p.0.0; network = n.0.0 }) d e.2 (record {
+      spelled = subst (λ (ts : List Token). SpellsAll (SpellsProcess s.language) p.0.0 (kinds ls) ts)
+          (net ∙ ap (spell_network n.0.0) ends) ps.spelled;
       within = ps.within;
     })
 
@@ -75,14 +84,18 @@ language_takes s language.One ls rest h = ap kinds (ok_is ls rest h)
 language_takes s language.Two ls rest h = opening_takes s ls rest h
 
 -- What is read is spelled so and within the limits.
-pub description_takes : (s : Scope) (l : Language) (ls : List Lexeme) (d : Description) → description s l ls ≡ Ok d
-    → IsDescription l (kinds ls) d
+pub description_takes : (s : Scope) (ls : List Lexeme) (d : Description) → description s ls ≡ Ok d
+    → IsDescription s.language (kinds ls) d
 unfolding description
-description_takes s l ls d h =
-    let b = bind_ok (language_at s l ls) (contents s) d h in
-    let begun = language_takes s l ls b.0 b.1 in
+description_takes s ls d h =
+    let b = bind_ok (language_at s s.language ls) (contents s) d h in
+    let begun = language_takes s s.language ls b.0 b.1 in
     let parts = contents_takes s b.0 d b.2 in
-    record { spelled = begun ∙ ap (spell_language l) parts.spelled; within = parts.within }
+    record {
+      spelled = by_rules s.language (kinds ls) d
+          (record { inside = kinds b.0; opening = begun; processes = parts.spelled });
+      within = parts.within;
+    }
 
 contents_at : (s : Scope) (d : Description) (ls a b : List Lexeme) → processes s ls ≡ Ok (d.processes, a)
     → network s a ≡ Ok (d.network, b) → at_end b ≡ Ok tt → contents s ls ≡ Ok d
@@ -104,19 +117,22 @@ language_again s language.Two ls more h =
     let m = mark_again s mark_.Semicolon n.0 more n.2 in
     (m.0, opening_at s ls k.0 n.0 m.0 k.1 n.1 m.1, m.2)
 
-description_at : (s : Scope) (l : Language) (d : Description) (ls rest : List Lexeme) → language_at s l ls ≡ Ok rest
-    → contents s rest ≡ Ok d → description s l ls ≡ Ok d
+description_at : (s : Scope) (d : Description) (ls rest : List Lexeme) → language_at s s.language ls ≡ Ok rest
+    → contents s rest ≡ Ok d → description s ls ≡ Ok d
 unfolding description and_then
-description_at s l d ls rest b p = rw (b, p) refl
+description_at s d ls rest b p = rw (b, p) refl
 
 -- What is spelled so within the limits is read.
-pub description_again : (s : Scope) (l : Language) (ls : List Lexeme) (d : Description) → IsDescription l (kinds ls) d
-    → description s l ls ≡ Ok d
-description_again s l ls d is =
-    let b = language_again s l ls (spell_all spell_process d.processes (spell_network d.network [])) is.spelled in
-    let p = processes_again s b.0 d.processes (spell_network d.network []) is.within refl b.2 in
+pub description_again : (s : Scope) (ls : List Lexeme) (d : Description) → IsDescription s.language (kinds ls) d
+    → description s ls ≡ Ok d
+description_again s ls d is =
+    let rules = description_rules s.language (kinds ls) d is in
+    let b = language_again s s.language ls rules.inside rules.opening in
+    let p = processes_again s b.0 d.processes (spell_network d.network []) is.within refl
+    (subst (λ (ts : List Token). SpellsAll (SpellsProcess s.language) d.processes ts (spell_network d.network []))
+    (sym b.2) rules.processes) in
     let n = network_again s d.network p.0 [] p.2 in
-    description_at s l d ls b.0 b.1 (contents_at s d b.0 p.0 n.0 p.1 n.1 (at_end_again n.0 n.2))
+    description_at s d ls b.0 b.1 (contents_at s d b.0 p.0 n.0 p.1 n.1 (at_end_again n.0 n.2))
 
 -- ---- tokens spell one description of a language at most
 
@@ -132,9 +148,9 @@ placed_kinds (t ∷ ts) = ap (λ (us : List Token). t ∷ us) (placed_kinds ts)
 pub one_description : (l : Language) (ts : List Token) (d e : Description) → IsDescription l ts d
     → IsDescription l ts e → d ≡ e
 one_description l ts d e is_d is_e =
-    let s : Scope = record { end = 0; process = 0 } in
-    let first = description_again s l (placed ts) d (subst (λ (us : List Token). IsDescription l us d)
+    let s : Scope = record { end = 0; process = 0; language = l } in
+    let first = description_again s (placed ts) d (subst (λ (us : List Token). IsDescription l us d)
     (sym (placed_kinds ts)) is_d) in
-    let second = description_again s l (placed ts) e (subst (λ (us : List Token). IsDescription l us e)
+    let second = description_again s (placed ts) e (subst (λ (us : List Token). IsDescription l us e)
     (sym (placed_kinds ts)) is_e) in
     ok_is d e (sym first ∙ second)

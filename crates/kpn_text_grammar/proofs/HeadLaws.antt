@@ -2,6 +2,7 @@
 use Rattle.std.proofs.Common.{◌≡◌, ◌⊎◌, inl, inr, ℕ, ◌+◌, ◌<◌, ◌≤◌, Bool, true, false, List, [], ◌∷◌, length, Ok, refl, sym, ap, ◌∙◌, arith}
 use Rattle.std.specs.List.{AllByRecursion}
 use Rattle.kpn_limits.specs.declared.TheConstants.{MAX_LEVELS}
+use Rattle.kpn_text_tokens.specs.declared.tokens.Language.{Language}
 use Rattle.kpn_text_tokens.specs.declared.tokens.Lexeme.{Lexeme}
 use Rattle.kpn_text_tokens.specs.declared.tokens.Token.{Token}
 use Rattle.kpn_text_tokens.specs.declared.tokens.Token.TheVariants as token
@@ -11,12 +12,12 @@ use Rattle.kpn_text_tokens.specs.declared.tokens.Keyword.TheVariants as keyword_
 use Rattle.kpn_text_grammar.specs.declared.fault.GrammarFault.TheVariants as fault
 use Rattle.kpn_text_grammar.specs.declared.parser.Scope.{Scope}
 use Rattle.kpn_text_grammar.specs.Syntax.{Name, Statements, Process}
-use Rattle.kpn_text_grammar.specs.Spelling.{kinds, spell_all, spell_further, spell_name, spell_names, spell_part, spell_later_part, spell_parts, spell_block, spell_process, ProcessIsWithin}
+use Rattle.kpn_text_grammar.specs.Spelling.{kinds, spell_all, spell_further, spell_name, spell_names, spell_part, spell_later_part, spell_parts, SpellsProcess, ProcessIsWithin}
 use Rattle.kpn_text_tokens.specs.Results.{and_then}
 use Rattle.kpn_text_grammar.specs.TokenTests.{is_mark, is_keyword, is_name}
 use Rattle.kpn_text_grammar.specs.Reading.{Read, next, first_is, mark, keyword, name, further, names, optional_names, block, HeadParts, after_outs, outs_or_pars, after_ins, parts_behind, parts, process, numbered_process}
 use Rattle.kpn_text_grammar.proofs.Steps.{bind_ok, by_test, moved, no_value, kind_of, kinds_of, front, next_takes, next_again, mark_takes, mark_again, keyword_takes, keyword_again, name_takes, name_again}
-use Rattle.kpn_text_grammar.proofs.ManyLaws.{TakesOne, Reads, TakesSome, begins, first_begins, is_comma, further_shortens, separated_takes, separated_again, one_shortens, Begins}
+use Rattle.kpn_text_grammar.proofs.ManyLaws.{Reads, TakesSome, TakesSpelled, ReadsSpelled, AreBegun, begins, first_begins, is_comma, further_shortens, separated_takes, separated_again, spelled_shortens}
 use Rattle.kpn_text_grammar.proofs.StatementLaws.{statements_longer, block_laws}
 
 -- ---- names
@@ -442,15 +443,17 @@ parts_again s (x ∷ xs) outs pars ls more h =
 
 -- ---- processes
 
-process_spelled : (p : Process) (ls a b c d e : List Lexeme) (more : List Token)
+process_head : (p : Process) (ls a b c d e : List Lexeme) (inside : List Token)
     → kinds ls ≡ token.Keyword keyword_.Process ∷ kinds a → kinds a ≡ token.Name p.name ∷ kinds b
     → kinds b ≡ token.Mark mark_.LeftParen ∷ kinds c
     → kinds c ≡ spell_parts p.ins p.outs p.pars (kinds d) → kinds d ≡ token.Mark mark_.RightParen ∷ kinds e
-    → kinds e ≡ spell_block p.body more → kinds ls ≡ spell_process p more
-process_spelled p ls a b c d e more word named opens head shuts body = rw (word, named, opens, head, shuts, body) refl
+    → kinds e ≡ token.Mark mark_.LeftBrace ∷ inside
+    → kinds ls ≡ token.Keyword keyword_.Process ∷ token.Name p.name ∷ token.Mark mark_.LeftParen
+    ∷ spell_parts p.ins p.outs p.pars (token.Mark mark_.RightParen ∷ token.Mark mark_.LeftBrace ∷ inside)
+process_head p ls a b c d e inside word named opens head shuts body = rw (word, named, opens, head, shuts, body) refl
 
 process_takes : (s : Scope) (ls : List Lexeme) (p : Process) (rest : List Lexeme) → process s ls ≡ Ok (p, rest)
-    → TakesOne spell_process ProcessIsWithin ls p rest
+    → TakesSpelled (SpellsProcess s.language) ProcessIsWithin ls p rest
 unfolding process
 process_takes s ls p rest h =
     let w = bind_ok _ _ _ h in
@@ -468,12 +471,16 @@ process_takes s ls p rest h =
       body =
           b.0.0;
     } in
-    moved (λ (y : Process × List Lexeme). TakesOne spell_process ProcessIsWithin ls y.0 y.1) (found, b.0.1) (p, rest)
-    b.2 (record {
-      spelled = process_spelled found ls w.0 x.0.1 m.0 q.0.1 c.0 (kinds b.0.1)
-          (keyword_takes s keyword_.Process ls w.0 w.1) (name_takes s w.0 x.0.0 x.0.1 x.1)
-          (mark_takes s mark_.LeftParen x.0.1 m.0 m.1) (parts_takes s m.0 q.0.0 q.0.1 q.1)
-          (mark_takes s mark_.RightParen q.0.1 c.0 c.1) body.spelled;
+    moved (λ (y : Process × List Lexeme). TakesSpelled (SpellsProcess s.language) ProcessIsWithin ls y.0 y.1)
+    (found, b.0.1) (p, rest) b.2 (record {
+      spelled = record {
+        inside = body.inside;
+        head = process_head found ls w.0 x.0.1 m.0 q.0.1 c.0 body.inside
+            (keyword_takes s keyword_.Process ls w.0 w.1) (name_takes s w.0 x.0.0 x.0.1 x.1)
+            (mark_takes s mark_.LeftParen x.0.1 m.0 m.1) (parts_takes s m.0 q.0.0 q.0.1 q.1)
+            (mark_takes s mark_.RightParen q.0.1 c.0 c.1) body.head;
+        body = body.spelled;
+      };
       within = body.within;
     })
 
@@ -486,27 +493,26 @@ unfolding process and_then
 process_at s x ins outs pars body ls a b c d e rest w n o p m k = rw (w, n, o, p, m, k) refl
 
 process_again : (s : Scope) (ls : List Lexeme) (p : Process) (more : List Token) → ProcessIsWithin p
-    → kinds ls ≡ spell_process p more → (rest : List Lexeme) × (process s ls ≡ Ok (p, rest)) × (kinds rest ≡ more)
+    → SpellsProcess s.language p (kinds ls) more
+    → (rest : List Lexeme) × (process s ls ≡ Ok (p, rest)) × (kinds rest ≡ more)
 process_again s ls p more within h =
-    let body = spell_block p.body more in
+    let body = token.Mark mark_.LeftBrace ∷ h.inside in
     let head = spell_parts p.ins p.outs p.pars (close body) in
-    let w = keyword_again s keyword_.Process ls (token.Name p.name ∷ token.Mark mark_.LeftParen ∷ head) h in
+    let w = keyword_again s keyword_.Process ls (token.Name p.name ∷ token.Mark mark_.LeftParen ∷ head) h.head in
     let n = name_again s w.0 p.name (token.Mark mark_.LeftParen ∷ head) w.2 in
     let o = mark_again s mark_.LeftParen n.0 head n.2 in
     let q = parts_again s p.ins p.outs p.pars o.0 body o.2 in
     let c = mark_again s mark_.RightParen q.0 body q.2 in
-    let k = (block_laws s MAX_LEVELS).again c.0 p.body more within c.2 in
+    let k = (block_laws s MAX_LEVELS).again c.0 p.body h.inside more within c.2 h.body in
     (k.0, process_at s p.name p.ins p.outs p.pars p.body ls w.0 n.0 o.0 q.0 c.0 k.0 w.1 n.1 o.1 q.1 c.1 k.1, k.2)
 
-pub process_laws : (s : Scope) (i : ℕ) → Reads spell_process ProcessIsWithin (numbered_process s i)
+pub process_laws : (s : Scope) (i : ℕ)
+    → ReadsSpelled (SpellsProcess s.language) ProcessIsWithin (numbered_process s i)
 unfolding numbered_process
 process_laws s i = record {
-  takes = λ ls p rest h. process_takes (record { end = s.end; process = i }) ls p rest h;
-  again = λ ls p more within h. process_again (record { end = s.end; process = i }) ls p more within h;
+  takes = process_takes (record { end = s.end; process = i; language = s.language });
+  again = process_again (record { end = s.end; process = i; language = s.language });
 }
-
-block_longer : (b : Statements) (more : List Token) → length more < length (spell_block b more)
-block_longer b more = omega (arith, statements_longer b (token.Mark mark_.RightBrace ∷ more))
 
 further_no_less : (xs : List Name) (more : List Token) → length more ≤ length
     (spell_all (spell_further spell_name) xs more)
@@ -545,15 +551,24 @@ parts_no_less (x ∷ xs) outs pars more =
       later_no_less keyword_.Par pars more,
     )
 
-process_longer : (p : Process) (more : List Token) → length more < length (spell_process p more)
-process_longer p more =
-    omega (arith, parts_no_less p.ins p.outs p.pars (close (spell_block p.body more)), block_longer p.body more)
+process_longer : {l : Language} (p : Process) (tokens more : List Token) → SpellsProcess l p tokens more
+    → length more < length tokens
+process_longer p tokens more h =
+    omega (
+      arith,
+      ap length h.head,
+      parts_no_less p.ins p.outs p.pars (close (token.Mark mark_.LeftBrace ∷ h.inside)),
+      statements_longer h.body,
+    )
 
-pub process_shape : Begins (is_keyword keyword_.Process) spell_process
-process_shape = record { starts = λ p more. refl; longer = process_longer }
+pub process_shape : (l : Language) → AreBegun (is_keyword keyword_.Process) (SpellsProcess l)
+process_shape l = record {
+  starts = λ p tokens more h. ap (begins (is_keyword keyword_.Process)) h.head;
+  longer = process_longer;
+}
 
 -- a process takes a token or more
 pub process_shortens : (s : Scope) (i : ℕ) (ls : List Lexeme) (p : Process) (rest : List Lexeme)
     → numbered_process s i ls ≡ Ok (p, rest) → length rest < length ls
-process_shortens s i ls p rest h = one_shortens (is_keyword keyword_.Process) spell_process ProcessIsWithin
-    (numbered_process s) process_shape (process_laws s) i ls p rest h
+process_shortens s i ls p rest h = spelled_shortens (is_keyword keyword_.Process) (SpellsProcess s.language)
+    ProcessIsWithin (numbered_process s) (process_shape s.language) (process_laws s) i ls p rest h

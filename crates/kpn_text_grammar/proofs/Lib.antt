@@ -1,4 +1,5 @@
 pub mod BlockSteps
+pub mod CanonicalLaws
 pub mod DescriptionLaws
 pub mod HeadLaws
 pub mod ListSteps
@@ -7,4 +8,8 @@ pub mod NetworkLaws
 pub mod StatementLaws
 pub mod Steps
 pub mod TermLaws
+pub mod TightAgain
+pub mod TightLaws
+pub mod TightSteps
 pub mod Rounds
+pub mod WholeLaws

@@ -1,8 +1,11 @@
 -- What is read as a statement or a block is spelled so and nests no deeper than it may, and what is spelled so is read
 -- again.
-use Rattle.std.proofs.Common.{◌≡◌, ℕ, zero, suc, ◌<◌, ◌≤◌, true, List, [], ◌∷◌, length, Ok, Err, refl, sym, ap, subst, ◌∙◌, arith}
+use Rattle.std.proofs.Common.{◌≡◌, ℕ, zero, suc, ◌<◌, ◌≤◌, Bool, true, false, not, ◌&&◌, List, [], ◌∷◌, length, Ok, Err, refl, sym, ap, subst, ◌∙◌, arith}
 use Rattle.std.specs.List.{AllByRecursion}
+use Rattle.std.proofs.lemmas.Bool.{and_from, and_parts}
 use Rattle.kpn_limits.specs.declared.TheConstants.{MAX_LEVELS}
+use Rattle.kpn_text_tokens.specs.declared.tokens.Language.{Language}
+use Rattle.kpn_text_tokens.specs.declared.tokens.Language.TheVariants as language
 use Rattle.kpn_text_tokens.specs.declared.tokens.Lexeme.{Lexeme}
 use Rattle.kpn_text_tokens.specs.declared.tokens.Token.{Token}
 use Rattle.kpn_text_tokens.specs.declared.tokens.Token.TheVariants as token
@@ -10,14 +13,15 @@ use Rattle.kpn_text_tokens.specs.declared.tokens.Mark.TheVariants as mark_
 use Rattle.kpn_text_tokens.specs.declared.tokens.Keyword.TheVariants as keyword_
 use Rattle.kpn_text_grammar.specs.declared.fault.GrammarFault.TheVariants as fault
 use Rattle.kpn_text_grammar.specs.declared.parser.Scope.{Scope}
-use Rattle.kpn_text_grammar.specs.Syntax.{Term, numeral, variable, minus, negation, complement, binary, conditional, Statement, assign, receive, send, choice, loop, Statements, no_statements, statement, statements_of}
-use Rattle.kpn_text_grammar.specs.Operators.{operator_mark}
-use Rattle.kpn_text_grammar.specs.Spelling.{kinds, spell_term, spell_statement, spell_statements, spell_block, inner_levels, deepest_term, BlockIsWithin, spell_all}
+use Rattle.kpn_text_grammar.specs.Syntax.{Term, Statement, assign, receive, send, choice, loop, Statements, no_statements, statement, statements_of}
+use Rattle.kpn_text_grammar.specs.Spelling.{kinds, SpellsTerm, SpellsAll, SpellsStatement, as_assignment, as_read, as_write, as_if, as_while, SpellsStatements, nothing, one_more, SpellsElse, left_out, behind_else, SpellsSecond, with_braces, as_branch, begins_else, inner_levels, deepest_term, BlockIsWithin}
 use Rattle.kpn_text_tokens.specs.Results.{and_then}
-use Rattle.kpn_text_grammar.specs.Reading.{Read, next, mark, keyword, name, expression, many, assignment_behind, receive_behind, send_behind, choice_behind, loop_behind, statement_behind, one_statement, goes_on, statements_at, block_behind, block}
-use Rattle.kpn_text_grammar.proofs.Steps.{bind_ok, ok_is, no_value, kind_of, kinds_of, next_takes, next_again, mark_takes, mark_again, keyword_takes, keyword_again, name_takes, name_again}
-use Rattle.kpn_text_grammar.proofs.TermLaws.{expression_laws}
-use Rattle.kpn_text_grammar.proofs.ManyLaws.{TakesOne, Reads, Begins, begins, one_shortens, many_takes, many_again}
+use Rattle.kpn_text_grammar.specs.TokenTests.{is_keyword}
+use Rattle.kpn_text_grammar.specs.Reading.{Read, next, first_is, mark, keyword, name, is_second, whole, many, assignment_behind, receive_behind, send_behind, else_behind, choice_behind, loop_behind, statement_behind, one_statement, goes_on, statements_at, block_behind, opened, too_deep, is_branch, branch, block, second_block}
+use Rattle.kpn_text_grammar.proofs.Steps.{bind_ok, by_test, first_kind, is_keyword_same, moved, ok_is, no_value, kind_of, kinds_of, next_takes, next_again, mark_takes, mark_again, keyword_takes, keyword_again, name_takes, name_again}
+use Rattle.kpn_text_grammar.proofs.TightLaws.{at_brace, at_semicolon}
+use Rattle.kpn_text_grammar.proofs.WholeLaws.{whole_takes, whole_again, whole_longer}
+use Rattle.kpn_text_grammar.proofs.ManyLaws.{TakesSpelled, ReadsSpelled, AreBegun, begins, spelled_shortens, all_taken, all_again}
 
 -- a statement within the limits of depth: its blocks nest at most so deep, and its expressions at most 32 levels
 pub record StatementIsWithin (depth : ℕ) (s : Statement) : Type 0 where
@@ -29,78 +33,104 @@ abbrev list_of : Statements → List Statement
 list_of no_statements = []
 list_of (statement s ss) = s ∷ list_of ss
 
--- what was read as a statement, or as a block
-pub record TakesStatement (d : ℕ) (tokens : List Token) (st : Statement) (rest : List Lexeme) : Type 0 where
-  pub spelled : tokens ≡ spell_statement st (kinds rest)
+-- what was read as a statement, as a block, as what stands behind `else`, and as that with its `else`
+pub record TakesStatement (l : Language) (d : ℕ) (tokens : List Token) (st : Statement) (rest : List Lexeme)
+    : Type 0 where
+  pub spelled : SpellsStatement l st tokens (kinds rest)
   pub within : StatementIsWithin d st
 
-pub record TakesBlock (d : ℕ) (tokens : List Token) (b : Statements) (rest : List Lexeme) : Type 0 where
-  pub spelled : tokens ≡ spell_block b (kinds rest)
+pub record TakesBlock (l : Language) (d : ℕ) (tokens : List Token) (b : Statements) (rest : List Lexeme) : Type 0 where
+  pub inside : List Token
+  pub head : tokens ≡ token.Mark mark_.LeftBrace ∷ inside
+  pub spelled : SpellsStatements l b inside (token.Mark mark_.RightBrace ∷ kinds rest)
   pub within : BlockIsWithin d b
 
--- the two laws of a parser of blocks
-pub record ReadsBlocks (d : ℕ) (inner : List Lexeme → Read Statements) : Type 0 where
+pub record TakesSecond (l : Language) (d : ℕ) (tokens : List Token) (b : Statements) (rest : List Lexeme) : Type 0 where
+  pub spelled : SpellsSecond l b tokens (kinds rest)
+  pub within : BlockIsWithin d b
+
+record TakesElse (l : Language) (d : ℕ) (tokens : List Token) (b : Statements) (rest : List Lexeme) : Type 0 where
+  spelled : SpellsElse l b tokens (kinds rest)
+  within : BlockIsWithin d b
+
+-- what is read again
+abbrev Again : {A : Type 0} → List Token → Read A → A → Type 0
+Again {A} more read x = (rest : List Lexeme) × (read ≡ Ok (x, rest)) × (kinds rest ≡ more)
+
+-- the two laws of a parser of blocks, and of one of what stands behind `else`
+pub record ReadsBlocks (l : Language) (d : ℕ) (inner : List Lexeme → Read Statements) : Type 0 where
   pub takes : (ls : List Lexeme) (b : Statements) (rest : List Lexeme) → inner ls ≡ Ok (b, rest)
-      → TakesBlock d (kinds ls) b rest
-  pub again : (ls : List Lexeme) (b : Statements) (more : List Token) → BlockIsWithin d b
-      → kinds ls ≡ spell_block b more → (rest : List Lexeme) × (inner ls ≡ Ok (b, rest)) × (kinds rest ≡ more)
+      → TakesBlock l d (kinds ls) b rest
+  pub again : (ls : List Lexeme) (b : Statements) (inside more : List Token) → BlockIsWithin d b
+      → kinds ls ≡ token.Mark mark_.LeftBrace ∷ inside
+      → SpellsStatements l b inside (token.Mark mark_.RightBrace ∷ more) → Again more (inner ls) b
 
--- ---- spellings are no gaps
+pub record ReadsSecond (l : Language) (d : ℕ) (second : List Lexeme → Read Statements) : Type 0 where
+  pub takes : (ls : List Lexeme) (b : Statements) (rest : List Lexeme) → second ls ≡ Ok (b, rest)
+      → TakesSecond l d (kinds ls) b rest
+  pub again : (ls : List Lexeme) (b : Statements) (tokens more : List Token) → BlockIsWithin d b → kinds ls ≡ tokens
+      → SpellsSecond l b tokens more → Again more (second ls) b
 
-term_longer : (e : Term) (more : List Token) → length more < length (spell_term e more)
-term_longer (numeral n) more = omega arith
-term_longer (variable x) more = omega arith
-term_longer (minus e) more = omega (arith, term_longer e more)
-term_longer (negation e) more = omega (arith, term_longer e more)
-term_longer (complement e) more = omega (arith, term_longer e more)
-term_longer (binary op a b) more =
-    omega (
-      arith,
-      term_longer a (token.Mark (operator_mark op) ∷ spell_term b (token.Mark mark_.RightParen ∷ more)),
-      term_longer b (token.Mark mark_.RightParen ∷ more),
-    )
-term_longer (conditional c a b) more =
-    let after_b = token.Mark mark_.RightParen ∷ more in
-    let after_a = token.Mark mark_.Colon ∷ spell_term b after_b in
-    omega (
-      arith,
-      term_longer c (token.Mark mark_.Question ∷ spell_term a after_a),
-      term_longer a after_a,
-      term_longer b after_b,
-    )
+-- ---- spellings are no gaps, and begin as statements do
 
 mutual
-  statement_longer : (st : Statement) (more : List Token) → length more < length (spell_statement st more)
-  statement_longer (assign x e) more = omega (arith, term_longer e (token.Mark mark_.Semicolon ∷ more))
-  statement_longer (receive i x) more = omega arith
-  statement_longer (send o e) more = omega (arith, term_longer e (token.Mark mark_.Semicolon ∷ more))
-  statement_longer (choice e a b) more =
-      let after_b = token.Mark mark_.RightBrace ∷ more in
-      let at_b = token.Mark mark_.RightBrace ∷ token.Keyword keyword_.Else ∷ token.Mark mark_.LeftBrace
-      ∷ spell_statements b after_b in
+  statement_longer : {l : Language} {st : Statement} {tokens more : List Token} → SpellsStatement l st tokens more
+      → length more < length tokens
+  statement_longer {l} (as_assignment {e = e} {tokens = ts} {more = more} h) =
+      omega (arith, whole_longer l e ts (token.Mark mark_.Semicolon ∷ more) h)
+  statement_longer as_read = omega arith
+  statement_longer {l} (as_write {e = e} {tokens = ts} {more = more} h) =
+      omega (arith, whole_longer l e ts (token.Mark mark_.Semicolon ∷ more) h)
+  statement_longer {l} (as_if {e = e} {at_e = ts} {at_a = at_a} he ha hb) =
       omega (
         arith,
-        term_longer e (token.Mark mark_.LeftBrace ∷ spell_statements a at_b),
-        statements_longer a at_b,
-        statements_longer b after_b,
+        whole_longer l e ts (token.Mark mark_.LeftBrace ∷ at_a) he,
+        statements_longer ha,
+        else_longer hb,
       )
-  statement_longer (loop e b) more =
-      omega (arith, term_longer e (spell_block b more), statements_longer b (token.Mark mark_.RightBrace ∷ more))
+  statement_longer {l} (as_while {e = e} {at_e = ts} {at_b = at_b} he hb) =
+      omega (arith, whole_longer l e ts (token.Mark mark_.LeftBrace ∷ at_b) he, statements_longer hb)
 
-  pub statements_longer : (b : Statements) (more : List Token) → length more ≤ length (spell_statements b more)
-  statements_longer no_statements more = omega arith
-  statements_longer (statement st ss) more = omega (
-    arith,
-    statement_longer st (spell_statements ss more),
-    statements_longer ss more,
-  )
+  pub statements_longer : {l : Language} {b : Statements} {tokens more : List Token} → SpellsStatements l b tokens more
+      → length more ≤ length tokens
+  statements_longer nothing = omega arith
+  statements_longer (one_more h hs) = omega (arith, statement_longer h, statements_longer hs)
+
+  else_longer : {l : Language} {b : Statements} {tokens more : List Token} → SpellsElse l b tokens more
+      → length more ≤ length tokens
+  else_longer (left_out two ends) = omega arith
+  else_longer (behind_else h) = omega (arith, second_longer h)
+
+  second_longer : {l : Language} {b : Statements} {tokens more : List Token} → SpellsSecond l b tokens more
+      → length more ≤ length tokens
+  second_longer (with_braces h) = omega (arith, statements_longer h)
+  second_longer (as_branch two h) = omega (arith, statement_longer h)
+
+statement_starts : {l : Language} {st : Statement} {tokens more : List Token} → SpellsStatement l st tokens more
+    → begins goes_on tokens ≡ true
+statement_starts (as_assignment h) = refl
+statement_starts as_read = refl
+statement_starts (as_write h) = refl
+statement_starts (as_if he ha hb) = refl
+statement_starts (as_while he hb) = refl
+
+pub statement_shape : (l : Language) → AreBegun goes_on (SpellsStatement l)
+statement_shape l = record {
+  starts = λ st tokens more h. statement_starts h;
+  longer = λ st tokens more h. statement_longer h;
+}
 
 -- ---- lists as statements
 
-all_spelled : (ss : List Statement) (more : List Token)
-    → spell_all spell_statement ss more ≡ spell_statements (statements_of ss) more
-all_spelled [] more = refl
-all_spelled (st ∷ ss) more = ap (spell_statement st) (all_spelled ss more)
+all_spelled : (l : Language) (ss : List Statement) (tokens more : List Token)
+    → SpellsAll (SpellsStatement l) ss tokens more → SpellsStatements l (statements_of ss) tokens more
+all_spelled l [] tokens more h = subst (λ (ts : List Token). SpellsStatements l no_statements ts more) (sym h) nothing
+all_spelled l (st ∷ ss) tokens more (others, first, rest) = one_more first (all_spelled l ss others more rest)
+
+each_spelled : {l : Language} {b : Statements} {tokens more : List Token} → SpellsStatements l b tokens more
+    → SpellsAll (SpellsStatement l) (list_of b) tokens more
+each_spelled nothing = refl
+each_spelled (one_more {others = others} h hs) = (others, h, each_spelled hs)
 
 list_back : (b : Statements) → statements_of (list_of b) ≡ b
 list_back no_statements = refl
@@ -125,32 +155,58 @@ each_is_within d (statement st ss) within = (
       (record { blocks = omega (arith, within.blocks); terms = omega (arith, within.terms) }),
 )
 
+-- ---- the test of a language
+
+pub second_is_two : (l : Language) → is_second l ≡ true → l ≡ language.Two
+second_is_two language.One h = absurd cc
+second_is_two language.Two h = refl
+
+and_false : (b c : Bool) → c ≡ false → (b && c) ≡ false
+and_false true c h = h
+and_false false c h = refl
+
+not_false : (b : Bool) → not b ≡ true → b ≡ false
+not_false true h = absurd cc
+not_false false h = refl
+
+first_else : (ls : List Lexeme) → begins_else (kinds ls) ≡ first_is (is_keyword keyword_.Else) ls
+first_else [] = refl
+first_else (l ∷ ls) = refl
+
 -- ---- each kind of statement
 
-moved : (d : ℕ) (tokens : List Token) (st other : Statement) (rest after : List Lexeme)
-    → ◌≡◌ {A = Read Statement} (Ok (st, rest)) (Ok (other, after)) → TakesStatement d tokens st rest
-    → TakesStatement d tokens other after
-moved d tokens st other rest after h t = subst (λ (p : Statement × List Lexeme). TakesStatement d tokens p.0 p.1)
-    (ok_is (st, rest) (other, after) h) t
+module _ (s : Scope) (d : ℕ) (inner second : List Lexeme → Read Statements) (laws : ReadsBlocks s.language d inner)
+    (second_laws : ReadsSecond s.language d second) where
+  same : (tokens : List Token) (st other : Statement) (rest after : List Lexeme)
+      → ◌≡◌ {A = Read Statement} (Ok (st, rest)) (Ok (other, after)) → TakesStatement s.language d tokens st rest
+      → TakesStatement s.language d tokens other after
+  same tokens st other rest after h t =
+      moved (λ (p : Statement × List Lexeme). TakesStatement s.language d tokens p.0 p.1) (st, rest) (other, after) h t
 
-module _ (s : Scope) (d : ℕ) (inner : List Lexeme → Read Statements) (laws : ReadsBlocks d inner) where
+  -- a term up to a mark
+  term_to : (e : Term) (tokens more more_is : List Token) → SpellsTerm s.language e tokens more → more ≡ more_is
+      → SpellsTerm s.language e tokens more_is
+  term_to e tokens more more_is h same_more = subst (λ (ts : List Token). SpellsTerm s.language e tokens ts) same_more h
+
   assignment_takes : (x : List ℕ) (ls : List Lexeme) (st : Statement) (rest : List Lexeme)
-      → assignment_behind s x ls ≡ Ok (st, rest) → TakesStatement d (token.Name x ∷ kinds ls) st rest
+      → assignment_behind s x ls ≡ Ok (st, rest) → TakesStatement s.language d (token.Name x ∷ kinds ls) st rest
   unfolding assignment_behind
   assignment_takes x ls st rest h =
       let a = bind_ok _ _ _ h in
       let e = bind_ok _ _ _ a.2 in
       let m = bind_ok _ _ _ e.2 in
       let sign = mark_takes s mark_.Assign ls a.0 a.1 in
-      let value = (expression_laws s MAX_LEVELS).takes a.0 e.0.0 e.0.1 e.1 in
+      let value = whole_takes s a.0 e.0.0 e.0.1 e.1 in
       let close = mark_takes s mark_.Semicolon e.0.1 m.0 m.1 in
-      moved d _ (assign x e.0.0) st m.0 rest m.2 (record {
-        spelled = rw (sign, value.spelled, close) refl;
+      same _ (assign x e.0.0) st m.0 rest m.2 (record {
+        spelled = subst (λ (ts : List Token). SpellsStatement s.language (assign x e.0.0) (token.Name x ∷ ts) (kinds m.0))
+            (sym sign) (as_assignment {x = x} {e = e.0.0} {tokens = kinds a.0} {more = kinds m.0}
+            (term_to e.0.0 (kinds a.0) (kinds e.0.1) (token.Mark mark_.Semicolon ∷ kinds m.0) value.spelled close));
         within = record { blocks = omega arith; terms = value.level };
       })
 
   receive_takes : (ls : List Lexeme) (st : Statement) (rest : List Lexeme) → receive_behind s ls ≡ Ok (st, rest)
-      → TakesStatement d (token.Keyword keyword_.Read ∷ kinds ls) st rest
+      → TakesStatement s.language d (token.Keyword keyword_.Read ∷ kinds ls) st rest
   unfolding receive_behind
   receive_takes ls st rest h =
       let i = bind_ok _ _ _ h in
@@ -159,56 +215,101 @@ module _ (s : Scope) (d : ℕ) (inner : List Lexeme → Read Statements) (laws :
       let port = name_takes s ls i.0.0 i.0.1 i.1 in
       let target = name_takes s i.0.1 x.0.0 x.0.1 x.1 in
       let close = mark_takes s mark_.Semicolon x.0.1 m.0 m.1 in
-      moved d _ (receive i.0.0 x.0.0) st m.0 rest m.2 (record {
-        spelled = rw (port, target, close) refl;
+      let all : kinds ls ≡ token.Name i.0.0 ∷ token.Name x.0.0 ∷ token.Mark mark_.Semicolon ∷ kinds m.0 =
+      port ∙ ap (λ (ts : List Token). token.Name i.0.0 ∷ ts) (target
+      ∙ ap (λ (ts : List Token). token.Name x.0.0 ∷ ts) close) in
+      same _ (receive i.0.0 x.0.0) st m.0 rest m.2 (record {
+        spelled = subst (λ (ts : List Token). SpellsStatement s.language (receive i.0.0 x.0.0)
+            (token.Keyword keyword_.Read ∷ ts) (kinds m.0)) (sym all) as_read;
         within = record { blocks = omega arith; terms = omega arith };
       })
 
   send_takes : (ls : List Lexeme) (st : Statement) (rest : List Lexeme) → send_behind s ls ≡ Ok (st, rest)
-      → TakesStatement d (token.Keyword keyword_.Write ∷ kinds ls) st rest
+      → TakesStatement s.language d (token.Keyword keyword_.Write ∷ kinds ls) st rest
   unfolding send_behind
   send_takes ls st rest h =
       let o = bind_ok _ _ _ h in
       let e = bind_ok _ _ _ o.2 in
       let m = bind_ok _ _ _ e.2 in
       let port = name_takes s ls o.0.0 o.0.1 o.1 in
-      let value = (expression_laws s MAX_LEVELS).takes o.0.1 e.0.0 e.0.1 e.1 in
+      let value = whole_takes s o.0.1 e.0.0 e.0.1 e.1 in
       let close = mark_takes s mark_.Semicolon e.0.1 m.0 m.1 in
-      moved d _ (send o.0.0 e.0.0) st m.0 rest m.2 (record {
-        spelled = rw (port, value.spelled, close) refl;
+      same _ (send o.0.0 e.0.0) st m.0 rest m.2 (record {
+        spelled = subst (λ (ts : List Token). SpellsStatement s.language (send o.0.0 e.0.0)
+            (token.Keyword keyword_.Write ∷ ts) (kinds m.0)) (sym port)
+            (as_write {o = o.0.0} {e = e.0.0} {tokens = kinds o.0.1} {more = kinds m.0}
+            (term_to e.0.0 (kinds o.0.1) (kinds e.0.1) (token.Mark mark_.Semicolon ∷ kinds m.0) value.spelled close));
         within = record { blocks = omega arith; terms = value.level };
       })
 
-  choice_takes : (ls : List Lexeme) (st : Statement) (rest : List Lexeme) → choice_behind s inner ls ≡ Ok (st, rest)
-      → TakesStatement d (token.Keyword keyword_.If ∷ kinds ls) st rest
+  -- the second block of an `if`, behind one that has a level
+  else_takes : (ls : List Lexeme) (b : Statements) (rest : List Lexeme) → 0 < d
+      → else_behind s second ls ≡ Ok (b, rest) → TakesElse s.language d (kinds ls) b rest
+  unfolding else_behind
+  else_takes ls b rest some h =
+      by_test (is_second s.language && not (first_is (is_keyword keyword_.Else) ls)) (Ok (no_statements, ls))
+      (and_then (keyword s keyword_.Else ls) second) (Ok (b, rest)) h
+      (λ missing k.
+      let p = and_parts (is_second s.language) (not (first_is (is_keyword keyword_.Else) ls)) missing in
+      let ends : begins_else (kinds ls) ≡ false =
+      first_else ls ∙ not_false (first_is (is_keyword keyword_.Else) ls) p.1 in
+      moved (λ (p : Statements × List Lexeme). TakesElse s.language d (kinds ls) p.0 p.1) (no_statements, ls) (b, rest) k
+      (record {
+        spelled = left_out (second_is_two s.language p.0) ends;
+        within = record { blocks = omega (arith, some); terms = omega arith };
+      }))
+      (λ _ k.
+      let w = bind_ok (keyword s keyword_.Else ls) second (b, rest) k in
+      let word = keyword_takes s keyword_.Else ls w.0 w.1 in
+      let t = second_laws.takes w.0 b rest w.2 in
+      record {
+        spelled = subst (λ (ts : List Token). SpellsElse s.language b ts (kinds rest)) (sym word)
+            (behind_else t.spelled);
+        within = t.within;
+      })
+
+  choice_takes : (ls : List Lexeme) (st : Statement) (rest : List Lexeme)
+      → choice_behind s inner second ls ≡ Ok (st, rest)
+      → (e : Term) × (a : Statements) × (b : Statements) × (choice e a b ≡ st)
+      × TakesStatement s.language d (token.Keyword keyword_.If ∷ kinds ls) (choice e a b) rest
   unfolding choice_behind
   choice_takes ls st rest h =
       let e = bind_ok _ _ _ h in
       let a = bind_ok _ _ _ e.2 in
-      let k = bind_ok _ _ _ a.2 in
-      let b = bind_ok _ _ _ k.2 in
-      let test = (expression_laws s MAX_LEVELS).takes ls e.0.0 e.0.1 e.1 in
+      let b = bind_ok _ _ _ a.2 in
+      let test = whole_takes s ls e.0.0 e.0.1 e.1 in
       let first = laws.takes e.0.1 a.0.0 a.0.1 a.1 in
-      let word = keyword_takes s keyword_.Else a.0.1 k.0 k.1 in
-      let second = laws.takes k.0 b.0.0 b.0.1 b.1 in
-      moved d _ (choice e.0.0 a.0.0 b.0.0) st b.0.1 rest b.2 (record {
-        spelled = rw (test.spelled, first.spelled, word, second.spelled) refl;
-        within = record {
-          blocks = omega (arith, first.within.blocks, second.within.blocks);
-          terms = omega (arith, test.level, first.within.terms, second.within.terms);
-        };
-      })
+      let other = else_takes a.0.1 b.0.0 b.0.1 (omega (arith, first.within.blocks)) b.1 in
+      let p = ok_is (choice e.0.0 a.0.0 b.0.0, b.0.1) (st, rest) b.2 in (
+        e.0.0,
+        a.0.0,
+        b.0.0,
+        ap (λ (q : Statement × List Lexeme). q.0) p,
+        subst (λ (after : List Lexeme). TakesStatement s.language d (token.Keyword keyword_.If ∷ kinds ls)
+            (choice e.0.0 a.0.0 b.0.0) after) (ap (λ (q : Statement × List Lexeme). q.1) p) (record {
+              spelled = as_if {e = e.0.0} {a = a.0.0} {b = b.0.0} {at_e = kinds ls} {at_a = first.inside}
+                  {at_else = kinds a.0.1} {more = kinds b.0.1}
+                  (term_to e.0.0 (kinds ls) (kinds e.0.1) (token.Mark mark_.LeftBrace ∷ first.inside) test.spelled first.head)
+                  first.spelled other.spelled;
+              within = record {
+                blocks = omega (arith, first.within.blocks, other.within.blocks);
+                terms = omega (arith, test.level, first.within.terms, other.within.terms);
+              };
+            }),
+      )
 
   loop_takes : (ls : List Lexeme) (st : Statement) (rest : List Lexeme) → loop_behind s inner ls ≡ Ok (st, rest)
-      → TakesStatement d (token.Keyword keyword_.While ∷ kinds ls) st rest
+      → TakesStatement s.language d (token.Keyword keyword_.While ∷ kinds ls) st rest
   unfolding loop_behind
   loop_takes ls st rest h =
       let e = bind_ok _ _ _ h in
       let b = bind_ok _ _ _ e.2 in
-      let test = (expression_laws s MAX_LEVELS).takes ls e.0.0 e.0.1 e.1 in
+      let test = whole_takes s ls e.0.0 e.0.1 e.1 in
       let body = laws.takes e.0.1 b.0.0 b.0.1 b.1 in
-      moved d _ (loop e.0.0 b.0.0) st b.0.1 rest b.2 (record {
-        spelled = rw (test.spelled, body.spelled) refl;
+      same _ (loop e.0.0 b.0.0) st b.0.1 rest b.2 (record {
+        spelled = as_while {e = e.0.0} {b = b.0.0} {at_e = kinds ls} {at_b = body.inside} {more = kinds b.0.1}
+            (term_to e.0.0 (kinds ls) (kinds e.0.1) (token.Mark mark_.LeftBrace ∷ body.inside) test.spelled body.head)
+            body.spelled;
         within = record {
           blocks = omega (arith, body.within.blocks);
           terms =
@@ -217,233 +318,385 @@ module _ (s : Scope) (d : ℕ) (inner : List Lexeme → Read Statements) (laws :
       })
 
   behind_takes : (t : Token) (start : ℕ) (ls : List Lexeme) (st : Statement) (rest : List Lexeme)
-      → statement_behind s inner t start ls ≡ Ok (st, rest) → TakesStatement d (t ∷ kinds ls) st rest
+      → statement_behind s inner second t start ls ≡ Ok (st, rest)
+      → TakesStatement s.language d (t ∷ kinds ls) st rest
   unfolding statement_behind
   behind_takes (token.Name x) start ls st rest h = assignment_takes x ls st rest h
   behind_takes (token.Keyword keyword_.Read) start ls st rest h = receive_takes ls st rest h
   behind_takes (token.Keyword keyword_.Write) start ls st rest h = send_takes ls st rest h
-  behind_takes (token.Keyword keyword_.If) start ls st rest h = choice_takes ls st rest h
+  behind_takes (token.Keyword keyword_.If) start ls st rest h =
+      let c = choice_takes ls st rest h in
+      subst (λ (x : Statement). TakesStatement s.language d (token.Keyword keyword_.If ∷ kinds ls) x rest) c.3 c.4
   behind_takes (token.Keyword keyword_.While) start ls st rest h = loop_takes ls st rest h
   behind_takes _ start ls st rest h = absurd (no_value (fault.Grammar start) (st, rest) h)
 
   statement_takes : (i : ℕ) (ls : List Lexeme) (st : Statement) (rest : List Lexeme)
-      → one_statement s inner i ls ≡ Ok (st, rest) → TakesOne spell_statement (StatementIsWithin d) ls st rest
+      → one_statement s inner second i ls ≡ Ok (st, rest)
+      → TakesSpelled (SpellsStatement s.language) (StatementIsWithin d) ls st rest
   unfolding one_statement
   statement_takes i ls st rest h =
-      let b = bind_ok (next s ls) (λ x. statement_behind s inner x.0.token x.0.start x.1) (st, rest) h in
+      let b = bind_ok (next s ls) (λ x. statement_behind s inner second x.0.token x.0.start x.1) (st, rest) h in
       let first : kinds ls ≡ b.0.0.token ∷ kinds b.0.1 = ap kinds (next_takes s ls b.0.0 b.0.1 b.1) in
       let t = behind_takes b.0.0.token b.0.0.start b.0.1 st rest b.2 in
-      record { spelled = first ∙ t.spelled; within = t.within }
+      record {
+        spelled = subst (λ (ts : List Token). SpellsStatement s.language st ts (kinds rest)) (sym first) t.spelled;
+        within = t.within;
+      }
 
   -- ---- again
 
-  first_at : (i : ℕ) (ls : List Lexeme) (l : Lexeme) (rest : List Lexeme) (r : Read Statement) → ls ≡ l ∷ rest
-      → statement_behind s inner l.token l.start rest ≡ r → one_statement s inner i ls ≡ r
+  first_at : (i : ℕ) (l : Lexeme) (rest : List Lexeme) (r : Read Statement)
+      → statement_behind s inner second l.token l.start rest ≡ r → one_statement s inner second i (l ∷ rest) ≡ r
   unfolding one_statement and_then
-  first_at i ls l rest r e o = rw (e, next_again s l rest) o
+  first_at i l rest r o = rw (next_again s l rest) o
 
   assign_at : (t : Token) (start : ℕ) (x : List ℕ) (e : Term) (a b c rest : List Lexeme) → t ≡ token.Name x
-      → mark s mark_.Assign a ≡ Ok b → expression s MAX_LEVELS b ≡ Ok (e, c) → mark s mark_.Semicolon c ≡ Ok rest
-      → statement_behind s inner t start a ≡ Ok (assign x e, rest)
+      → mark s mark_.Assign a ≡ Ok b → whole s b ≡ Ok (e, c) → mark s mark_.Semicolon c ≡ Ok rest
+      → statement_behind s inner second t start a ≡ Ok (assign x e, rest)
   unfolding statement_behind assignment_behind and_then
   assign_at t start x e a b c rest k p q r = rw (k, p, q, r) refl
 
   receive_at : (t : Token) (start : ℕ) (i x : List ℕ) (a b c rest : List Lexeme) → t ≡ token.Keyword keyword_.Read
       → name s a ≡ Ok (i, b) → name s b ≡ Ok (x, c) → mark s mark_.Semicolon c ≡ Ok rest
-      → statement_behind s inner t start a ≡ Ok (receive i x, rest)
+      → statement_behind s inner second t start a ≡ Ok (receive i x, rest)
   unfolding statement_behind receive_behind and_then
   receive_at t start i x a b c rest k p q r = rw (k, p, q, r) refl
 
   send_at : (t : Token) (start : ℕ) (o : List ℕ) (e : Term) (a b c rest : List Lexeme)
-      → t ≡ token.Keyword keyword_.Write → name s a ≡ Ok (o, b) → expression s MAX_LEVELS b ≡ Ok (e, c)
+      → t ≡ token.Keyword keyword_.Write → name s a ≡ Ok (o, b) → whole s b ≡ Ok (e, c)
       → mark s mark_.Semicolon c ≡ Ok rest
-      → statement_behind s inner t start a ≡ Ok (send o e, rest)
+      → statement_behind s inner second t start a ≡ Ok (send o e, rest)
   unfolding statement_behind send_behind and_then
   send_at t start o e a b c rest k p q r = rw (k, p, q, r) refl
 
-  choice_at : (t : Token) (start : ℕ) (e : Term) (x y : Statements) (a b c f rest : List Lexeme)
-      → t ≡ token.Keyword keyword_.If → expression s MAX_LEVELS a ≡ Ok (e, b) → inner b ≡ Ok (x, c)
-      → keyword s keyword_.Else c ≡ Ok f → inner f ≡ Ok (y, rest)
-      → statement_behind s inner t start a ≡ Ok (choice e x y, rest)
-  unfolding statement_behind choice_behind and_then
-  choice_at t start e x y a b c f rest k p q r u = rw (k, p, q, r, u) refl
+  if_at : (t : Token) (start : ℕ) (a : List Lexeme) (r : Read Statement) → t ≡ token.Keyword keyword_.If
+      → choice_behind s inner second a ≡ r → statement_behind s inner second t start a ≡ r
+  unfolding statement_behind
+  if_at t start a r k p = rw k p
+
+  choice_at : (e : Term) (x y : Statements) (a b c rest : List Lexeme) → whole s a ≡ Ok (e, b)
+      → inner b ≡ Ok (x, c) → else_behind s second c ≡ Ok (y, rest)
+      → choice_behind s inner second a ≡ Ok (choice e x y, rest)
+  unfolding choice_behind and_then
+  choice_at e x y a b c rest p q r = rw (p, q, r) refl
 
   loop_at : (t : Token) (start : ℕ) (e : Term) (x : Statements) (a b rest : List Lexeme)
-      → t ≡ token.Keyword keyword_.While → expression s MAX_LEVELS a ≡ Ok (e, b) → inner b ≡ Ok (x, rest)
-      → statement_behind s inner t start a ≡ Ok (loop e x, rest)
+      → t ≡ token.Keyword keyword_.While → whole s a ≡ Ok (e, b) → inner b ≡ Ok (x, rest)
+      → statement_behind s inner second t start a ≡ Ok (loop e x, rest)
   unfolding statement_behind loop_behind and_then
   loop_at t start e x a b rest k p q = rw (k, p, q) refl
 
-  behind_again : (l : Lexeme) (ls : List Lexeme) (st : Statement) (more : List Token) → StatementIsWithin d st
-      → kinds (l ∷ ls) ≡ spell_statement st more
-      → (rest : List Lexeme) × (statement_behind s inner l.token l.start ls ≡ Ok (st, rest)) × (kinds rest ≡ more)
-  behind_again l ls (assign x e) more within h =
+  missing_at : (ls : List Lexeme)
+      → (is_second s.language && not (first_is (is_keyword keyword_.Else) ls)) ≡ true
+      → else_behind s second ls ≡ Ok (no_statements, ls)
+  unfolding else_behind
+  missing_at ls missing = rw missing refl
+
+  else_at : (ls after : List Lexeme) (r : Read Statements)
+      → (is_second s.language && not (first_is (is_keyword keyword_.Else) ls)) ≡ false
+      → keyword s keyword_.Else ls ≡ Ok after → second after ≡ r → else_behind s second ls ≡ r
+  unfolding else_behind and_then
+  else_at ls after r there k o = rw (there, k) o
+
+  else_again : (ls : List Lexeme) (b : Statements) (tokens more : List Token) → BlockIsWithin d b → kinds ls ≡ tokens
+      → SpellsElse s.language b tokens more → Again more (else_behind s second ls) b
+  else_again ls _ _ more within h (left_out two ends) =
+      let stops : not (first_is (is_keyword keyword_.Else) ls) ≡ true =
+      ap not (sym (first_else ls) ∙ ap begins_else h ∙ ends) in
+      (ls, missing_at ls (and_from _ _ (ap is_second two) stops), h)
+  else_again ls b _ more within h (behind_else {tokens = tokens} hs) =
+      let there : first_is (is_keyword keyword_.Else) ls ≡ true =
+      first_kind (is_keyword keyword_.Else) ls (token.Keyword keyword_.Else) tokens h
+      ∙ is_keyword_same keyword_.Else in
+      let w = keyword_again s keyword_.Else ls tokens h in
+      let o = second_laws.again w.0 b tokens more within w.2 hs in
+      (o.0, else_at ls w.0 (Ok (b, o.0)) (and_false (is_second s.language) _ (ap not there)) w.1 o.1, o.2)
+
+  pub choice_again : (ls : List Lexeme) (e : Term) (a b : Statements) (at_e at_a at_else more : List Token)
+      → StatementIsWithin d (choice e a b) → kinds ls ≡ at_e
+      → SpellsTerm s.language e at_e (token.Mark mark_.LeftBrace ∷ at_a)
+      → SpellsStatements s.language a at_a (token.Mark mark_.RightBrace ∷ at_else)
+      → SpellsElse s.language b at_else more → Again more (choice_behind s inner second ls) (choice e a b)
+  choice_again ls e a b at_e at_a at_else more within h he ha hb =
+      let p = whole_again s ls e at_e (token.Mark mark_.LeftBrace ∷ at_a) he (omega (arith, within.terms)) (at_brace at_a)
+      h in
+      let q = laws.again p.rest a at_a at_else (record {
+        blocks = omega (arith, within.blocks);
+        terms = omega (arith, within.terms);
+      }) p.after ha in
+      let r = else_again q.0 b at_else more (record {
+        blocks = omega (arith, within.blocks);
+        terms = omega (arith, within.terms);
+      }) q.2 hb in
+      (r.0, choice_at e a b ls p.rest q.0 r.0 p.reads q.1 r.1, r.2)
+
+  behind_again : {st : Statement} {tokens more : List Token} → SpellsStatement s.language st tokens more → (l : Lexeme)
+      (ls : List Lexeme) → StatementIsWithin d st → kinds (l ∷ ls) ≡ tokens
+      → Again more (statement_behind s inner second l.token l.start ls) st
+  behind_again (as_assignment {x = x} {e = e} {tokens = ts} {more = more} he) l ls within h =
+      let p = mark_again s mark_.Assign ls ts (kinds_of l ls (token.Name x) (token.Mark mark_.Assign ∷ ts) h) in
+      let q = whole_again s p.0 e ts (token.Mark mark_.Semicolon ∷ more) he within.terms (at_semicolon more) p.2 in
+      let r = mark_again s mark_.Semicolon q.rest more q.after in (
+        r.0,
+        assign_at l.token l.start x e ls p.0 q.rest r.0
+            (kind_of l ls (token.Name x) (token.Mark mark_.Assign ∷ ts) h) p.1 q.reads r.1,
+        r.2,
+      )
+  behind_again (as_read {i = i} {x = x} {more = more}) l ls within h =
       let close = token.Mark mark_.Semicolon ∷ more in
-      let whole = token.Mark mark_.Assign ∷ spell_term e close in
-      let p = mark_again s mark_.Assign ls (spell_term e close) (kinds_of l ls (token.Name x) whole h) in
-      let q = (expression_laws s MAX_LEVELS).again p.0 e close within.terms p.2 in
-      let r = mark_again s mark_.Semicolon q.0 more q.2 in
-      (r.0, assign_at l.token l.start x e ls p.0 q.0 r.0 (kind_of l ls (token.Name x) whole h) p.1 q.1 r.1, r.2)
-  behind_again l ls (receive i x) more within h =
-      let close = token.Mark mark_.Semicolon ∷ more in
-      let whole = token.Name i ∷ token.Name x ∷ close in
-      let p = name_again s ls i (token.Name x ∷ close) (kinds_of l ls (token.Keyword keyword_.Read) whole h) in
+      let behind = token.Name i ∷ token.Name x ∷ close in
+      let p = name_again s ls i (token.Name x ∷ close) (kinds_of l ls (token.Keyword keyword_.Read) behind h) in
       let q = name_again s p.0 x close p.2 in
       let r = mark_again s mark_.Semicolon q.0 more q.2 in (
         r.0,
-        receive_at l.token l.start i x ls p.0 q.0 r.0 (kind_of l ls (token.Keyword keyword_.Read) whole h) p.1 q.1
+        receive_at l.token l.start i x ls p.0 q.0 r.0 (kind_of l ls (token.Keyword keyword_.Read) behind h) p.1 q.1
             r.1,
         r.2,
       )
-  behind_again l ls (send o e) more within h =
-      let close = token.Mark mark_.Semicolon ∷ more in
-      let whole = token.Name o ∷ spell_term e close in
-      let p = name_again s ls o (spell_term e close) (kinds_of l ls (token.Keyword keyword_.Write) whole h) in
-      let q = (expression_laws s MAX_LEVELS).again p.0 e close within.terms p.2 in
-      let r = mark_again s mark_.Semicolon q.0 more q.2 in (
+  behind_again (as_write {o = o} {e = e} {tokens = ts} {more = more} he) l ls within h =
+      let p = name_again s ls o ts (kinds_of l ls (token.Keyword keyword_.Write) (token.Name o ∷ ts) h) in
+      let q = whole_again s p.0 e ts (token.Mark mark_.Semicolon ∷ more) he within.terms (at_semicolon more) p.2 in
+      let r = mark_again s mark_.Semicolon q.rest more q.after in (
         r.0,
-        send_at l.token l.start o e ls p.0 q.0 r.0 (kind_of l ls (token.Keyword keyword_.Write) whole h) p.1 q.1
-            r.1,
+        send_at l.token l.start o e ls p.0 q.rest r.0
+            (kind_of l ls (token.Keyword keyword_.Write) (token.Name o ∷ ts) h) p.1 q.reads r.1,
         r.2,
       )
-  behind_again l ls (choice e a b) more within h =
-      let at_else = token.Keyword keyword_.Else ∷ spell_block b more in
-      let whole = spell_term e (spell_block a at_else) in
-      let p = (expression_laws s MAX_LEVELS).again ls e (spell_block a at_else) (omega (arith, within.terms))
-      (kinds_of l ls (token.Keyword keyword_.If) whole h) in
-      let q = laws.again p.0 a at_else (record {
+  behind_again (as_if {e = e} {a = a} {b = b} {at_e = at_e} {at_a = at_a} {at_else = at_else} {more = more} he ha hb) l ls
+      within h =
+      let c = choice_again ls e a b at_e at_a at_else more within (kinds_of l ls (token.Keyword keyword_.If) at_e h) he ha
+      hb in
+      (c.0, if_at l.token l.start ls (Ok (choice e a b, c.0)) (kind_of l ls (token.Keyword keyword_.If) at_e h) c.1, c.2)
+  behind_again (as_while {e = e} {b = b} {at_e = at_e} {at_b = at_b} {more = more} he hb) l ls within h =
+      let p = whole_again s ls e at_e (token.Mark mark_.LeftBrace ∷ at_b) he (omega (arith, within.terms)) (at_brace at_b)
+      (kinds_of l ls (token.Keyword keyword_.While) at_e h) in
+      let q = laws.again p.rest b at_b more (record {
         blocks = omega (arith, within.blocks);
-        terms =
-            omega (arith, within.terms);
-      }) p.2 in
-      let r = keyword_again s keyword_.Else q.0 (spell_block b more) q.2 in
-      let u = laws.again r.0 b more (record {
-        blocks = omega (arith, within.blocks);
-        terms =
-            omega (arith, within.terms);
-      }) r.2 in (
-        u.0,
-        choice_at l.token l.start e a b ls p.0 q.0 r.0 u.0 (kind_of l ls (token.Keyword keyword_.If) whole h) p.1
-            q.1 r.1 u.1,
-        u.2,
+        terms = omega (arith, within.terms);
+      }) p.after hb in (
+        q.0,
+        loop_at l.token l.start e b ls p.rest q.0 (kind_of l ls (token.Keyword keyword_.While) at_e h) p.reads q.1,
+        q.2,
       )
-  behind_again l ls (loop e b) more within h =
-      let whole = spell_term e (spell_block b more) in
-      let p = (expression_laws s MAX_LEVELS).again ls e (spell_block b more) (omega (arith, within.terms))
-      (kinds_of l ls (token.Keyword keyword_.While) whole h) in
-      let q = laws.again p.0 b more (record {
-        blocks = omega (arith, within.blocks);
-        terms =
-            omega (arith, within.terms);
-      }) p.2 in
-      (q.0, loop_at l.token l.start e b ls p.0 q.0 (kind_of l ls (token.Keyword keyword_.While) whole h) p.1 q.1, q.2)
 
   statement_again : (i : ℕ) (ls : List Lexeme) (st : Statement) (more : List Token) → StatementIsWithin d st
-      → kinds ls ≡ spell_statement st more
-      → (rest : List Lexeme) × (one_statement s inner i ls ≡ Ok (st, rest)) × (kinds rest ≡ more)
-  statement_again i [] st more within h = absurd (omega (arith, statement_longer st more, ap length h))
+      → SpellsStatement s.language st (kinds ls) more → Again more (one_statement s inner second i ls) st
+  statement_again i [] st more within h =
+      let less : length more < length {A = Token} [] = statement_longer h in
+      absurd (omega (arith, less))
   statement_again i (l ∷ ls) st more within h =
-      let o = behind_again l ls st more within h in
-      (o.0, first_at i (l ∷ ls) l ls (Ok (st, o.0)) refl o.1, o.2)
+      let o = behind_again h l ls within refl in
+      (o.0, first_at i l ls (Ok (st, o.0)) o.1, o.2)
 
-  statement_starts : (st : Statement) (more : List Token) → begins goes_on (spell_statement st more) ≡ true
-  statement_starts (assign x e) more = refl
-  statement_starts (receive i x) more = refl
-  statement_starts (send o e) more = refl
-  statement_starts (choice e a b) more = refl
-  statement_starts (loop e b) more = refl
-
-  pub statement_shape : Begins goes_on spell_statement
-  statement_shape = record { starts = statement_starts; longer = statement_longer }
-
-  pub statement_laws : (i : ℕ) → Reads spell_statement (StatementIsWithin d) (one_statement s inner i)
+  pub statement_laws : (i : ℕ)
+      → ReadsSpelled (SpellsStatement s.language) (StatementIsWithin d) (one_statement s inner second i)
   statement_laws i = record { takes = statement_takes i; again = statement_again i }
 
   -- ---- blocks
 
   block_at : (ls : List Lexeme) (found : List Statement) (a rest : List Lexeme)
-      → many goes_on (one_statement s inner) 0 (length ls) ls ≡ Ok (found, a) → mark s mark_.RightBrace a ≡ Ok rest
-      → block_behind s inner ls ≡ Ok (statements_of found, rest)
+      → many goes_on (one_statement s inner second) 0 (length ls) ls ≡ Ok (found, a)
+      → mark s mark_.RightBrace a ≡ Ok rest → block_behind s inner second ls ≡ Ok (statements_of found, rest)
   unfolding block_behind statements_at and_then
   block_at ls found a rest p q = rw (p, q) refl
 
-  inside_takes : (ls : List Lexeme) (b : Statements) (rest : List Lexeme) → block_behind s inner ls ≡ Ok (b, rest)
-      → TakesBlock (suc d) (token.Mark mark_.LeftBrace ∷ kinds ls) b rest
+  inside_takes : (ls : List Lexeme) (b : Statements) (rest : List Lexeme)
+      → block_behind s inner second ls ≡ Ok (b, rest)
+      → TakesBlock s.language (suc d) (token.Mark mark_.LeftBrace ∷ kinds ls) b rest
   unfolding block_behind statements_at
   inside_takes ls b rest h =
       let f = bind_ok _ _ _ h in
       let m = bind_ok _ _ _ f.2 in
-      let found = many_takes goes_on spell_statement (StatementIsWithin d) (one_statement s inner) statement_shape
-      statement_laws 0 (length ls) ls f.0.0 f.0.1 f.1 in
+      let found = all_taken goes_on (SpellsStatement s.language) (StatementIsWithin d) (one_statement s inner second)
+      (statement_shape s.language) statement_laws 0 (length ls) ls f.0.0 f.0.1 f.1 in
       let close = mark_takes s mark_.RightBrace f.0.1 m.0 m.1 in
-      let spelled : kinds ls ≡ spell_statements (statements_of f.0.0) (token.Mark mark_.RightBrace ∷ kinds m.0) =
-      found.spelled ∙ all_spelled f.0.0 (kinds f.0.1) ∙ ap (spell_statements (statements_of f.0.0)) close in
-      let within = all_are_within d f.0.0 found.within in
-      subst (λ (p : Statements × List Lexeme). TakesBlock (suc d) (token.Mark mark_.LeftBrace ∷ kinds ls) p.0 p.1)
-      (ok_is (statements_of f.0.0, m.0) (b, rest) m.2)
-      (record { spelled = ap (λ (ts : List Token). token.Mark mark_.LeftBrace ∷ ts) spelled; within = within })
+      moved (λ (p : Statements × List Lexeme). TakesBlock s.language (suc d) (token.Mark mark_.LeftBrace ∷ kinds ls) p.0
+      p.1) (statements_of f.0.0, m.0) (b, rest) m.2
+      (record {
+        inside = kinds ls;
+        head = refl;
+        spelled = subst (λ (ts : List Token). SpellsStatements s.language (statements_of f.0.0) (kinds ls) ts) close
+            (all_spelled s.language f.0.0 (kinds ls) (kinds f.0.1) found.spelled);
+        within = all_are_within d f.0.0 found.within;
+      })
 
   inside_again : (ls : List Lexeme) (b : Statements) (more : List Token) → BlockIsWithin (suc d) b
-      → kinds ls ≡ spell_statements b (token.Mark mark_.RightBrace ∷ more)
-      → (rest : List Lexeme) × (block_behind s inner ls ≡ Ok (b, rest)) × (kinds rest ≡ more)
+      → SpellsStatements s.language b (kinds ls) (token.Mark mark_.RightBrace ∷ more)
+      → Again more (block_behind s inner second ls) b
   inside_again ls b more within h =
-      let close = token.Mark mark_.RightBrace ∷ more in
-      let spelled : kinds ls ≡ spell_all spell_statement (list_of b) close =
-      h ∙ ap (λ (x : Statements). spell_statements x close) (sym (list_back b)) ∙ sym (all_spelled (list_of b) close) in
-      let f = many_again goes_on spell_statement (StatementIsWithin d) (one_statement s inner) statement_shape
-      statement_laws 0 (length ls) ls (list_of b) close (omega arith) (each_is_within d b within) refl spelled in
+      let f = all_again goes_on (SpellsStatement s.language) (StatementIsWithin d) (one_statement s inner second)
+      (statement_shape s.language) statement_laws 0 (length ls) ls (list_of b) (token.Mark mark_.RightBrace ∷ more)
+      (omega arith) (each_is_within d b within) refl (each_spelled h) in
       let m = mark_again s mark_.RightBrace f.0 more f.2 in
       (m.0, block_at ls (list_of b) f.0 m.0 f.1 m.1 ∙ ap (λ (x : Statements). Ok (x, m.0)) (list_back b), m.2)
 
-open_at : (s : Scope) (inner : List Lexeme → Read Statements) (ls a : List Lexeme) (r : Read Statements)
-    → mark s mark_.LeftBrace ls ≡ Ok a → block_behind s inner a ≡ r
-    → and_then (mark s mark_.LeftBrace ls) (block_behind s inner) ≡ r
-unfolding and_then
-open_at s inner ls a r p q = rw p q
+  opened_takes : (ls : List Lexeme) (b : Statements) (rest : List Lexeme) → opened s inner second ls ≡ Ok (b, rest)
+      → TakesBlock s.language (suc d) (kinds ls) b rest
+  unfolding opened
+  opened_takes ls b rest h =
+      let o = bind_ok (mark s mark_.LeftBrace ls) (block_behind s inner second) (b, rest) h in
+      subst (λ (ts : List Token). TakesBlock s.language (suc d) ts b rest) (sym (mark_takes s mark_.LeftBrace ls o.0 o.1))
+      (inside_takes o.0 b rest o.2)
 
-open_takes : (s : Scope) (d : ℕ) (inner : List Lexeme → Read Statements) → ReadsBlocks d inner
-    → (ls : List Lexeme) (b : Statements) (rest : List Lexeme)
-    → and_then (mark s mark_.LeftBrace ls) (block_behind s inner) ≡ Ok (b, rest) → TakesBlock (suc d) (kinds ls) b rest
-open_takes s d inner laws ls b rest h =
-    let o = bind_ok (mark s mark_.LeftBrace ls) (block_behind s inner) (b, rest) h in
-    subst (λ (ts : List Token). TakesBlock (suc d) ts b rest) (sym (mark_takes s mark_.LeftBrace ls o.0 o.1))
-    (inside_takes s d inner laws o.0 b rest o.2)
+  opened_at : (ls a : List Lexeme) (r : Read Statements) → mark s mark_.LeftBrace ls ≡ Ok a
+      → block_behind s inner second a ≡ r → opened s inner second ls ≡ r
+  unfolding opened and_then
+  opened_at ls a r p q = rw p q
 
-open_again : (s : Scope) (d : ℕ) (inner : List Lexeme → Read Statements) → ReadsBlocks d inner
-    → (ls : List Lexeme) (b : Statements) (more : List Token) → BlockIsWithin (suc d) b → kinds ls ≡ spell_block b more
-    → (rest : List Lexeme) × (and_then (mark s mark_.LeftBrace ls) (block_behind s inner) ≡ Ok (b, rest))
-    × (kinds rest ≡ more)
-open_again s d inner laws ls b more within h =
-    let o = mark_again s mark_.LeftBrace ls (spell_statements b (token.Mark mark_.RightBrace ∷ more)) h in
-    let i = inside_again s d inner laws o.0 b more within o.2 in
-    (i.0, open_at s inner ls o.0 (Ok (b, i.0)) o.1 i.1, i.2)
+  opened_again : (ls : List Lexeme) (b : Statements) (inside more : List Token) → BlockIsWithin (suc d) b
+      → kinds ls ≡ token.Mark mark_.LeftBrace ∷ inside
+      → SpellsStatements s.language b inside (token.Mark mark_.RightBrace ∷ more)
+      → Again more (opened s inner second ls) b
+  opened_again ls b inside more within h spelled =
+      let o = mark_again s mark_.LeftBrace ls inside h in
+      let i = inside_again o.0 b more within (subst (λ (ts : List Token). SpellsStatements s.language b ts
+      (token.Mark mark_.RightBrace ∷ more)) (sym o.2) spelled) in
+      (i.0, opened_at ls o.0 (Ok (b, i.0)) o.1 i.1, i.2)
 
-deep_takes : (s : Scope) (ls : List Lexeme) (b : Statements) (rest : List Lexeme)
-    → and_then {B = Statements × List Lexeme} (mark s mark_.LeftBrace ls) (λ _. Err (fault.TooDeep s.process)) ≡ Ok
-    (b, rest) → ⊥
+  branch_takes : (ls : List Lexeme) (b : Statements) (rest : List Lexeme) → s.language ≡ language.Two
+      → branch s inner second ls ≡ Ok (b, rest) → TakesSecond s.language (suc d) (kinds ls) b rest
+  unfolding branch
+  branch_takes ls b rest two h =
+      let w = bind_ok _ _ _ h in
+      let c = bind_ok _ _ _ w.2 in
+      let word = keyword_takes s keyword_.If ls w.0 w.1 in
+      let t = choice_takes w.0 c.0.0 c.0.1 c.1 in
+      let P : Statement → Type 0 = λ x. TakesSecond s.language (suc d) (kinds ls) (statement x no_statements) c.0.1 in
+      moved (λ (p : Statements × List Lexeme). TakesSecond s.language (suc d) (kinds ls) p.0 p.1)
+      (statement c.0.0 no_statements, c.0.1) (b, rest) c.2
+      (subst P t.3 (record {
+        spelled = subst (λ (ts : List Token). SpellsSecond s.language (statement (choice t.0 t.1 t.2) no_statements) ts
+            (kinds c.0.1)) (sym word) (as_branch two t.4.spelled);
+        within = record {
+          blocks = omega (arith, t.4.within.blocks);
+          terms = omega (arith, t.4.within.terms);
+        };
+      }))
+
+  branch_at : (ls a : List Lexeme) (st : Statement) (rest : List Lexeme) → keyword s keyword_.If ls ≡ Ok a
+      → choice_behind s inner second a ≡ Ok (st, rest)
+      → branch s inner second ls ≡ Ok (statement st no_statements, rest)
+  unfolding branch and_then
+  branch_at ls a st rest k c = rw (k, c) refl
+
+-- ---- blocks by their levels
+
+deep_takes : (s : Scope) (ls : List Lexeme) (b : Statements) (rest : List Lexeme) → too_deep s ls ≡ Ok (b, rest) → ⊥
+unfolding too_deep
 deep_takes s ls b rest h =
     let o = bind_ok {B = Statements × List Lexeme} (mark s mark_.LeftBrace ls) (λ _. Err (fault.TooDeep s.process))
     (b, rest) h in
     no_value {A = Statements × List Lexeme} (fault.TooDeep s.process) (b, rest) o.2
 
--- a block of at most so many levels
-pub block_laws : (s : Scope) (d : ℕ) → ReadsBlocks d (block s d)
+is_no_branch : (s : Scope) (ls : List Lexeme) (inside : List Token) → kinds ls ≡ token.Mark mark_.LeftBrace ∷ inside
+    → is_branch s ls ≡ false
+is_no_branch s ls inside h = and_false (is_second s.language) (first_is (is_keyword keyword_.If) ls)
+    (first_kind (is_keyword keyword_.If) ls (token.Mark mark_.LeftBrace) inside h)
+
+-- the laws of both
+record ReadsBoth (s : Scope) (d : ℕ) : Type 0 where
+  blocks : ReadsBlocks s.language d (block s d)
+  seconds : ReadsSecond s.language d (second_block s d)
+
+module _ (s : Scope) (d : ℕ) (laws : ReadsBlocks s.language d (block s d))
+    (second_laws : ReadsSecond s.language d (second_block s d)) where
+  second_takes : (ls : List Lexeme) (b : Statements) (rest : List Lexeme) → second_block s (suc d) ls ≡ Ok (b, rest)
+      → TakesSecond s.language (suc d) (kinds ls) b rest
+  unfolding second_block
+  second_takes ls b rest h =
+      by_test (is_branch s ls) (branch s (block s d) (second_block s d) ls) (opened s (block s d) (second_block s d) ls)
+      (Ok (b, rest)) h
+      (λ there k. branch_takes s d (block s d) (second_block s d) laws second_laws ls b rest
+      (second_is_two s.language (and_parts (is_second s.language) (first_is (is_keyword keyword_.If) ls) there).0) k)
+      (λ _ k.
+      let t = opened_takes s d (block s d) (second_block s d) laws second_laws ls b rest k in
+      record {
+        spelled = subst (λ (ts : List Token). SpellsSecond s.language b ts (kinds rest)) (sym t.head)
+            (with_braces t.spelled);
+        within = t.within;
+      })
+
+  branch_is : (ls : List Lexeme) (r : Read Statements) → is_branch s ls ≡ true
+      → branch s (block s d) (second_block s d) ls ≡ r → second_block s (suc d) ls ≡ r
+  unfolding second_block
+  branch_is ls r there h = rw there h
+
+  braces_are : (ls : List Lexeme) (r : Read Statements) → is_branch s ls ≡ false
+      → opened s (block s d) (second_block s d) ls ≡ r → second_block s (suc d) ls ≡ r
+  unfolding second_block
+  braces_are ls r there h = rw there h
+
+  second_again : {b : Statements} {tokens more : List Token} → SpellsSecond s.language b tokens more → (ls : List Lexeme)
+      → BlockIsWithin (suc d) b → kinds ls ≡ tokens → Again more (second_block s (suc d) ls) b
+  second_again (with_braces {b = b} {tokens = inside} {more = more} hs) ls within h =
+      let o = opened_again s d (block s d) (second_block s d) laws second_laws ls b inside more within h hs in
+      (o.0, braces_are ls (Ok (b, o.0)) (is_no_branch s ls inside h) o.1, o.2)
+  second_again (as_branch two (as_if {e = e} {a = a} {b = b} {at_e = at_e} {at_a = at_a} {at_else = at_else} {more = more}
+      he ha hb)) ls within h =
+      let w = keyword_again s keyword_.If ls at_e h in
+      let c = choice_again s d (block s d) (second_block s d) laws second_laws w.0 e a b at_e at_a at_else more (record {
+        blocks = omega (arith, within.blocks);
+        terms = omega (arith, within.terms);
+      }) w.2 he ha hb in
+      let there : is_branch s ls ≡ true = and_from _ _ (ap is_second two)
+      (first_kind (is_keyword keyword_.If) ls (token.Keyword keyword_.If) at_e h ∙ is_keyword_same keyword_.If) in (
+        c.0,
+        branch_is ls (Ok (statement (choice e a b) no_statements, c.0)) there
+            (branch_at s d (block s d) (second_block s d) laws second_laws ls w.0 (choice e a b) c.0 w.1 c.1),
+        c.2,
+      )
+
+-- no block is read where no level is left
+deep_laws : (s : Scope) → ReadsBlocks s.language 0 (block s 0)
 unfolding block
-block_laws s zero = record {
+deep_laws s = record {
   takes = λ ls b rest h. absurd (deep_takes s ls b rest h);
-  again = λ ls b more within h. absurd (omega (arith, within.blocks));
+  again = λ ls b inside more within h spelled. absurd (omega (arith, within.blocks));
 }
-block_laws s (suc d) = record {
-  takes = λ ls b rest h. open_takes s d (block s d) (block_laws s d) ls b rest h;
-  again = λ ls b more within h. open_again s d (block s d) (block_laws s d) ls b more within h;
+
+deep_second_takes : (s : Scope) (ls : List Lexeme) (b : Statements) (rest : List Lexeme)
+    → second_block s 0 ls ≡ Ok (b, rest) → TakesSecond s.language 0 (kinds ls) b rest
+unfolding second_block
+deep_second_takes s ls b rest h =
+    by_test (is_branch s ls) (Err (fault.TooDeep s.process)) (too_deep s ls) (Ok (b, rest)) h
+    (λ _ k. absurd (no_value (fault.TooDeep s.process) (b, rest) k)) (λ _ k. absurd (deep_takes s ls b rest k))
+
+next_laws : (s : Scope) (d : ℕ) → ReadsBoth s d → ReadsBlocks s.language (suc d) (block s (suc d))
+unfolding block
+next_laws s d laws = record {
+  takes = opened_takes s d (block s d) (second_block s d) laws.blocks laws.seconds;
+  again = opened_again s d (block s d) (second_block s d) laws.blocks laws.seconds;
 }
+
+both_laws : (s : Scope) (d : ℕ) → ReadsBoth s d
+both_laws s zero = record {
+  blocks = deep_laws s;
+  seconds = record {
+    takes = deep_second_takes s;
+    again = λ ls b tokens more within h spelled. absurd (omega (arith, within.blocks));
+  };
+}
+both_laws s (suc d) =
+    let laws = both_laws s d in
+    record {
+      blocks = next_laws s d laws;
+      seconds = record {
+        takes = second_takes s d laws.blocks laws.seconds;
+        again = λ ls b tokens more within h spelled. second_again s d laws.blocks laws.seconds spelled ls within h;
+      };
+    }
+
+-- a block of at most so many levels
+pub block_laws : (s : Scope) (d : ℕ) → ReadsBlocks s.language d (block s d)
+block_laws s d = (both_laws s d).blocks
 
 -- ---- as the code counts
 
 -- a statement takes a token or more
 pub statement_shortens : (s : Scope) (d i : ℕ) (ls : List Lexeme) (st : Statement) (rest : List Lexeme)
-    → one_statement s (block s d) i ls ≡ Ok (st, rest) → length rest < length ls
+    → one_statement s (block s d) (second_block s d) i ls ≡ Ok (st, rest) → length rest < length ls
 statement_shortens s d i ls st rest h =
-    one_shortens goes_on spell_statement (StatementIsWithin d) (one_statement s (block s d))
-    (statement_shape s d (block s d) (block_laws s d)) (statement_laws s d (block s d) (block_laws s d)) i ls st
-    rest h
+    let laws = both_laws s d in
+    spelled_shortens goes_on (SpellsStatement s.language) (StatementIsWithin d)
+    (one_statement s (block s d) (second_block s d)) (statement_shape s.language)
+    (statement_laws s d (block s d) (second_block s d) laws.blocks laws.seconds) i ls st rest h

@@ -26,7 +26,7 @@ use Rattle.kpn_text_grammar.specs.Words.{growth_word, growths, growth_spelled, p
 use Rattle.kpn_text_grammar.specs.Spelling.{kinds}
 use Rattle.kpn_text_tokens.specs.Results.{and_then, OkOr}
 use Rattle.kpn_text_grammar.specs.TokenTests.{same_mark, same_keyword, is_mark, is_keyword, is_two}
-use Rattle.kpn_text_grammar.specs.Reading.{Fails, Gives, next, mark, keyword, named, name, numbered, number, token_operator, or_fault_at, operator, token_word, word_of, two}
+use Rattle.kpn_text_grammar.specs.Reading.{Fails, Gives, first_is, next, mark, keyword, named, name, numbered, number, token_operator, or_fault_at, operator, token_word, word_of, two}
 use Rattle.kpn_text_tokens.proofs.Pieces.{find_passes}
 
 -- the value of a step that had no fault
@@ -122,6 +122,12 @@ unfolding head_of tail_of
 front [] t more h = absurd cc
 front (l ∷ ls) t more h = record { lexeme = l; rest = ls; whole = refl; kind = ap (head_of t) h; after = ap tail_of h }
 
+-- the test of the token at the front
+pub first_kind : (test : Token → Bool) (ls : List Lexeme) (t : Token) (more : List Token) → kinds ls ≡ t ∷ more
+    → first_is test ls ≡ test t
+first_kind test [] t more h = absurd cc
+first_kind test (l ∷ ls) t more h = ap test (kind_of l ls t more h)
+
 pub next_takes : (s : Scope) (ls : List Lexeme) (l : Lexeme) (rest : List Lexeme) → next s ls ≡ Ok (l, rest) → ls ≡ l
     ∷ rest
 unfolding next
@@ -205,7 +211,7 @@ unfolding operator_of
 operator_is m o h =
     sym (same_mark_true (operator_mark o) m (find_passes (λ p. same_mark (operator_mark p) m) operators o h))
 
-operator_back : (o : Op) → operator_of (operator_mark o) ≡ Some o
+pub operator_back : (o : Op) → operator_of (operator_mark o) ≡ Some o
 unfolding operator_of
 operator_back op.Add = refl
 operator_back op.Sub = refl

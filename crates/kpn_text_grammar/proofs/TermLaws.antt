@@ -1,5 +1,6 @@
--- What is read as an expression is spelled so and nests no deeper than it may, and what is spelled so is read again.
-use Rattle.std.proofs.Common.{◌≡◌, ℕ, zero, suc, ◌-◌, ◌<◌, ◌≤◌, Bool, true, false, List, [], ◌∷◌, Ok, Err, refl, sym, ap, subst, ◌∙◌, arith}
+-- What is read as an expression of language 1 is spelled so and nests no deeper than it may, and what is spelled so is
+-- read again.
+use Rattle.std.proofs.Common.{◌≡◌, ℕ, zero, suc, ◌-◌, ◌<◌, ◌≤◌, true, false, List, [], ◌∷◌, Ok, Err, refl, sym, ap, subst, ◌∙◌, arith}
 use Rattle.kpn_text_tokens.specs.declared.tokens.Lexeme.{Lexeme}
 use Rattle.kpn_text_tokens.specs.declared.tokens.Token.{Token}
 use Rattle.kpn_text_tokens.specs.declared.tokens.Token.TheVariants as token
@@ -15,7 +16,7 @@ use Rattle.kpn_text_grammar.specs.Spelling.{kinds, spell_term, term_level}
 use Rattle.kpn_text_tokens.specs.Results.{and_then}
 use Rattle.kpn_text_grammar.specs.TokenTests.{is_mark}
 use Rattle.kpn_text_grammar.specs.Reading.{Read, next, mark, operator, level_fault, Fails, first_is, binary_behind, conditional_behind, group_behind, group, operand, expression}
-use Rattle.kpn_text_grammar.proofs.Steps.{bind_ok, by_test, is_mark_same, ok_is, no_value, kind_of, kinds_of, next_takes, next_again, mark_takes, mark_again, operator_takes, operator_again}
+use Rattle.kpn_text_grammar.proofs.Steps.{bind_ok, by_test, is_mark_same, ok_is, no_value, first_kind, kind_of, kinds_of, next_takes, next_again, mark_takes, mark_again, operator_takes, operator_again}
 
 -- a level below, as the code counts
 pub expression_at : (s : Scope) (d : ℕ) (ls : List Lexeme) (l : Lexeme) (rest : List Lexeme) → 0 < d
@@ -57,7 +58,7 @@ pub record ReadsTerms (d : ℕ) (inner : List Lexeme → Read Term) : Type 0 whe
       → (rest : List Lexeme) × (inner ls ≡ Ok (e, rest)) × (kinds rest ≡ more)
 
 -- each expression has a level
-some_level : (e : Term) → term_level e ≤ 0 → ⊥
+pub some_level : (e : Term) → term_level e ≤ 0 → ⊥
 some_level (numeral n) h = omega arith
 some_level (variable x) h = omega arith
 some_level (minus e) h = omega (arith, h)
@@ -70,12 +71,6 @@ some_level (conditional c a b) h = omega (arith, h)
 no_question : (o : Op) → is_mark mark_.Question (token.Mark (operator_mark o)) ≡ false
 no_question op.Add = refl
 no_question _ = refl
-
--- the test of the token at the front
-first_kind : (test : Token → Bool) (ls : List Lexeme) (t : Token) (more : List Token) → kinds ls ≡ t ∷ more
-    → first_is test ls ≡ test t
-first_kind test [] t more h = absurd cc
-first_kind test (l ∷ ls) t more h = ap test (kind_of l ls t more h)
 
 -- the same tree and rest
 moved : (d : ℕ) (tokens : List Token) (e f : Term) (rest after : List Lexeme)

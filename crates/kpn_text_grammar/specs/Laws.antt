@@ -1,21 +1,28 @@
--- The laws of reading, on which the layers above depend: reading returns what is spelled, and that is one thing.
+-- The laws of reading, on which the layers above depend: reading returns what is spelled, and that is one thing. What
+-- is printed is spelled.
 use Rattle.std.specs.Prelude.{◌≡◌, ◌↔◌, List, Ok}
+use Rattle.std.specs.List.{AllByRecursion}
 use Rattle.kpn_text_tokens.specs.declared.tokens.Language.{Language}
 use Rattle.kpn_text_tokens.specs.declared.tokens.Lexeme.{Lexeme}
 use Rattle.kpn_text_tokens.specs.declared.tokens.Token.{Token}
 use Rattle.kpn_text_grammar.specs.declared.parser.Scope.{Scope}
 use Rattle.kpn_text_grammar.specs.Syntax.{Description}
-use Rattle.kpn_text_grammar.specs.Spelling.{kinds, IsDescription}
+use Rattle.kpn_text_grammar.specs.Spelling.{kinds, spell_description, ProcessIsWithin, IsDescription}
 use Rattle.kpn_text_grammar.specs.Reading.{description}
 
--- Tokens are read as a description in a language if and only if they spell it within the limits, wherever they are in
--- the text.
+-- Tokens are read as a description if and only if they spell it within the limits, wherever they are in the text.
 abbrev pub ReadWhereSpelled : Type 0
-ReadWhereSpelled = (s : Scope) (l : Language) (ls : List Lexeme) (d : Description)
-    → (description s l ls ≡ Ok d) ↔ IsDescription l (kinds ls) d
+ReadWhereSpelled = (s : Scope) (ls : List Lexeme) (d : Description)
+    → (description s ls ≡ Ok d) ↔ IsDescription s.language (kinds ls) d
 
 -- Tokens spell one description of a language at most.
 abbrev pub SpelledOnce : Type 0
 SpelledOnce =
     (l : Language) (tokens : List Token) (d e : Description) → IsDescription l tokens d → IsDescription l tokens e
     → d ≡ e
+
+-- The canonical spelling of a description within the limits spells it.
+abbrev pub CanonicalSpells : Type 0
+CanonicalSpells =
+    (l : Language) (d : Description) → AllByRecursion ProcessIsWithin d.processes
+    → IsDescription l (spell_description l d) d

@@ -1,5 +1,5 @@
 -- The operators of the process language and the marks that stand for them: one table, for reading and for printing.
-use Rattle.std.specs.Prelude.{List, [], ◌∷◌, Option}
+use Rattle.std.specs.Prelude.{ℕ, suc, Bool, true, false, if◌then◌else◌, List, [], ◌∷◌, Option}
 use Rattle.std.specs.List.{find}
 use Rattle.kpn_lang.specs.declared.syntax.Op.{Op}
 use Rattle.kpn_lang.specs.declared.syntax.Op.TheVariants as op
@@ -37,3 +37,54 @@ operators =
 -- the operator that a mark stands for, if it stands for one
 unfoldable pub operator_of : Mark → Option Op
 operator_of m = find (λ o. same_mark (operator_mark o) m) operators
+
+-- ---- precedence, in language 2
+
+abbrev pub is_comparison : Op → Bool
+is_comparison op.Lt = true
+is_comparison op.Le = true
+is_comparison op.Gt = true
+is_comparison op.Ge = true
+is_comparison op.Eq = true
+is_comparison op.Ne = true
+is_comparison _ = false
+
+-- how tight an operator binds, from 1 for the one that binds loosest
+abbrev pub tightness : Op → ℕ
+tightness op.Or = 1
+tightness op.And = 2
+tightness op.Lt = 3
+tightness op.Le = 3
+tightness op.Gt = 3
+tightness op.Ge = 3
+tightness op.Eq = 3
+tightness op.Ne = 3
+tightness op.BitOr = 4
+tightness op.BitXor = 5
+tightness op.BitAnd = 6
+tightness op.Shl = 7
+tightness op.Shr = 7
+tightness op.Add = 8
+tightness op.Sub = 8
+tightness op.Mul = 9
+tightness op.Div = 9
+tightness op.Rem = 9
+
+-- how tight any expression binds at least, a side of a comparison, and an operand, which binds tighter than each
+-- operator
+abbrev pub LOOSEST : ℕ
+LOOSEST = 1
+
+abbrev pub COMPARED : ℕ
+COMPARED = 7
+
+abbrev pub OPERAND : ℕ
+OPERAND = 10
+
+-- How tight the left side of an operator binds at least, and its right side. Operators group from the left, but for
+-- comparisons, which do not group.
+abbrev pub left_side : Op → ℕ
+left_side o = if is_comparison o then COMPARED else tightness o
+
+abbrev pub right_side : Op → ℕ
+right_side o = if is_comparison o then COMPARED else suc (tightness o)

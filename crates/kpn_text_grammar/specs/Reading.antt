@@ -1,7 +1,7 @@
 -- What reading returns: the tree at the front of the tokens and the tokens after it, or the first fault. A token that
 -- may not be there is a fault at its first byte. If the text ends too early, the fault is at its length. A token that
 -- may be there and opens a level too many is a fault of its process.
-use Rattle.std.specs.Prelude.{◌≡◌, ℕ, zero, suc, ◌+◌, Bool, true, false, not, if◌then◌else◌, List, [], ◌∷◌, length, Option, Some, None, Result, Ok, Err}
+use Rattle.std.specs.Prelude.{◌≡◌, ℕ, zero, suc, ◌+◌, Bool, true, false, not, ◌&&◌, nat_le, if◌then◌else◌, List, [], ◌∷◌, length, Option, Some, None, Result, Ok, Err}
 use Rattle.kpn_limits.specs.declared.TheConstants.{MAX_LEVELS}
 use Rattle.kpn_lang.specs.declared.syntax.Op.{Op}
 use Rattle.kpn_text_tokens.specs.declared.tokens.Language.{Language}
@@ -20,9 +20,10 @@ use Rattle.kpn_text_grammar.specs.declared.parser.Scope.{Scope}
 use Rattle.kpn_text_grammar.specs.TokenTests.{is_mark, is_keyword, is_two, is_name}
 use Rattle.kpn_net.specs.declared.tables.Growth.{Growth}
 use Rattle.kpn_net.specs.declared.tables.Policy.{Policy}
-use Rattle.kpn_text_grammar.specs.Operators.{operator_of}
+use Rattle.kpn_text_grammar.specs.Operators.{operator_of, tightness, left_side, right_side, LOOSEST, OPERAND}
+use Rattle.kpn_text_grammar.specs.Spelling.{term_level}
 use Rattle.kpn_text_grammar.specs.Words.{growth_spelled, policy_spelled}
-use Rattle.kpn_text_grammar.specs.Syntax.{Name, Term, numeral, variable, minus, negation, complement, binary, conditional, Statement, assign, receive, send, choice, loop, Statements, statements_of, Process, Literal, plain, negated, Instance, Item, channel, source, sink, instance, Network, Description}
+use Rattle.kpn_text_grammar.specs.Syntax.{Name, Term, numeral, variable, minus, negation, complement, binary, conditional, Statement, assign, receive, send, choice, loop, Statements, no_statements, statement, statements_of, Process, Literal, plain, negated, Instance, Item, channel, source, sink, instance, Network, Description}
 
 -- what was read and the tokens after it, or the first fault
 abbrev pub Read : Type 0 → Type 0
@@ -138,7 +139,7 @@ names s ls = separated s (name s) ls
 unfoldable pub optional_names : Scope → List Lexeme → Read (List Name)
 optional_names s ls = if first_is is_name ls then names s ls else Ok ([], ls)
 
--- ---- expressions, by a parser of those one level deeper
+-- ---- expressions of language 1, by a parser of those one level deeper
 
 abbrev pub begins_expression : Token → Bool
 begins_expression (token.Number n) = true
@@ -197,13 +198,86 @@ unfoldable pub expression : Scope → ℕ → List Lexeme → Read Term
 expression s zero ls = next s ls >>= λ x. Err (level_fault s x.0)
 expression s (suc d) ls = next s ls >>= λ x. operand s (expression s d) x.0.token x.0.start x.1
 
+-- ---- expressions of language 2
+
+-- the operator binds as tight as n, and may stand behind a left side that binds as tight as `left`
+abbrev pub operator_fits : (n left : ℕ) → Option Op → Bool
+operator_fits n left (Some op) = nat_le n (tightness op) && nat_le (left_side op) left
+operator_fits n left None = false
+
+abbrev pub goes_further : (n left : ℕ) → Token → Bool
+goes_further n left t = operator_fits n left (token_operator t)
+
+-- what is read behind a left side, if that has fewer levels than there are
+abbrev pub unless_full : Scope → (levels : ℕ) → Term → Read Term → Read Term
+unless_full s levels left read = if nat_le levels (term_level left) then Err (fault.TooDeep s.process) else read
+
+-- Operators that bind as tight as n, each with its right side, behind a left side that binds as tight as `bound`. The
+-- whole has at most so many levels. Each operator takes one, so `steps` that are as many suffice.
+unfoldable pub sides_behind : Scope → (side : ℕ → List Lexeme → Read Term) → (levels n steps bound : ℕ) → Term
+    → List Lexeme → Read Term
+sides_behind s side levels n zero bound left ls =
+    if first_is (goes_further n bound) ls then Err (fault.TooDeep s.process) else Ok (left, ls)
+sides_behind s side levels n (suc steps) bound left ls =
+    if first_is (goes_further n bound) ls
+    then unless_full s levels left
+    (operator s ls >>= λ op. side (right_side op.0) op.1
+    >>= λ right. sides_behind s side levels n steps (tightness op.0) (binary op.0 left right.0) right.1)
+    else Ok (left, ls)
+
+-- what stands between parentheses, by parsers of one that has so many levels and of one that has one less
+unfoldable pub inside_behind : Scope → (levels : ℕ) → (inner deeper : List Lexeme → Read Term) → List Lexeme → Read Term
+inside_behind s levels inner deeper ls =
+    inner ls >>= λ first. if first_is (is_mark mark_.Question) first.1
+    then unless_full s levels first.0 (conditional_behind s deeper first.0 first.1)
+    else (mark s mark_.RightParen first.1 >>= λ rest. Ok (first.0, rest))
+
+-- An operand of at most one level more than these, from its first token on, which begins at this byte. `inner` parses
+-- what stands behind a sign or `(`, by its levels and by how tight it has to bind.
+unfoldable pub tight_operand : Scope → (inner : ℕ → ℕ → List Lexeme → Read Term) → (levels : ℕ) → Token → ℕ
+    → List Lexeme → Read Term
+tight_operand s inner levels (token.Number k) start rest = Ok (numeral k, rest)
+tight_operand s inner levels (token.Name x) start rest = Ok (variable x, rest)
+tight_operand s inner levels (token.Mark mark_.Minus) start rest =
+    inner levels OPERAND rest >>= λ e. Ok (minus e.0, e.1)
+tight_operand s inner levels (token.Mark mark_.Not) start rest =
+    inner levels OPERAND rest >>= λ e. Ok (negation e.0, e.1)
+tight_operand s inner levels (token.Mark mark_.BitNot) start rest =
+    inner levels OPERAND rest >>= λ e. Ok (complement e.0, e.1)
+tight_operand s inner levels (token.Mark mark_.LeftParen) start rest =
+    inside_behind s (suc levels) (inner (suc levels) LOOSEST) (inner levels LOOSEST) rest
+tight_operand s inner levels _ start rest = Err (fault.Grammar start)
+
+-- an expression of at most so many levels that binds as tight as n
+unfoldable pub tight_over : Scope → (inner : ℕ → ℕ → List Lexeme → Read Term) → (levels n : ℕ) → List Lexeme → Read Term
+tight_over s inner zero n ls = next s ls >>= λ x. Err (level_fault s x.0)
+tight_over s inner (suc levels) n ls = do
+  x ← next s ls
+  left ← tight_operand s inner levels x.0.token x.0.start x.1
+  sides_behind s (tight_over s inner levels) (suc levels) n (suc levels) OPERAND left.0 left.1
+
+-- The same. At most so many operands, signs and `(` stand in each other.
+unfoldable pub tight : Scope → (depth levels n : ℕ) → List Lexeme → Read Term
+tight s zero levels n ls = next s ls >>= λ x. Err (level_fault s x.0)
+tight s (suc depth) levels n ls = tight_over s (tight s depth) levels n ls
+
+-- ---- expressions of statements
+
+abbrev pub is_second : Language → Bool
+is_second language.One = false
+is_second language.Two = true
+
+unfoldable pub whole : Scope → List Lexeme → Read Term
+whole s ls =
+    if is_second s.language then tight s MAX_LEVELS MAX_LEVELS LOOSEST ls else expression s MAX_LEVELS ls
+
 -- ---- statements, by a parser of the blocks one level deeper
 
 -- behind the name of the target
 unfoldable pub assignment_behind : Scope → Name → List Lexeme → Read Statement
 assignment_behind s x ls = do
   after ← mark s mark_.Assign ls
-  e ← expression s MAX_LEVELS after
+  e ← whole s after
   rest ← mark s mark_.Semicolon e.1
   Ok (assign x e.0, rest)
 
@@ -219,57 +293,93 @@ receive_behind s ls = do
 unfoldable pub send_behind : Scope → List Lexeme → Read Statement
 send_behind s ls = do
   o ← name s ls
-  e ← expression s MAX_LEVELS o.1
+  e ← whole s o.1
   rest ← mark s mark_.Semicolon e.1
   Ok (send o.0 e.0, rest)
 
--- behind `if`
-unfoldable pub choice_behind : Scope → (List Lexeme → Read Statements) → List Lexeme → Read Statement
-choice_behind s inner ls = do
-  e ← expression s MAX_LEVELS ls
+-- The second block of an `if`, by a parser of it. In language 2 it may be missing.
+unfoldable pub else_behind : Scope → (List Lexeme → Read Statements) → List Lexeme → Read Statements
+else_behind s second ls =
+    if is_second s.language && not (first_is (is_keyword keyword_.Else) ls)
+    then Ok (no_statements, ls)
+    else (keyword s keyword_.Else ls >>= second)
+
+-- behind `if`, by a parser of what stands behind `else` too
+unfoldable pub choice_behind : Scope → (inner second : List Lexeme → Read Statements) → List Lexeme → Read Statement
+choice_behind s inner second ls = do
+  e ← whole s ls
   a ← inner e.1
-  rest ← keyword s keyword_.Else a.1
-  b ← inner rest
+  b ← else_behind s second a.1
   Ok (choice e.0 a.0 b.0, b.1)
 
 -- behind `while`
 unfoldable pub loop_behind : Scope → (List Lexeme → Read Statements) → List Lexeme → Read Statement
 loop_behind s inner ls = do
-  e ← expression s MAX_LEVELS ls
+  e ← whole s ls
   b ← inner e.1
   Ok (loop e.0 b.0, b.1)
 
 -- behind its first token, which begins at this byte
-unfoldable pub statement_behind : Scope → (List Lexeme → Read Statements) → Token → ℕ → List Lexeme → Read Statement
-statement_behind s inner (token.Name x) start rest = assignment_behind s x rest
-statement_behind s inner (token.Keyword keyword_.Read) start rest = receive_behind s rest
-statement_behind s inner (token.Keyword keyword_.Write) start rest = send_behind s rest
-statement_behind s inner (token.Keyword keyword_.If) start rest = choice_behind s inner rest
-statement_behind s inner (token.Keyword keyword_.While) start rest = loop_behind s inner rest
-statement_behind s inner _ start rest = Err (fault.Grammar start)
+unfoldable pub statement_behind : Scope → (inner second : List Lexeme → Read Statements) → Token → ℕ → List Lexeme
+    → Read Statement
+statement_behind s inner second (token.Name x) start rest = assignment_behind s x rest
+statement_behind s inner second (token.Keyword keyword_.Read) start rest = receive_behind s rest
+statement_behind s inner second (token.Keyword keyword_.Write) start rest = send_behind s rest
+statement_behind s inner second (token.Keyword keyword_.If) start rest = choice_behind s inner second rest
+statement_behind s inner second (token.Keyword keyword_.While) start rest = loop_behind s inner rest
+statement_behind s inner second _ start rest = Err (fault.Grammar start)
 
-unfoldable pub one_statement : Scope → (List Lexeme → Read Statements) → ℕ → List Lexeme → Read Statement
-one_statement s inner i ls = next s ls >>= λ x. statement_behind s inner x.0.token x.0.start x.1
+unfoldable pub one_statement : Scope → (inner second : List Lexeme → Read Statements) → ℕ → List Lexeme → Read Statement
+one_statement s inner second i ls = next s ls >>= λ x. statement_behind s inner second x.0.token x.0.start x.1
 
 -- anything but the brace that ends a block or the network
 abbrev pub goes_on : Token → Bool
 goes_on t = not (is_mark mark_.RightBrace t)
 
 -- the statements up to the closing brace
-unfoldable pub statements_at : Scope → (List Lexeme → Read Statements) → List Lexeme → Read (List Statement)
-statements_at s inner ls = many goes_on (one_statement s inner) 0 (length ls) ls
+unfoldable pub statements_at : Scope → (inner second : List Lexeme → Read Statements) → List Lexeme
+    → Read (List Statement)
+statements_at s inner second ls = many goes_on (one_statement s inner second) 0 (length ls) ls
 
 -- the statements of a block and its closing brace
-unfoldable pub block_behind : Scope → (List Lexeme → Read Statements) → List Lexeme → Read Statements
-block_behind s inner ls = do
-  found ← statements_at s inner ls
+unfoldable pub block_behind : Scope → (inner second : List Lexeme → Read Statements) → List Lexeme → Read Statements
+block_behind s inner second ls = do
+  found ← statements_at s inner second ls
   rest ← mark s mark_.RightBrace found.1
   Ok (statements_of found.0, rest)
 
--- a block of at most so many levels
-unfoldable pub block : Scope → ℕ → List Lexeme → Read Statements
-block s zero ls = mark s mark_.LeftBrace ls >>= λ rest. Err (fault.TooDeep s.process)
-block s (suc d) ls = mark s mark_.LeftBrace ls >>= block_behind s (block s d)
+-- the braces of a block and what is in it
+unfoldable pub opened : Scope → (inner second : List Lexeme → Read Statements) → List Lexeme → Read Statements
+opened s inner second ls = mark s mark_.LeftBrace ls >>= block_behind s inner second
+
+-- a block that has no level left
+unfoldable pub too_deep : Scope → List Lexeme → Read Statements
+too_deep s ls = mark s mark_.LeftBrace ls >>= λ rest. Err (fault.TooDeep s.process)
+
+-- in language 2 an `if` may stand behind `else`
+abbrev pub is_branch : Scope → List Lexeme → Bool
+is_branch s ls = is_second s.language && first_is (is_keyword keyword_.If) ls
+
+-- this `if`, as the one statement of a block
+unfoldable pub branch : Scope → (inner second : List Lexeme → Read Statements) → List Lexeme → Read Statements
+branch s inner second ls = do
+  word ← keyword s keyword_.If ls
+  c ← choice_behind s inner second word
+  Ok (statement c.0 no_statements, c.1)
+
+unfoldable mutual
+  -- a block of at most so many levels
+  pub block : Scope → ℕ → List Lexeme → Read Statements
+  block s zero ls = too_deep s ls
+  block s (suc d) ls = opened s (block s d) (second_block s d) ls
+
+  -- the same behind `else`
+  pub second_block : Scope → ℕ → List Lexeme → Read Statements
+  second_block s zero ls = if is_branch s ls then Err (fault.TooDeep s.process) else too_deep s ls
+  second_block s (suc d) ls =
+      if is_branch s ls
+      then branch s (block s d) (second_block s d) ls
+      else opened s (block s d) (second_block s d) ls
 
 -- ---- processes
 
@@ -333,7 +443,7 @@ process s ls = do
 
 -- the process of a number
 unfoldable pub numbered_process : Scope → ℕ → List Lexeme → Read Process
-numbered_process s i ls = process (record { end = s.end; process = i }) ls
+numbered_process s i ls = process (record { end = s.end; process = i; language = s.language }) ls
 
 -- the processes, numbered from 0
 unfoldable pub processes : Scope → List Lexeme → Read (List Process)
@@ -495,9 +605,9 @@ contents s ls = do
   Ok (record { processes = ps.0; network = n.0 })
 
 -- the same behind the language
-unfoldable pub description : Scope → Language → List Lexeme → Result Description GrammarFault
-description s l ls = language_at s l ls >>= contents s
+unfoldable pub description : Scope → List Lexeme → Result Description GrammarFault
+description s ls = language_at s s.language ls >>= contents s
 
 -- what the tokens of a text of this length are read as in a language, with the processes numbered from 0
 abbrev pub description_of : Language → ℕ → List Lexeme → Result Description GrammarFault
-description_of l end ls = description (record { end = end; process = 0 }) l ls
+description_of l end ls = description (record { end = end; process = 0; language = l }) ls

@@ -1,6 +1,7 @@
 -- How a tree is spelled, token by token, how deep it nests, and what it is for tokens to be a description. Each
--- spelling has behind it the tokens that follow.
-use Rattle.std.specs.Prelude.{◌≡◌, ◌≤◌, ℕ, suc, max, List, [], ◌∷◌, map, Option, Some, None}
+-- spelling has behind it the tokens that follow. In language 1 a tree has one spelling. In language 2 it has many, by
+-- the rules of the grammar, and the canonical one of them has no parentheses and no `else` that can be left out.
+use Rattle.std.specs.Prelude.{◌≡◌, ◌≤◌, ℕ, suc, max, Bool, false, nat_le, if◌then◌else◌, List, [], ◌∷◌, map, Option, Some, None}
 use Rattle.std.specs.List.{AllByRecursion}
 use Rattle.kpn_limits.specs.declared.TheConstants.{MAX_LEVELS}
 use Rattle.kpn_text_tokens.specs.declared.tokens.Language.{Language}
@@ -11,9 +12,11 @@ use Rattle.kpn_text_tokens.specs.declared.tokens.Token.TheVariants as token
 use Rattle.kpn_text_tokens.specs.declared.tokens.Mark.TheVariants as mark
 use Rattle.kpn_text_tokens.specs.declared.tokens.Keyword.{Keyword}
 use Rattle.kpn_text_tokens.specs.declared.tokens.Keyword.TheVariants as keyword
+use Rattle.kpn_lang.specs.declared.syntax.Op.{Op}
 use Rattle.kpn_net.specs.declared.tables.Growth.{Growth}
 use Rattle.kpn_net.specs.declared.tables.Policy.{Policy}
-use Rattle.kpn_text_grammar.specs.Operators.{operator_mark}
+use Rattle.kpn_text_grammar.specs.Operators.{operator_mark, tightness, left_side, right_side, LOOSEST, OPERAND}
+use Rattle.kpn_text_grammar.specs.TokenTests.{is_keyword}
 use Rattle.kpn_text_grammar.specs.Words.{growth_word, policy_word}
 use Rattle.kpn_text_grammar.specs.Syntax.{Name, Term, numeral, variable, minus, negation, complement, binary, conditional, Statement, assign, receive, send, choice, loop, Statements, no_statements, statement, Process, Literal, plain, negated, Instance, Item, channel, source, sink, instance, Network, Description}
 
@@ -23,7 +26,7 @@ kinds ls = map (λ l. l.token) ls
 
 -- ---- expressions
 
--- a number, a name, -e, !e, ~e, (a op b), (c ? a : b)
+-- in language 1: a number, a name, -e, !e, ~e, (a op b), (c ? a : b)
 abbrev pub spell_term : Term → List Token → List Token
 spell_term (numeral n) more = token.Number n ∷ more
 spell_term (variable x) more = token.Name x ∷ more
@@ -37,6 +40,58 @@ spell_term (conditional c a b) more =
     token.Mark mark.LeftParen ∷ spell_term c (token.Mark mark.Question
     ∷ spell_term a (token.Mark mark.Colon ∷ spell_term b (token.Mark mark.RightParen ∷ more)))
 
+-- In language 2, where an expression has to bind as tight as this: the same, with parentheses around an operator only
+-- if it binds looser.
+abbrev pub spell_tight : ℕ → Term → List Token → List Token
+spell_tight n (numeral k) more = token.Number k ∷ more
+spell_tight n (variable x) more = token.Name x ∷ more
+spell_tight n (minus e) more = token.Mark mark.Minus ∷ spell_tight OPERAND e more
+spell_tight n (negation e) more = token.Mark mark.Not ∷ spell_tight OPERAND e more
+spell_tight n (complement e) more = token.Mark mark.BitNot ∷ spell_tight OPERAND e more
+spell_tight n (binary op a b) more =
+    if nat_le n (tightness op)
+    then spell_tight (left_side op) a (token.Mark (operator_mark op) ∷ spell_tight (right_side op) b more)
+    else (token.Mark mark.LeftParen ∷ spell_tight (left_side op) a (token.Mark (operator_mark op)
+    ∷ spell_tight (right_side op) b (token.Mark mark.RightParen ∷ more)))
+spell_tight n (conditional c a b) more =
+    token.Mark mark.LeftParen ∷ spell_tight LOOSEST c (token.Mark mark.Question
+    ∷ spell_tight LOOSEST a (token.Mark mark.Colon ∷ spell_tight LOOSEST b (token.Mark mark.RightParen ∷ more)))
+
+-- the canonical spelling of an expression
+abbrev pub spell_expression : Language → Term → List Token → List Token
+spell_expression language.One e more = spell_term e more
+spell_expression language.Two e more = spell_tight LOOSEST e more
+
+-- The rules of expressions in language 2, a rule for each form: tokens up to those that follow spell a term that binds
+-- as tight as this, or tighter. `depth` is how many operands, signs and `(` may stand in each other.
+pub data SpellsTight : (depth n : ℕ) → Term → List Token → List Token → Type 0 where
+  as_number : {depth n k : ℕ} {more : List Token} → SpellsTight (suc depth) n (numeral k) (token.Number k ∷ more) more
+  as_name : {depth n : ℕ} {x : Name} {more : List Token}
+      → SpellsTight (suc depth) n (variable x) (token.Name x ∷ more) more
+  as_minus : {depth n : ℕ} {e : Term} {tokens more : List Token} → SpellsTight depth OPERAND e tokens more
+      → SpellsTight (suc depth) n (minus e) (token.Mark mark.Minus ∷ tokens) more
+  as_negation : {depth n : ℕ} {e : Term} {tokens more : List Token} → SpellsTight depth OPERAND e tokens more
+      → SpellsTight (suc depth) n (negation e) (token.Mark mark.Not ∷ tokens) more
+  as_complement : {depth n : ℕ} {e : Term} {tokens more : List Token} → SpellsTight depth OPERAND e tokens more
+      → SpellsTight (suc depth) n (complement e) (token.Mark mark.BitNot ∷ tokens) more
+  in_parentheses : {depth n : ℕ} {e : Term} {tokens more : List Token}
+      → SpellsTight depth LOOSEST e tokens (token.Mark mark.RightParen ∷ more)
+      → SpellsTight (suc depth) n e (token.Mark mark.LeftParen ∷ tokens) more
+  as_conditional : {depth n : ℕ} {c a b : Term} {at_c at_a at_b more : List Token}
+      → SpellsTight depth LOOSEST c at_c (token.Mark mark.Question ∷ at_a)
+      → SpellsTight depth LOOSEST a at_a (token.Mark mark.Colon ∷ at_b)
+      → SpellsTight depth LOOSEST b at_b (token.Mark mark.RightParen ∷ more)
+      → SpellsTight (suc depth) n (conditional c a b) (token.Mark mark.LeftParen ∷ at_c) more
+  as_binary : {depth n : ℕ} {op : Op} {a b : Term} {at_a at_b more : List Token} → n ≤ tightness op
+      → SpellsTight depth (left_side op) a at_a (token.Mark (operator_mark op) ∷ at_b)
+      → SpellsTight depth (right_side op) b at_b more
+      → SpellsTight depth n (binary op a b) at_a more
+
+-- the tokens up to those that follow spell an expression of a statement
+abbrev pub SpellsTerm : Language → Term → List Token → List Token → Type 0
+SpellsTerm language.One e tokens more = tokens ≡ spell_term e more
+SpellsTerm language.Two e tokens more = SpellsTight MAX_LEVELS LOOSEST e tokens more
+
 -- a number or a name has one level, and a sign, an operator or a choice one more than its deepest part
 abbrev pub term_level : Term → ℕ
 term_level (numeral n) = 1
@@ -49,31 +104,87 @@ term_level (conditional c a b) = suc (max (term_level c) (max (term_level a) (te
 
 -- ---- statements
 
+-- The second block of an `if`, of which this is the inside: else { .. }. In language 2 nothing if it is empty, and
+-- else if .. if it is an `if` and nothing else.
+abbrev pub spell_else : Language → Statements → (List Token → List Token) → List Token → List Token
+spell_else language.Two no_statements inside more = more
+spell_else language.Two (statement (choice e a b) no_statements) inside more = token.Keyword keyword.Else ∷ inside more
+spell_else l b inside more =
+    token.Keyword keyword.Else ∷ token.Mark mark.LeftBrace ∷ inside (token.Mark mark.RightBrace ∷ more)
+
 abbrev mutual
   -- x = e;  read i x;  write o e;  if e { .. } else { .. }  while e { .. }
-  pub spell_statement : Statement → List Token → List Token
-  spell_statement (assign x e) more = token.Name x ∷ token.Mark mark.Assign
-      ∷ spell_term e (token.Mark mark.Semicolon ∷ more)
-  spell_statement (receive i x) more =
+  pub spell_statement : Language → Statement → List Token → List Token
+  spell_statement l (assign x e) more = token.Name x ∷ token.Mark mark.Assign
+      ∷ spell_expression l e (token.Mark mark.Semicolon ∷ more)
+  spell_statement l (receive i x) more =
       token.Keyword keyword.Read ∷ token.Name i ∷ token.Name x ∷ token.Mark mark.Semicolon ∷ more
-  spell_statement (send o e) more =
-      token.Keyword keyword.Write ∷ token.Name o ∷ spell_term e (token.Mark mark.Semicolon ∷ more)
-  spell_statement (choice e a b) more =
-      token.Keyword keyword.If ∷ spell_term e (token.Mark mark.LeftBrace
-      ∷ spell_statements a (token.Mark mark.RightBrace ∷ token.Keyword keyword.Else ∷ token.Mark mark.LeftBrace
-      ∷ spell_statements b (token.Mark mark.RightBrace ∷ more)))
-  spell_statement (loop e b) more =
-      token.Keyword keyword.While ∷ spell_term e (token.Mark mark.LeftBrace
-      ∷ spell_statements b (token.Mark mark.RightBrace ∷ more))
+  spell_statement l (send o e) more =
+      token.Keyword keyword.Write ∷ token.Name o ∷ spell_expression l e (token.Mark mark.Semicolon ∷ more)
+  spell_statement l (choice e a b) more =
+      token.Keyword keyword.If ∷ spell_expression l e (token.Mark mark.LeftBrace
+      ∷ spell_statements l a (token.Mark mark.RightBrace ∷ spell_else l b (spell_statements l b) more))
+  spell_statement l (loop e b) more =
+      token.Keyword keyword.While ∷ spell_expression l e (token.Mark mark.LeftBrace
+      ∷ spell_statements l b (token.Mark mark.RightBrace ∷ more))
 
   -- one after the other
-  pub spell_statements : Statements → List Token → List Token
-  spell_statements no_statements more = more
-  spell_statements (statement s ss) more = spell_statement s (spell_statements ss more)
+  pub spell_statements : Language → Statements → List Token → List Token
+  spell_statements l no_statements more = more
+  spell_statements l (statement s ss) more = spell_statement l s (spell_statements l ss more)
 
 -- the statements between braces
-abbrev pub spell_block : Statements → List Token → List Token
-spell_block b more = token.Mark mark.LeftBrace ∷ spell_statements b (token.Mark mark.RightBrace ∷ more)
+abbrev pub spell_block : Language → Statements → List Token → List Token
+spell_block l b more = token.Mark mark.LeftBrace ∷ spell_statements l b (token.Mark mark.RightBrace ∷ more)
+
+-- `else` is the first of the tokens
+abbrev pub begins_else : List Token → Bool
+begins_else [] = false
+begins_else (t ∷ ts) = is_keyword keyword.Else t
+
+mutual
+  -- The rules of statements: the tokens up to those that follow spell the statement in a language.
+  pub data SpellsStatement (l : Language) : Statement → List Token → List Token → Type 0 where
+    as_assignment : {x : Name} {e : Term} {tokens more : List Token}
+        → SpellsTerm l e tokens (token.Mark mark.Semicolon ∷ more)
+        → SpellsStatement l (assign x e) (token.Name x ∷ token.Mark mark.Assign ∷ tokens) more
+    as_read : {i x : Name} {more : List Token}
+        → SpellsStatement l (receive i x)
+        (token.Keyword keyword.Read ∷ token.Name i ∷ token.Name x ∷ token.Mark mark.Semicolon ∷ more) more
+    as_write : {o : Name} {e : Term} {tokens more : List Token}
+        → SpellsTerm l e tokens (token.Mark mark.Semicolon ∷ more)
+        → SpellsStatement l (send o e) (token.Keyword keyword.Write ∷ token.Name o ∷ tokens) more
+    as_if : {e : Term} {a b : Statements} {at_e at_a at_else more : List Token}
+        → SpellsTerm l e at_e (token.Mark mark.LeftBrace ∷ at_a)
+        → SpellsStatements l a at_a (token.Mark mark.RightBrace ∷ at_else) → SpellsElse l b at_else more
+        → SpellsStatement l (choice e a b) (token.Keyword keyword.If ∷ at_e) more
+    as_while : {e : Term} {b : Statements} {at_e at_b more : List Token}
+        → SpellsTerm l e at_e (token.Mark mark.LeftBrace ∷ at_b)
+        → SpellsStatements l b at_b (token.Mark mark.RightBrace ∷ more)
+        → SpellsStatement l (loop e b) (token.Keyword keyword.While ∷ at_e) more
+
+  -- one after the other
+  pub data SpellsStatements (l : Language) : Statements → List Token → List Token → Type 0 where
+    nothing : {more : List Token} → SpellsStatements l no_statements more more
+    one_more : {s : Statement} {ss : Statements} {tokens others more : List Token}
+        → SpellsStatement l s tokens others → SpellsStatements l ss others more
+        → SpellsStatements l (statement s ss) tokens more
+
+  -- The second block of an `if`. In language 2 an empty one may be left out, where no `else` follows.
+  pub data SpellsElse (l : Language) : Statements → List Token → List Token → Type 0 where
+    left_out : {more : List Token} → l ≡ language.Two → begins_else more ≡ false
+        → SpellsElse l no_statements more more
+    behind_else : {b : Statements} {tokens more : List Token} → SpellsSecond l b tokens more
+        → SpellsElse l b (token.Keyword keyword.Else ∷ tokens) more
+
+  -- The same behind `else`. In language 2 a block that is an `if` needs no braces.
+  pub data SpellsSecond (l : Language) : Statements → List Token → List Token → Type 0 where
+    with_braces : {b : Statements} {tokens more : List Token}
+        → SpellsStatements l b tokens (token.Mark mark.RightBrace ∷ more)
+        → SpellsSecond l b (token.Mark mark.LeftBrace ∷ tokens) more
+    as_branch : {e : Term} {a b : Statements} {tokens more : List Token} → l ≡ language.Two
+        → SpellsStatement l (choice e a b) tokens more
+        → SpellsSecond l (statement (choice e a b) no_statements) tokens more
 
 abbrev mutual
   -- how many levels of blocks are inside a statement
@@ -120,6 +231,13 @@ abbrev pub spell_all : {A : Type 0} → (A → List Token → List Token) → Li
 spell_all spell [] more = more
 spell_all spell (x ∷ xs) more = spell x (spell_all spell xs more)
 
+-- the tokens up to those that follow spell one after the other
+abbrev pub SpellsAll : {A : Type 0} → (A → List Token → List Token → Type 0) → List A → List Token → List Token
+    → Type 0
+SpellsAll Spells [] tokens more = tokens ≡ more
+SpellsAll Spells (x ∷ xs) tokens more =
+    (others : List Token) × Spells x tokens others × SpellsAll Spells xs others more
+
 -- behind a comma
 abbrev pub spell_further : {A : Type 0} → (A → List Token → List Token) → A → List Token → List Token
 spell_further spell x more = token.Mark mark.Comma ∷ spell x more
@@ -156,10 +274,17 @@ spell_parts [] (x ∷ xs) pars more = spell_part keyword.Out (x ∷ xs) (spell_l
 spell_parts [] [] pars more = spell_part keyword.Par pars more
 
 -- process p(..) { .. }
-abbrev pub spell_process : Process → List Token → List Token
-spell_process p more =
+abbrev pub spell_process : Language → Process → List Token → List Token
+spell_process l p more =
     token.Keyword keyword.Process ∷ token.Name p.name ∷ token.Mark mark.LeftParen
-    ∷ spell_parts p.ins p.outs p.pars (token.Mark mark.RightParen ∷ spell_block p.body more)
+    ∷ spell_parts p.ins p.outs p.pars (token.Mark mark.RightParen ∷ spell_block l p.body more)
+
+-- The tokens up to those that follow spell the process in a language: those of its head, and then of its body.
+pub record SpellsProcess (l : Language) (p : Process) (tokens more : List Token) : Type 0 where
+  pub inside : List Token
+  pub head : tokens ≡ token.Keyword keyword.Process ∷ token.Name p.name ∷ token.Mark mark.LeftParen
+      ∷ spell_parts p.ins p.outs p.pars (token.Mark mark.RightParen ∷ token.Mark mark.LeftBrace ∷ inside)
+  pub body : SpellsStatements l p.body inside (token.Mark mark.RightBrace ∷ more)
 
 -- ---- networks
 
@@ -235,7 +360,18 @@ spell_language language.Two more =
 
 -- the language, the processes and the network, and nothing after it
 abbrev pub spell_description : Language → Description → List Token
-spell_description l d = spell_language l (spell_all spell_process d.processes (spell_network d.network []))
+spell_description l d = spell_language l (spell_all (spell_process l) d.processes (spell_network d.network []))
+
+-- the tokens spell the same by the rules
+pub record SpellsByRules (l : Language) (d : Description) (tokens : List Token) : Type 0 where
+  pub inside : List Token
+  pub opening : tokens ≡ spell_language l inside
+  pub processes : SpellsAll (SpellsProcess l) d.processes inside (spell_network d.network [])
+
+-- the tokens spell the description in a language
+abbrev pub SpellsDescription : Language → Description → List Token → Type 0
+SpellsDescription language.One d tokens = tokens ≡ spell_description language.One d
+SpellsDescription language.Two d tokens = SpellsByRules language.Two d tokens
 
 -- the blocks of a process nest at most 32 levels, its body among them, and its expressions at most 32
 abbrev pub ProcessIsWithin : Process → Type 0
@@ -243,5 +379,5 @@ ProcessIsWithin p = BlockIsWithin MAX_LEVELS p.body
 
 -- The tokens are those of the description in a language, and it is within the limits of the grammar.
 pub record IsDescription (l : Language) (tokens : List Token) (d : Description) : Type 0 where
-  pub spelled : tokens ≡ spell_description l d
+  pub spelled : SpellsDescription l d tokens
   pub within : AllByRecursion ProcessIsWithin d.processes

@@ -1,7 +1,8 @@
 -- The trees that the code's trees stand for, without the places of names in the text and in memory.
-use Rattle.std.specs.Prelude.{ℕ, List, map, drop, Result}
+use Rattle.std.specs.Prelude.{◌≡◌, ◌≤◌, ℕ, List, map, drop, Result}
 use Rattle.kpn_text_tokens.specs.declared.tokens.Lexeme.{Lexeme}
 use Rattle.kpn_text_grammar.specs.declared.parser.Source.{Source}
+use Rattle.kpn_text_grammar.specs.declared.precedence.Tree.{Tree}
 use Rattle.kpn_text_grammar.specs.declared.tree.Description.{Description as DescriptionCode}
 use Rattle.kpn_text_grammar.specs.declared.tree.Expression.{Expression, fold-Expression}
 use Rattle.kpn_text_grammar.specs.declared.tree.Expression.TheOpen.{Expression-F}
@@ -19,6 +20,7 @@ use Rattle.kpn_text_grammar.specs.declared.tree.Statement.TheOpen.{Statement-F}
 use Rattle.kpn_text_grammar.specs.declared.fault.GrammarFault.{GrammarFault}
 use Rattle.kpn_text_grammar.specs.declared.parser.Scope.{Scope}
 use Rattle.kpn_text_grammar.specs.Reading.{HeadParts, Read, Gives}
+use Rattle.kpn_text_grammar.specs.Spelling.{term_level}
 use Rattle.kpn_text_grammar.specs.Syntax.{Name, Term, numeral, variable, minus, negation, complement, binary, conditional, Statement, assign, receive, send, choice, loop, Statements, statements_of, Process, Literal, plain, negated, Instance, Item, channel, source, sink, instance, Network, Description}
 
 -- names as written
@@ -38,6 +40,11 @@ term_step (Expression-F.Choice c a b) = conditional c.value a.value b.value
 -- the term of an expression
 abbrev pub term : Expression → Term
 term = fold-Expression Term term_step
+
+-- an expression and its levels, which are at most so many
+pub record HasLevels (most : ℕ) (tree : Tree) : Type 0 where
+  pub counted : tree.levels ≡ term_level (term tree.root.value)
+  pub few : tree.levels ≤ most
 
 -- one level, with each statement inside already seen
 abbrev pub statement_step : Statement-F Statement → Statement

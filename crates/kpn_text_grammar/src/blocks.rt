@@ -3,13 +3,12 @@
 
 ghost use Rattle.std.specs.Prelude.{◌≡◌};
 ghost use Rattle.kpn_text_grammar.specs.Reading as spec;
-ghost use Rattle.kpn_text_grammar.specs.View.{Parses, statement_seen, statements_seen, block_seen};
+ghost use Rattle.kpn_text_grammar.specs.View.{Parses, statement_seen, statements_seen, block_seen, tokens_from};
 
-use crate::expressions::expression;
 use crate::fault::GrammarFault;
-use crate::parser::{Read, Source, goes_on, keyword, mark, name, next};
+use crate::parser::{Read, Source, at_keyword, goes_on, is_second, keyword, mark, name, next};
+use crate::precedence::whole;
 use crate::tree::{Block, Identifier, Statement};
-use kpn_limits::MAX_LEVELS;
 use kpn_text_tokens::{Keyword, Mark, Token};
 use std::alloc::Global;
 
@@ -36,7 +35,7 @@ pub(crate) fn block<'a>(
 #[tactic(auto, unfolding(crate::specs::Reading::block_behind, kpn_text_tokens::specs::Results::and_then))]
 fn block_behind<'a>(alloc: Global, source: Source<'a>, depth: usize, at: usize) -> Read<Block<'a>>
     ensures { Parses (λ found. block_seen found.items)
-        (λ s. spec.block_behind s (spec.block s depth)) source.entry at result }
+        (λ s. spec.block_behind s (spec.block s depth) (spec.second_block s depth)) source.entry at result }
 {
     let (found, at) = statements(alloc, source, depth, at)?;
     let at = mark(source, Mark::RightBrace, at)?;
@@ -47,7 +46,7 @@ fn block_behind<'a>(alloc: Global, source: Source<'a>, depth: usize, at: usize) 
 #[cycle(block)]
 fn statements<'a>(alloc: Global, source: Source<'a>, depth: usize, at: usize) -> Read<Block<'a>>
     ensures { Parses (λ found. statements_seen found.items)
-        (λ s. spec.statements_at s (spec.block s depth)) source.entry at result }
+        (λ s. spec.statements_at s (spec.block s depth) (spec.second_block s depth)) source.entry at result }
 {
     let mut found = Vec::new(alloc);
     let mut place = at;
@@ -69,7 +68,7 @@ fn one_statement<'a>(
     at: usize,
 ) -> Read<Statement<'a>>
     ensures { Parses statement_seen
-        (λ s. spec.one_statement s (spec.block s depth) 0) source.entry at result }
+        (λ s. spec.one_statement s (spec.block s depth) (spec.second_block s depth) 0) source.entry at result }
 {
     let (first, at) = next(source, at)?;
     match &first.token {
@@ -97,7 +96,7 @@ fn assignment<'a>(
         (λ s. spec.assignment_behind s target.entry.bytes.now) source.entry at result }
 {
     let at = mark(source, Mark::Assign, at)?;
-    let (value, at) = expression(alloc, source, MAX_LEVELS, at)?;
+    let (value, at) = whole(alloc, source, at)?;
     let at = mark(source, Mark::Semicolon, at)?;
     Ok((Statement::Assign(target, value), at))
 }
@@ -117,7 +116,7 @@ fn write_statement<'a>(alloc: Global, source: Source<'a>, at: usize) -> Read<Sta
     ensures { Parses statement_seen spec.send_behind source.entry at result }
 {
     let (port, at) = name(source, at)?;
-    let (item, at) = expression(alloc, source, MAX_LEVELS, at)?;
+    let (item, at) = whole(alloc, source, at)?;
     let at = mark(source, Mark::Semicolon, at)?;
     Ok((Statement::Write(port, item), at))
 }
@@ -131,13 +130,63 @@ fn if_statement<'a>(
     at: usize,
 ) -> Read<Statement<'a>>
     ensures { Parses statement_seen
-        (λ s. spec.choice_behind s (spec.block s depth)) source.entry at result }
+        (λ s. spec.choice_behind s (spec.block s depth) (spec.second_block s depth)) source.entry at result }
 {
-    let (test, at) = expression(alloc, source, MAX_LEVELS, at)?;
+    let (test, at) = whole(alloc, source, at)?;
     let (then_block, at) = block(alloc, source, depth, at)?;
-    let at = keyword(source, Keyword::Else, at)?;
-    let (else_block, at) = block(alloc, source, depth, at)?;
+    let (else_block, at) = else_behind(alloc, source, depth, at)?;
     Ok((Statement::If(test, then_block, else_block), at))
+}
+
+/// `else` and what stands behind it. In language 2 it may be missing.
+#[cycle(block)]
+#[tactic(auto, unfolding(crate::specs::Reading::else_behind, kpn_text_tokens::specs::Results::and_then))]
+fn else_behind<'a>(alloc: Global, source: Source<'a>, depth: usize, at: usize) -> Read<Block<'a>>
+    ensures { Parses (λ found. block_seen found.items)
+        (λ s. spec.else_behind s (spec.second_block s depth)) source.entry at result }
+{
+    if is_second(source.scope.language) && !at_keyword(source, Keyword::Else, at) {
+        return Ok((Vec::new(alloc), at));
+    }
+    let at = keyword(source, Keyword::Else, at)?;
+    second_block(alloc, source, depth, at)
+}
+
+/// Whether an `if` is at a place behind `else`, where language 2 has it.
+fn is_branch(source: Source<'_>, at: usize) -> bool
+    ensures { result ≡ spec.is_branch source.entry.scope (tokens_from source.entry at) }
+{
+    is_second(source.scope.language) && at_keyword(source, Keyword::If, at)
+}
+
+/// What stands behind `else`: a block, or in language 2 an `if`, which stands for a block that is nothing but it.
+#[cycle(block)]
+fn second_block<'a>(alloc: Global, source: Source<'a>, depth: usize, at: usize) -> Read<Block<'a>>
+    ensures { Parses (λ found. block_seen found.items)
+        (λ s. spec.second_block s depth) source.entry at result }
+{
+    if !is_branch(source, at) {
+        return block(alloc, source, depth, at);
+    }
+    if depth == 0 {
+        return Err(GrammarFault::TooDeep(source.scope.process));
+    }
+    branch(alloc, source, depth - 1, at)
+}
+
+/// An `if` as the one statement of a block, with blocks of at most `depth` levels in it.
+#[cycle(block)]
+#[tactic(auto, unfolding(crate::specs::Reading::branch, kpn_text_tokens::specs::Results::and_then))]
+fn branch<'a>(alloc: Global, source: Source<'a>, depth: usize, at: usize) -> Read<Block<'a>>
+    ensures { Parses (λ found. block_seen found.items)
+        (λ s. spec.branch s (spec.block s depth) (spec.second_block s depth))
+        source.entry at result }
+{
+    let at = keyword(source, Keyword::If, at)?;
+    let (statement, at) = if_statement(alloc, source, depth, at)?;
+    let mut found = Vec::new(alloc);
+    found.push(statement)?;
+    Ok((found, at))
 }
 
 #[cycle(block)]
@@ -151,7 +200,7 @@ fn while_statement<'a>(
     ensures { Parses statement_seen
         (λ s. spec.loop_behind s (spec.block s depth)) source.entry at result }
 {
-    let (test, at) = expression(alloc, source, MAX_LEVELS, at)?;
+    let (test, at) = whole(alloc, source, at)?;
     let (body, at) = block(alloc, source, depth, at)?;
     Ok((Statement::While(test, body), at))
 }

@@ -1,4 +1,4 @@
-//! Expressions. A number or a name is an expression of level 1, and each sign and each pair of
+//! Expressions of language 1. A number or a name is an expression of level 1, and each sign and each pair of
 //! parentheses adds a level.
 
 ghost use Rattle.std.specs.Prelude.{◌≡◌};
@@ -22,7 +22,7 @@ fn begins_expression(token: &Token<'_>) -> bool
 }
 
 /// The fault of a token if no level is left: it opens one too many, if an expression can begin with it.
-fn level_fault(scope: Scope, first: &Lexeme<'_>) -> GrammarFault
+pub(crate) fn level_fault(scope: Scope, first: &Lexeme<'_>) -> GrammarFault
     ensures { result ≡ spec.level_fault scope first.now }
 {
     if begins_expression(&first.token) {

@@ -12,14 +12,15 @@ mod lists;
 mod networks;
 mod operators;
 mod parser;
+mod precedence;
 mod processes;
 mod tree;
 mod whole;
 mod words;
 
 pub use fault::GrammarFault;
-pub use laws::{read_where_spelled, spelled_once};
-pub use operators::mark_of;
+pub use laws::{canonical_spells, read_where_spelled, spelled_once};
+pub use operators::{LOOSEST, OPERAND, left_side, mark_of, right_side, tightness};
 pub use tree::{
     Block, Description, Expression, HeadParts, Identifier, Instance, Item, Literal, Names, Network,
     Process, Statement,

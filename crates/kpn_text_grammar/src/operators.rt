@@ -63,3 +63,61 @@ pub(crate) fn operator_of(mark: Mark) -> Option<Op>
         .copied()
         .find(|operator| mark_of(*operator) == mark)
 }
+
+/// How tight each expression binds at least.
+pub const LOOSEST: usize = 1;
+
+/// How tight a side of a comparison binds at least.
+const COMPARED: usize = 7;
+
+/// How tight an operand binds: tighter than each operator.
+pub const OPERAND: usize = 10;
+
+fn is_comparison(operator: Op) -> bool
+    ensures { result ≡ table.is_comparison operator }
+{
+    matches!(
+        operator,
+        Op::Lt | Op::Le | Op::Gt | Op::Ge | Op::Eq | Op::Ne
+    )
+}
+
+/// How tight an operator binds in language 2, from 1 for the one that binds loosest.
+pub fn tightness(operator: Op) -> usize
+    ensures { result ≡ table.tightness operator }
+{
+    match operator {
+        Op::Or => 1,
+        Op::And => 2,
+        Op::Lt | Op::Le | Op::Gt | Op::Ge | Op::Eq | Op::Ne => 3,
+        Op::BitOr => 4,
+        Op::BitXor => 5,
+        Op::BitAnd => 6,
+        Op::Shl | Op::Shr => 7,
+        Op::Add | Op::Sub => 8,
+        Op::Mul | Op::Div | Op::Rem => 9,
+    }
+}
+
+/// How tight the left side of an operator binds at least.
+pub fn left_side(operator: Op) -> usize
+    ensures { result ≡ table.left_side operator }
+{
+    if is_comparison(operator) {
+        COMPARED
+    } else {
+        tightness(operator)
+    }
+}
+
+/// How tight the right side of an operator binds at least. Operators group from the left, but for comparisons, which do
+/// not group.
+pub fn right_side(operator: Op) -> usize
+    ensures { result ≡ table.right_side operator }
+{
+    if is_comparison(operator) {
+        COMPARED
+    } else {
+        tightness(operator) + 1
+    }
+}

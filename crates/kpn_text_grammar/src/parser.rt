@@ -7,10 +7,10 @@ ghost use Rattle.kpn_text_grammar.specs.Reading as spec;
 ghost use Rattle.kpn_text_grammar.specs.View.{Parses, Passes, tokens_from};
 
 use crate::fault::GrammarFault;
-use crate::operators::operator_of;
+use crate::operators::{left_side, operator_of, tightness};
 use crate::tree::Identifier;
 use kpn_lang::Op;
-use kpn_text_tokens::{Keyword, Lexeme, Mark, Number, Token};
+use kpn_text_tokens::{Keyword, Language, Lexeme, Mark, Number, Token};
 
 /// What a fault needs besides the tokens.
 #[derive(Clone, Copy)]
@@ -19,6 +19,7 @@ pub(crate) struct Scope {
     pub end: usize,
     /// The number of the process that the parser reads.
     pub process: usize,
+    pub language: Language,
 }
 
 /// The tokens of a text.
@@ -182,12 +183,38 @@ pub(crate) fn operator(source: Source<'_>, at: usize) -> Read<Op>
     ensures { Parses (λ op. op) spec.operator source.entry at result }
 {
     let (first, after) = next(source, at)?;
-    let spelled = match &first.token {
-        Token::Mark(mark) => operator_of(*mark),
-        _ => None,
-    };
-    match spelled {
+    match operator_of_token(&first.token) {
         Some(operator) => Ok((operator, after)),
         None => Err(GrammarFault::Grammar(first.start)),
+    }
+}
+
+/// Whether a language is the second.
+pub(crate) fn is_second(language: Language) -> bool
+    ensures { result ≡ spec.is_second language }
+{
+    matches!(language, Language::Two)
+}
+
+fn operator_of_token(token: &Token<'_>) -> Option<Op>
+    ensures { result ≡ spec.token_operator token.now }
+{
+    match token {
+        Token::Mark(mark) => operator_of(*mark),
+        _ => None,
+    }
+}
+
+/// Whether an operator at a place binds as tight as `tight`, and may stand behind a left side that binds as tight as
+/// `bound`.
+pub(crate) fn goes_further(source: Source<'_>, tight: usize, bound: usize, at: usize) -> bool
+    ensures { result ≡ spec.first_is (spec.goes_further tight bound) (tokens_from source.entry at) }
+{
+    match source.tokens.get(at) {
+        Some(first) => match operator_of_token(&first.token) {
+            Some(operator) => tight <= tightness(operator) && left_side(operator) <= bound,
+            None => false,
+        },
+        None => false,
     }
 }

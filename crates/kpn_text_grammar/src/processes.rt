@@ -148,6 +148,7 @@ fn numbered_process<'a>(
     let scope = Scope {
         end: source.scope.end,
         process: number,
+        language: source.scope.language,
     };
     let tokens = source.tokens;
     process(alloc, Source { tokens, scope }, at)

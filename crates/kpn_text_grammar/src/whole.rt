@@ -65,15 +65,11 @@ fn contents<'a>(
 
 /// The same behind the language.
 #[tactic(auto, unfolding(crate::specs::Reading::description, kpn_text_tokens::specs::Results::and_then))]
-fn whole<'a>(
-    alloc: Global,
-    source: Source<'a>,
-    language: Language,
-) -> Result<Description<'a>, GrammarFault>
+fn whole<'a>(alloc: Global, source: Source<'a>) -> Result<Description<'a>, GrammarFault>
     ensures { spec.Gives document result
-        (spec.description source.entry.scope language source.entry.tokens.now) }
+        (spec.description source.entry.scope source.entry.tokens.now) }
 {
-    let at = language_at(source, language, 0)?;
+    let at = language_at(source, source.scope.language, 0)?;
     contents(alloc, source, at)
 }
 
@@ -86,7 +82,7 @@ fn whole<'a>(
 /// - [`GrammarFault::Grammar`] at the first byte of a token that may not be there, or at `end` if the tokens end too
 ///   early;
 /// - [`GrammarFault::TooDeep`] of a process at a token that may be there and opens a level too many, of blocks or of an
-///   expression.
+///   expression. In language 2 that is also an operator or `?` whose left side has all the levels that are left.
 ///
 /// [`GrammarFault::NoMemory`] comes only if memory ran out.
 pub fn description<'a>(
@@ -103,6 +99,10 @@ pub fn description<'a>(
     // Which fault it is.
     ensures exact { spec.Gives document result (spec.description_of language end tokens.now) }
 {
-    let scope = Scope { end, process: 0 };
-    whole(alloc, Source { tokens, scope }, language)
+    let scope = Scope {
+        end,
+        process: 0,
+        language,
+    };
+    whole(alloc, Source { tokens, scope })
 }

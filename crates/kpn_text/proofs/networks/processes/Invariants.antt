@@ -9,5 +9,6 @@ abbrev pub invariant-loop-i : goal.invariant-loop-i
 invariant-loop-i l =
     (more : List ℕ)
     → l.out.items
-    ++ all_text process_text (paired process_named (drop l.i l.names) (drop l.i l.network.programs)) more
-    ≡ l.initial.out.items ++ all_text process_text (paired process_named l.names l.network.programs) more
+    ++ all_text (process_text l.language) (paired process_named (drop l.i l.names) (drop l.i l.network.programs)) more
+    ≡ l.initial.out.items
+    ++ all_text (process_text l.language) (paired process_named l.names l.network.programs) more

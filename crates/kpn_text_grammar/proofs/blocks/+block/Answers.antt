@@ -1,9 +1,9 @@
 -- A block is its statements, one level below, and its braces; one more round of the loop reads one statement more.
-use Rattle.std.proofs.Common.{◌≡◌, ◌<◌, length, sym, ◌∙◌, arith}
+use Rattle.std.proofs.Common.{◌≡◌, ◌<◌, true, false, length, sym, ◌∙◌, arith}
 use Rattle.std.proofs.lemmas.Result.{err_from_is_err_and}
-use Rattle.kpn_text_grammar.specs.Reading.{goes_on, one_statement, block, statements_at}
+use Rattle.kpn_text_grammar.specs.Reading.{goes_on, is_branch, one_statement, block, second_block, statements_at}
 use Rattle.kpn_text_grammar.specs.View.{tokens_from, statement_seen, statements_seen}
-use Rattle.kpn_text_grammar.proofs.BlockSteps.{block_below, block_deep, block_unopened, any_number, all_statements, fails_at_any}
+use Rattle.kpn_text_grammar.proofs.BlockSteps.{block_below, block_deep, block_unopened, second_below, second_deep, second_is_block, any_number, all_statements, fails_at_any}
 use Rattle.kpn_text_grammar.proofs.Rounds.{at_first, one_more, stops_here, fails_here, place_moves}
 use Rattle.kpn_text_grammar.proofs.StatementLaws.{statement_shortens}
 use Rattle.kpn_text_grammar.proofs.blocks.+block.Goals as goal
@@ -30,21 +30,23 @@ pub statements-statements-init : goal.statements-statements-init
 statements-statements-init t c =
     let s = c.args.source.scope in
     let inner = block s c.args.depth in
-    rw (all_statements s inner (tokens_from c.args.source c.args.at))
-    (at_first statement_seen goes_on (one_statement s inner) c.new-found.result.items
+    let second = second_block s c.args.depth in
+    rw (all_statements s inner second (tokens_from c.args.source c.args.at))
+    (at_first statement_seen goes_on (one_statement s inner second) c.new-found.result.items
     (tokens_from c.args.source c.args.at) c.new-found.ensures.items)
 
 pub statements-returns-in_err-statement : goal.statements-returns-in_err-statement
 statements-returns-in_err-statement t c =
     let s = c.args.source.scope in
     let inner = block s c.args.depth in
+    let second = second_block s c.args.depth in
     let p = err_from_is_err_and c.from_residual.result c.from_residual.ensures.1 in
     let ls = tokens_from c.args.source c.statements.place in
-    rw (p.1, p.2) (fails_here goes_on (one_statement s inner) c.in_err-statement.field-0.0
+    rw (p.1, p.2) (fails_here goes_on (one_statement s inner second) c.in_err-statement.field-0.0
     (statements_seen c.statements.found.items) (length c.statements.found.items) ls
-    (statements_at s inner (tokens_from c.args.source c.args.at)) c.statements.invariant
+    (statements_at s inner second (tokens_from c.args.source c.args.at)) c.statements.invariant
     (sym c.goes_on.ensures ∙ c.statements-test.true)
-    (fails_at_any s inner (length c.statements.found.items) ls c.in_err-statement.field-0.0 c.in_err-statement.ensures))
+    (fails_at_any s inner second (length c.statements.found.items) ls c.in_err-statement.field-0.0 c.in_err-statement.ensures))
 
 pub statements-statements-smaller : goal.statements-statements-smaller
 statements-statements-smaller t c =
@@ -58,11 +60,12 @@ pub statements-statements-preserved : goal.statements-statements-preserved
 statements-statements-preserved t c =
     let s = c.args.source.scope in
     let inner = block s c.args.depth in
-    one_more statement_seen goes_on (one_statement s inner) c.statements.found.items c.push.new.self.items
+    let second = second_block s c.args.depth in
+    one_more statement_seen goes_on (one_statement s inner second) c.statements.found.items c.push.new.self.items
     c.in_ok-statement.statement (tokens_from c.args.source c.statements.place)
     (tokens_from c.args.source c.in_ok-statement.after)
-    (statements_at s inner (tokens_from c.args.source c.args.at)) c.statements.invariant
-    (sym c.goes_on.ensures ∙ c.statements-test.true) (any_number s inner _ _ ∙ c.in_ok-statement.ensures)
+    (statements_at s inner second (tokens_from c.args.source c.args.at)) c.statements.invariant
+    (sym c.goes_on.ensures ∙ c.statements-test.true) (any_number s inner second _ _ ∙ c.in_ok-statement.ensures)
     (statement_shortens s c.args.depth 0 (tokens_from c.args.source c.statements.place)
     (statement_seen c.in_ok-statement.statement) (tokens_from c.args.source c.in_ok-statement.after)
     c.in_ok-statement.ensures)
@@ -72,7 +75,24 @@ pub statements-returns : goal.statements-returns
 statements-returns t c =
     let s = c.args.source.scope in
     let inner = block s c.args.depth in
-    stops_here goes_on (one_statement s inner) (statements_seen c.statements.found.items)
+    let second = second_block s c.args.depth in
+    stops_here goes_on (one_statement s inner second) (statements_seen c.statements.found.items)
     (length c.statements.found.items) (tokens_from c.args.source c.statements.place)
-    (statements_at s inner (tokens_from c.args.source c.args.at)) c.statements.invariant
+    (statements_at s inner second (tokens_from c.args.source c.args.at)) c.statements.invariant
     (sym c.goes_on.ensures ∙ c.statements-test.false)
+
+pub second_block-returns-then-not-is_branch : goal.second_block-returns-then-not-is_branch
+second_block-returns-then-not-is_branch t c =
+    let no : is_branch c.args.source.scope (tokens_from c.args.source c.args.at) ≡ false = cc in
+    rw (second_is_block c.args.source.scope c.args.depth (tokens_from c.args.source c.args.at) no) c.block.ensures
+
+pub second_block-returns-then-depth-eq0 : goal.second_block-returns-then-depth-eq0
+second_block-returns-then-depth-eq0 t c =
+    let there : is_branch c.args.source.scope (tokens_from c.args.source c.args.at) ≡ true = cc in
+    second_deep c.args.source.scope c.args.depth (tokens_from c.args.source c.args.at) (omega arith) there
+
+pub second_block-returns : goal.second_block-returns
+second_block-returns t c =
+    let there : is_branch c.args.source.scope (tokens_from c.args.source c.args.at) ≡ true = cc in
+    rw (second_below c.args.source.scope c.args.depth (tokens_from c.args.source c.args.at) (omega arith) there)
+    c.branch-alloc.ensures

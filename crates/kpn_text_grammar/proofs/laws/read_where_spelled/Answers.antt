@@ -3,4 +3,4 @@ use Rattle.kpn_text_grammar.proofs.DescriptionLaws.{description_takes, descripti
 use Rattle.kpn_text_grammar.proofs.laws.read_where_spelled.Goals as goal
 
 pub returns : goal.returns
-returns c s l ls d = (description_takes s l ls d, description_again s l ls d)
+returns c s ls d = (description_takes s ls d, description_again s ls d)

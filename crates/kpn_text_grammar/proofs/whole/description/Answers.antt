@@ -7,10 +7,10 @@ use Rattle.kpn_text_grammar.proofs.whole.description.Goals as goal
 pub returns-clause-found : goal.returns-clause-found
 returns-clause-found c =
     was_read document _ c.whole.result _ c.whole.ensures (λ d h. description_takes
-    (record { end = c.args.end; process = 0 }) c.args.language c.args.tokens.now (document d) h)
+    (record { end = c.args.end; process = 0; language = c.args.language }) c.args.tokens.now (document d) h)
 
 pub returns-clause-only : goal.returns-clause-only
 returns-clause-only c d spelled =
     is_returned document _ c.whole.result _ d c.whole.ensures
-    (description_again (record { end = c.args.end; process = 0 }) c.args.language c.args.tokens.now d spelled)
+    (description_again (record { end = c.args.end; process = 0; language = c.args.language }) c.args.tokens.now d spelled)
     (λ x h. h)

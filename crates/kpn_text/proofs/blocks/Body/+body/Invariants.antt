@@ -18,7 +18,7 @@ decreases-otherwise l = 3 * (MAX_LEVELS + 1 - l.level)
 
 abbrev pub invariant-block-loop-statement : goal.invariant-block-loop-statement
 invariant-block-loop-statement l =
-    let text = block_text l.level l.self.names.now (tree_of l.self.program.now.blocks) in
+    let text = block_text l.self.language l.indents l.self.names.now (tree_of l.self.program.now.blocks) in
     (more : List ℕ)
     → l.out.items ++ text (drop l.statement-index (statements_of l.statements)) more
     ≡ l.initial.out.items ++ text (statements_of l.statements) more

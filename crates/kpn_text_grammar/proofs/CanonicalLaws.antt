@@ -1,0 +1,162 @@
+-- The canonical spelling follows the rules, and in language 1 no other does.
+use Rattle.std.proofs.Common.{◌≡◌, ◌≤◌, false, List, [], ◌∷◌, refl, sym, ap, subst, ◌∙◌, arith}
+use Rattle.std.specs.List.{AllByRecursion}
+use Rattle.kpn_limits.specs.declared.TheConstants.{MAX_LEVELS}
+use Rattle.kpn_text_tokens.specs.declared.tokens.Language.{Language}
+use Rattle.kpn_text_tokens.specs.declared.tokens.Language.TheVariants as language
+use Rattle.kpn_text_tokens.specs.declared.tokens.Token.{Token}
+use Rattle.kpn_text_tokens.specs.declared.tokens.Token.TheVariants as token
+use Rattle.kpn_text_tokens.specs.declared.tokens.Mark.TheVariants as mark_
+use Rattle.kpn_text_tokens.specs.declared.tokens.Keyword.TheVariants as keyword_
+use Rattle.kpn_text_grammar.specs.Syntax.{Statement, assign, receive, send, choice, loop, Statements, no_statements, statement, Process, Description}
+use Rattle.kpn_text_grammar.specs.Spelling.{spell_term, spell_statement, spell_statements, spell_else, spell_all, spell_parts, spell_process, spell_network, spell_description, SpellsAll, SpellsStatement, as_assignment, as_read, as_write, as_if, as_while, SpellsStatements, nothing, one_more, SpellsElse, left_out, behind_else, SpellsSecond, with_braces, as_branch, SpellsProcess, SpellsByRules, SpellsDescription, IsDescription, begins_else, deepest_term, deepest_term_of_all, ProcessIsWithin}
+use Rattle.kpn_text_grammar.proofs.WholeLaws.{canonical_expression}
+
+-- ---- the canonical spelling follows the rules
+
+no_else : (l : Language) (ss : Statements) (more : List Token) → begins_else more ≡ false
+    → begins_else (spell_statements l ss more) ≡ false
+no_else l no_statements more ends = ends
+no_else l (statement (assign x e) ss) more ends = refl
+no_else l (statement (receive i x) ss) more ends = refl
+no_else l (statement (send o e) ss) more ends = refl
+no_else l (statement (choice e a b) ss) more ends = refl
+no_else l (statement (loop e b) ss) more ends = refl
+
+only_one : {l : Language} {s : Statement} {tokens more : List Token}
+    → SpellsStatements l (statement s no_statements) tokens more → SpellsStatement l s tokens more
+only_one (one_more h nothing) = h
+
+canonical_else : (l : Language) (b : Statements) (more : List Token) → begins_else more ≡ false
+    → ((after : List Token) → begins_else after ≡ false → SpellsStatements l b (spell_statements l b after) after)
+    → SpellsElse l b (spell_else l b (spell_statements l b) more) more
+canonical_else language.Two no_statements more ends inside = left_out refl ends
+canonical_else language.Two (statement (choice e a b) no_statements) more ends inside =
+    behind_else (as_branch refl (only_one (inside more ends)))
+canonical_else l b more ends inside = behind_else (with_braces (inside (token.Mark mark_.RightBrace ∷ more) refl))
+
+mutual
+  canonical_statement : (l : Language) (s : Statement) (more : List Token) → deepest_term s ≤ MAX_LEVELS
+      → begins_else more ≡ false → SpellsStatement l s (spell_statement l s more) more
+  canonical_statement l (assign x e) more level ends =
+      as_assignment {x = x} {e = e} {more = more} (canonical_expression l e (token.Mark mark_.Semicolon ∷ more) level)
+  canonical_statement l (receive i x) more level ends = as_read
+  canonical_statement l (send o e) more level ends =
+      as_write {o = o} {e = e} {more = more} (canonical_expression l e (token.Mark mark_.Semicolon ∷ more) level)
+  canonical_statement l (choice e a b) more level ends =
+      let at_else = spell_else l b (spell_statements l b) more in
+      let at_a = spell_statements l a (token.Mark mark_.RightBrace ∷ at_else) in
+      as_if {e = e} {a = a} {b = b} {at_a = at_a} {at_else = at_else} {more = more}
+      (canonical_expression l e (token.Mark mark_.LeftBrace ∷ at_a) (omega (arith, level)))
+      (canonical_statements l a (token.Mark mark_.RightBrace ∷ at_else) (omega (arith, level)) refl)
+      (canonical_else l b more ends (λ after last. canonical_statements l b after (omega (arith, level)) last))
+  canonical_statement l (loop e b) more level ends =
+      let at_b = spell_statements l b (token.Mark mark_.RightBrace ∷ more) in
+      as_while {e = e} {b = b} {at_b = at_b} {more = more}
+      (canonical_expression l e (token.Mark mark_.LeftBrace ∷ at_b) (omega (arith, level)))
+      (canonical_statements l b (token.Mark mark_.RightBrace ∷ more) (omega (arith, level)) refl)
+
+  pub canonical_statements : (l : Language) (ss : Statements) (more : List Token)
+      → deepest_term_of_all ss ≤ MAX_LEVELS → begins_else more ≡ false
+      → SpellsStatements l ss (spell_statements l ss more) more
+  canonical_statements l no_statements more level ends = nothing
+  canonical_statements l (statement s ss) more level ends =
+      one_more (canonical_statement l s (spell_statements l ss more) (omega (arith, level)) (no_else l ss more ends))
+      (canonical_statements l ss more (omega (arith, level)) ends)
+
+canonical_process : (l : Language) (p : Process) (more : List Token) → ProcessIsWithin p
+    → SpellsProcess l p (spell_process l p more) more
+canonical_process l p more within = record {
+  inside = spell_statements l p.body (token.Mark mark_.RightBrace ∷ more);
+  head = refl;
+  body = canonical_statements l p.body (token.Mark mark_.RightBrace ∷ more) within.terms refl;
+}
+
+canonical_processes : (l : Language) (ps : List Process) (more : List Token) → AllByRecursion ProcessIsWithin ps
+    → SpellsAll (SpellsProcess l) ps (spell_all (spell_process l) ps more) more
+canonical_processes l [] more within = refl
+canonical_processes l (p ∷ ps) more within = (
+  spell_all (spell_process l) ps more,
+  canonical_process l p (spell_all (spell_process l) ps more) within.0,
+  canonical_processes l ps more within.1,
+)
+
+canonical_rules : (l : Language) (d : Description) → AllByRecursion ProcessIsWithin d.processes
+    → SpellsByRules l d (spell_description l d)
+canonical_rules l d within = record {
+  inside = spell_all (spell_process l) d.processes (spell_network d.network []);
+  opening = refl;
+  processes = canonical_processes l d.processes (spell_network d.network []) within;
+}
+
+canonical_by : (l : Language) (d : Description) → AllByRecursion ProcessIsWithin d.processes
+    → SpellsDescription l d (spell_description l d)
+canonical_by language.One d within = refl
+canonical_by language.Two d within = canonical_rules language.Two d within
+
+pub canonical_description : (l : Language) (d : Description) → AllByRecursion ProcessIsWithin d.processes
+    → IsDescription l (spell_description l d) d
+canonical_description l d within = record { spelled = canonical_by l d within; within = within }
+
+-- ---- in language 1 nothing else does
+
+mutual
+  one_statement : {s : Statement} {tokens more : List Token} → SpellsStatement language.One s tokens more
+      → tokens ≡ spell_statement language.One s more
+  one_statement (as_assignment {x = x} h) =
+      ap (λ (ts : List Token). token.Name x ∷ token.Mark mark_.Assign ∷ ts) h
+  one_statement as_read = refl
+  one_statement (as_write {o = o} h) = ap (λ (ts : List Token). token.Keyword keyword_.Write ∷ token.Name o ∷ ts) h
+  one_statement (as_if {e = e} {a = a} he ha hb) =
+      ap (λ (ts : List Token). token.Keyword keyword_.If ∷ ts) (he
+      ∙ ap (λ (ts : List Token). spell_term e (token.Mark mark_.LeftBrace ∷ ts)) (one_statements ha
+      ∙ ap (λ (ts : List Token). spell_statements language.One a (token.Mark mark_.RightBrace ∷ ts)) (one_else hb)))
+  one_statement (as_while {e = e} he hb) =
+      ap (λ (ts : List Token). token.Keyword keyword_.While ∷ ts) (he
+      ∙ ap (λ (ts : List Token). spell_term e (token.Mark mark_.LeftBrace ∷ ts)) (one_statements hb))
+
+  one_statements : {ss : Statements} {tokens more : List Token} → SpellsStatements language.One ss tokens more
+      → tokens ≡ spell_statements language.One ss more
+  one_statements nothing = refl
+  one_statements (one_more {s = s} h hs) = one_statement h ∙ ap (spell_statement language.One s) (one_statements hs)
+
+  one_else : {b : Statements} {tokens more : List Token} → SpellsElse language.One b tokens more
+      → tokens ≡ spell_else language.One b (spell_statements language.One b) more
+  one_else (left_out two ends) = absurd cc
+  one_else (behind_else h) = ap (λ (ts : List Token). token.Keyword keyword_.Else ∷ ts) (one_second h)
+
+  one_second : {b : Statements} {tokens more : List Token} → SpellsSecond language.One b tokens more
+      → tokens ≡ token.Mark mark_.LeftBrace ∷ spell_statements language.One b (token.Mark mark_.RightBrace ∷ more)
+  one_second (with_braces h) = ap (λ (ts : List Token). token.Mark mark_.LeftBrace ∷ ts) (one_statements h)
+  one_second (as_branch two h) = absurd cc
+
+one_process : (p : Process) (tokens more : List Token) → SpellsProcess language.One p tokens more
+    → tokens ≡ spell_process language.One p more
+one_process p tokens more h =
+    h.head ∙ ap (λ (ts : List Token). token.Keyword keyword_.Process ∷ token.Name p.name ∷ token.Mark mark_.LeftParen
+    ∷ spell_parts p.ins p.outs p.pars (token.Mark mark_.RightParen ∷ token.Mark mark_.LeftBrace ∷ ts))
+    (one_statements h.body)
+
+one_processes : (ps : List Process) (tokens more : List Token)
+    → SpellsAll (SpellsProcess language.One) ps tokens more
+    → tokens ≡ spell_all (spell_process language.One) ps more
+one_processes [] tokens more h = h
+one_processes (p ∷ ps) tokens more (others, first, rest) =
+    one_process p tokens others first ∙ ap (spell_process language.One p) (one_processes ps others more rest)
+
+-- ---- what the rules say is what a description is
+
+pub by_rules : (l : Language) (tokens : List Token) (d : Description) → SpellsByRules l d tokens
+    → SpellsDescription l d tokens
+by_rules language.One tokens d h = h.opening ∙ one_processes d.processes h.inside (spell_network d.network []) h.processes
+by_rules language.Two tokens d h = h
+
+rules_by : (l : Language) (tokens : List Token) (d : Description) → SpellsDescription l d tokens
+    → AllByRecursion ProcessIsWithin d.processes → SpellsByRules l d tokens
+rules_by language.One tokens d h within =
+    subst (λ (ts : List Token). SpellsByRules language.One d ts) (sym h) (canonical_rules language.One d within)
+rules_by language.Two tokens d h within = h
+
+pub description_rules : (l : Language) (tokens : List Token) (d : Description) → IsDescription l tokens d
+    → SpellsByRules l d tokens
+description_rules l tokens d is = rules_by l tokens d is.spelled is.within
