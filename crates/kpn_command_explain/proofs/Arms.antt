@@ -1,5 +1,5 @@
 -- What an arm of a command gives is what the command may give.
-use Rattle.std.proofs.Common.{◌≡◌, ◌⊎◌, inl, inr, ℕ, ℤ, List, length, Ok, subst, sym}
+use Rattle.std.proofs.Common.{◌≡◌, ◌⊎◌, ◌≢◌, inl, inr, ℕ, ℤ, List, length, Ok, subst, sym}
 use Rattle.kpn_text_items.specs.ItemFile.{Spells as SpellsItems, IsFirstBad}
 use Rattle.kpn_text.specs.declared.fault.TextFault.{TextFault}
 use Rattle.kpn_text.specs.Document.{Document}
@@ -19,8 +19,9 @@ module _ (may_give : Loads) (file bytes : List ℕ) (loaded : may_give file (Ok 
       right d (record { bytes = bytes; loaded = loaded; read = spelled }) made.0 made.1
 
   pub is_wrong : (fault : TextFault) → Refuses bytes fault → (text : List ℕ) (status : ℕ)
-      → Explains file bytes fault text × (status ≡ 1) → IsExplained may_give file text status
-  is_wrong fault refused text status made = wrong bytes fault loaded refused made.0 made.1
+      → (status_of (Description fault) ≢ 6) × Explains file bytes fault text × (status ≡ 1)
+      → IsExplained may_give file text status
+  is_wrong fault refused text status made = wrong bytes fault loaded refused made.0 made.1 made.2
 
   pub is_refused : (fault : TextFault) → Refuses bytes fault → (refusal : Refusal)
       → (refusal ≡ NoMemory) ⊎ ((refusal ≡ Description fault) × (status_of (Description fault) ≡ 6))

@@ -1,6 +1,6 @@
 -- What `kpn explain` comes to, and why it gives no answer. Of the text that it writes about a fault the beginning is
 -- fixed here, which names the place; rows show its words.
-use Rattle.std.specs.Prelude.{◌≡◌, ◌⊎◌, ℕ, ℤ, List, [], ◌++◌, length, codes, Result, Ok, Err, ⊤}
+use Rattle.std.specs.Prelude.{◌≡◌, ◌⊎◌, ◌≢◌, ℕ, ℤ, List, [], ◌++◌, length, codes, Result, Ok, Err, ⊤}
 use Rattle.std.specs.Fmt.{decimal}
 use Rattle.kpn_text_items.specs.ItemFile.{Spells, IsFirstBad}
 use Rattle.kpn_text_items.specs.declared.fault.ItemFault.TheVariants as item
@@ -37,12 +37,14 @@ abbrev pub Explains : (file bytes : List ℕ) → TextFault → (text : List ℕ
 Explains file bytes fault text =
     (rest : List ℕ) × (text ≡ where_text file bytes (places_of bytes (text_tokens bytes) fault).first ++ rest)
 
--- the text and the status for a file: the line of `kpn check`, 0, if it spells a network; else its fault explained, 1
+-- the text and the status for a file: the line of `kpn check`, 0, if it spells a network; else its fault explained, 1,
+-- which is not that memory ran out
 pub data IsExplained (may_give : Loads) (file : List ℕ) (text : List ℕ) (status : ℕ) : Type 0 where
   right : (d : Document) → IsDescribed may_give file d → text ≡ summary_text d → status ≡ 0
       → IsExplained may_give file text status
   wrong : (bytes : List ℕ) (fault : TextFault) → may_give file (Ok bytes) → Refuses bytes fault
-      → Explains file bytes fault text → status ≡ 1 → IsExplained may_give file text status
+      → status_of (Description fault) ≢ 6 → Explains file bytes fault text → status ≡ 1
+      → IsExplained may_give file text status
 
 -- why nothing is explained: the file is not loaded, or memory ran out
 abbrev pub IsRefusalOfExplaining : (may_give : Loads) (file : List ℕ) → Refusal → Type 0

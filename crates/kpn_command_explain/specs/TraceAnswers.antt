@@ -1,6 +1,6 @@
 -- What `kpn explain` comes to of a trace, and why it gives no answer. Of the texts about what is wrong the beginning is
 -- fixed here, which names the place; rows show their words.
-use Rattle.std.specs.Prelude.{◌≡◌, ℕ, ◌+◌, nat_eq, if◌then◌else◌, Bool, true, false, List, [], ◌++◌, Ok, Option, Some, None, codes, ⊤}
+use Rattle.std.specs.Prelude.{◌≡◌, ◌≢◌, ℕ, ◌+◌, nat_eq, if◌then◌else◌, Bool, true, false, List, [], ◌++◌, Ok, Option, Some, None, codes, ⊤}
 use Rattle.std.specs.List.{list_any, starts_with}
 use Rattle.std.specs.declared.alloc.Global.{Global}
 use Rattle.kpn_net.specs.declared.wait.Wait.{Wait}
@@ -25,7 +25,7 @@ use Rattle.kpn_shelf.specs.Shelf.{Loads}
 use Rattle.kpn_command_base.specs.Description.{IsDescribed}
 use Rattle.kpn_command_base.specs.Flaw.{event_line}
 use Rattle.kpn_command_base.specs.Audited.{IsFoundLegal, IsRefusalOfAudit}
-use Rattle.kpn_trace.specs.declared.fault.TraceFault.TheVariants.{BadEvent}
+use Rattle.kpn_trace.specs.declared.fault.TraceFault.TheVariants.{BadEvent, NoMemory}
 use Rattle.kpn_trace.specs.TraceText.{head_lines}
 use Rattle.kpn_command_explain.specs.Excerpt.{where_text}
 use Rattle.kpn_command_explain.specs.Lines.{line_start}
@@ -100,10 +100,11 @@ pub data IsConclusion (d : Document) (name bytes : List ℕ) (trace : Trace Glob
   budget : (k : ℕ) → IsRefusal d.tables trace steps (Budget k) → text ≡ event_line (codes "budget") k → status ≡ 5
       → IsConclusion d name bytes trace steps text status
 
--- the text and the status for the bytes of a trace: why they are refused, 1; or those for the trace that they spell
+-- the text and the status for the bytes of a trace: why they are refused, if not by want of memory, 1; or those for the
+-- trace that they spell
 pub data IsExplanation (d : Document) (name bytes : List ℕ) (steps : ℕ) (text : List ℕ) (status : ℕ) : Type 0 where
-  refused : (fault : TraceFault) → Refuses bytes fault → ExplainsFault name bytes fault text → status ≡ 1
-      → IsExplanation d name bytes steps text status
+  refused : (fault : TraceFault) → Refuses bytes fault → fault ≢ NoMemory
+      → ExplainsFault name bytes fault text → status ≡ 1 → IsExplanation d name bytes steps text status
   spelled : (trace : Trace Global) → Spells bytes trace → IsConclusion d name bytes trace steps text status
       → IsExplanation d name bytes steps text status
 

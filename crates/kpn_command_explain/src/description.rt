@@ -1,5 +1,5 @@
 //! `kpn explain FILE` reads a description, and counts its parts or explains what is wrong with it.
-ghost use Rattle.std.specs.Prelude.{◌≡◌, ◌⊎◌, IfOk, IfErr};
+ghost use Rattle.std.specs.Prelude.{◌≡◌, ◌⊎◌, ◌≢◌, IfOk, IfErr};
 ghost use Rattle.kpn_command_base.specs.Conclusion.{Tells};
 ghost use Rattle.kpn_command_base.specs.declared.refusal.Refusal.TheVariants.{Description, NoMemory};
 ghost use Rattle.kpn_command_base.specs.Refusal.{status_of};
@@ -47,7 +47,8 @@ fn right(alloc: Global, document: &Document) -> Result<Conclusion, Refusal>
 // The fault of a text, explained. A fault of memory is refused.
 fn wrong(alloc: Global, file: &str, bytes: &[u8], fault: TextFault) -> Result<Conclusion, Refusal>
     ensures ok { IfOk result
-        (Tells (λ text status. Explains file.now bytes.now fault text × (status ≡ 1))) }
+        (Tells (λ text status. (status_of (Description fault) ≢ 6)
+        × Explains file.now bytes.now fault text × (status ≡ 1))) }
     ensures refused { IfErr result (λ refusal. (refusal ≡ NoMemory)
         ⊎ ((refusal ≡ Description fault) × (status_of (Description fault) ≡ 6))) }
 {

@@ -68,7 +68,7 @@ fn rest_of<'a>(
         push_excerpt(&mut told, text, at)?;
     }
     let help = match habit {
-        Some(habit) => remedy(habit),
+        Some(habit) => remedy(habit, language_of(text)),
         None => advice(case),
     };
     told.extend_from_slice(help)?;

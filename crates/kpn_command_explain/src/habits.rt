@@ -13,8 +13,12 @@ use std::alloc::{AllocError, Global};
 /// A way of writing that the language of the text has not.
 #[derive(Clone, Copy)]
 pub(crate) enum Habit {
-    /// An operator stands without parentheses.
+    /// An operator stands without parentheses, in language 1.
     Sides,
+    /// A comparison beside an operator on bits, in language 2.
+    Mixed,
+    /// A comparison beside another one, in language 2.
+    Chain,
     /// Parentheses stand around something else than an operator with two sides.
     Parentheses,
     /// `>>`
@@ -31,7 +35,7 @@ pub(crate) enum Habit {
     Break,
     /// `else if`, `elif` and the like.
     ElseIf,
-    /// An `if` without `else`.
+    /// An `if` without `else`, in language 1.
     NoElse,
     /// `++`, `--`, `+=` and the like.
     Changes,
@@ -71,6 +75,8 @@ pub(crate) enum Habit {
     NoCapacity,
     /// A number with a point.
     Fraction,
+    /// `0x` or `0b` before digits, in language 2.
+    Digits,
     /// `^`
     Power,
     /// `**`
@@ -93,7 +99,7 @@ pub(crate) fn habit_of(
             let stand = stand_of(alloc, text, tokens, at)?;
             Ok(match language_of(text) {
                 Language::One => habit_at(stand, last, here),
-                Language::Two => habit_of_two(stand, last, here),
+                Language::Two => habit_of_two(alloc, front(text, at), stand, last, here)?,
             })
         }
         Case::Reserved => Ok(reserved_habit(spot_at(tokens, at), last, here)),
@@ -135,35 +141,95 @@ fn habit_at(stand: Stand, last: &[u8], here: &[u8]) -> Option<Habit> {
     }
 }
 
-// The same in a text of language 2, which has shifts, operators on bits and choices.
-fn habit_of_two(stand: Stand, last: &[u8], here: &[u8]) -> Option<Habit> {
+// The same in a text of language 2, which has shifts, operators on bits, choices and precedence, and whose `if` needs
+// no `else`. The token before, and the text before the place, end in the same byte.
+fn habit_of_two(
+    alloc: Global,
+    front: &[u8],
+    stand: Stand,
+    last: &[u8],
+    here: &[u8],
+) -> Result<Option<Habit>, AllocError> {
     match stand {
-        Stand::Statement if is_word(here, b"array") || is_word(here, b"table") => {
-            Some(Habit::Place)
-        }
-        Stand::Assigning | Stand::FirstSide | Stand::Whole if here.starts_with(b"[") => {
-            Some(Habit::Place)
-        }
-        Stand::Assigning if begins_any(here, &[b"<<=", b">>=", b"&=", b"|=", b"^="]) => {
-            Some(Habit::Changes)
-        }
-        Stand::Assigning if begins_shift(here) => None,
-        Stand::Whole if here.starts_with(b"?") => Some(Habit::Choice),
-        Stand::Whole if is_operator_of_two(here) => Some(Habit::Sides),
-        Stand::Operand if begins_shift(last) => None,
-        _ => habit_at(stand, last, here),
+        Stand::Assigning => Ok(assigning_habit_of_two(last, here)),
+        Stand::FirstSide => side_habit_of_two(alloc, front, last, here),
+        Stand::Operand => Ok(operand_habit_of_two(last)),
+        Stand::Statement | Stand::BeforeElse => Ok(statement_habit_of_two(here)),
+        _ => Ok(habit_at(stand, last, here)),
     }
+}
+
+// Behind the name of a variable that begins a statement.
+fn assigning_habit_of_two(last: &[u8], here: &[u8]) -> Option<Habit> {
+    if here.starts_with(b"[") {
+        Some(Habit::Place)
+    } else if begins_any(here, &[b"<<=", b">>=", b"&=", b"|=", b"^="]) {
+        Some(Habit::Changes)
+    } else if begins_shift(here) {
+        None
+    } else if is_else_if(last) {
+        Some(Habit::ElseIf)
+    } else {
+        assigning_habit(last, here)
+    }
+}
+
+// Behind an operand.
+fn side_habit_of_two(
+    alloc: Global,
+    front: &[u8],
+    last: &[u8],
+    here: &[u8],
+) -> Result<Option<Habit>, AllocError> {
+    if begins_any(here, &[b"<", b">", b"==", b"!="]) {
+        // Bits may stand beside bits, and not behind a comparison.
+        let is_mixed = may_stand(alloc, front, b"&")?;
+        Ok(Some(if is_mixed { Habit::Mixed } else { Habit::Chain }))
+    } else if begins_any(here, &[b"&", b"|", b"^"]) {
+        Ok(Some(Habit::Mixed))
+    } else if here.starts_with(b"?") {
+        Ok(Some(Habit::Choice))
+    } else if here.starts_with(b"[") {
+        Ok(Some(Habit::Place))
+    } else if begins_any(last, &[b"0x", b"0X", b"0b", b"0B"]) {
+        Ok(Some(Habit::Digits))
+    } else if assigns(here) {
+        Ok(Some(Habit::Compares))
+    } else {
+        Ok(word_habit(last, here))
+    }
+}
+
+// Where an operand is to begin.
+fn operand_habit_of_two(last: &[u8]) -> Option<Habit> {
+    if changes(last) {
+        Some(Habit::Changes)
+    } else if begins_comment(last) {
+        Some(Habit::Slashes)
+    } else if begins_shift(last) {
+        None
+    } else {
+        operand_habit(last)
+    }
+}
+
+// Where a statement is to begin.
+fn statement_habit_of_two(here: &[u8]) -> Option<Habit> {
+    if is_word(here, b"array") || is_word(here, b"table") {
+        Some(Habit::Place)
+    } else if begins_comment(here) {
+        Some(Habit::Comment)
+    } else {
+        habit_if(changes(here), Habit::Changes)
+    }
+}
+
+fn is_else_if(text: &[u8]) -> bool {
+    is_word(text, b"elif") || is_word(text, b"elsif") || is_word(text, b"elseif")
 }
 
 fn begins_shift(text: &[u8]) -> bool {
     begins_any(text, &[b"<<", b">>"])
-}
-
-// An operator that language 2 alone has: no comment and no assignment begins so.
-fn is_operator_of_two(text: &[u8]) -> bool {
-    begins_shift(text)
-        || text.starts_with(b"^")
-        || (begins_any(text, &[b"&", b"|"]) && !begins_any(text, &[b"&&", b"||"]))
 }
 
 // Whether the first word of a text is this one.
@@ -284,7 +350,7 @@ fn operand_habit(last: &[u8]) -> Option<Habit> {
 fn else_habit(here: &[u8]) -> Habit {
     if begins_comment(here) {
         Habit::Comment
-    } else if is_word(here, b"elif") || is_word(here, b"elsif") || is_word(here, b"elseif") {
+    } else if is_else_if(here) {
         Habit::ElseIf
     } else {
         Habit::NoElse

@@ -1,11 +1,42 @@
 //! What helps where another language would write it so.
 
 use crate::habits::Habit;
+use kpn_text_tokens::Language;
 
-/// What helps with a way of writing.
-pub(crate) fn remedy(habit: Habit) -> &'static [u8] {
+/// What helps with a way of writing in a language.
+pub(crate) fn remedy(habit: Habit, language: Language) -> &'static [u8] {
+    match language {
+        Language::One => usual(habit),
+        Language::Two => without_parentheses(habit),
+    }
+}
+
+// Where language 2 needs no parentheses, or has what language 1 lacks.
+fn without_parentheses(habit: Habit) -> &'static [u8] {
     match habit {
-        Habit::Sides => b"Put parentheses around each operator with two sides: `((x + y) + 1)`.",
+        Habit::Slashes =>
+            b"A comment begins with `#` and ends with its line. A quotient is written `x / 2`.",
+        Habit::For =>
+            b"There is no `for`: count in a variable, as in `while k < 9 { k = k + 1; }`.",
+        Habit::ElseIf => b"Write `else if`: `if x { } else if y { }`.",
+        Habit::Changes => b"A variable changes only by an assignment of its own: `x = x + 1;`.",
+        Habit::Compares => b"`=` assigns. Compare by `==`: `x == 1`.",
+        Habit::And => b"Write `&&` for and: `x && y`.",
+        Habit::Or => b"Write `||` for or: `x || y`.",
+        Habit::Fraction => b"Numbers are whole: scale them first, or divide, as in `x / 2`.",
+        Habit::Stars => b"There is no `**`: a power is a product, as in `x * x`.",
+        other => usual(other),
+    }
+}
+
+fn usual(habit: Habit) -> &'static [u8] {
+    match habit {
+        Habit::Sides =>
+            b"Parenthesize each operator with two sides: `((x + y) + 1)`, or begin the text with `language 2;`.",
+        Habit::Mixed =>
+            b"Put parentheses around one of the two operators: `(x & 1) == 0`. Languages differ on which comes first.",
+        Habit::Chain =>
+            b"Join two comparisons by `&&`: `x < y && y < z`. To compare what one gives, put parentheses around it.",
         Habit::Parentheses =>
             b"Leave these parentheses out: they stand only around an operator with two sides, as in `(x + 1)`.",
         Habit::ShiftRight =>
@@ -17,8 +48,10 @@ pub(crate) fn remedy(habit: Habit) -> &'static [u8] {
             b"A comment begins with `#` and ends with its line. A quotient is written `(x / 2)`.",
         Habit::For => b"There is no `for`: use `while`, and count in a variable.",
         Habit::Break => b"There is no `break`: let the condition of the loop end it.",
-        Habit::ElseIf => b"Open a block behind `else`, and close it: `else { if x { } else { } }`.",
-        Habit::NoElse => b"Each `if` has an `else`, whose block may be empty: `else { }`.",
+        Habit::ElseIf =>
+            b"Open a block behind `else`: `else { if x { } else { } }`, or begin the text with `language 2;`.",
+        Habit::NoElse =>
+            b"Each `if` has an `else`, whose block may be empty: `else { }`, or begin the text with `language 2;`.",
         Habit::Changes => b"A variable changes only by an assignment of its own: `x = (x + 1);`.",
         Habit::Compares => b"`=` assigns. Compare by `==`, between parentheses: `(x == 1)`.",
         Habit::Assigns => b"`==` compares. Assign by `=`: `x = 1;`.",
@@ -43,6 +76,7 @@ pub(crate) fn remedy(habit: Habit) -> &'static [u8] {
         Habit::Ports => b"Write `in`, `out` and `par` once each, as in `in a, b; out c, d; par k`.",
         Habit::NoCapacity => b"Write a capacity behind the name, as in `channel a cap 1;`.",
         Habit::Fraction => b"Numbers are whole: scale them first, or divide, as in `(x / 2)`.",
+        Habit::Digits => b"Numbers have decimal digits alone: write `31` in place of `0x1F`.",
         Habit::Power => b"There is no `^`: a power is a product, as in `((x * x) * x)`.",
         Habit::Stars => b"There is no `**`: a power is a product, as in `(x * x)`.",
         Habit::Place =>

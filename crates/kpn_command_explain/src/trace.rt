@@ -1,10 +1,11 @@
 //! The command reads a network and a trace, and explains what an audit of the trace finds.
-ghost use Rattle.std.specs.Prelude.{◌≡◌, ◌<◌, ℕ, length, IfOk, IfErr};
+ghost use Rattle.std.specs.Prelude.{◌≡◌, ◌≢◌, ◌⊎◌, ◌<◌, ℕ, length, IfOk, IfErr};
 ghost use Rattle.kpn_command_base.specs.Conclusion.{Tells};
 ghost use Rattle.kpn_audit.specs.declared.findings.AuditFault.TheVariants.{Illegal};
 ghost use Rattle.kpn_audit.specs.Audit.{IsRefusal};
 ghost use Rattle.kpn_command_base.specs.Audited.{IsNoFinding};
-ghost use Rattle.kpn_command_explain.specs.TraceAnswers.{IsConclusion, IsExplained, IsExplanation};
+ghost use Rattle.kpn_command_base.specs.Refusal.{status_of};
+ghost use Rattle.kpn_command_explain.specs.TraceAnswers.{ExplainsFault, IsConclusion, IsExplained, IsExplanation};
 ghost use Rattle.kpn_command_explain.specs.TraceAnswers.{IsNoExplanation, IsRefusalOfExplaining};
 
 use crate::trace_text::{illegal_text, legal_text, refused_text};
@@ -53,8 +54,20 @@ fn explanation(
 {
     match read_trace(alloc, bytes) {
         Ok(trace) => conclusion(alloc, document, name, bytes, &trace, steps),
-        Err(TraceFault::NoMemory) => Err(Refusal::Trace(TraceFault::NoMemory)),
-        Err(fault) => Ok(Conclusion {
+        Err(fault) => wrong(alloc, name, bytes, fault),
+    }
+}
+
+// Why the bytes of a trace are refused, explained. A fault of memory is refused.
+fn wrong(alloc: Global, name: &str, bytes: &[u8], fault: TraceFault) -> Result<Conclusion, Refusal>
+    ensures ok { IfOk result (Tells (λ text status. (fault ≢ TraceFault.NoMemory)
+        × ExplainsFault name.now bytes.now fault text × (status ≡ 1))) }
+    ensures refused { IfErr result (λ refusal. (refusal ≡ Refusal.NoMemory)
+        ⊎ ((refusal ≡ Refusal.Trace fault) × (status_of (Refusal.Trace fault) ≡ 6))) }
+{
+    match fault {
+        TraceFault::NoMemory => Err(Refusal::Trace(TraceFault::NoMemory)),
+        fault => Ok(Conclusion {
             text: refused_text(alloc, name.as_bytes(), bytes, &fault)?,
             status: 1,
             files: Vec::new(alloc),

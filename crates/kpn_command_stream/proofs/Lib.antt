@@ -3,3 +3,4 @@ pub mod Keeping
 pub mod Ringed
 pub mod Counted
 pub mod Worded
+pub mod Refusing

@@ -1,17 +1,18 @@
 -- Lists of places and of sinks, one more at a time.
-use Rattle.std.proofs.Common.{◌≡◌, ℕ, zero, suc, ◌+◌, ◌<◌, ◌≤◌, List, [], ◌∷◌, ◌++◌, map, take, length, get_or, slice_set, All, length-append, take_all, le_refl, Some, Result, Ok, Err, sym, ap, ◌∙◌, subst, arith, inl, inr, Option, None}
-use Rattle.std.specs.List.{AllPairs, AllZip}
+use Rattle.std.proofs.Common.{◌≡◌, ℕ, zero, suc, ◌+◌, ◌<◌, ◌≤◌, Bool, true, false, cond, not, Bor, List, [], ◌∷◌, ◌++◌, map, take, length, get_or, slice_set, All, length-append, append-nil, take_all, le_refl, refl, Some, Result, Ok, Err, sym, ap, ◌∙◌, subst, arith, inl, inr, Option, None}
+use Rattle.std.specs.List.{AllPairs, AllZip, filter}
 use Rattle.std.proofs.lemmas.Bool.{cases_lt}
 use Rattle.std.proofs.lemmas.List.{map-append, take_more, take_more_set, get_or_append_left}
-use Rattle.std.proofs.lemmas.List.Elements.{All-nil, All-push, All-same}
+use Rattle.std.proofs.lemmas.List.Elements.{All-push, All-same, filter_more}
 use Rattle.std.proofs.lemmas.List.Quantifiers.{all_pairs_push}
 use Rattle.std.proofs.Math.Seq.{get_or-append_seam}
 use Rattle.kpn_text.specs.Document.{Document}
 use Rattle.kpn_command_base.specs.declared.sources.Ends.{Ends}
 use Rattle.kpn_command_base.specs.declared.sources.NamedEnd.{NamedEnd}
-use Rattle.kpn_command_base.specs.Outputs.{FileWords, AreAllApart}
+use Rattle.kpn_command_base.specs.Outputs.{FileWords}
 use Rattle.kpn_command_base.specs.Sources.{is_end, ends_named}
 use Rattle.kpn_command_base.specs.StreamRequest.{StreamRequest}
+use Rattle.kpn_command_base.proofs.Apart.{now}
 use Rattle.kpn_stream.specs.Ending.{end_numbers}
 use Rattle.kpn_text_items.proofs.FileLemmas.{AllZip-push}
 use Rattle.kpn_stream.specs.declared.faults.SinkFault.{SinkFault}
@@ -19,7 +20,8 @@ use Rattle.kpn_stream.specs.declared.faults.SinkFault.TheVariants.{Gone, NoSampl
 use Rattle.kpn_command_stream.specs.declared.places.Place.{Place}
 use Rattle.kpn_command_stream.specs.declared.running.Lost.{Lost}
 use Rattle.kpn_stream_devices.specs.declared.outputs.Output.{Output}
-use Rattle.kpn_command_stream.specs.Command.{AreOutputsApart, HandedOn, IsOutputFor, IsOutputOf, KeepsName, one_more, losses}
+use Rattle.kpn_command_stream.specs.Command.{HandedOn, IsOutputFor, IsOutputOf, KeepsName, one_more, losses}
+use Rattle.kpn_command_stream.specs.Words.{names_standard, words_of}
 use Rattle.kpn_command_stream.specs.Places.{name_for, HasFormat, ArePlaced, AllPlaced, ArePlaces}
 
 -- one place more
@@ -95,26 +97,52 @@ pairs_next R places i d below pairs all =
 
 -- ---- outputs
 
--- outputs that are apart, whatever is known of inputs
-pub apart_by : (asked : FileWords) (request : StreamRequest) → asked.file ≡ request.file
-    → asked.sinks ≡ request.sinks → asked.trace ≡ request.trace → AreAllApart asked → AreOutputsApart request
-apart_by asked request file sinks trace is =
-    let alone : AreAllApart (record asked { sources = [] }) = record {
-      cut = is.cut;
-      apart = record {
-        no_inputs = λ k d below. ((is.apart.no_inputs k d below).0, All-nil _);
-        each_other = is.apart.each_other;
-      };
-    } in
-    subst
-    (λ (name : List ℕ).
-    AreAllApart (record { file = name; sources = []; sinks = request.sinks; trace = request.trace })) file
-    (subst
-    (λ (words : List (List ℕ)).
-    AreAllApart (record { file = asked.file; sources = []; sinks = words; trace = request.trace })) sinks
-    (subst
-    (λ (name : Option (List ℕ)).
-    AreAllApart (record { file = asked.file; sources = []; sinks = asked.sinks; trace = name })) trace alone))
+-- the words that have passed a test are those whose text has
+pub map-filter : (p : List ℕ → Bool) (words : List (Bor (List ℕ)))
+    → map now (filter (λ word. p word.now) words) ≡ filter p (map now words)
+map-filter p [] = refl
+map-filter p (word ∷ words) = kept (p word.now) (map-filter p words)
+  where
+    kept : (is : Bool) → map now (filter (λ w. p w.now) words) ≡ filter p (map now words)
+        → map now (cond is (word ∷ filter (λ w. p w.now) words) (filter (λ w. p w.now) words))
+        ≡ cond is (word.now ∷ filter p (map now words)) (filter p (map now words))
+    kept true same = ap (λ ws. word.now ∷ ws) same
+    kept false same = same
+
+-- one word more has passed, or has not
+module _ (p : Bor (List ℕ) → Bool) (words : List (Bor (List ℕ))) (i : ℕ) (d : Bor (List ℕ))
+    (files more : List (Bor (List ℕ))) (so_far : files ≡ filter p (take i words)) (below : i < length words) where
+  pub filter_kept : p (get_or words i d) ≡ true → more ≡ files ++ get_or words i d ∷ []
+      → more ≡ filter p (take (i + 1) words)
+  filter_kept passes is =
+      is ∙ ap (λ fs. fs ++ get_or words i d ∷ []) so_far
+      ∙ ap (λ b. filter p (take i words) ++ cond b (get_or words i d ∷ []) []) (sym passes)
+      ∙ sym (filter_more p words i d below)
+
+  pub filter_left : p (get_or words i d) ≡ false → more ≡ files → more ≡ filter p (take (i + 1) words)
+  filter_left fails is =
+      is ∙ so_far ∙ sym (append-nil (filter p (take i words)))
+      ∙ ap (λ b. filter p (take i words) ++ cond b (get_or words i d ∷ []) []) (sym fails)
+      ∙ sym (filter_more p words i d below)
+
+-- the words of a request that have passed a test, as they were handed on
+pub words_kept : (p : List ℕ → Bool) (sources asked : List (List ℕ)) (handed files given words : List (Bor (List ℕ)))
+    → sources ≡ map now handed → handed ≡ files → files ≡ filter (λ word. p word.now) given → given ≡ words
+    → map now words ≡ asked → sources ≡ filter p asked
+words_kept p sources asked handed files given words is same kept same_given are =
+    is ∙ ap (map now) (same ∙ kept ∙ ap (filter (λ (word : Bor (List ℕ)). p word.now)) same_given)
+    ∙ map-filter p words ∙ ap (filter p) are
+
+-- the words that were asked are those of the request
+pub asked_are : (asked : FileWords) (request : StreamRequest) → asked.file ≡ request.file
+    → asked.sources ≡ filter (λ word. not (names_standard word)) request.sources
+    → asked.sinks ≡ request.sinks → asked.trace ≡ request.trace → asked ≡ words_of request
+asked_are asked request file sources sinks trace =
+    let own = words_of request in
+    ap (λ (f : List ℕ). record asked { file = f }) file
+    ∙ ap (λ (s : List (List ℕ)). record asked { file = own.file; sources = s }) sources
+    ∙ ap (λ (s : List (List ℕ)). record asked { file = own.file; sources = own.sources; sinks = s }) sinks
+    ∙ ap (λ (t : Option (List ℕ)). record own { trace = t }) trace
 
 -- each output stays one for its place if one of them is changed so that it does
 pub zipped_set : {A B : Type 0} (R : A → B → Type 0) (xs : List A) (ys : List B) (i : ℕ) (d y : B) → AllZip R xs ys

@@ -29,6 +29,11 @@ pairs_map R f (x ∷ xs) apart i j d first within =
     subst (λ y. R y (get_or (map f (x ∷ xs)) j d)) (sym (get_or-map f (x ∷ xs) i x d earlier))
     (subst (λ y. R (f (get_or (x ∷ xs) i x)) y) (sym (get_or-map f (x ∷ xs) j x d below)) (apart i j x first below))
 
+-- what holds of the bytes of all words holds of the words
+pub All-unmap : {X Y : Type 0} (P : Y → Type 0) (f : X → Y) (xs : List X) → All P (map f xs) → All (λ x. P (f x)) xs
+All-unmap P f xs all k d below =
+    subst P (get_or-map f xs k d (f d) below) (all k (f d) (omega (arith, below, length-map xs f)))
+
 -- the words of a request are for ends
 pub for_ends : (d : Document) (words : List (Bor (List ℕ))) → All (λ word. IsForEnd d word.now) words
     → AllPairs (λ word later. end_in word.now ≢ end_in later.now) words → AreForEnds d (map (λ word. word.now) words)

@@ -11,9 +11,8 @@ use Rattle.kpn_run_state.specs.Kept.{IsBook}
 use Rattle.kpn_book.specs.declared.outcome.Limits.{Limits}
 use Rattle.kpn_command_base.specs.StreamRequest.{StreamRequest}
 use Rattle.kpn_command_base.specs.declared.refusal.Refusal.{Refusal}
-use Rattle.kpn_command_base.specs.Outputs.{AreAllApart}
 use Rattle.kpn_command_base.specs.Stored.{Stores}
-use Rattle.kpn_shelf.specs.Shelf.{Loads}
+use Rattle.kpn_shelf.specs.Shelf.{Loads, Aliases}
 use Rattle.kpn_command_base.specs.declared.sources.Ends.TheVariants.{Sources, Sinks}
 use Rattle.kpn_command_base.specs.Description.{IsDescribed}
 use Rattle.kpn_command_base.specs.Sources.{name_in, file_in}
@@ -41,6 +40,8 @@ use Rattle.kpn_command_stream.specs.Refusal.{refusal_status, ending_fault, lost_
 use Rattle.kpn_command_stream.specs.Refusal.{summary_fault, first_of}
 use Rattle.kpn_command_stream.specs.Formats.{AreForEnds, SaysFormat}
 use Rattle.kpn_command_stream.specs.Places.{standard, ArePlaces, HaveOwnInputs}
+use Rattle.kpn_command_stream.specs.Words.{AreOutputsApart}
+use Rattle.kpn_command_stream.specs.Causes.{IsUnbegun}
 use Rattle.kpn_command_stream.specs.Summary.{stream_status}
 use Rattle.kpn_command_stream.specs.Ending.{IsOver}
 
@@ -238,11 +239,6 @@ pub record AreAskedFor (request : StreamRequest) (d : Document) (places : Places
       places.sinks.items
   pub formats : AreForEnds d request.formats
 
--- no two outputs have one name, and none has that of the description
-abbrev pub AreOutputsApart : StreamRequest → Type 0
-AreOutputsApart request =
-    AreAllApart (record { file = request.file; sources = []; sinks = request.sinks; trace = request.trace })
-
 -- A stream of this network. Given are the shelf, standard input and standard output, each as it was and as it is
 -- afterwards.
 pub record IsStreamedOf {S I F O G : Type 0} (may_give : S → Loads) (names : Names S F G) (known : Known I F O G)
@@ -274,15 +270,16 @@ pub record NothingBegun {S I O : Type 0} (shelf kept : S) (input read : I) (out 
   pub same_input : read ≡ input
   pub same_output : written ≡ out
 
--- A stream; or nothing is begun, and the refusal gives the status.
-pub data Streams {S I F O G : Type 0} (may_give : S → Loads) (names : Names S F G) (known : Known I F O G)
-    (request : StreamRequest)
-    (shelf kept : S) (input read : I) (out written : O) (status : ℕ) : Type 0 where
+-- A stream; or nothing is begun for a cause that holds, and the refusal gives the status.
+pub data Streams {S I F O G : Type 0} (may_give : S → Loads) (may_alias : S → Aliases) (names : Names S F G)
+    (known : Known I F O G) (request : StreamRequest) (shelf kept : S) (input read : I) (out written : O) (status : ℕ)
+    : Type 0 where
   streamed : IsStreamed may_give names known request shelf kept input read out written status →
-      Streams may_give names known request shelf kept input read out written status
-  refused : (refusal : StreamRefusal) → NothingBegun shelf kept input read out written →
+      Streams may_give may_alias names known request shelf kept input read out written status
+  refused : (refusal : StreamRefusal) → IsUnbegun (may_give shelf) (may_alias shelf) request refusal →
+      NothingBegun shelf kept input read out written →
       status ≡ refusal_status refusal →
-      Streams may_give names known request shelf kept input read out written status
+      Streams may_give may_alias names known request shelf kept input read out written status
 
 -- ---- scaffolding
 

@@ -4,4 +4,6 @@ pub mod Places
 pub mod Summary
 pub mod Counters
 pub mod Ending
+pub mod Words
+pub mod Causes
 pub mod Command

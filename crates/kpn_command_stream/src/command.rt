@@ -1,14 +1,18 @@
 //! The command: it opens the inputs and the outputs, runs the network over them, and concludes.
-ghost use Rattle.std.specs.Prelude.{◌≡◌, ◌≢◌, false, map, option_map, IfOk, IfSome, OnErr, OnOk};
+ghost use Rattle.std.specs.Prelude.{◌≡◌, ◌≢◌, true, false, not, map, option_map, Some, IfOk, IfErr, IfSome, OnErr, OnOk};
+ghost use Rattle.std.specs.List.{filter};
 ghost use Rattle.kpn_command_base.specs.declared.sources.Ends.TheVariants as ends;
 ghost use Rattle.kpn_command_base.specs.Sources.{name_in, file_in};
+ghost use Rattle.kpn_command_base.specs.SourceRefusals.{IsRefusalOfWords};
 ghost use Rattle.kpn_command_stream.specs.Formats.{AreForEnds};
 ghost use Rattle.kpn_command_stream.specs.Places.{ArePlaces, HaveOwnInputs, standard};
-ghost use Rattle.kpn_command_stream.specs.Command.{AreOutputsApart, AreWordsOf, IsStreamed, IsStreamedOf, NothingBegun, Streams, known_of, names_of};
+ghost use Rattle.kpn_command_stream.specs.Words.{AreOutputsApart, names_standard};
+ghost use Rattle.kpn_command_stream.specs.Causes.{AreWordsRefused, IsOfDevice, IsUnbegun, IsUnstreamed};
+ghost use Rattle.kpn_command_stream.specs.Command.{AreWordsOf, IsStreamed, IsStreamedOf, NothingBegun, Streams, known_of, names_of};
 
 use crate::concluding::conclude;
 use crate::formats::{are_for_ends, are_formats};
-use crate::places::{Places, is_dash, places_of, share_an_input};
+use crate::places::{Places, STANDARD, is_dash, places_of, share_an_input};
 use crate::refusal::StreamRefusal;
 use crate::running::run;
 use kpn_command_base::{
@@ -30,7 +34,7 @@ pub fn stream_command<S: Shelf + Ports, I: Look, O: Write, E: Write>(
     err: &mut E,
     unsaid: &mut Vec<u8>,
 ) -> u8
-    ensures { Streams S.may_give (names_of S.are_two_inputs S.comes_from S.goes_to)
+    ensures { Streams S.may_give S.may_alias (names_of S.are_two_inputs S.comes_from S.goes_to)
         (known_of I.remaining S.Input.remaining O.contents S.Output.contents) request.now
         shelf.old shelf.new input.old input.new out.old out.new result }
 {
@@ -55,6 +59,8 @@ fn carry_out<S: Shelf + Ports, I: Look, O: Write, E: Write>(
         shelf.old shelf.new input.old input.new out.old out.new) }
     ensures refused { OnErr result
         (NothingBegun shelf.old shelf.new input.old input.new out.old out.new) }
+    ensures cause { IfErr result
+        (IsUnbegun (S.may_give shelf.old) (S.may_alias shelf.old) request.now) }
 {
     if !are_formats(&request.formats) {
         return Err(StreamRefusal::FormatWord);
@@ -85,6 +91,8 @@ fn stream_document<S: Shelf + Ports, I: Look, O: Write, E: Write>(
         document.now shelf.old shelf.new input.old input.new out.old out.new) }
     ensures refused { OnErr result
         (NothingBegun shelf.old shelf.new input.old input.new out.old out.new) }
+    ensures cause { IfErr result (IsUnstreamed document.now
+        (map name_in request.now.sources) (map name_in request.now.sinks)) }
 {
     let places = places_for(alloc, document, request, words, shelf)?;
     make_ready(shelf, request.trace)?;
@@ -112,6 +120,7 @@ fn check_words<'a, S: Shelf>(
 ) -> Result<Words<'a>, Refusal>
     ensures words { IfOk result (AreWordsOf request.now) }
     ensures apart { OnOk result (AreOutputsApart request.now) }
+    ensures cause { IfErr result (AreWordsRefused (S.may_alias shelf.now) request.now) }
 {
     if is_dash_asked(request.trace) {
         return Err(Refusal::TraceWord);
@@ -128,8 +137,9 @@ fn check_words<'a, S: Shelf>(
 
 /// Whether the file for the trace has the name of standard output.
 fn is_dash_asked(trace: Option<&str>) -> bool
-    ensures { result ≡ false → IfSome (option_map (λ name. name.now) trace.entry)
+    ensures file { result ≡ false → IfSome (option_map (λ name. name.now) trace.entry)
         (λ name. name ≢ standard) }
+    ensures standard { result ≡ true → option_map (λ name. name.now) trace.entry ≡ Some standard }
 {
     match trace {
         Some(name) => is_dash(name),
@@ -146,6 +156,7 @@ fn sources_of<'a>(
         map (λ o. o.name.now) sources.items ≡ map name_in request.now.sources) }
     ensures files { IfOk result (λ sources.
         map (λ o. o.file.now) sources.items ≡ map file_in request.now.sources) }
+    ensures refused { IfErr result (IsRefusalOfWords Refusal.SourceWord request.now.sources) }
 {
     options_of(alloc, &request.sources, Refusal::SourceWord)
 }
@@ -153,6 +164,7 @@ fn sources_of<'a>(
 /// The words that name files. Standard input is no file.
 fn asked_of<'w, 'a>(request: &'w StreamRequest<'a>, files: &'w [&'a str]) -> FileWords<'w, 'a>
     ensures file { result.file ≡ request.now.file }
+    ensures sources { result.sources ≡ map (λ word. word.now) files.now }
     ensures sinks { result.sinks ≡ request.now.sinks }
     ensures trace { result.trace ≡ request.now.trace }
 {
@@ -165,7 +177,10 @@ fn asked_of<'w, 'a>(request: &'w StreamRequest<'a>, files: &'w [&'a str]) -> Fil
 }
 
 /// The words that name no standard input.
-fn files_of<'a>(alloc: Global, words: &[&'a str]) -> Result<Vec<&'a str>, AllocError> {
+fn files_of<'a>(alloc: Global, words: &[&'a str]) -> Result<Vec<&'a str>, AllocError>
+    ensures { IfOk result (λ files.
+        files.items ≡ filter (λ word. not (names_standard word.now)) words.now) }
+{
     let mut files = Vec::new(alloc);
     for word in words {
         if !is_standard(word) {
@@ -175,9 +190,11 @@ fn files_of<'a>(alloc: Global, words: &[&'a str]) -> Result<Vec<&'a str>, AllocE
     Ok(files)
 }
 
-fn is_standard(word: &str) -> bool {
+fn is_standard(word: &str) -> bool
+    ensures { result ≡ names_standard word.now }
+{
     match word.split_once('=') {
-        Some((_, file)) => is_dash(file),
+        Some((_, file)) => file == STANDARD,
         None => false,
     }
 }
@@ -200,6 +217,9 @@ fn places_for<'a, S: Ports>(
     ensures own_inputs { IfOk result (λ places.
         HaveOwnInputs (S.are_two_inputs shelf.now) places.sources.items) }
     ensures formats { IfOk result (λ _. AreForEnds document.now request.now.formats) }
+    ensures cause { IfErr result (IsUnstreamed document.now
+        (map (λ o. o.name.now) words.now.sources.items)
+        (map (λ o. o.name.now) words.now.sinks.items)) }
 {
     let formats = &request.formats;
     let sources = places_of(alloc, document, Ends::Sources, &words.sources, formats)?;
@@ -214,7 +234,9 @@ fn places_for<'a, S: Ports>(
 }
 
 /// Makes ready for the trace, if there is to be one.
-fn make_ready<S: Shelf>(shelf: &S, trace: Option<&str>) -> Result<(), Refusal> {
+fn make_ready<S: Shelf>(shelf: &S, trace: Option<&str>) -> Result<(), Refusal>
+    ensures { IfErr result IsOfDevice }
+{
     match trace {
         Some(name) => shelf.make_ready(name).map_err(Refusal::Output),
         None => Ok(()),

@@ -1,6 +1,7 @@
 //! The devices of a stream, opened.
-ghost use Rattle.std.specs.Prelude.{◌≡◌, [], All, IfOk, IfSome, OnOk};
+ghost use Rattle.std.specs.Prelude.{◌≡◌, [], All, IfOk, IfErr, IfSome, OnOk};
 ghost use Rattle.std.specs.List.{AllZip};
+ghost use Rattle.kpn_command_stream.specs.Causes.{IsOfDevice};
 ghost use Rattle.kpn_command_stream.specs.Command.{first_bytes, IsEmptied, IsInputFor, IsInputOf, IsOutputFor, IsOutputOf, KeepsName, StayOutputs};
 
 use crate::places::{Place, Places, is_dash};
@@ -19,9 +20,10 @@ pub(crate) fn open_inputs<S: Ports>(
     shelf: &S,
     places: &Places<'_>,
 ) -> Result<Vec<Input<S::Input>>, Refusal>
-    ensures { IfOk result (λ inputs.
+    ensures inputs { IfOk result (λ inputs.
         AllZip (IsInputFor (S.may_give shelf.now) S.comes_from S.Input.remaining)
         places.now.sources.items inputs.items) }
+    ensures cause { IfErr result IsOfDevice }
 {
     let mut inputs = Vec::new(alloc);
     for i in 0..places.sources.len() {
@@ -37,8 +39,9 @@ fn input_for<S: Ports>(
     shelf: &S,
     place: Place<'_>,
 ) -> Result<Input<S::Input>, Refusal>
-    ensures { IfOk result
+    ensures input { IfOk result
         (IsInputFor (S.may_give shelf.now) S.comes_from S.Input.remaining place.entry) }
+    ensures cause { IfErr result IsOfDevice }
 {
     match open_input(shelf, place.name) {
         Ok(file) => Ok(Input {
@@ -70,8 +73,9 @@ pub(crate) fn open_outputs<S: Ports>(
     places: &Places<'_>,
     request: &StreamRequest<'_>,
 ) -> Result<Vec<Output<S::Output>>, Refusal>
-    ensures { IfOk result (λ outputs.
+    ensures outputs { IfOk result (λ outputs.
         AllZip (IsOutputFor S.goes_to request.now) places.now.sinks.items outputs.items) }
+    ensures cause { IfErr result IsOfDevice }
 {
     let mut outputs = Vec::new(alloc);
     for i in 0..places.sinks.len() {
@@ -88,7 +92,8 @@ fn output_for<S: Ports>(
     place: Place<'_>,
     request: &StreamRequest<'_>,
 ) -> Result<Output<S::Output>, Refusal>
-    ensures { IfOk result (IsOutputFor S.goes_to request.now place.entry) }
+    ensures output { IfOk result (IsOutputFor S.goes_to request.now place.entry) }
+    ensures cause { IfErr result IsOfDevice }
 {
     let bytes = first_bytes(alloc, place.format, request)?;
     match open_output(shelf, place.name) {
@@ -137,6 +142,7 @@ pub(crate) fn empty_outputs<S: Ports>(
     ensures outputs { OnOk result
         (StayOutputs S.goes_to places.now.sinks.items outputs.old.items outputs.new.items) }
     ensures emptied { OnOk result (All (IsEmptied S.Output.contents) outputs.new.items) }
+    ensures cause { IfErr result IsOfDevice }
 {
     for i in 0..outputs.len() {
         empty_output(shelf, &mut outputs[i])?;
@@ -150,6 +156,7 @@ fn empty_output<S: Ports>(shelf: &S, output: &mut Output<S::Output>) -> Result<(
     ensures bytes { output.new.bytes ≡ output.old.bytes }
     ensures name { KeepsName S.goes_to output.old.file output.new.file }
     ensures emptied { OnOk result (IsEmptied S.Output.contents output.new) }
+    ensures cause { IfErr result IsOfDevice }
 {
     match &mut output.file {
         Some(file) => empty_file(shelf, file),
@@ -160,6 +167,7 @@ fn empty_output<S: Ports>(shelf: &S, output: &mut Output<S::Output>) -> Result<(
 fn empty_file<S: Ports>(shelf: &S, file: &mut S::Output) -> Result<(), Refusal>
     ensures named { S.goes_to file.new ≡ S.goes_to file.old }
     ensures empty { OnOk result (IfSome (S.Output.contents file.new) (λ bytes. bytes ≡ [])) }
+    ensures cause { IfErr result IsOfDevice }
 {
     match shelf.empty(file) {
         Ok(()) => Ok(()),

@@ -13,7 +13,8 @@ const USUAL: &str = "lines";
 
 /// Whether each of these words says a format.
 pub(crate) fn are_formats(words: &[&str]) -> bool
-    ensures { IsTrue result → All (λ word. SaysFormat word.now) words.now }
+    ensures says { IsTrue result → All (λ word. SaysFormat word.now) words.now }
+    ensures none { result ≡ false → ¬ All (λ word. SaysFormat word.now) words.now }
 {
     for word in words {
         if !is_format(word) {
@@ -25,7 +26,8 @@ pub(crate) fn are_formats(words: &[&str]) -> bool
 
 /// Whether a word says a format.
 fn is_format(word: &str) -> bool
-    ensures { IsTrue result → SaysFormat word.now }
+    ensures says { IsTrue result → SaysFormat word.now }
+    ensures none { result ≡ false → ¬ SaysFormat word.now }
 {
     ItemFormat::of_word(format_in(word)).is_some()
 }

@@ -1,7 +1,8 @@
 //! Which input and which output each end of a network gets.
-ghost use Rattle.std.specs.Prelude.{◌≡◌, ◌↔◌, false, map, option_map, All, IfOk, IsTrue};
+ghost use Rattle.std.specs.Prelude.{◌≡◌, ◌↔◌, false, length, map, option_map, All, IfOk, IfErr, IsTrue};
 ghost use Rattle.kpn_command_base.specs.Sources.{is_end};
 ghost use Rattle.kpn_stream.specs.Ending.{end_numbers};
+ghost use Rattle.kpn_command_stream.specs.Causes.{IsUnnamed, IsUnplaced, IsUnplacedBy};
 ghost use Rattle.kpn_command_stream.specs.Places.{AllPlaced, ArePlaces, HaveOwnInputs, name_for, standard};
 
 use crate::formats::format_for;
@@ -48,9 +49,11 @@ pub(crate) fn places_of<'a>(
     options: &[FileOption<'a>],
     formats: &[&'a str],
 ) -> Result<Vec<Place<'a>>, StreamRefusal>
-    ensures { IfOk result (λ places. ArePlaces ends document.now
+    ensures placed { IfOk result (λ places. ArePlaces ends document.now
         (map (λ o. o.name.now) options.now) (map (λ o. o.file.now) options.now)
         (map (λ word. word.now) formats.now) places.items) }
+    ensures cause { IfErr result
+        (IsUnplaced ends document.now (map (λ o. o.name.now) options.now)) }
 {
     let named = ends_of(alloc, document, ends, options)?;
     places_by(alloc, document, ends, &named, formats)
@@ -64,9 +67,11 @@ fn places_by<'a>(
     named: &[NamedEnd<'a>],
     formats: &[&'a str],
 ) -> Result<Vec<Place<'a>>, StreamRefusal>
-    ensures { IfOk result (λ places. AllPlaced document.now named.now
+    ensures placed { IfOk result (λ places. AllPlaced document.now named.now
         (map (λ word. word.now) formats.now)
         (end_numbers (is_end ends) document.now.tables) places.items) }
+    ensures cause { IfErr result (IsUnplacedBy ends named.now
+        (length (end_numbers (is_end ends) document.now.tables))) }
 {
     let numbers = end_numbers_of(alloc, document.network())?;
     match ends {
@@ -84,8 +89,9 @@ fn place_each<'a>(
     formats: &[&'a str],
     channels: &[usize],
 ) -> Result<Vec<Place<'a>>, StreamRefusal>
-    ensures { IfOk result (λ places. AllPlaced document.now named.now
+    ensures placed { IfOk result (λ places. AllPlaced document.now named.now
         (map (λ word. word.now) formats.now) channels.now places.items) }
+    ensures cause { IfErr result (IsUnplacedBy ends named.now (length channels.now)) }
 {
     let mut places = Vec::new(alloc);
     for number in 0..channels.len() {
@@ -106,7 +112,9 @@ fn place_each<'a>(
 }
 
 /// The refusal of a stream one of whose ends has no option.
-fn unnamed(alloc: Global, ends: Ends, name: &str) -> StreamRefusal {
+fn unnamed(alloc: Global, ends: Ends, name: &str) -> StreamRefusal
+    ensures { IsUnnamed ends result }
+{
     match String::from_str(alloc, name) {
         Ok(name) => StreamRefusal::Unnamed(ends, name),
         Err(error) => StreamRefusal::from(error),

@@ -1,5 +1,6 @@
 //! The run of a stream between its inputs and outputs.
-ghost use Rattle.std.specs.Prelude.{◌≡◌, ◌≤◌, ◌<◌, ◌++◌, [], length, vec_capacity, IfOk, OnErr};
+ghost use Rattle.std.specs.Prelude.{◌≡◌, ◌≤◌, ◌<◌, ◌++◌, [], length, vec_capacity, IfOk, IfErr, OnErr};
+ghost use Rattle.kpn_command_stream.specs.Causes.{IsOfDevice};
 ghost use Rattle.kpn_command_stream.specs.Command.{HandedOn, Ran, RanAt, RanOver, flushes_of, known_of, limits_of, losses, names_of, sinks_of};
 
 use crate::devices::{empty_outputs, open_inputs, open_outputs};
@@ -62,6 +63,7 @@ pub(crate) fn run<'n, S: Shelf + Ports, I: Look, O: Write>(
         streamed.ending streamed.book lost.new.items) }
     ensures input { OnErr result (input.new ≡ input.old) }
     ensures output { OnErr result (out.new ≡ out.old) }
+    ensures cause { IfErr result IsOfDevice }
 {
     let mut inputs = open_inputs(alloc, shelf, places)?;
     let mut outputs = open_outputs(alloc, shelf, places, request)?;
@@ -100,6 +102,7 @@ fn run_between<'n, I: Look, F: Look + Drop, O: Write, G: Write + Drop>(
         streamed.ending streamed.book lost.new.items) }
     ensures input { OnErr result (input.new ≡ input.old) }
     ensures output { OnErr result (out.new ≡ out.old) }
+    ensures cause { IfErr result IsOfDevice }
 {
     let mut sources = Inputs {
         standard: input,

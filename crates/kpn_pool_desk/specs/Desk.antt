@@ -1,5 +1,5 @@
 -- What lies under the lock of a run, and what holds of it whenever the lock is free.
-use Rattle.std.specs.Prelude.{◌≡◌, ◌≤◌, ◌<◌, ◌+◌, ◌-◌, ℕ, Bool, true, false, [], min, max, count_by, Option, Some, None, ⊤}
+use Rattle.std.specs.Prelude.{◌≡◌, ◌≤◌, ◌<◌, ◌+◌, ◌-◌, ℕ, Bool, true, false, [], min, max, count_by, Option, Some, None}
 use Rattle.std.specs.Int.{div_ceil}
 use Rattle.kpn_net.specs.Tables.{Tables}
 use Rattle.kpn_run_history.specs.Ends.{IsSettled}
@@ -100,7 +100,7 @@ IsReason d most (Some Limit) = IsOngoing d × (most ≤ d.book.commits)
 IsReason d most (Some why) = ⊥
 IsReason d most None = IsOngoing d × (d.book.commits < most)
 
--- what a worker does next, where this many commits are allowed: if it ends, there is a reason
+-- what a worker does next, where this many commits are allowed: it ends exactly if there is a reason, and for that
 abbrev pub EndsFor : Desk → (most : ℕ) → Next → Type 0
 EndsFor d most (next.End why) = IsReason d most (Some why)
-EndsFor d most other = ⊤
+EndsFor d most other = IsReason d most None

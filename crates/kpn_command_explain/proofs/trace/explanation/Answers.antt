@@ -1,7 +1,6 @@
 -- The bytes spell the trace, or are refused.
-use Rattle.std.proofs.Common.{refl, subst}
 use Rattle.std.proofs.lemmas.Result.{IfOk-weaker, IfErr-weaker}
-use Rattle.kpn_command_explain.specs.TraceAnswers.{ExplainsFault, refused, spelled}
+use Rattle.kpn_command_explain.specs.TraceAnswers.{refused, spelled}
 use Rattle.kpn_command_explain.proofs.Conclusions.{no_explanation}
 use Rattle.kpn_command_explain.proofs.trace.explanation.Goals as goal
 
@@ -16,11 +15,8 @@ returns-in-Ok-clause-refused c =
     (no_explanation c.args.document.now.tables c.args.bytes.now c.in-Ok.trace c.in-Ok.ensures.ok)
     c.conclusion.ensures.refused
 
-pub returns-in_ok-refused_text-in-Err-clause-ok : goal.returns-in_ok-refused_text-in-Err-clause-ok
-returns-in_ok-refused_text-in-Err-clause-ok c = (
-  refused c.in-Err.fault c.in-Err.ensures.refused
-      (subst
-      (λ name. ExplainsFault name c.args.bytes.now c.in-Err.fault c.in_ok-refused_text-in-Err.field-0.items)
-      c.as_bytes.ensures.value c.in_ok-refused_text-in-Err.ensures) refl,
-  c.new.ensures.items,
-)
+pub returns-in-Err-clause-ok : goal.returns-in-Err-clause-ok
+returns-in-Err-clause-ok c =
+    IfOk-weaker c.wrong.result _ _
+    (λ made told. (refused c.in-Err.fault c.in-Err.ensures.refused told.0.0 told.0.1 told.0.2, told.1))
+    c.wrong.ensures.ok

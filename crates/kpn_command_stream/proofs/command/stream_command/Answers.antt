@@ -6,4 +6,4 @@ pub returns-in-Ok : goal.returns-in-Ok
 returns-in-Ok g c = streamed c.in-Ok.ensures.streamed
 
 pub returns-in-Err : goal.returns-in-Err
-returns-in-Err g c = refused c.in-Err.refusal c.in-Err.ensures.refused c.report.ensures
+returns-in-Err g c = refused c.in-Err.refusal c.in-Err.ensures.cause c.in-Err.ensures.refused c.report.ensures

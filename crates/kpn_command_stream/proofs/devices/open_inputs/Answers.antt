@@ -13,4 +13,4 @@ loop-i-preserved g c =
     subst (λ xs. AllZip Is (take (c.loop-i.i + 1) places) xs)
     (sym c.in_ok-push.ensures.items)
     (zipped_more Is places c.loop-i.inputs.items c.loop-i.i
-    c.index-place.result.now c.in_ok-input.input c.loop-i.invariant below c.index-place.ensures c.in_ok-input.ensures)
+    c.index-place.result.now c.in_ok-input.input c.loop-i.invariant below c.index-place.ensures c.in_ok-input.ensures.input)

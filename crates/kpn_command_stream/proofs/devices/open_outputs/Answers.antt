@@ -12,4 +12,4 @@ loop-i-preserved g c =
     subst (λ xs. AllZip (IsOutputFor g.S.Ports.goes_to c.args.request.now) (take (c.loop-i.i + 1) places) xs)
     (sym c.in_ok-push.ensures.items)
     (zipped_more (IsOutputFor g.S.Ports.goes_to c.args.request.now) places c.loop-i.outputs.items c.loop-i.i
-    c.index-place.result.now c.in_ok-output.output c.loop-i.invariant below c.index-place.ensures c.in_ok-output.ensures)
+    c.index-place.result.now c.in_ok-output.output c.loop-i.invariant below c.index-place.ensures c.in_ok-output.ensures.output)

@@ -1,15 +1,18 @@
 -- The places of all ends by what the options name.
-use Rattle.std.proofs.Common.{List, map, subst}
-use Rattle.std.proofs.lemmas.Result.{IfOk-weaker}
+use Rattle.std.proofs.Common.{List, length, map, subst}
+use Rattle.std.specs.Prelude.{IfErr}
+use Rattle.std.proofs.lemmas.Result.{IfOk-weaker, IfErr-weaker}
 use Rattle.kpn_command_base.specs.declared.sources.NamedEnd.{NamedEnd}
 use Rattle.kpn_command_base.specs.Sources.{is_end}
 use Rattle.kpn_stream.specs.Ending.{end_numbers}
+use Rattle.kpn_command_stream.specs.Causes.{IsUnplacedBy}
 use Rattle.kpn_command_stream.specs.Places.{AllPlaced}
 use Rattle.kpn_command_stream.proofs.Listing.{all_placed}
+use Rattle.kpn_command_stream.proofs.Refusing.{unplaced}
 use Rattle.kpn_command_stream.proofs.places.places_of.Goals as goal
 
-pub returns : goal.returns
-returns c =
+pub returns-clause-placed : goal.returns-clause-placed
+returns-clause-placed c =
     IfOk-weaker c.places_by.result _ _
     (λ places placed.
     all_placed c.args.ends c.args.document.now _ _ _ c.in_ok-named.named.items places.items c.in_ok-named.ensures.named
@@ -19,4 +22,14 @@ returns c =
     AllPlaced c.args.document.now named (map (λ word. word.now) c.args.formats.now)
     (end_numbers (is_end c.args.ends) c.args.document.now.tables) places.items)
     c.deref.ensures.value placed))
-    c.places_by.ensures
+    c.places_by.ensures.placed
+
+pub returns-clause-cause : goal.returns-clause-cause
+returns-clause-cause c =
+    IfErr-weaker c.places_by.result _ _
+    (unplaced c.args.ends c.args.document.now _ c.in_ok-named.named.items c.in_ok-named.ensures.named)
+    (subst
+    (λ (named : List NamedEnd).
+    IfErr c.places_by.result
+    (IsUnplacedBy c.args.ends named (length (end_numbers (is_end c.args.ends) c.args.document.now.tables))))
+    c.deref.ensures.value c.places_by.ensures.cause)

@@ -1,0 +1,26 @@
+-- The words by which a stream names its files.
+use Rattle.std.specs.Prelude.{ℕ, Bool, not, ◌&&◌, List}
+use Rattle.std.specs.List.{filter}
+use Rattle.std.specs.Str.{bytes_eq}
+use Rattle.kpn_command_base.specs.Outputs.{FileWords, AreAllApart}
+use Rattle.kpn_command_base.specs.Sources.{file_in}
+use Rattle.kpn_command_base.specs.StreamRequest.{StreamRequest}
+use Rattle.kpn_command_stream.specs.Formats.{has_equals}
+use Rattle.kpn_command_stream.specs.Places.{standard}
+
+-- a word behind `--source` names standard input
+abbrev pub names_standard : (word : List ℕ) → Bool
+names_standard word = has_equals word && bytes_eq (file_in word) standard
+
+-- the words that name files; no output is one of these
+abbrev pub words_of : StreamRequest → FileWords
+words_of request = record {
+  file = request.file;
+  sources = filter (λ word. not (names_standard word)) request.sources;
+  sinks = request.sinks;
+  trace = request.trace;
+}
+
+-- no output has the name of an input, and no two have one name
+abbrev pub AreOutputsApart : StreamRequest → Type 0
+AreOutputsApart request = AreAllApart (words_of request)
