@@ -9,6 +9,7 @@ and ends with 1 then.
 import argparse
 import importlib.machinery
 import importlib.util
+import inspect
 import pathlib
 import re
 import sys
@@ -29,8 +30,11 @@ def load_rt():
 
 
 def crates_of(rt):
-    """The crates, once `rt` has taken them in. It puts aside what earlier runs left in their out/, and that comes back.
+    """The crates, once `rt` has taken them in. Some kits put aside what earlier runs left in their out/, and that comes
+    back.
     """
+    if len(inspect.signature(rt.crates_of).parameters) == 1:
+        return rt.crates_of(str(TOP))
     with tempfile.TemporaryDirectory(dir=TOP / '.git') as aside:
         try:
             return rt.crates_of(str(TOP), aside)

@@ -34,7 +34,8 @@ def words_of_run(crate):
     if not crate.is_program:
         return ['rt', 'try', '--test']
     data, words = crate.folder / 'data', crate.folder / 'args'
-    files = [file for file in sorted(data.rglob('*')) if file.is_file()]
+    # `--data NAME=FILE` can't give a file with `=` in its name. The rows that read such files make them first.
+    files = [file for file in sorted(data.rglob('*')) if file.is_file() and '=' not in file.name]
     flags = [it for file in files for it in ('--data', f'{file.relative_to(data)}={file}')]
     return ['rt', 'try', *flags, '--', *(words.read_text().splitlines() if words.exists() else [])]
 

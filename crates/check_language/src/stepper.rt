@@ -25,6 +25,46 @@ const NESTED: Worked<'static> = (
 
 const EMPTY: Worked<'static> = (0, 0, 0, &[&[]]);
 
+// `if 0 { write o 1; } else { write o 2; }`
+const ELSE: Worked<'static> = (
+    0,
+    1,
+    0,
+    &[
+        &[Line::If(Value::Num(0), 1, 2)],
+        &[Line::Write(0, Value::Num(1))],
+        &[Line::Write(0, Value::Num(2))],
+    ],
+);
+
+// `while (k < 2) { k = (k + 1); } write o k;`
+const COUNTING: Worked<'static> = (
+    0,
+    1,
+    1,
+    &[
+        &[
+            Line::While(Value::Less(0, 2), 1),
+            Line::Write(0, Value::Var(0)),
+        ],
+        &[Line::Assign(0, Value::Plus(0, 1))],
+    ],
+);
+
+// It copies by the last of five variables.
+const WIDE: Worked<'static> = (
+    1,
+    1,
+    5,
+    &[
+        &[Line::While(Value::Num(1), 1)],
+        &[Line::Read(0, 4), Line::Write(0, Value::Var(4))],
+    ],
+);
+
+// `write o (1 / 0);`
+const FAULTY_AT_ONCE: Worked<'static> = (0, 1, 0, &[&[Line::Write(0, Value::Quotient(1, 0))]]);
+
 // `k = 1;`, and then `k = (1 / 0);` or `write o (1 / 0);`
 const FAULTY: Worked<'static> = (
     0,
@@ -81,7 +121,7 @@ const CHOSEN: &[Said] = &[
 
 const SHIFT: AloneStop = AloneStop::Faulted(Fault::Shift);
 
-const ROWS: [Row<'static>; 11] = [
+const ROWS: [Row<'static>; 14] = [
     (COPY, &[5], 0, &[], AloneStop::Paused),
     (COPY, &[5], 1, COPIED, AloneStop::Paused),
     (COPY, &[5], 2, COPIED, AloneStop::Paused),
@@ -89,6 +129,9 @@ const ROWS: [Row<'static>; 11] = [
     (EMPTY, &[], 0, &[], AloneStop::Done),
     (NESTED, &[], 4, &[], AloneStop::Paused),
     (NESTED, &[], 5, &[Said::Put(0, 7)], AloneStop::Done),
+    (ELSE, &[], 1, &[Said::Put(0, 2)], AloneStop::Paused),
+    (COUNTING, &[], 6, &[], AloneStop::Paused),
+    (COUNTING, &[], 7, &[Said::Put(0, 2)], AloneStop::Done),
     (FAULTY, &[], 1, &[], AloneStop::Paused),
     (FAULTY, &[], 2, &[], FAULT),
     (FAULTY_WRITE, &[], 1, &[], FAULT),
@@ -148,8 +191,35 @@ fn came_to(advance: &Advance<'_>, steps: u32, stop: Stop) -> bool {
     advance.steps() == steps && advance.stop() == stop
 }
 
+// Where a program first stops within so many steps.
+fn first_stop(
+    rt: &impl Abort,
+    alloc: Global,
+    worked: Worked<'_>,
+    quota: u32,
+) -> Result<Stop, Fail> {
+    let program = program_of(alloc, worked)?;
+    assert!(rt; program.pars() == 0);
+    let stop = advance(&program, Frame::start(&program, &[]), quota).stop();
+    drop(program);
+    Ok(stop)
+}
+
+// The last two steps of a quota go by the statements, the others by codes.
+fn refutes_faulting_write_puts_zero(rt: &impl Abort, alloc: Global) -> Result<(), Fail> {
+    for quota in [2, 9] {
+        let stop = first_stop(rt, alloc, FAULTY_AT_ONCE, quota)?;
+        assert!(rt;
+            stop == Stop::Faulted(Fault::ZeroDivisor),
+            "within {quota} steps"
+        );
+    }
+    Ok(())
+}
+
 #[test]
 fn advances_from_stop_to_stop(rt: HostRuntime) -> Result<(), Fail> {
+    refutes_faulting_write_puts_zero(&rt, rt.alloc())?;
     let program = program_of(rt.alloc(), COPY)?;
     assert!(rt; program.pars() == 0);
     let start = Frame::start(&program, &[]);
@@ -166,7 +236,7 @@ fn advances_from_stop_to_stop(rt: HostRuntime) -> Result<(), Fail> {
 
 #[test]
 fn frames_differ_by_each_field(rt: HostRuntime) -> Result<(), Fail> {
-    let program = program_of(rt.alloc(), COPY)?;
+    let program = program_of(rt.alloc(), WIDE)?;
     assert!(rt; program.pars() == 0);
     let start = Frame::start(&program, &[]);
     let reading = advance(&program, start.copy(), 9);
@@ -178,11 +248,12 @@ fn frames_differ_by_each_field(rt: HostRuntime) -> Result<(), Fail> {
         "by the innermost place"
     );
     assert!(rt; five != given(&rt, &reading, 6), "by the variables");
+    assert!(rt; five == five.copy());
     Ok(())
 }
 
 #[test]
-fn goes_on_in_place(rt: HostRuntime) -> Result<(), Fail> {
+fn refutes_always_pauses_in_place(rt: HostRuntime) -> Result<(), Fail> {
     let program = program_of(rt.alloc(), COPY)?;
     assert!(rt; program.pars() == 0);
     let start = Frame::start(&program, &[]);

@@ -10,6 +10,8 @@ pub enum Value {
     Var(usize),
     /// A variable plus a number.
     Plus(usize, i64),
+    /// 1 if a variable is less than a number, else 0.
+    Less(usize, i64),
     /// A number by a number.
     Quotient(i64, i64),
     /// A number by a variable.
@@ -41,6 +43,7 @@ fn expr_of(alloc: Global, value: Value) -> Result<Expr, AllocError> {
         Value::Num(number) => Ok(Expr::Num(number)),
         Value::Var(variable) => Ok(Expr::Var(variable)),
         Value::Plus(x, number) => both(alloc, Op::Add, Expr::Var(x), Expr::Num(number)),
+        Value::Less(x, number) => both(alloc, Op::Lt, Expr::Var(x), Expr::Num(number)),
         Value::Quotient(left, right) => both(alloc, Op::Div, Expr::Num(left), Expr::Num(right)),
         Value::QuotientBy(left, x) => both(alloc, Op::Div, Expr::Num(left), Expr::Var(x)),
         Value::QuotientOr(left, x, number) => {
