@@ -1,5 +1,5 @@
 //! The calls of a book. Each function returns the call's answer as text.
-use crate::words::Call;
+use crate::books::words::Call;
 use anyhow::{Result, bail, ensure};
 use kpn_lang::Program;
 use kpn_net::Network;

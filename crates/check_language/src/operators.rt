@@ -1,12 +1,7 @@
-//! The operators of the process language on a table of operands. Each line of standard input is `LEFT OP RIGHT`,
-//! `- OPERAND`, `! OPERAND`, `~ OPERAND` or `OPERAND ? OPERAND : OPERAND`, and the answer is the value or the fault.
-//! The stored table is at the ends of the range, and for shifts at those of the counts.
-//! Another program (tools/operator_table.py) computed what must come, with whole numbers that have no bound.
-#![tactic(auto)]
-
+//! The operators of the process language on operands.
 ghost use Rattle.std.specs.Prelude.{IfOk};
 ghost use Rattle.kpn_lang.specs.Syntax.{term_of};
-ghost use Rattle.check_operators.specs.Number.{IsNumber};
+ghost use Rattle.check_language.specs.Number.{IsNumber};
 
 use anyhow::{Result, bail};
 use kpn_lang::{Expr, Fault, Op, eval};
@@ -47,7 +42,7 @@ fn operand(alloc: Global, word: &str) -> Result<Box<Expr>>
 }
 
 /// The value of the expression on a line.
-fn answer(alloc: Global, line: &str) -> Result<std::result::Result<i64, Fault>> {
+pub(crate) fn answer(alloc: Global, line: &str) -> Result<std::result::Result<i64, Fault>> {
     let words: Vec<&str> = line.split_whitespace().collect(alloc)?;
     match words.as_slice() {
         ["-", word] => Ok(eval(&Expr::Neg(operand(alloc, word)?), &[])),
@@ -72,17 +67,4 @@ fn answer(alloc: Global, line: &str) -> Result<std::result::Result<i64, Fault>> 
         )),
         _ => bail!("a line is an operator with its operands"),
     }
-}
-
-fn main(rt: HostRuntime) -> Result<()> {
-    for line in rt.lines(rt.alloc()) {
-        match answer(rt.alloc(), line?.as_str())? {
-            Ok(value) => println!(rt; "{value}")?,
-            Err(Fault::Overflow) => println!(rt; "overflow")?,
-            Err(Fault::ZeroDivisor) => println!(rt; "zero-divisor")?,
-            Err(Fault::Index) => println!(rt; "index")?,
-            Err(Fault::Shift) => println!(rt; "shift")?,
-        }
-    }
-    Ok(())
 }

@@ -11,9 +11,9 @@ use Rattle.kpn_parts.proofs.Below.{below_least}
 use Rattle.kpn_net.proofs.Monotone.{IsPrefixOnSources-refl}
 use Rattle.kpn_run_history.specs.Channels.{fed}
 use Rattle.check_histories.specs.Networks.{copy_network}
-use Rattle.check_parts.specs.Cuts.{ring_network, ring_cut}
-use Rattle.check_parts.specs.Orders.{ring_order}
-use Rattle.check_parts.proofs.TwoParts.{ring_is, ring_cut_is}
+use Rattle.check_histories.specs.Cuts.{ring_network, ring_cut}
+use Rattle.check_histories.specs.Orders.{ring_order}
+use Rattle.check_histories.proofs.TwoParts.{ring_is, ring_cut_is}
 
 -- a copy says nothing where nothing comes in
 copies_nothing : (n : ℕ) → (alone (program_at copy_network 0) [] n ([] ∷ [])).talk ≡ []

@@ -7,8 +7,8 @@ ghost use Rattle.kpn_run_history.specs.Channels.{written_on};
 ghost use Rattle.kpn_run_history.specs.Legal.{Legal};
 ghost use Rattle.kpn_parts.specs.Cut.{part_at, IsCut};
 ghost use Rattle.kpn_parts.specs.Joined.{events_of, whole_history, IsJoined, IsDelivered, AreQuiet};
-ghost use Rattle.check_parts.specs.Cuts.{chain_network, chain_cut, ring_network, ring_cut};
-ghost use Rattle.check_parts.specs.Orders.{chain_order, chain_run, ring_order, twice_order, ComesToRest};
+ghost use Rattle.check_histories.specs.Cuts.{chain_network, chain_cut, ring_network, ring_cut};
+ghost use Rattle.check_histories.specs.Orders.{chain_order, chain_run, ring_order, twice_order, ComesToRest};
 
 /// A chain of two copies, each in a part of its own, comes to rest with the item on its sink. The events of the whole
 /// are those of a run in one piece.

@@ -6,7 +6,7 @@ use Rattle.kpn_net.specs.Faults.{IsNetwork}
 use Rattle.kpn_parts.specs.Cut.{Part, whole_process, part_at, IsSameProcess, IsPart, HasHome, IsCut}
 use Rattle.check_histories.specs.Networks.{copy_network}
 use Rattle.check_histories.proofs.NetworkTests.{network-true}
-use Rattle.check_parts.specs.Cuts.{copy_part, chain_network, chain_cut, ring_network, ring_cut}
+use Rattle.check_histories.specs.Cuts.{copy_part, chain_network, chain_cut, ring_network, ring_cut}
 
 copy_is : IsNetwork copy_network
 unfolding copy_network

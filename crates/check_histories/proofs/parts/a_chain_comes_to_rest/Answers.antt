@@ -1,10 +1,10 @@
 use Rattle.std.proofs.Common.{refl}
 use Rattle.check_histories.specs.Networks.{copy_network}
-use Rattle.check_parts.specs.Cuts.{chain_network, chain_cut}
-use Rattle.check_parts.specs.Orders.{chain_order, chain_run}
-use Rattle.check_parts.proofs.Joining.{joins-true, are_quiet-true, are_delivered-true}
-use Rattle.check_parts.proofs.TwoParts.{chain_is, chain_cut_is}
-use Rattle.check_parts.proofs.worked.a_chain_comes_to_rest.Goals as goal
+use Rattle.check_histories.specs.Cuts.{chain_network, chain_cut}
+use Rattle.check_histories.specs.Orders.{chain_order, chain_run}
+use Rattle.check_histories.proofs.Joining.{joins-true, are_quiet-true, are_delivered-true}
+use Rattle.check_histories.proofs.TwoParts.{chain_is, chain_cut_is}
+use Rattle.check_histories.proofs.parts.a_chain_comes_to_rest.Goals as goal
 
 pub returns-clause-run : goal.returns-clause-run
 unfolding chain_network chain_cut chain_order copy_network

@@ -1,11 +1,11 @@
 use Rattle.std.proofs.Common.{refl}
 use Rattle.check_histories.specs.Networks.{copy_network}
-use Rattle.check_parts.specs.Cuts.{ring_network, ring_cut}
-use Rattle.check_parts.specs.Orders.{ring_order}
-use Rattle.check_parts.proofs.Joining.{are_legal-true, are_quiet-true, are_delivered-true}
-use Rattle.check_parts.proofs.TwoParts.{ring_is, ring_cut_is}
-use Rattle.check_parts.proofs.RingLeast.{nobody_made, not_joined}
-use Rattle.check_parts.proofs.worked.parts_may_vouch_for_each_other.Goals as goal
+use Rattle.check_histories.specs.Cuts.{ring_network, ring_cut}
+use Rattle.check_histories.specs.Orders.{ring_order}
+use Rattle.check_histories.proofs.Joining.{are_legal-true, are_quiet-true, are_delivered-true}
+use Rattle.check_histories.proofs.TwoParts.{ring_is, ring_cut_is}
+use Rattle.check_histories.proofs.RingLeast.{nobody_made, not_joined}
+use Rattle.check_histories.proofs.parts.parts_may_vouch_for_each_other.Goals as goal
 
 pub returns-clause-network : goal.returns-clause-network
 returns-clause-network c = ring_is

@@ -1,5 +1,5 @@
 use Rattle.kpn_run_configuration.specs.Configuration.{IsConfiguration}
-use Rattle.check_replays.proofs.replay_lines.Given as goal
+use Rattle.check_books.proofs.replays.replay_lines.Given as goal
 
 abbrev pub invariant-loop-line : goal.invariant-loop-line
 invariant-loop-line g l =

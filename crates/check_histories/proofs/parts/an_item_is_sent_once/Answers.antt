@@ -1,10 +1,10 @@
 use Rattle.std.proofs.Common.{refl}
 use Rattle.kpn_lang.proofs.Prefixes.{IsPrefix-refl}
 use Rattle.check_histories.specs.Networks.{copy_network}
-use Rattle.check_parts.specs.Cuts.{chain_network, chain_cut}
-use Rattle.check_parts.specs.Orders.{twice_order}
-use Rattle.check_parts.proofs.Joining.{are_legal-true}
-use Rattle.check_parts.proofs.worked.an_item_is_sent_once.Goals as goal
+use Rattle.check_histories.specs.Cuts.{chain_network, chain_cut}
+use Rattle.check_histories.specs.Orders.{twice_order}
+use Rattle.check_histories.proofs.Joining.{are_legal-true}
+use Rattle.check_histories.proofs.parts.an_item_is_sent_once.Goals as goal
 
 pub returns-clause-legal : goal.returns-clause-legal
 unfolding chain_network chain_cut twice_order copy_network
