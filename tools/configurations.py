@@ -1,14 +1,14 @@
 #!/usr/bin/env python3
-"""Writes what crates/check_replays must write for its standard input. For each history there, that is what every
-channel holds and every process does at the start and after each event, and which processes the event woke. Another
-program than the proved one (histories.py) computes it, only from the history.
+"""Writes what crates/check_books must write for the histories in its standard input, which stand behind the calls of
+books. For each history that is what every channel holds and every process does at the start and after each event, and
+which processes the event woke. Another program than the proved one (histories.py) computes it, only from the history.
 """
 import argparse
 import pathlib
 
 import histories
 
-FOLDER = pathlib.Path(__file__).resolve().parent.parent / 'crates/check_replays'
+FOLDER = pathlib.Path(__file__).resolve().parent.parent / 'crates/check_books'
 CAUSES = {'done': 'Done', 'overflow': 'Overflow', 'zero-divisor': 'ZeroDivisor', 'index': 'Index', 'shift': 'Shift'}
 
 
@@ -71,8 +71,10 @@ def replayed(section):
 
 def main():
     argparse.ArgumentParser(description=__doc__, formatter_class=argparse.RawDescriptionHelpFormatter).parse_args()
-    sections = (FOLDER / 'stdin').read_text().split('\n.\n')[:-1]
-    (FOLDER / 'stdout').write_text(''.join(replayed(f'{section}\n') for section in sections))
+    sections = [f'{it}\n' for it in (FOLDER / 'stdin').read_text().split('\n.\n')[:-1] if '\nkpn-trace ' in it]
+    first = sections[0].partition('kpn-trace ')[0]
+    calls = (FOLDER / 'stdout').read_text().partition(first)[0]
+    (FOLDER / 'stdout').write_text(calls + ''.join(map(replayed, sections)))
 
 
 if __name__ == '__main__':

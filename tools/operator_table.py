@@ -1,5 +1,5 @@
 #!/usr/bin/env python3
-"""Writes the stored table of crates/check_operators: each operator on pairs at the ends of the range, with the right
+"""Writes the stored table of crates/check_language: each operator on pairs at the ends of the range, with the right
 answer, and shifts by counts at the ends of theirs. It computes with whole numbers that have no bound.
 
 It also writes the lines of crates/check_examples below the heading `# Operators in processes`: the same operators in
@@ -132,8 +132,8 @@ def write_between(file, lines):
 def main():
     argparse.ArgumentParser(description=__doc__, formatter_class=argparse.RawDescriptionHelpFormatter).parse_args()
     table = list(rows())
-    (CRATES / 'check_operators/stdin').write_text(''.join(f'{line}\n' for line, _ in table))
-    (CRATES / 'check_operators/stdout').write_text(''.join(f'{wanted}\n' for _, wanted in table))
+    (CRATES / 'check_language/stdin').write_text(''.join(f'{line}\n' for line, _ in table))
+    (CRATES / 'check_language/stdout').write_text(''.join(f'{wanted}\n' for _, wanted in table))
     networks = [network_of(names) for names in ('ab', 'a', 'b')]
     write_between(CRATES / 'check_examples/stdin', sum((given for given, _ in networks), []))
     write_between(CRATES / 'check_examples/stdout', sum((wanted for _, wanted in networks), []))

@@ -30,9 +30,7 @@ def copy_of(crate, wrong_body, top):
 
 
 def words_of_run(crate):
-    """The words that run a program on its data, or the tests of a library."""
-    if not crate.is_program:
-        return ['rt', 'try', '--test']
+    """The words that run a program on its data."""
     data, words = crate.folder / 'data', crate.folder / 'args'
     # `--data NAME=FILE` can't give a file with `=` in its name. The rows that read such files make them first.
     files = [file for file in sorted(data.rglob('*')) if file.is_file() and '=' not in file.name]
@@ -40,16 +38,28 @@ def words_of_run(crate):
     return ['rt', 'try', *flags, '--', *(words.read_text().splitlines() if words.exists() else [])]
 
 
+def has_tests(crate):
+    return any('#[test]' in file.read_text() for file in (crate.folder / 'src').rglob('*.rt'))
+
+
 def run_on(crate):
-    """Runs a program or the tests of a library, unproved. Returns what comes of it."""
-    given = crate.folder / 'stdin'
-    given = given.read_bytes() if crate.is_program and given.exists() else b''
+    """Runs a program and the tests of a crate, unproved, as far as it has them. Returns what comes of it."""
     # A wrong body may keep a run from its end: `rt try` ends it after a minute.
-    done = subprocess.run(words_of_run(crate), cwd=crate.folder, capture_output=True, input=given)
-    if b'run=none' in done.stderr:
+    def run(words, given=b''):
+        done = subprocess.run(words, cwd=crate.folder, capture_output=True, input=given)
+        known.append(b'run=none' not in done.stderr)
+        return done
+
+    known, right = [], []
+    if crate.is_program:
+        given = crate.folder / 'stdin'
+        done = run(words_of_run(crate), given.read_bytes() if given.exists() else b'')
+        right.append(done.stdout == (crate.folder / 'stdout').read_bytes())
+    if has_tests(crate):
+        right.append(run(['rt', 'try', '--test']).returncode == 0)
+    if not all(known):
         return 'NOT TRIED: it does not compile'
-    is_right = done.stdout == (crate.folder / 'stdout').read_bytes() if crate.is_program else done.returncode == 0
-    return 'NOT REFUSED' if is_right else 'refused'
+    return 'NOT REFUSED' if all(right) else 'refused'
 
 
 def verdict_on(crate, wrong_body):

@@ -1,7 +1,9 @@
-//! Books, by public calls. Standard input has sections that end with a line `.`: a description of a network, a line
-//! `calls`, and then calls, one on a line. The program makes each call on a heap with ever more bytes left, from none
-//! on, until memory suffices. So each request for memory fails in turn, and all that the book holds has to stay as it
-//! was. Then the program writes the answer, whether the call failed at first, and the events that it appended.
+//! Books and configurations, by public calls. Standard input has sections that end with a line `.`: a description of a
+//! network, and then a line `calls` with calls below it, one on a line, or a trace.
+//!
+//! The program makes each call of a book on a heap with ever more bytes left, from none on, until memory suffices. So
+//! each request for memory fails in turn, and all that the book holds has to stay as it was. Then the program writes the
+//! answer, whether the call failed at first, and the events that it appended.
 //!
 //! - `claim` claims the first process of the queue, and steps it to its next stop. These steps are numbered from 0.
 //! - `onward K` makes further steps from where the steps K have stopped, and `twin P K` steps of process P of an equal
@@ -12,172 +14,70 @@
 //! - `begins C ITEM` asks whether the journal of a channel begins with an item.
 //! - `view` makes a snapshot on that heap.
 //!
-//! The expected output was worked out by hand.
+//! Of a trace it steps each process to its stop before its event. It repeats the event on a configuration, and writes
+//! which processes it woke and all that the configuration then shows.
+//!
+//! What calls of books must give was worked out by hand. Another program (tools/configurations.py) computed what comes
+//! of the traces, only from the histories.
 #![tactic(auto)]
 
-mod calls;
-mod heap;
-mod telling;
-mod words;
+mod books;
+mod replays;
 
-use crate::calls::answer;
-use crate::heap::{PIECE, SIZE, leave};
-use crate::telling::write_made;
-use crate::words::{Call, call_of};
-use anyhow::{Result, bail, ensure};
+use crate::books::make_beside_twin;
+use crate::replays::replay;
+use anyhow::{Result, bail};
 use kpn_net::Network;
-use kpn_run_state::Book;
-use kpn_step::Advance;
 use kpn_text::read_network;
-use linked_list_allocator::LocalHeap;
 use std::alloc::Global;
 use std::io::Write;
 
-/// Makes a call while so many bytes of the heap are left.
-fn answer_on<'n, 'h>(
-    alloc: Global,
-    heap: &'h LocalHeap,
-    twin: &'n Network,
-    book: &mut Book<'n, &'h LocalHeap>,
-    steps: &mut Vec<Advance<'n>>,
-    call: Call,
-    bytes: usize,
-) -> Result<String> {
-    let taken = leave(alloc, heap, bytes)?;
-    let answered = answer(alloc, heap, twin, book, steps, call);
-    drop(taken);
-    answered
+/// The lines of a section below its description.
+#[derive(Clone, Copy)]
+enum Below<'a> {
+    /// Calls of a book.
+    Calls(&'a str),
+    /// A trace without its first line.
+    Events(&'a str),
 }
 
-/// A refused call has to leave the book as this text shows it.
-fn compare(alloc: Global, book: &Book<'_, &LocalHeap>, before: &str) -> Result<()> {
-    let after = format!(in alloc; "{book:?}")?;
-    ensure!(
-        after.as_str() == before,
-        "a refused call has changed the book"
-    );
-    Ok(())
-}
-
-/// Makes a call on ever more memory until that suffices: its answer, and whether it failed at first. This text shows the
-/// book as it is.
-fn refused_then_made<'n, 'h>(
-    alloc: Global,
-    heap: &'h LocalHeap,
-    twin: &'n Network,
-    book: &mut Book<'n, &'h LocalHeap>,
-    steps: &mut Vec<Advance<'n>>,
-    call: Call,
-    before: &str,
-) -> Result<(String, bool)> {
-    for pieces in 0..SIZE / PIECE {
-        let text = answer_on(alloc, heap, twin, book, steps, call, pieces * PIECE)?;
-        if text.as_str() != "Err(NoMemory)" {
-            return Ok((text, pieces > 0));
-        }
-        compare(alloc, book, before)?;
+/// The description of a section, and what stands below it.
+fn parts_of(section: &str) -> Result<(&str, Below<'_>)> {
+    if let Some((description, events)) = section.split_once("\nkpn-trace 1\n") {
+        return Ok((description, Below::Events(events)));
     }
-    bail!("a call is refused with all memory")
-}
-
-/// Makes the call of a line, and writes what came of it.
-fn make_call<'n, 'h, O: Write>(
-    alloc: Global,
-    heap: &'h LocalHeap,
-    twin: &'n Network,
-    book: &mut Book<'n, &'h LocalHeap>,
-    steps: &mut Vec<Advance<'n>>,
-    line: &str,
-    out: &mut O,
-) -> Result<()> {
-    let call = call_of(alloc, line)?;
-    let events = book.history().len();
-    let before = format!(in alloc; "{book:?}")?;
-    let (text, is_refused) = refused_then_made(
-        alloc,
-        heap,
-        twin,
-        book,
-        steps,
-        call,
-        before.as_str(),
-    )?;
-    let first = if is_refused {
-        "Err(NoMemory), then "
-    } else {
-        ""
-    };
-    writeln!(out, "{line}\n  {first}{text}")?;
-    write_made(book, events, out)
-}
-
-/// Makes the calls of these lines on a book. Those that make steps add them to these.
-fn make_each<'n, 'h, O: Write>(
-    alloc: Global,
-    heap: &'h LocalHeap,
-    twin: &'n Network,
-    book: &mut Book<'n, &'h LocalHeap>,
-    steps: &mut Vec<Advance<'n>>,
-    lines: &str,
-    out: &mut O,
-) -> Result<()> {
-    for line in lines.lines() {
-        make_call(alloc, heap, twin, book, steps, line, out)?;
+    match section.split_once("\ncalls\n") {
+        Some((description, calls)) => Ok((description, Below::Calls(calls))),
+        None => bail!("a section is a description and calls or a trace"),
     }
-    Ok(())
 }
 
-/// Makes the calls of these lines on a new book of the network, and writes what came of each. The calls `twin` use
-/// `twin`, which was read from the same text.
-fn make_calls<'n, O: Write>(
-    alloc: Global,
-    heap: &LocalHeap,
-    network: &'n Network,
-    twin: &'n Network,
-    lines: &str,
-    out: &mut O,
-) -> Result<()> {
-    let mut book = Book::new(heap, network)?;
-    let mut steps = Vec::new(alloc);
-    let made = make_each(alloc, heap, twin, &mut book, &mut steps, lines, out);
-    drop(steps);
-    let events = book.into_history().len();
-    made?;
-    writeln!(out, "{events} events in all")?;
-    Ok(())
-}
-
-/// Makes the calls of these lines on a network, with a twin of it that is read from the same text.
-fn make_beside_twin<O: Write>(
+fn answer_below<O: Write>(
     alloc: Global,
     network: &Network,
-    text: &[u8],
-    lines: &str,
+    description: &str,
+    below: Below<'_>,
     out: &mut O,
 ) -> Result<()> {
-    let heap = LocalHeap::new(alloc, SIZE)?;
-    match read_network(alloc, text) {
-        Ok(twin) => make_calls(alloc, &heap, network, twin.network(), lines, out),
+    match below {
+        Below::Calls(calls) => make_beside_twin(alloc, network, description.as_bytes(), calls, out),
+        Below::Events(events) => replay(alloc, network, events, out),
+    }
+}
+
+fn answer_section<O: Write>(alloc: Global, section: &str, out: &mut O) -> Result<()> {
+    let (description, below) = parts_of(section)?;
+    writeln!(out, "{description}")?;
+    match read_network(alloc, description.as_bytes()) {
+        Ok(document) => answer_below(alloc, document.network(), description, below, out),
         Err(_) => bail!("a description is none"),
     }
 }
 
-fn make_section<O: Write>(alloc: Global, section: &str, out: &mut O) -> Result<()> {
-    let Some((description, lines)) = section.split_once("calls\n") else {
-        bail!("a section is a description and calls");
-    };
-    write!(out, "{description}")?;
-    let text = description.as_bytes();
-    match read_network(alloc, text) {
-        Ok(document) => make_beside_twin(alloc, document.network(), text, lines, out),
-        Err(_) => bail!("a description is none"),
-    }
-}
-
-/// Adds a line to a section, or makes the calls of one that is whole.
+/// Adds a line to a section, or answers one that is whole.
 fn add_line<O: Write>(alloc: Global, section: &mut String, line: &str, out: &mut O) -> Result<()> {
     if line == "." {
-        make_section(alloc, section.as_str(), out)?;
+        answer_section(alloc, section.as_str(), out)?;
         section.clear();
         return Ok(());
     }

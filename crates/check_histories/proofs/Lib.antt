@@ -4,3 +4,6 @@ pub mod GrowthTests
 pub mod Passing
 pub mod Claiming
 pub mod CompleteTests
+pub mod Joining
+pub mod TwoParts
+pub mod RingLeast

@@ -1,5 +1,6 @@
-//! Tests of networks, channels, cycles of waiting processes, histories, configurations and audits, only by public
-//! calls: what no clause says, memory that runs out, and worked rows whose values come from outside.
+//! Tests of networks, channels, cycles of waiting processes, histories, joined histories of parts, configurations and
+//! audits, only by public calls: what no clause says, memory that runs out, and worked rows whose values come from
+//! outside.
 #![tactic(auto)]
 
 #[cfg(test)]
@@ -13,9 +14,12 @@ mod feeding;
 #[cfg(test)]
 mod histories;
 #[cfg(test)]
+mod joins;
+#[cfg(test)]
 mod networks;
 #[cfg(test)]
 mod refusals;
+#[cfg(test)]
 #[cfg(test)]
 mod regions;
 #[cfg(test)]

@@ -8,6 +8,7 @@ mod by_workers;
 mod ending;
 mod fault;
 mod fed;
+mod hand;
 mod outside_calls;
 mod pace;
 mod serving;

@@ -56,6 +56,11 @@ impl Pace {
         self.turns = 0;
     }
 
+    /// The next turn is measured.
+    pub(crate) fn measure(&mut self) {
+        self.turns = 0;
+    }
+
     /// The worker waits, so this hold is not measured.
     pub(crate) fn wait(&mut self) {
         self.held = None;

@@ -4,9 +4,10 @@ ghost use Rattle.std.specs.Prelude.{◌≡◌, ◌+◌, ◌<◌, ◌≤◌, fals
 ghost use Rattle.kpn_pool_desk.specs.Gate.{LetsAll};
 ghost use Rattle.kpn_pool_desk.specs.Seat.{ended};
 
-use super::{Shared, TRIES};
+use super::{Shared, TRIES, TRIES_OUTSIDE, WORKER_MOMENT};
+use crate::hand::Hand;
 use crate::pace::Pace;
-use kpn_pool_desk::{Batch, Desk, Gate, Job, Next, Stay, Why, WorkerSeat};
+use kpn_pool_desk::{Desk, Gate, Job, Next, Stay, Why, WorkerSeat};
 use std::alloc::{Allocator, Global};
 use std::sync::{MutexGuard, Wait};
 use std::time::{Clock, Duration, Instant};
@@ -25,47 +26,82 @@ impl<'n, J: Job, A: Allocator> Shared<'n, J, A> {
         seat: &mut WorkerSeat<J>,
         quota: u32,
         pace: &mut Pace,
-        batch: &mut Batch<'n, J>,
+        hand: &mut Hand<'n, J, A>,
     ) -> bool
     where
         A: Copy,
+        requires { IsSome hand.old.region → LetsAll (G.may_answer gate.now) }
         ensures number { seat.new.number ≡ seat.old.number }
         ensures commits { seat.old.commits ≤ seat.new.commits }
         ensures ended { (result ≡ false) → IsSome seat.new.why }
-        // turns that the gate was not asked for are committed only if it lets everything through
-        ensures asked { seat.old.commits + batch.old.passed < seat.new.commits
+        // what the gate was not asked for is claimed and committed only if it lets everything through
+        ensures region { IsSome hand.new.region → LetsAll (G.may_answer gate.now) }
+        ensures asked { seat.old.commits + hand.old.batch.passed < seat.new.commits
             → LetsAll (G.may_answer gate.now) }
     {
         let away = pace.time(rt);
-        let turns = batch.len();
-        let mut desk = self.lock_after(rt, TRIES);
+        let turns = hand.turns();
+        // others may have the lock for as long as a region takes to be committed
+        let tries = if hand.region.is_held() {
+            TRIES_OUTSIDE
+        } else {
+            TRIES
+        };
+        let mut desk = self.lock_after(rt, tries);
         pace.hold(rt);
-        let before = seat.commits();
-        let mut next = batch.come_back(
-            &mut desk,
-            gate,
-            seat,
-            pace.commits,
-            away,
-            quota,
-            self.max_commits,
-        );
-        if seat.commits() - before > turns as u64 {
-            pace.make_row();
-            next = self.go_on_in_rows(rt, gate, seat, quota, &mut desk, next);
-        }
+        let next = self.come_back(rt, gate, seat, quota, pace, hand, &mut desk, away);
         let Some(mut desk) = self.wait_for_work(rt, seat, pace, desk, next) else {
             return false;
         };
-        if !batch.claim(&mut desk) {
+        if !hand.claim(&mut desk, gate) {
             self.end(desk, seat, Why::Limit);
             return false;
+        }
+        if hand.region.is_held() {
+            pace.measure();
         }
         let held = pace.held(rt);
         let (notices, commits) = desk.join(turns, held);
         self.let_go(desk, notices);
         pace.begin(rt, commits);
         true
+    }
+
+    /// Commits what a worker has in hand, and makes turns in a row after that. Returns what it does next.
+    fn come_back<G: Gate, R: Wait + Clock>(
+        &self,
+        rt: &R,
+        gate: &G,
+        seat: &mut WorkerSeat<J>,
+        quota: u32,
+        pace: &mut Pace,
+        hand: &mut Hand<'n, J, A>,
+        desk: &mut Desk<'n, J, A>,
+        away: Option<Duration>,
+    ) -> Next
+    where
+        A: Copy,
+        requires { IsSome hand.old.region → LetsAll (G.may_answer gate.now) }
+        ensures region { IsSome hand.new.region → IsSome hand.old.region }
+        ensures number { seat.new.number ≡ seat.old.number }
+        ensures commits { seat.old.commits ≤ seat.new.commits }
+        ensures asked { seat.old.commits + hand.old.batch.passed < seat.new.commits
+            → LetsAll (G.may_answer gate.now) }
+    {
+        let most = self.max_commits;
+        if hand.region.is_held() {
+            return hand.region.come_back(desk, seat, pace.commits, away, most);
+        }
+        let turns = hand.batch.len() as u64;
+        let before = seat.commits();
+        let next = hand
+            .batch
+            .come_back(desk, gate, seat, pace.commits, away, quota, most);
+        if seat.commits() - before <= turns {
+            return next;
+        }
+        pace.make_row();
+        self.go_on_in_rows(rt, gate, seat, quota, desk, next)
     }
 
     /// A worker that makes turns in a row goes on with them for a tenth of a millisecond. Returns what it does then.
@@ -143,7 +179,8 @@ impl<'n, J: Job, A: Allocator> Shared<'n, J, A> {
         if stay.calls {
             self.called.notify_all();
         }
-        let mut desk = self.lock_in_moment::<Global, R>(rt, None);
+        let moment = Duration::from_micros(WORKER_MOMENT);
+        let mut desk = self.lock_in_moment::<Global, R>(rt, None, moment);
         let next = desk.look_away(stay, self.max_commits);
         (desk, next)
     }

@@ -1,0 +1,196 @@
+//! The regions of a network: a worker claims the processes of one together. Any cut is right; this one is to be fast.
+
+use crate::cut::{Cut, Flow, is_wide};
+use kpn_net::{End, Network};
+use std::alloc::{AllocError, Allocator};
+
+// A network of more processes is not cut: to find regions would take as long as a run of it.
+const MOST: usize = 1_024;
+
+/// Regions, of which each process is in one.
+#[derive(Drop)]
+pub(crate) struct Regions<A: Allocator> {
+    // the processes in order of region
+    processes: Vec<usize, A>,
+    // how many processes the regions up to each have together
+    ends: Vec<usize, A>,
+}
+
+impl<A: Allocator + Copy> Regions<A> {
+    /// Cuts a network for so many workers, by how many items each of its channels has carried, and how many nanoseconds
+    /// so many turns of each of its processes took that were timed: into one region, or several. `None` if turns are
+    /// faster. The error is that memory ran
+    /// out.
+    pub(crate) fn cut(
+        alloc: A,
+        network: &Network,
+        carried: &[u64],
+        taken: &[u64],
+        turns: &[u64],
+        drains: bool,
+        workers: usize,
+    ) -> Result<Option<Self>, AllocError> {
+        if network.instances() > MOST {
+            return Ok(None);
+        }
+        let flows = flows(alloc, network, carried)?;
+        let times = Times { taken, turns };
+        let by_turns = loads(alloc, network, carried, times, Way::Turns)?;
+        let in_regions = loads(alloc, network, carried, times, Way::Regions { drains })?;
+        match Cut::best(alloc, &in_regions, &flows, workers, sum(&by_turns))? {
+            Some(cut) => Ok(Some(Regions::of(alloc, cut.regions())?)),
+            None => Ok(None),
+        }
+    }
+
+    /// The regions of a cut.
+    fn of(alloc: A, region_of: &[usize]) -> Result<Self, AllocError> {
+        let count = region_of.len();
+        let mut processes = Vec::with_capacity(alloc, count)?;
+        let mut ends = Vec::new(alloc);
+        for region in 0..count {
+            let before = processes.len();
+            push_members(region_of, region, &mut processes)?;
+            if processes.len() > before {
+                ends.push(processes.len())?;
+            }
+        }
+        Ok(Regions { processes, ends })
+    }
+}
+
+impl<A: Allocator> Regions<A> {
+    /// How many regions there are.
+    pub(crate) fn len(&self) -> usize {
+        self.ends.len()
+    }
+
+    /// The processes of a region, in order of number. None, if there is no such region.
+    pub(crate) fn processes(&self, region: usize) -> &[usize] {
+        let Some(end) = self.ends.get(region) else {
+            return &[];
+        };
+        let begin = match region {
+            0 => 0,
+            _ => self.ends.get(region - 1).copied().unwrap_or(0),
+        };
+        self.processes.get(begin..*end).unwrap_or(&[])
+    }
+}
+
+/// Puts the processes of a region behind these.
+fn push_members<A: Allocator>(
+    region_of: &[usize],
+    region: usize,
+    processes: &mut Vec<usize, A>,
+) -> Result<(), AllocError> {
+    for p in 0..region_of.len() {
+        if region_of[p] == region {
+            processes.push(p)?;
+        }
+    }
+    Ok(())
+}
+
+/// The channels between two processes, those with the most hand-overs first.
+fn flows<A: Allocator + Copy>(
+    alloc: A,
+    network: &Network,
+    carried: &[u64],
+) -> Result<Vec<Flow, A>, AllocError> {
+    network.known();
+    let mut flows = Vec::new(alloc);
+    for c in 0..network.channels() {
+        let ends = (network.writer_of(c), network.reader_of(c));
+        if let (End::Process(writer), End::Process(reader)) = ends {
+            let items = number_at(carried, c);
+            flows.push(Flow::new(writer, reader, network.cap_of(c), items))?;
+        }
+    }
+    flows.sort_by_key(|flow: &Flow| u64::MAX - flow.hand_overs)?;
+    Ok(flows)
+}
+
+/// How many nanoseconds so many turns of each process took.
+#[derive(Clone, Copy)]
+struct Times<'t> {
+    taken: &'t [u64],
+    turns: &'t [u64],
+}
+
+impl Times<'_> {
+    /// How long a turn of a process takes; as one of all in the mean, if none of its own was timed.
+    fn turn(&self, p: usize) -> u64 {
+        match number_at(self.turns, p) {
+            0 => sum(self.taken) / sum(self.turns).max(1),
+            count => number_at(self.taken, p) / count,
+        }
+    }
+}
+
+/// How processes are stepped: by turns, or in regions, which may empty their sinks.
+#[derive(Clone, Copy)]
+enum Way {
+    Turns,
+    Regions { drains: bool },
+}
+
+impl Way {
+    /// How many turns so many gets or puts on a channel take. In a region those on a wide channel take three quarters,
+    /// since many come without a wait, and those on a narrow one a quarter more.
+    fn turns(self, items: u64, is_wide: bool, is_sink: bool) -> u64 {
+        match self {
+            Way::Turns => items,
+            Way::Regions { drains } if is_wide || drains && is_sink => items - items / 4,
+            Way::Regions { .. } => items.saturating_add(items / 4),
+        }
+    }
+}
+
+/// What each process takes for the gets and puts so far, in nanoseconds.
+fn loads<A: Allocator + Copy>(
+    alloc: A,
+    network: &Network,
+    carried: &[u64],
+    times: Times<'_>,
+    way: Way,
+) -> Result<Vec<u64, A>, AllocError> {
+    network.known();
+    let mut talks = vec![in alloc; 0_u64; network.instances()]?;
+    for c in 0..network.channels() {
+        let items = number_at(carried, c);
+        let turns = way.turns(items, is_wide(network.cap_of(c)), network.is_sink(c));
+        add_to(&mut talks, network.writer_of(c), turns);
+        add_to(&mut talks, network.reader_of(c), turns);
+    }
+    let mut loads = Vec::with_capacity(alloc, network.instances())?;
+    for p in 0..talks.len() {
+        let load = times.turn(p).saturating_mul(talks[p]);
+        loads.push(load.max(number_at(times.taken, p)))?;
+    }
+    Ok(loads)
+}
+
+/// Adds to the number of the process at an end of a channel.
+fn add_to(numbers: &mut [u64], end: End, more: u64) {
+    let End::Process(p) = end else {
+        return;
+    };
+    if let Some(number) = numbers.get_mut(p) {
+        *number = number.saturating_add(more);
+    }
+}
+
+/// The sum of numbers, or the greatest one.
+pub(crate) fn sum(numbers: &[u64]) -> u64 {
+    let mut all = 0_u64;
+    for number in numbers {
+        all = all.saturating_add(*number);
+    }
+    all
+}
+
+/// The number of process or channel `k`; 0 if there is none.
+pub(crate) fn number_at(numbers: &[u64], k: usize) -> u64 {
+    numbers.get(k).copied().unwrap_or(0)
+}
