@@ -17,6 +17,8 @@ mod networks;
 #[cfg(test)]
 mod refusals;
 #[cfg(test)]
+mod region_runs;
+#[cfg(test)]
 mod regions;
 #[cfg(test)]
 mod rounds;

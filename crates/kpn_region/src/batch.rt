@@ -1,14 +1,16 @@
 //! A batch of a region.
-ghost use Rattle.std.specs.Prelude.{◌≡◌, ℕ, ◌<◌, ◌≤◌, length, IsTrue, IfOk, OnErr, Some, None, true, false, is_ok, if◌then◌else◌, replicate, slice_index_or};
+ghost use Rattle.std.specs.Prelude.{◌≡◌, ℕ, ◌<◌, ◌≤◌, length, take, IsTrue, IfOk, OnErr, Some, None, true, false, is_ok, if◌then◌else◌, replicate, slice_index_or};
 ghost use Rattle.kpn_net.specs.Tables.{program_of};
 ghost use Rattle.kpn_step.specs.Frame.{fits};
 ghost use Rattle.kpn_run_configuration.specs.Configuration.{no_frame};
 ghost use Rattle.kpn_region.specs.Local.{claimed_with, no_side, is_within, frame_at, side_at, with_side};
+ghost use Rattle.kpn_region.specs.Joining.{readable};
 ghost use Rattle.kpn_region.specs.Batch.{stop_of, IsBatch, IsFresh, IsEmpty, with_process, RunsOn};
 
 use crate::ready::Ready;
 use crate::side::Side;
 use crate::traffic::{Halt, Traffic};
+use kpn_chan::Channel;
 use kpn_net::Network;
 use kpn_run_configuration::frames_at_start;
 use kpn_run_history::Event;
@@ -136,6 +138,27 @@ impl<'n, A: Allocator> Batch<'n, A> {
     {
         let side = &mut self.traffic.sides[c];
         side.claim(items, room, drains)
+    }
+
+    /// Takes a channel into the region as `claim_channel` does, with the first `n` of its unread items.
+    pub fn claim_front<B: Allocator>(
+        &mut self,
+        c: usize,
+        channel: &Channel<B>,
+        n: usize,
+        room: u64,
+        drains: bool,
+    ) -> Result<(), AllocError>
+        requires channel { c < length self.old.tables.channels }
+        requires items { n ≤ length (readable channel.now) }
+        requires fresh { IsFresh self.old }
+        ensures tables { self.new.tables ≡ self.old.tables }
+        ensures claims { self.new.first ≡ with_side c (if is_ok result
+            then claimed_with (take n (readable channel.now)) room drains else no_side) self.old.first }
+        ensures fresh { IsFresh self.new }
+    {
+        let side = &mut self.traffic.sides[c];
+        side.claim_front(channel, n, room, drains)
     }
 
     /// Process `p` can't go on because of channel `c`, until an item is got from there or put there.

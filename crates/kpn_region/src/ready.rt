@@ -5,8 +5,11 @@ const WORD: usize = 64;
 
 const WORDS: usize = MAX_PROCESSES / WORD;
 
-/// A set of processes, which takes them out in order of number, round after round. Nothing is proved of it: whom it
-/// names has a turn, and may find that it can't go on.
+/// No process.
+const NOBODY: u16 = u16::MAX;
+
+/// A set of processes, which takes them out in order of number, round after round, but one that was handed over first.
+/// Nothing is proved of it: whom it names has a turn, and may find that it can't go on.
 #[derive(Clone, Copy, Debug)]
 pub(crate) struct Ready {
     words: [u64; WORDS],
@@ -15,6 +18,8 @@ pub(crate) struct Ready {
     // the word of the process that came last, and the bits behind it
     word: usize,
     behind: u64,
+    // the process that was handed over, or `NOBODY`
+    first: u16,
 }
 
 impl Ready {
@@ -25,14 +30,14 @@ impl Ready {
             used: processes.div_ceil(WORD),
             word: 0,
             behind: u64::MAX,
+            first: NOBODY,
         }
     }
 
-    /// Takes all processes out.
+    /// Takes all processes out. The order goes on where it was, so that each process has its turn once in a while.
     pub(crate) fn clear(&mut self) {
         self.words = [0; WORDS];
-        self.word = 0;
-        self.behind = u64::MAX;
+        self.first = NOBODY;
     }
 
     /// Puts a process in.
@@ -43,9 +48,31 @@ impl Ready {
         }
     }
 
-    /// Takes out the process that comes next behind the last one.
+    /// Puts a process in, which comes before all others, unless another one does so already.
+    // The process that can go on because of a put comes next: it costs no look for the next bit.
+    #[inline(always)]
+    pub(crate) fn hand_over(&mut self, p: u16) {
+        if self.first == NOBODY {
+            self.first = p;
+        } else {
+            self.insert(p.into());
+        }
+    }
+
+    /// Takes out the process that comes first.
     #[inline(always)]
     pub(crate) fn next(&mut self) -> Option<usize> {
+        if self.first != NOBODY {
+            let first = self.first;
+            self.first = NOBODY;
+            return Some(first.into());
+        }
+        self.next_in_order()
+    }
+
+    /// Takes out the process that comes next behind the last one.
+    #[inline(always)]
+    fn next_in_order(&mut self) -> Option<usize> {
         let mut at = self.word;
         let mut rest = *self.words.get(at)? & self.behind;
         // the first word comes twice: before its other bits come all others

@@ -8,6 +8,7 @@ ghost use Rattle.kpn_region.specs.Turn.{IsGot, puts_by, IsTaken, GoesOn, passes_
 
 use crate::ready::Ready;
 use crate::side::Side;
+use kpn_lang::Program;
 use kpn_net::Network;
 use kpn_run_configuration::{in_channel, out_channel};
 use kpn_run_history::Event;
@@ -116,7 +117,7 @@ impl<A: Allocator> Traffic<A> {
         let mut made = 0;
         'events: while made < most {
             let (_, stop) = frame.run(program, quota);
-            let halt = match self.pass(network, p, stop, frame) {
+            let halt = match self.pass(network, program, p, stop, frame) {
                 Passed::On => {
                     made += 1;
                     continue 'events;
@@ -135,8 +136,16 @@ impl<A: Allocator> Traffic<A> {
 
     /// Process `p`, which is at this stop, makes the event for which it asks, if it can.
     #[inline(always)]
-    fn pass(&mut self, network: &Network, p: usize, stop: Stop, frame: &mut Frame) -> Passed
+    fn pass(
+        &mut self,
+        network: &Network,
+        program: &Program,
+        p: usize,
+        stop: Stop,
+        frame: &mut Frame,
+    ) -> Passed
         requires process { p < length network.now.instances }
+        requires program { program.now ≡ program_of network.now p }
         requires sides { length self.old.sides.items ≡ length network.now.channels }
         requires fits { IsTrue (fits (program_of network.now p) frame.old) }
         requires stands { StandsAt (program_of network.now p).blocks frame.old stop }
@@ -154,14 +163,14 @@ impl<A: Allocator> Traffic<A> {
                 let Some(item) = self.get(p, c) else {
                     return Passed::Stuck;
                 };
-                frame.pass_read(network.program(p), item);
+                frame.pass_read(program, item);
                 Passed::On
             }
             Stop::WantWrite(port, item) => {
                 let c = out_channel(network, p, port);
                 match self.put(p, c, item) {
                     Passed::On => {
-                        frame.pass_write(network.program(p));
+                        frame.pass_write(program);
                         Passed::On
                     }
                     Passed::Stuck => Passed::Stuck,
@@ -220,7 +229,7 @@ impl<A: Allocator> Traffic<A> {
         }
         let freed = side.release();
         let drained = side.is_drained();
-        free(&mut self.ready, freed);
+        hand_over(&mut self.ready, p, freed);
         self.events
             .push_reserved(Event::Put(p as u16, c as u16, item));
         if drained {
@@ -251,5 +260,16 @@ impl<A: Allocator> Traffic<A> {
 fn free(ready: &mut Ready, process: Option<u16>) {
     if let Some(q) = process {
         ready.insert(q.into());
+    }
+}
+
+/// Lets a process go on, if there is one: next, if it comes behind process `p`.
+// So two processes that free each other never keep the others from their turns.
+#[inline(always)]
+fn hand_over(ready: &mut Ready, p: usize, process: Option<u16>) {
+    match process {
+        Some(q) if p < usize::from(q) => ready.hand_over(q),
+        Some(q) => ready.insert(q.into()),
+        None => {}
     }
 }

@@ -51,7 +51,7 @@ put-requires-clause-channel g c =
 
 pub pass_read-requires-clause-read : goal.pass_read-requires-clause-read
 pass_read-requires-clause-read g c =
-    subst (λ x. StandsAtRead x.blocks c.args.frame.now) (sym c.program.ensures)
+    subst (λ x. StandsAtRead x.blocks c.args.frame.now) (sym c.requires.program)
     (subst (IsAtPort (program_of c.args.network.now c.args.p) c.args.frame.now) c.in-WantRead.is c.requires.port).1
 
 pub returns-in-Some-clause-passes : goal.returns-in-Some-clause-passes
@@ -65,13 +65,13 @@ returns-in-Some-clause-passes g c =
     (in_there t c.known.ensures c.args.p c.in-WantRead.port c.in_channel-c.result c.in_channel-c.ensures) in
     goes_by_get t c.args.p c.in_channel-c.result item c.args.frame.now c.pass_read.new.self c.args.self.now.sides.items
     c.args.self.now.events.items there
-    (subst (λ x. IsTrue (fits x c.pass_read.new.self)) c.program.ensures c.pass_read.ensures.fits)
+    (subst (λ x. IsTrue (fits x c.pass_read.new.self)) c.requires.program c.pass_read.ensures.fits)
     c.get.new.self.sides.items c.get.new.self.events.items
     (record {
       port = c.in-WantRead.port;
       channel = c.in_channel-c.ensures;
       stood = subst (StandsAt (program_of t c.args.p).blocks c.args.frame.now) c.in-WantRead.is c.requires.stands;
-      passes = subst (λ x. IsGiven x.blocks c.args.frame.now item c.pass_read.new.self) c.program.ensures
+      passes = subst (λ x. IsGiven x.blocks c.args.frame.now item c.pass_read.new.self) c.requires.program
           c.pass_read.ensures.passed;
     })
     (subst (λ v. IsGot c.args.p c.in_channel-c.result v c.args.self.now.sides.items c.args.self.now.events.items
@@ -87,7 +87,7 @@ returns-in-On-clause-passes g c =
     (out_there t c.known.ensures c.args.p c.in-WantWrite.port c.out_channel-c.result c.out_channel-c.ensures) in
     goes_by_put t c.args.p c.out_channel-c.result item c.args.frame.now c.pass_write.new.self
     c.args.self.now.sides.items c.args.self.now.events.items there
-    (subst (λ x. IsTrue (fits x c.pass_write.new.self)) c.program-in-On.ensures c.pass_write.ensures.fits)
+    (subst (λ x. IsTrue (fits x c.pass_write.new.self)) c.requires.program c.pass_write.ensures.fits)
     c.put.new.self.sides.items c.put.new.self.events.items
     (record {
       port = c.in-WantWrite.port;
