@@ -1,6 +1,7 @@
 //! The operators of the process language on a table of operands. Each line of standard input is `LEFT OP RIGHT`,
-//! `- OPERAND`, `! OPERAND`, `~ OPERAND` or `OPERAND ? OPERAND : OPERAND`, and the answer is the value or the fault.
-//! The stored table is at the ends of the range, and for shifts at those of the counts.
+//! `- OPERAND`, `! OPERAND`, `~ OPERAND`, `OPERAND ? OPERAND : OPERAND` or `INDEX in VALUE ..`, and the answer is the
+//! value or the fault. The stored table is at the ends of the range, for shifts at those of the counts, and for indices
+//! at those of the cells.
 //! Another program (tools/operator_table.py) computed what must come, with whole numbers that have no bound.
 #![tactic(auto)]
 
@@ -9,7 +10,7 @@ ghost use Rattle.kpn_lang.specs.Syntax.{term_of};
 ghost use Rattle.check_operators.specs.Number.{IsNumber};
 
 use anyhow::{Result, bail};
-use kpn_lang::{Expr, Fault, Op, eval};
+use kpn_lang::{Expr, Fault, Op, eval, eval_in};
 use std::alloc::Global;
 
 /// The operator that is spelled so.
@@ -37,13 +38,28 @@ fn operator(word: &str) -> Option<Op> {
     }
 }
 
-fn operand(alloc: Global, word: &str) -> Result<Box<Expr>>
-    ensures { IfOk result (λ found. IsNumber (term_of found.value)) }
-{
+fn number(word: &str) -> Result<i64> {
     let Ok(number) = word.parse::<i64>() else {
         bail!("an operand is a whole number");
     };
+    Ok(number)
+}
+
+fn operand(alloc: Global, word: &str) -> Result<Box<Expr>>
+    ensures { IfOk result (λ found. IsNumber (term_of found.value)) }
+{
+    let number = number(word)?;
     Ok(Box::new(alloc, Expr::Num(number))?)
+}
+
+/// The value of a cell, if these are the cells.
+fn cell(alloc: Global, index: &str, words: &[&str]) -> Result<std::result::Result<i64, Fault>> {
+    let mut cells = Vec::new(alloc);
+    for word in words {
+        cells.push(number(word)?)?;
+    }
+    let expr = Expr::Cell(0, cells.len(), operand(alloc, index)?);
+    Ok(eval_in(&expr, &[], &cells))
 }
 
 /// The value of the expression on a line.
@@ -53,6 +69,7 @@ fn answer(alloc: Global, line: &str) -> Result<std::result::Result<i64, Fault>> 
         ["-", word] => Ok(eval(&Expr::Neg(operand(alloc, word)?), &[])),
         ["!", word] => Ok(eval(&Expr::Not(operand(alloc, word)?), &[])),
         ["~", word] => Ok(eval(&Expr::BitNot(operand(alloc, word)?), &[])),
+        [index, "in", values @ ..] => cell(alloc, index, values),
         [left, word, right] => {
             let Some(op) = operator(word) else {
                 bail!("no such operator");

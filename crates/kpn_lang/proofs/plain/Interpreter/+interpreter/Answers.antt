@@ -13,7 +13,7 @@ block-statement-requires t c =
     let fits = MayRun-does _ _ _ _ _ c.loop-statement.invariant c.requires in
     let ready = IsReady-read c.in-Some.statements.now c.loop-statement.statement-index c.statement-item.result
     (omega arith) c.statement-item.is _ _ c.requires.program c.in-Some.ensures.0 c.in-Some.ensures.1 in
-    (omega arith, (fits, (ready.variables, ready.ports)))
+    (omega arith, (fits, (ready.names, ready.ports)))
 
 pub block-returns-in-Some-2 : goal.block-returns-in-Some-2
 block-returns-in-Some-2 t c =
