@@ -23,22 +23,22 @@ BUDGETS = {
     'README.md': 1_940,
     'docs/ARCHITECTURE.md': 3_200,
     'docs/COMPILED.md': 1_690,
-    'docs/DECISIONS.md': 2_460,
+    'docs/DECISIONS.md': 3_080,
     'docs/DEFINITIONS.md': 2_440,
     'docs/ERRORS.md': 1_170,
     'docs/GUARANTEES.md': 6_510,
     'docs/GUIDE.md': 1_020,
     'docs/LANGUAGE.md': 1_850,
     'docs/LIBRARY.md': 2_240,
-    'docs/PROVING.md': 2_930,
+    'docs/PROVING.md': 2_960,
     'docs/RUNS.md': 2_040,
     'docs/STREAMS.md': 1_290,
     'docs/TRACES.md': 850,
     'docs/VIEWS.md': 2_100,
     'python/README.md': 1_020,
-    'bench/RESULTS.md': 1_870,
+    'bench/RESULTS.md': 2_300,
 }
-BUDGET = 36_480
+BUDGET = 37_280
 POINT = re.compile(r'\s*(?:[-*+]|\d+\.)\s+')
 END = re.compile(r'(?<=[.!?])["\')*]*\s+(?=["\'(*]*[A-Z0-9`])')
 WORD = re.compile(r"[^\s]*\w[^\s]*")
