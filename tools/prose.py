@@ -21,24 +21,24 @@ LONG = 25
 # The most words of each document, and of all.
 BUDGETS = {
     'README.md': 1_940,
-    'docs/ARCHITECTURE.md': 3_200,
+    'docs/ARCHITECTURE.md': 3_260,
     'docs/COMPILED.md': 1_690,
-    'docs/DECISIONS.md': 3_080,
-    'docs/DEFINITIONS.md': 2_440,
+    'docs/DECISIONS.md': 3_200,
+    'docs/DEFINITIONS.md': 2_455,
     'docs/ERRORS.md': 1_170,
-    'docs/GUARANTEES.md': 6_510,
-    'docs/GUIDE.md': 1_020,
+    'docs/GUARANTEES.md': 6_780,
+    'docs/GUIDE.md': 1_060,
     'docs/LANGUAGE.md': 1_850,
     'docs/LIBRARY.md': 2_240,
-    'docs/PROVING.md': 2_960,
-    'docs/RUNS.md': 2_040,
+    'docs/PROVING.md': 3_010,
+    'docs/RUNS.md': 2_175,
     'docs/STREAMS.md': 1_290,
     'docs/TRACES.md': 850,
     'docs/VIEWS.md': 2_100,
     'python/README.md': 1_020,
     'bench/RESULTS.md': 2_300,
 }
-BUDGET = 37_280
+BUDGET = 38_030
 POINT = re.compile(r'\s*(?:[-*+]|\d+\.)\s+')
 END = re.compile(r'(?<=[.!?])["\')*]*\s+(?=["\'(*]*[A-Z0-9`])')
 WORD = re.compile(r"[^\s]*\w[^\s]*")

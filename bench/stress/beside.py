@@ -79,16 +79,18 @@ class Beside:
         self.counts[what, wanted.split()[0]] += 1
         if wanted.startswith('legal'):
             self.same(f'{what}: tables', figures.stats_text(network, trace), self.call('stats', 'net', 'audited'))
-            self.same(f'{what}: timeline', ticks.timeline_text(network, trace), self.call('timeline', 'net', 'audited'))
-            self.same(f'{what}: picture', *self.pictures(network, trace))
+            waits = figures.replay(network, trace)[0].waits()
+            timeline = ticks.timeline_text(network, trace, waits)
+            self.same(f'{what}: timeline', timeline, self.call('timeline', 'net', 'audited'))
+            self.same(f'{what}: picture', *self.pictures(network, trace, waits))
             self.same(f'{what}: explanation', figures.explained(network, trace), self.call('explain', 'net', 'audited'))
         return wanted
 
-    def pictures(self, network, trace):
+    def pictures(self, network, trace, waits):
         """The picture of some ticks, or of all, by both."""
         first, last = self.chance.choice([(1, 10 ** 9), sorted(self.chance.randint(1, 60) for _ in range(2))])
         found = self.call('timeline', 'net', 'audited', '--svg', '--from', str(first), '--to', str(last))
-        return ticks.picture_answer(network, trace, first, last), found
+        return ticks.picture_answer(network, trace, waits, first, last), found
 
     def sinks(self, history):
         """What is written on each sink, and whether it is complete, behind a history of the network in the folder."""

@@ -21,6 +21,14 @@ enum Call<'a> {
     /// Grows so far, if there is memory.
     GrowTo(u32, bool),
     Retire,
+    /// Makes the channel roomy, if there is memory.
+    MakeRoomy(bool),
+    /// Whether so many items can be joined.
+    HasPlacesFor(usize, bool),
+    /// So many items are read and these are put, at once, while at most so many were unread.
+    Join(usize, &'a [i64], usize),
+    /// The same with the numbers from the second to before the third.
+    JoinNumbers(usize, i64, i64, usize),
     IsRetired,
     Cap(Option<u32>),
     HasRoom(bool),
@@ -37,6 +45,8 @@ enum Call<'a> {
     HeldJournal(&'a [i64]),
     /// The heap has no memory for an item, for a copy of the journal, or for another channel.
     NoMemory,
+    /// The heap has no memory for another channel.
+    IsHeapFull,
 }
 
 /// Puts items, each into room that is reserved for it.
@@ -87,6 +97,42 @@ fn grows_to(channel: &mut Channel<&LocalHeap>, to: u32, wanted: bool) -> bool {
     }
 }
 
+/// Whether items may be joined to a channel, and then joins them.
+fn joins(channel: &mut Channel<&LocalHeap>, taken: usize, items: &[i64], most: usize) -> bool {
+    channel.known();
+    let Some(all) = channel.len().checked_add(items.len()) else {
+        return false;
+    };
+    let left = all.saturating_sub(taken);
+    let within = match channel.cap() {
+        Some(cap) => left <= cap as usize,
+        None => false,
+    };
+    let may_put = items.is_empty() || channel.is_retired() || within;
+    let is_seen = channel.is_retired() || left <= channel.most().max(most);
+    if !channel.has_places_for(items.len()) || all < taken || !may_put || !is_seen {
+        return false;
+    }
+    channel.join(taken, items, most);
+    true
+}
+
+/// Whether the numbers from `first` to before `end` may be joined to a channel, and then joins them.
+fn joins_numbers(
+    alloc: Global,
+    channel: &mut Channel<&LocalHeap>,
+    taken: usize,
+    first: i64,
+    end: i64,
+    most: usize,
+) -> Result<bool, AllocError> {
+    let mut items = Vec::new(alloc);
+    for item in first..end {
+        items.push(item)?;
+    }
+    Ok(joins(channel, taken, &items, most))
+}
+
 /// Whether there is no memory for an item, for a copy of the journal, or for another channel.
 fn lacks_memory<'h>(heap: &'h LocalHeap, channel: &mut Channel<&'h LocalHeap>) -> bool {
     let is_refused = channel.reserve_one().is_err();
@@ -133,6 +179,11 @@ fn answers<'h>(
         Call::Journal(journal) => holds(alloc, channel, journal),
         Call::HeldJournal(journal) => holds_in(heap, channel, journal),
         Call::NoMemory => Ok(lacks_memory(heap, channel)),
+        Call::IsHeapFull => Ok(Channel::new(heap, None).is_err()),
+        Call::MakeRoomy(wanted) => Ok(channel.make_roomy().is_ok() == wanted),
+        Call::JoinNumbers(taken, first, end, most) => {
+            joins_numbers(alloc, channel, taken, first, end, most)
+        }
         call => Ok(shows(channel, call)),
     }
 }
@@ -145,6 +196,8 @@ fn shows(channel: &mut Channel<&LocalHeap>, call: Call<'_>) -> bool {
             channel.retire();
             true
         }
+        Call::HasPlacesFor(count, wanted) => channel.has_places_for(count) == wanted,
+        Call::Join(taken, items, most) => joins(channel, taken, items, most),
         Call::IsRetired => channel.is_retired(),
         Call::Cap(wanted) => channel.cap() == wanted,
         Call::HasRoom(wanted) => channel.room() == wanted,
@@ -288,7 +341,121 @@ const ITEMS_KEEP_THEIR_ORDER: Row<'static> = Row {
     after: &[],
 };
 
-const ROWS: [(&str, Row<'static>); 5] = [
+const A_BATCH_IS_JOINED: Row<'static> = Row {
+    size: 131_072,
+    capacity: Some(4),
+    before: &[
+        Call::Put(&[5, 6]),
+        Call::HasPlacesFor(0, true),
+        Call::HasPlacesFor(1, false),
+        Call::MakeRoomy(true),
+        Call::HasPlacesFor(4_096, true),
+        Call::HasPlacesFor(4_097, false),
+    ],
+    filling: 65_000,
+    meanwhile: &[
+        Call::IsHeapFull,
+        // 5, 6 and 7 are read
+        Call::Join(3, &[7, 8, 9], 3),
+        Call::Counts(3, 2),
+        Call::Most(3),
+        Call::Journal(&[5, 6, 7, 8, 9]),
+        Call::Join(0, &[10, 11], 4),
+        Call::IsFull(true),
+        Call::Most(4),
+        Call::GetNumbers(8, 10),
+        Call::Join(2, &[], 0),
+        Call::Counts(7, 0),
+        Call::Get(None),
+        Call::Most(4),
+    ],
+    after: &[
+        Call::PutNumbers(12, 16),
+        Call::IsFull(true),
+        Call::HasPlacesFor(1, true),
+        Call::Grow(true),
+        Call::HasPlacesFor(1, false),
+        Call::HasPlacesFor(0, true),
+        Call::MakeRoomy(true),
+        Call::Retire,
+        Call::HasPlacesFor(1, true),
+        Call::Join(0, &[16], 0),
+        Call::Counts(7, 5),
+        Call::Most(4),
+        Call::Journal(&[5, 6, 7, 8, 9, 10, 11, 12, 13, 14, 15, 16]),
+    ],
+};
+
+const A_CHANNEL_IS_NOT_MADE_ROOMY: Row<'static> = Row {
+    size: 131_072,
+    capacity: Some(4),
+    before: &[Call::Put(&[5, 6])],
+    filling: 130_000,
+    meanwhile: &[
+        Call::MakeRoomy(false),
+        Call::HasPlacesFor(1, false),
+        Call::Counts(0, 2),
+        Call::Join(1, &[], 0),
+        Call::Counts(1, 1),
+    ],
+    after: &[
+        Call::MakeRoomy(true),
+        Call::Join(2, &[7, 8], 2),
+        Call::Counts(3, 1),
+        Call::Get(Some(8)),
+    ],
+};
+
+// The ring of the other channel has to get more places than it began with.
+const A_RING_IS_NOT_MADE_ROOMY: Row<'static> = Row {
+    size: 262_144,
+    capacity: Some(10_000),
+    before: &[Call::Put(&[5, 6])],
+    filling: 131_072,
+    meanwhile: &[
+        Call::MakeRoomy(false),
+        Call::HasPlacesFor(1, false),
+        Call::HasRoom(true),
+        Call::Counts(0, 2),
+    ],
+    after: &[Call::MakeRoomy(true), Call::HasPlacesFor(1, true)],
+};
+
+// A chunk has 4,096 items.
+const JOINED_ITEMS_GO_ON_PAST_A_CHUNK: Row<'static> = Row {
+    size: 1_048_576,
+    capacity: Some(5_000),
+    before: &[
+        Call::PutNumbers(0, 4_000),
+        Call::GetNumbers(0, 3_999),
+        Call::MakeRoomy(true),
+        Call::JoinNumbers(1, 4_000, 4_096, 96),
+        Call::HasPlacesFor(1, true),
+        Call::JoinNumbers(96, 4_096, 6_000, 2_000),
+        Call::HasPlacesFor(1, false),
+        Call::Counts(4_096, 1_904),
+        Call::At(4_095, Some(4_095)),
+        Call::At(4_096, Some(4_096)),
+        Call::At(5_999, Some(5_999)),
+        Call::At(6_000, None),
+        Call::GetNumbers(4_096, 4_100),
+        Call::PutNumbers(6_000, 8_500),
+        Call::At(8_191, Some(8_191)),
+        Call::At(8_192, Some(8_192)),
+        Call::MakeRoomy(true),
+        Call::JoinNumbers(4_400, 8_500, 12_500, 4_400),
+        Call::HasPlacesFor(1, false),
+        Call::GetNumbers(8_500, 8_501),
+        Call::At(12_287, Some(12_287)),
+        Call::At(12_288, Some(12_288)),
+        Call::Counts(8_501, 3_999),
+    ],
+    filling: 16,
+    meanwhile: &[],
+    after: &[],
+};
+
+const ROWS: [(&str, Row<'static>); 9] = [
     (
         "fills, grows, gives and retires",
         FILLS_GROWS_GIVES_AND_RETIRES,
@@ -303,6 +470,13 @@ const ROWS: [(&str, Row<'static>); 5] = [
         A_JOURNAL_GOES_ON_PAST_ITS_CHUNKS,
     ),
     ("items keep their order", ITEMS_KEEP_THEIR_ORDER),
+    ("a batch is joined", A_BATCH_IS_JOINED),
+    ("a channel is not made roomy", A_CHANNEL_IS_NOT_MADE_ROOMY),
+    ("a ring is not made roomy", A_RING_IS_NOT_MADE_ROOMY),
+    (
+        "joined items go on past a chunk",
+        JOINED_ITEMS_GO_ON_PAST_A_CHUNK,
+    ),
 ];
 
 /// Makes calls, each of which has to answer so.

@@ -20,6 +20,7 @@ mod networks;
 #[cfg(test)]
 mod refusals;
 #[cfg(test)]
+#[cfg(test)]
 mod regions;
 #[cfg(test)]
 mod rounds;

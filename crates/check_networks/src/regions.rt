@@ -1,14 +1,18 @@
 //! Regions that are a whole network and run by themselves. What they do is worked by hand.
-ghost use Rattle.std.specs.Prelude.{◌≡◌};
+ghost use Rattle.std.specs.Prelude.{◌≡◌, length};
 ghost use Rattle.kpn_region.specs.Batch.{IsFresh};
+ghost use Rattle.kpn_run_configuration.specs.Configuration.{IsConfiguration};
 
+use crate::feeding::feed;
 use kpn_lang::Fault;
 use kpn_net::Network;
 use kpn_region::Batch;
+use kpn_run_configuration::Configuration;
 use kpn_run_history::Event;
 use kpn_step::{Frame, Stop};
 use kpn_text::read_network;
 use std::alloc::{AllocError, Global};
+use std::process::Abort;
 use std::test::Fail;
 
 const TWO_COPIES: &str = "
@@ -47,6 +51,47 @@ struct Row<'a> {
     stops: &'a [Option<Stop>],
 }
 
+const THROUGH: Row<'static> = Row {
+    text: TWO_COPIES,
+    items: &[5, 6],
+    drains: true,
+    budget: 100,
+    times: 1,
+    events: &[
+        Event::Get(0, 0, 5),
+        Event::Put(0, 1, 5),
+        Event::Get(0, 0, 6),
+        Event::Get(1, 1, 5),
+        Event::Put(1, 2, 5),
+        Event::Take(2, 5),
+        Event::Put(0, 1, 6),
+        Event::Get(1, 1, 6),
+        Event::Put(1, 2, 6),
+        Event::Take(2, 6),
+    ],
+    stops: &[Some(Stop::WantRead(0)), Some(Stop::WantRead(0))],
+};
+
+const LEFT_FULL: Row<'static> = Row {
+    text: TWO_COPIES,
+    items: &[5, 6, 7],
+    drains: false,
+    budget: 100,
+    times: 2,
+    events: &[
+        Event::Get(0, 0, 5),
+        Event::Put(0, 1, 5),
+        Event::Get(0, 0, 6),
+        Event::Get(1, 1, 5),
+        Event::Put(1, 2, 5),
+        Event::Put(0, 1, 6),
+        Event::Get(0, 0, 7),
+        Event::Get(1, 1, 6),
+        Event::Put(0, 1, 7),
+    ],
+    stops: &[Some(Stop::WantRead(0)), Some(Stop::WantWrite(0, 6))],
+};
+
 /// Claims all of a network: its processes at their starts, these items of each source, and the room of the others.
 fn claim_all(
     network: &Network,
@@ -76,6 +121,7 @@ fn claim_all(
 fn plays(network: &Network, batch: &mut Batch<'_>, row: &Row<'_>) -> Result<bool, AllocError>
     requires tables { batch.old.tables ≡ network.now }
     requires fresh { IsFresh batch.old }
+    ensures { batch.new.tables ≡ network.now }
 {
     claim_all(network, batch, row.items, row.drains)?;
     'times: for _time in 0..row.times {
@@ -118,27 +164,7 @@ fn does(alloc: Global, row: &Row<'_>) -> Result<bool, Fail> {
 /// Each process goes on until it can't, with capacity 1, and what comes to the sink is taken at once.
 #[test]
 fn runs_until_all_are_stuck(rt: HostRuntime) -> Result<(), Fail> {
-    let row = Row {
-        text: TWO_COPIES,
-        items: &[5, 6],
-        drains: true,
-        budget: 100,
-        times: 1,
-        events: &[
-            Event::Get(0, 0, 5),
-            Event::Put(0, 1, 5),
-            Event::Get(0, 0, 6),
-            Event::Get(1, 1, 5),
-            Event::Put(1, 2, 5),
-            Event::Take(2, 5),
-            Event::Put(0, 1, 6),
-            Event::Get(1, 1, 6),
-            Event::Put(1, 2, 6),
-            Event::Take(2, 6),
-        ],
-        stops: &[Some(Stop::WantRead(0)), Some(Stop::WantRead(0))],
-    };
-    assert!(rt; does(rt.alloc(), &row)?);
+    assert!(rt; does(rt.alloc(), &THROUGH)?);
     Ok(())
 }
 
@@ -173,26 +199,7 @@ fn runs_by_budgets_of_one(rt: HostRuntime) -> Result<(), Fail> {
 /// A sink that is not emptied has the room that it had at the claim.
 #[test]
 fn uses_up_the_room(rt: HostRuntime) -> Result<(), Fail> {
-    let row = Row {
-        text: TWO_COPIES,
-        items: &[5, 6, 7],
-        drains: false,
-        budget: 100,
-        times: 2,
-        events: &[
-            Event::Get(0, 0, 5),
-            Event::Put(0, 1, 5),
-            Event::Get(0, 0, 6),
-            Event::Get(1, 1, 5),
-            Event::Put(1, 2, 5),
-            Event::Put(0, 1, 6),
-            Event::Get(0, 0, 7),
-            Event::Get(1, 1, 6),
-            Event::Put(0, 1, 7),
-        ],
-        stops: &[Some(Stop::WantRead(0)), Some(Stop::WantWrite(0, 6))],
-    };
-    assert!(rt; does(rt.alloc(), &row)?);
+    assert!(rt; does(rt.alloc(), &LEFT_FULL)?);
     Ok(())
 }
 
@@ -231,8 +238,103 @@ fn stops_where_it_cannot_go_on(rt: HostRuntime) -> Result<(), Fail> {
         budget: 2000,
         times: 1,
         events: &[],
-        stops: &[None],
+        stops: &[Some(Stop::Paused)],
     };
     assert!(rt; does(rt.alloc(), &spins)?);
+    Ok(())
+}
+
+/// Feeds each source with these items, and makes each channel roomy, or not.
+fn make_ready(
+    rt: &impl Abort,
+    network: &Network,
+    configuration: &mut Configuration,
+    items: &[i64],
+    roomy: bool,
+) -> Result<(), AllocError>
+    requires { IsConfiguration network.now configuration.old }
+    ensures { IsConfiguration network.now configuration.new }
+{
+    'channels: for c in 0..network.channels() {
+        if network.is_source(c) {
+            'items: for item in items {
+                let _woken = feed(rt, network, configuration, c, *item)?;
+            }
+        }
+        if roomy {
+            configuration.make_roomy(c)?;
+        }
+    }
+    Ok(())
+}
+
+/// Whether so many items were read from each channel, so many are unread there, and so many ever were, and whether each
+/// process is where it is in the batch.
+fn stands_so(
+    network: &Network,
+    configuration: &Configuration,
+    batch: &Batch<'_>,
+    counts: &[(usize, usize, usize)],
+) -> bool
+    requires channels { length configuration.now.channels ≡ length network.now.channels }
+    requires frames { length configuration.now.frames ≡ length network.now.instances }
+    requires tables { batch.now.tables ≡ network.now }
+{
+    if network.channels() != counts.len() {
+        return false;
+    }
+    'counts: for c in 0..counts.len() {
+        let channel = configuration.channel(c);
+        if (channel.read_count(), channel.len(), channel.most()) != counts[c] {
+            return false;
+        }
+    }
+    'frames: for p in 0..network.instances() {
+        if *configuration.frame(p) != *batch.frame(p) {
+            return false;
+        }
+    }
+    true
+}
+
+/// Runs a whole network as a region beside a configuration, and joins it: whether that stands then as these counts say.
+/// If the channels are not made roomy, the batch does not agree with the configuration.
+fn joins(
+    rt: &impl Abort,
+    alloc: Global,
+    network: &Network,
+    row: &Row<'_>,
+    counts: &[(usize, usize, usize)],
+) -> Result<bool, AllocError> {
+    let mut batch = Batch::new(alloc, network)?;
+    let mut bare = Configuration::new(alloc, network)?;
+    let mut configuration = Configuration::new(alloc, network)?;
+    make_ready(rt, network, &mut bare, row.items, false)?;
+    make_ready(rt, network, &mut configuration, row.items, true)?;
+    let played = plays(network, &mut batch, row)?;
+    let is_refused = !batch.agrees_with(&bare);
+    if !batch.agrees_with(&configuration) {
+        return Ok(false);
+    }
+    batch.join(&mut configuration);
+    let stands = stands_so(network, &configuration, &batch, counts);
+    drop(bare);
+    drop(batch);
+    Ok(played && is_refused && stands)
+}
+
+/// Each item goes through, or the sink is left full. What is put and taken in the batch counts as read.
+#[test]
+fn joins_what_it_has_done(rt: HostRuntime) -> Result<(), Fail> {
+    let rows: [(Row<'_>, [(usize, usize, usize); 3]); 2] = [
+        (THROUGH, [(2, 0, 2), (2, 0, 1), (2, 0, 1)]),
+        (LEFT_FULL, [(3, 0, 3), (2, 1, 1), (0, 1, 1)]),
+    ];
+    let document = read_network(rt.alloc(), TWO_COPIES.as_bytes())?;
+    for (row, counts) in &rows {
+        let joined = joins(&rt, rt.alloc(), document.network(), row, counts)?;
+        assert!(rt; joined);
+    }
+    drop(document);
     Ok(())
 }

@@ -72,11 +72,16 @@ fn stopped_after(report: &Report) -> Option<u64> {
 /// 16 workers hold at most 8 processes each, and one of these reaches the limit.
 #[test]
 fn commits_pass_the_limit_by_at_most_127(rt: HostRuntime) -> Result<(), Fail> {
-    let text = spinners(rt.alloc(), 256)?;
+    let spinning = spinners(rt.alloc(), 256)?;
     let gate = TestGate::open(true);
-    for most in [1, 100] {
-        let limits = limits_of(most, 1);
-        let commits = commits_of(&rt, rt.alloc(), &text, 16, &gate, &limits)?.unwrap_or(0);
+    for (text, most, quota) in [
+        (spinning.as_str(), 1, 1),
+        (spinning.as_str(), 100, 1),
+        (LONG_AND_SPIN, 26_000, 50),
+        (LONG_AND_SPIN, 66_000, 50),
+    ] {
+        let limits = limits_of(most, quota);
+        let commits = commits_of(&rt, rt.alloc(), text, 16, &gate, &limits)?.unwrap_or(0);
         assert!(rt;
             (most..=most + 127).contains(&commits),
             "{commits} for {most}"
@@ -105,6 +110,17 @@ process copy(in i; out o) { while 1 { read i x; write o x; } }
 network {
   channel a cap 4; channel b cap 4;
   held = spin(;); spin = spin(;); put = put(b; a); copy = copy(a; b);
+}";
+
+/// Numbers through two copies, so many that workers cut the network, beside a process that steps for ever: it alone is
+/// left after some 60,000 commits.
+const LONG_AND_SPIN: &str = "process spin() { while 1 { } }
+process count(out o) { k = 0; while (k < 9000) { write o k; k = (k + 1); } }
+process copy(in i; out o) { while 1 { read i x; write o x; } }
+process drop(in i) { while 1 { read i x; } }
+network {
+  channel a cap 1000; channel b cap 1000; channel c cap 1000;
+  count = count(; a); first = copy(a; b); second = copy(b; c); drop = drop(c;); spin = spin(;);
 }";
 
 /// How many commits a worker of a network makes beside ten batches, whose turns leave the lock free for so long.

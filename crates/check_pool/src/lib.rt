@@ -39,6 +39,8 @@ mod outside;
 #[cfg(test)]
 mod refusals;
 #[cfg(test)]
+mod regions;
+#[cfg(test)]
 mod resting;
 #[cfg(test)]
 mod runs;

@@ -59,6 +59,30 @@ process copy(in i; out o) { while 1 { read i x; write o x; } }
 network { source r; source s; sink z cap 1; d = drop(r;); c = copy(s; z); }
 ";
 
+/// Numbers through two copies to a sink: so many that workers whose gate lets everything through cut the network.
+const LONG: &str = "process count(out o) { k = 0; while (k < 9000) { write o k; k = (k + 1); } }
+process copy(in i; out o) { while 1 { read i x; write o x; } }
+network {
+  channel a cap 1000; channel b cap 1000; sink z cap 2;
+  count = count(; a); first = copy(a; b); second = copy(b; z);
+}
+";
+
+/// Two processes that each wait for room at the other, so that a growth is owed. Then many items come to the sink.
+const LONG_CYCLE: &str = "process p(in b; out a) {
+  k = 0;
+  while (k < 6000) { write a k; write a k; write a k; read b x; read b x; k = (k + 1); }
+}
+process q(in a; out b, c) {
+  while 1 { read a x; write b x; write b x; read a x; read a x; write c x; }
+}
+process copy(in i; out o) { while 1 { read i x; write o x; } }
+network {
+  channel a cap 1; channel b cap 1; channel c cap 1000; sink z cap 2;
+  p = p(b; a); q = q(a; b, c); copy = copy(c; z);
+}
+";
+
 /// A run until a verdict.
 const ALL: Limits = Limits {
     commits: 1_000_000,
@@ -118,8 +142,21 @@ fn told_of(report: &Report) -> Told {
 struct Beside {
     workers: Result<Told, RunFault>,
     here: Told,
-    /// Both took the same items of the sinks.
+    /// Both took the same items of the sinks. Where only so many are wanted, the workers may take some more.
     has_its_items: bool,
+}
+
+/// Whether a run took the items of another one, or, where only so many are wanted, these at least.
+fn has_items_of(report: &Report, here: &Report, limits: &Limits) -> bool {
+    if limits.take.is_none() {
+        return report.taken == here.taken;
+    }
+    for (taken, first) in report.taken.as_slice().iter().zip(here.taken.as_slice()) {
+        if !taken.as_slice().starts_with(first.as_slice()) {
+            return false;
+        }
+    }
+    report.taken.as_slice().len() == here.taken.as_slice().len()
 }
 
 impl Beside {
@@ -169,7 +206,7 @@ fn ran_beside<R: Threads + Wait + Clock + Sync>(
         Ok(report) => Beside {
             workers: Ok(told_of(&report)),
             here: told_of(here),
-            has_its_items: report.taken == here.taken,
+            has_its_items: has_items_of(&report, here, limits),
         },
         Err(fault) => Beside {
             workers: Err(fault),
@@ -248,6 +285,33 @@ fn refutes_run_always_refuses(rt: HostRuntime) -> Result<(), Fail> {
         ] {
             assert!(rt;
                 runs_as_here(&rt, alloc, text, lists, workers, &gate, &limits)?,
+                "{name}, {workers}"
+            );
+        }
+    }
+    Ok(())
+}
+
+/// A run that takes many items of each sink.
+const MANY: Limits = Limits {
+    commits: 1_000_000,
+    take: Some(8_000),
+    quota: 1_000,
+};
+
+/// Workers that divide a network come to the same.
+#[test]
+fn a_divided_network_runs_as_on_one_thread(rt: HostRuntime) -> Result<(), Fail> {
+    let gate = TestGate::open(true);
+    for workers in [1, 2, 16] {
+        for (name, text, limits) in [
+            ("long", LONG, ALL),
+            ("in turns of one step", LONG, STILL),
+            ("takes", LONG, MANY),
+            ("a cycle", LONG_CYCLE, ALL),
+        ] {
+            assert!(rt;
+                runs_as_here(&rt, rt.alloc(), text, &[], workers, &gate, &limits)?,
                 "{name}, {workers}"
             );
         }

@@ -1,16 +1,21 @@
 -- Where the items of a list in chunks are.
-use Rattle.std.specs.Prelude.{◌≡◌, ℕ, zero, suc, ◌+◌, ◌-◌, ◌*◌, ◌/◌, ◌%◌, ◌<◌, ◌≤◌, ℤ, Bool, true, false, List, [], ◌∷◌, ◌++◌, length, take, drop, get_or, slice_get, Some, Vec, ◌^◌, refl}
+use Rattle.std.specs.Prelude.{◌≡◌, ℕ, zero, suc, ◌+◌, ◌-◌, ◌*◌, ◌/◌, ◌%◌, ◌<◌, ◌≤◌, ℤ, ◌||◌, ◌&&◌, Bool, true, false, IsTrue, cond, is_some, List, [], ◌∷◌, ◌++◌, length, take, drop, get_or, slice_get, min, max, Option, Some, None, Result, Ok, Err, IsOk, OnOk, Vec, ◌^◌, refl}
+use Rattle.std.specs.Option.{unwrap_or, is_none}
 use Rattle.std.specs.Bool.{Decides}
 use Rattle.std.specs.List.{flat_map}
-use Rattle.std.proofs.Common.{arith, sym, ap, ◌∙◌, length-drop}
-use Rattle.std.proofs.Math.Seq.{drop-append-add, take-append_seam}
+use Rattle.std.proofs.Common.{arith, sym, ap, ◌∙◌, subst, inl, inr, eqb, leb, length-drop}
+use Rattle.std.proofs.Math.Seq.{drop-append-add, take-append_seam, take-length, drop-length}
+use Rattle.std.proofs.lemmas.Bool.{cases_lt, and_parts, or_cases, eqb-true, leb-true, false≢true}
 use Rattle.std.proofs.lemmas.List.{length-append, drop-append-le, append_assoc, append-nil, take-append-drop, drop-drop}
 use Rattle.std.proofs.lemmas.Option.{slice_get_within}
 use Rattle.circular_buffer.proofs.Places.{slice_get-drop}
 use Rattle.kpn_chan.specs.declared.chunks.Chunks.{Chunks}
-use Rattle.kpn_chan.specs.Chunks.{AreFull, IsChunks, IsCounted, items_of, all_of}
-use Rattle.kpn_chan.specs.Ring.{IsLaidOut}
-use Rattle.circular_buffer.specs.Buffer.{Buffer}
+use Rattle.kpn_chan.specs.Chunks.{AreFull, IsChunks, IsCounted, HasNext, HasPlacesFor, items_of, all_of}
+use Rattle.kpn_chan.specs.Channel.{ChannelState, after_put, joined, has_places_for, MayJoin}
+use Rattle.kpn_chan.specs.Ring.{IsLaidOut, IsRoomy, made_for, HasPlaces, MayPass, passed_through}
+use Rattle.kpn_chan.specs.declared.chunks.TheConstants.{MOST_GONE, MAX_CHUNKS}
+use Rattle.kpn_chan.specs.declared.channel.TheConstants.{FIRST_PLACES}
+use Rattle.circular_buffer.specs.Buffer.{Buffer, buffer}
 use Rattle.kpn_chan.specs.declared.chunks.TheConstants.{CHUNK}
 
 -- the first item stays if others are put behind it
@@ -157,16 +162,32 @@ bounded c is =
     let all = length-append c.past.items (items_of c) in
     omega (arith, all, many, is.few, is.last, is.count, is.bound, c.last.ok)
 
+-- and a chunk more
+pub bounded_with_chunk : {A : Type 0} (c : Chunks A) → IsChunks c → length (all_of c) + CHUNK < 2 ^ 64
+bounded_with_chunk c is =
+    let many = count_of c.full.items c.last.items is.full in
+    let all = length-append c.past.items (items_of c) in
+    omega (arith, all, many, is.few, is.last, is.count, is.bound, c.last.ok)
+
+-- if items go on past the last chunk and can be counted, there may be one more full chunk
+pub one_more_chunk : {A : Type 0} (c : Chunks A) → IsChunks c → (n : ℕ) → CHUNK < length c.last.items + n
+    → length (all_of c) + n ≤ MOST_GONE → length c.full.items + 1 ≤ MAX_CHUNKS
+one_more_chunk c is n past bound =
+    let many = count_of c.full.items c.last.items is.full in
+    let all = length-append c.past.items (items_of c) in
+    omega (arith, all, many, past, bound)
+
 -- what is in memory is all, if it is kept
 pub all_kept : {A : Type 0} (c : Chunks A) → IsChunks c → c.keeps ≡ true → all_of c ≡ items_of c
 all_kept c is keeps = ap (λ (l : List ℤ). l ++ items_of c) (is.kept keeps)
 
 -- an item that leaves the ring is the next one of the journal
-pub passed : {A : Type 0} (journal : Chunks A) (read most : ℕ) (before after : Buffer ℤ) (item : ℤ)
-    → IsLaidOut journal read (Some before) most → slice_get before.items 0 ≡ Some item
+pub passed : {A : Type 0} (journal : Chunks A) (read most : ℕ) (capacity : Option ℕ) (is_roomy is_wide : Bool)
+    (before after : Buffer ℤ) (item : ℤ)
+    → IsLaidOut journal read (Some before) capacity most is_roomy is_wide → slice_get before.items 0 ≡ Some item
     → after.items ≡ drop 1 before.items → after.capacity ≡ before.capacity
-    → IsLaidOut journal (read + 1) (Some after) most × (read + 1 < 2 ^ 64)
-passed journal read most before after item is given rest same =
+    → IsLaidOut journal (read + 1) (Some after) capacity most is_roomy is_wide × (read + 1 < 2 ^ 64)
+passed journal read most capacity is_roomy is_wide before after item is given rest same =
     let all = all_of journal in
     let some : 0 < length before.items = slice_get_within before.items 0 item given in
     let left : length before.items ≡ length all - read =
@@ -180,11 +201,291 @@ passed journal read most before after item is given rest same =
         unread = unread;
         within = (
           omega (arith, is.within.0, ap (λ (l : List ℤ). length l) rest, length-drop 1 before.items),
-          omega (arith, is.within.1, same),
+          subst (λ n. n ≤ FIRST_PLACES + 2 * max most (made_for is_wide capacity)) (sym same) is.within.1,
         );
+        roomy = λ is_so.
+            let room = is.roomy is_so in
+            record { next = room.next; places = subst (λ n. unwrap_or capacity 0 ≤ n) (sym same) room.places };
       },
       omega (arith, next, bounded journal is.chunks),
     )
+
+module _ {A : Type 0} (journal after : Chunks A) (read : ℕ) (capacity : Option ℕ) (most : ℕ) (is_roomy is_wide : Bool)
+    (item : ℤ) (chunks : IsChunks after) (items : all_of after ≡ all_of journal ++ item ∷ [])
+    (keeps : after.keeps ≡ journal.keeps) (next : HasNext journal → HasNext after) where
+  longer : length (all_of after) ≡ length (all_of journal) + 1
+  longer = ap (λ (l : List ℤ). length l) items ∙ length-append (all_of journal) (item ∷ [])
+
+  -- an item is put on the journal and into the ring
+  pub put_in_ring : (ring filled : Buffer ℤ) (most_then : ℕ)
+      → IsLaidOut journal read (Some ring) capacity most is_roomy is_wide
+      → filled ≡ buffer (ring.items ++ item ∷ []) ring.capacity → most_then ≡ max most (length filled.items)
+      → IsLaidOut after read (Some filled) capacity most_then is_roomy is_wide
+  put_in_ring ring filled most_then is made most_is =
+      let long = longer in
+      let place = is.place in
+      let few = is.within.1 in
+      let same : filled.capacity ≡ ring.capacity = ap (λ (b : Buffer ℤ). b.capacity) made in
+      record {
+        chunks = chunks;
+        place = omega (arith, long, place);
+        unread =
+            ap (λ (b : Buffer ℤ). b.items) made
+            ∙ ap (λ (l : List ℤ). l ++ item ∷ []) is.unread
+            ∙ sym (drop-append-le read (all_of journal) (item ∷ []) place)
+            ∙ ap (λ (l : List ℤ). drop read l) (sym items);
+        within = (omega (arith, most_is), omega (arith, few, same, most_is));
+        roomy = λ is_so.
+            let room = is.roomy is_so in
+            record {
+              next = λ kept. next (room.next (sym keeps ∙ kept));
+              places = subst (λ n. unwrap_or capacity 0 ≤ n) (sym same) room.places;
+            };
+      }
+
+  -- or on the journal of a channel whose reader is gone
+  pub put_on_retired : IsLaidOut journal read None capacity most is_roomy is_wide
+      → IsLaidOut after read None capacity most is_roomy is_wide
+  put_on_retired is =
+      let long = longer in
+      let place = is.place in
+      record {
+        chunks = chunks;
+        place = omega (arith, long, place);
+        unread = tt;
+        within = tt;
+        roomy = λ is_so.
+            record { next = λ kept. next ((is.roomy is_so).next (sym keeps ∙ kept)); places = tt };
+      }
+
+-- all of them enter
+pub all_enter : (len cap n taken gone kept count rest : ℕ) → gone ≡ min taken len → kept ≡ len - gone
+    → rest ≡ n - (taken - gone) → count ≡ min rest (cap - kept) → taken ≤ len + n
+    → (0 < n → len + n ≤ cap + taken) → count ≡ rest
+all_enter len cap n taken gone kept count rest is left behind counted few fits =
+    elim (cases_lt 0 n) [
+      | inl some ↦ let enough = fits some in omega (arith, is, left, behind, counted, few, enough)
+      | inr none ↦ omega (arith, behind, counted, none)
+    ]
+
+-- what stays in a ring once so many items have left it and others have entered, and those that did both did neither
+pub passes_through : (xs ys : List ℤ) (taken gone count : ℕ) → gone ≡ min taken (length xs)
+    → count ≡ length (drop (taken - gone) ys)
+    → drop (length xs - (length xs - gone)) xs ++ take count (drop (taken - gone) ys) ≡ drop taken (xs ++ ys)
+passes_through xs ys taken gone count is all =
+    let few : gone ≤ length xs = omega (arith, is) in
+    let left : length xs - (length xs - gone) ≡ gone = omega (arith, few) in
+    let rest = drop (taken - gone) ys in
+    let whole : take count rest ≡ rest = ap (λ n. take n rest) all ∙ take-length rest in
+    ap (λ n. drop n xs ++ take count rest) left
+    ∙ ap (λ (l : List ℤ). drop gone xs ++ l) whole
+    ∙ elim (cases_lt (length xs) taken) [
+      | inr within ↦
+          let same : gone ≡ taken = omega (arith, is, within) in
+          let none : taken - gone ≡ 0 = omega (arith, same) in
+          ap (λ n. drop n xs ++ rest) same
+          ∙ ap (λ n. drop taken xs ++ drop n ys) none
+          ∙ sym (drop-append-le taken xs ys within)
+      | inl past ↦
+          let same : gone ≡ length xs = omega (arith, is, past) in
+          let more : taken ≡ length xs + (taken - gone) = omega (arith, same, past) in
+          ap (λ n. drop n xs ++ rest) same
+          ∙ ap (λ (l : List ℤ). l ++ rest) (drop-length xs)
+          ∙ sym (ap (λ n. drop n (xs ++ ys)) more ∙ drop-append-add xs ys (taken - gone))
+    ]
+
+-- what holds if a call succeeds
+pub on_ok : {T E P : Type 0} (r : Result T E) → IsOk r → OnOk r P → P
+on_ok (Ok x) is h = h
+on_ok (Err e) is h = absurd (false≢true is)
+
+-- what contracts see of a channel
+abbrev pub seen_so : List ℤ → (read : ℕ) → (capacity : Option ℕ) → (gone reserved keeps : Bool) → (most : ℕ)
+    → (is_roomy is_wide : Bool) → ChannelState
+seen_so journal read capacity gone reserved keeps most is_roomy is_wide =
+    record {
+      journal = journal;
+      read = read;
+      capacity = capacity;
+      is_retired = gone;
+      is_reserved = reserved;
+      is_kept = keeps;
+      most = most;
+      is_roomy = is_roomy;
+      is_wide = is_wide;
+    }
+
+module _ (before after : List ℤ) (read : ℕ) (capacity : Option ℕ) (was keeps : Bool) (most : ℕ) (is_roomy is_wide : Bool)
+    (same : keeps ≡ was) where
+  module _ (item : ℤ) (is : after ≡ before ++ item ∷ []) (left_so reserved : Bool) where
+    pub seen_put : (ring filled : Buffer ℤ) (most_then : ℕ) → ring.items ≡ drop read before
+        → filled ≡ buffer (ring.items ++ item ∷ []) ring.capacity → most_then ≡ max most (length filled.items)
+        → seen_so after read capacity false reserved keeps most_then is_roomy is_wide
+        ≡ after_put item reserved (seen_so before read capacity false left_so was most is_roomy is_wide)
+    seen_put ring filled most_then unread made most_is =
+        let m : most_then ≡ max most (length (drop read before) + 1) =
+        most_is
+        ∙ ap (λ (b : Buffer ℤ). max most (length b.items)) made
+        ∙ ap (max most) (length-append ring.items (item ∷ []) ∙ ap (λ (l : List ℤ). length l + 1) unread) in
+        ap (λ l. seen_so l read capacity false reserved keeps most_then is_roomy is_wide) is
+        ∙ ap (λ k. seen_so (before ++ item ∷ []) read capacity false reserved k most_then is_roomy is_wide) same
+        ∙ ap (λ n. seen_so (before ++ item ∷ []) read capacity false reserved was n is_roomy is_wide) m
+
+    pub seen_put_on_retired : seen_so after read capacity true reserved keeps most is_roomy is_wide
+        ≡ after_put item reserved (seen_so before read capacity true left_so was most is_roomy is_wide)
+    seen_put_on_retired =
+        ap (λ l. seen_so l read capacity true reserved keeps most is_roomy is_wide) is
+        ∙ ap (λ k. seen_so (before ++ item ∷ []) read capacity true reserved k most is_roomy is_wide) same
+
+  pub seen_joined : (taken : ℕ) (items : List ℤ) (seen : ℕ) → after ≡ before ++ items
+      → (left_so reserved ready : Bool) (ring filled : Option (Buffer ℤ)) (most_then : ℕ)
+      → filled ≡ passed_through taken items ring → most_then ≡ cond (is_none ring) most (max most seen)
+      → seen_so after (read + taken) capacity (is_none filled) reserved keeps most_then ready is_wide
+      ≡ joined taken items seen reserved ready
+      (seen_so before read capacity (is_none ring) left_so was most is_roomy is_wide)
+  seen_joined taken items seen is left_so reserved ready ring filled most_then passed most_is =
+      let gone : is_none filled ≡ is_none ring = ap is_none passed ∙ still_gone ring in
+      ap (λ l. seen_so l (read + taken) capacity (is_none filled) reserved keeps most_then ready is_wide) is
+      ∙ ap (λ k. seen_so (before ++ items) (read + taken) capacity (is_none filled) reserved k most_then ready is_wide) same
+      ∙ ap (λ n. seen_so (before ++ items) (read + taken) capacity (is_none filled) reserved was n ready is_wide) most_is
+      ∙ ap (λ b. seen_so (before ++ items) (read + taken) capacity b reserved was
+      (cond (is_none ring) most (max most seen)) ready is_wide) gone
+    where
+      still_gone : (r : Option (Buffer ℤ)) → is_none (passed_through taken items r) ≡ is_none r
+      still_gone None = refl
+      still_gone (Some r) = refl
+
+-- what a channel has that has places for some items
+pub record PlacesAre (n : ℕ) (c : ChannelState) : Type 0 where
+  pub roomy : c.is_roomy ≡ true
+  pub ring : (c.is_retired || is_some c.capacity) ≡ true
+  pub few : n ≤ CHUNK
+  pub bound : length c.journal + n ≤ MOST_GONE
+
+pub places_are : (n : ℕ) (c : ChannelState) → has_places_for n c ≡ true → 0 < n → PlacesAre n c
+places_are n c is some =
+    elim (or_cases (eqb n 0) _ is) [
+      | inl none ↦ absurd (let no = eqb-true n 0 none in omega (arith, no, some))
+      | inr rest ↦
+          let first = and_parts c.is_roomy _ rest in
+          let second = and_parts (c.is_retired || is_some c.capacity) _ first.1 in
+          let third = and_parts (leb n CHUNK) _ second.1 in
+          record {
+            roomy = first.0;
+            ring = second.0;
+            few = leb-true n CHUNK third.0;
+            bound = leb-true (length c.journal + n) MOST_GONE third.1;
+          }
+    ]
+
+-- a channel of some capacity keeps it
+is_some_of : (o : Option ℕ) → is_some o ≡ true → (n : ℕ) × (o ≡ Some n)
+is_some_of None is = absurd cc
+is_some_of (Some n) is = (n, refl)
+
+module _ {A : Type 0} (journal : Chunks A) (read : ℕ) (capacity : Option ℕ) (most : ℕ) (is_roomy is_wide : Bool) where
+  abbrev seen_as : Option (Buffer ℤ) → (reserved : Bool) → ChannelState
+  seen_as ring reserved =
+      record {
+        journal = all_of journal;
+        read = read;
+        capacity = capacity;
+        is_retired = is_none ring;
+        is_reserved = reserved;
+        is_kept = journal.keeps;
+        most = most;
+        is_roomy = is_roomy;
+        is_wide = is_wide;
+      }
+
+  module _ (taken : ℕ) (items : List ℤ) (seen : ℕ) (reserved : Bool) where
+    pub may_pass : (ring : Option (Buffer ℤ)) → IsLaidOut journal read ring capacity most is_roomy is_wide
+        → MayJoin taken items seen (seen_as ring reserved) → MayPass taken items ring
+    may_pass None is may = tt
+    may_pass (Some ring) is may =
+        let left : length ring.items ≡ length (all_of journal) - read =
+        ap (λ (l : List ℤ). length l) is.unread ∙ length-drop read (all_of journal) in
+        let written = may.written in
+        let place = is.place in (
+          omega (arith, left, written, place),
+          λ some.
+              let are = places_are (length items) (seen_as (Some ring) reserved) may.places some in
+              let cap = is_some_of capacity are.ring in
+              let fits = may.within refl some cap.0 cap.1 in
+              let unread : length (drop read (all_of journal)) ≡ length ring.items =
+              sym (ap (λ (l : List ℤ). length l) is.unread) in
+              let places : cap.0 ≤ ring.capacity =
+              subst (λ o. unwrap_or o 0 ≤ ring.capacity) cap.1 (is.roomy are.roomy).places in
+              omega (arith, fits, unread, places),
+        )
+
+    pub may_append : (ring : Option (Buffer ℤ)) → IsLaidOut journal read ring capacity most is_roomy is_wide
+        → MayJoin taken items seen (seen_as ring reserved) → 0 < length items
+        → HasPlacesFor (length items) journal
+    may_append ring is may some =
+        let are = places_are (length items) (seen_as ring reserved) may.places some in
+        record { next = (is.roomy are.roomy).next; few = are.few; bound = are.bound }
+
+    module _ (after : Chunks A) (chunks : IsChunks after) (all : all_of after ≡ all_of journal ++ items)
+        (keeps : after.keeps ≡ journal.keeps) (ready : Bool) (next : IsTrue ready → HasNext journal → HasNext after)
+      where
+        written_then : read + taken ≤ length (all_of journal) + length items → read + taken ≤ length (all_of after)
+        written_then written =
+            let long : length (all_of after) ≡ length (all_of journal) + length items =
+            ap (λ (l : List ℤ). length l) all ∙ length-append (all_of journal) items in
+            omega (arith, long, written)
+
+        room_then : (ring filled : Option (Buffer ℤ)) → (HasPlaces ring capacity → HasPlaces filled capacity)
+            → IsLaidOut journal read ring capacity most is_roomy is_wide → (is_roomy && ready) ≡ true
+            → IsRoomy after filled capacity
+        room_then ring filled places is both =
+            let parts = and_parts is_roomy ready both in
+            let room = is.roomy parts.0 in
+            record { next = λ kept. next parts.1 (room.next (sym keeps ∙ kept)); places = places room.places }
+
+        pub joined_laid_out : (ring : Option (Buffer ℤ)) → IsLaidOut journal read ring capacity most is_roomy is_wide
+            → MayJoin taken items seen (seen_as ring reserved)
+            → IsLaidOut after (read + taken) (passed_through taken items ring) capacity
+            (cond (is_none ring) most (max most seen)) (is_roomy && ready) is_wide
+        joined_laid_out None is may =
+            record {
+              chunks = chunks;
+              place = written_then may.written;
+              unread = tt;
+              within = tt;
+              roomy = room_then None None (λ h. h) is;
+            }
+        joined_laid_out (Some ring) is may =
+            let filled : Buffer ℤ = buffer (drop taken (ring.items ++ items)) ring.capacity in
+            let bound = may.seen refl in
+            let few = is.within.1 in
+            let unread : length (drop read (all_of journal)) ≡ length ring.items =
+            sym (ap (λ (l : List ℤ). length l) is.unread) in
+            let long : length (drop taken (ring.items ++ items)) ≡ length ring.items + length items - taken =
+            length-drop taken (ring.items ++ items) ∙ ap (λ n. n - taken) (length-append ring.items items) in
+            record {
+              chunks = chunks;
+              place = written_then may.written;
+              unread =
+                  ap (λ (l : List ℤ). drop taken (l ++ items)) is.unread
+                  ∙ ap (drop taken) (sym (drop-append-le read (all_of journal) items is.place))
+                  ∙ drop-drop taken read (all_of journal ++ items)
+                  ∙ ap (λ (l : List ℤ). drop (read + taken) l) (sym all);
+              within = (omega (arith, long, bound, unread), omega (arith, few));
+              roomy = room_then (Some ring) (Some filled) (λ h. h) is;
+            }
+
+    -- what is read then can be counted
+    pub read_then : (ring : Option (Buffer ℤ)) → IsLaidOut journal read ring capacity most is_roomy is_wide
+        → MayJoin taken items seen (seen_as ring reserved) → read + taken < 2 ^ 64
+    read_then ring is may =
+        let written = may.written in
+        let all = bounded journal is.chunks in
+        elim (cases_lt 0 (length items)) [
+          | inl some ↦
+              let bound = (may_append ring is may some).bound in omega (arith, written, bound)
+          | inr none ↦ omega (arith, written, none, all)
+        ]
 
 -- a list begins with another if it has the items of the other at their places
 pub begins_by_places : (xs l : List ℤ) → ((k : ℕ) → k < length xs → slice_get l k ≡ slice_get xs k)

@@ -1,8 +1,9 @@
 -- A channel as contracts see it: a journal of every item that was put, of which the first ones were read. No change
 -- fixes whether the next item is reserved: only a put may end a reservation, and the storage decides whether one comes
 -- about. So each change takes, as an argument, whether an item is reserved after it.
-use Rattle.std.specs.Prelude.{ℕ, ◌+◌, ℤ, Bool, true, false, not, ◌&&◌, nat_le, if◌then◌else◌, List, [], ◌∷◌, ◌++◌, length, take, drop, Option, Some, None, slice_get, IsSomeAnd, max, ◌<◌, ◌≤◌}
+use Rattle.std.specs.Prelude.{◌≡◌, ℕ, ◌+◌, ℤ, Bool, true, false, not, ◌&&◌, ◌||◌, nat_le, nat_eq, if◌then◌else◌, List, [], ◌∷◌, ◌++◌, length, take, drop, Option, Some, None, is_some, slice_get, IsSomeAnd, max, ◌<◌, ◌≤◌}
 use Rattle.kpn_limits.specs.declared.TheConstants.{MAX_CAPACITY}
+use Rattle.kpn_chan.specs.declared.chunks.TheConstants.{CHUNK, MOST_GONE}
 
 pub record ChannelState : Type 0 where
   -- every item that was put, oldest first
@@ -19,6 +20,11 @@ pub record ChannelState : Type 0 where
   pub is_kept : Bool
   -- the most items that were ever unread while the reader was there
   pub most : ℕ
+  -- whether items can be joined without memory: there are places for as many unread items as fill the channel, and, if
+  -- the journal is kept, for a chunk of items more. A source has no such places for unread items
+  pub is_roomy : Bool
+  -- whether it was ever made roomy: then there may be places for more items than were ever unread
+  pub is_wide : Bool
 
 -- the items that were read
 abbrev pub already_read : ChannelState → List ℤ
@@ -56,6 +62,8 @@ opened capacity reserved =
       is_reserved = reserved;
       is_kept = true;
       most = 0;
+      is_roomy = false;
+      is_wide = false;
     }
 
 -- the same channel, whose journal is kept only if this says so
@@ -103,7 +111,7 @@ one_more (Some capacity) = Some (capacity + 1)
 
 -- the channel with a capacity larger by one
 abbrev pub grown : Bool → ChannelState → ChannelState
-grown reserved c = record c { capacity = one_more c.capacity; is_reserved = reserved }
+grown reserved c = record c { capacity = one_more c.capacity; is_reserved = reserved; is_roomy = false }
 
 -- the channel has a capacity below this one, which is at most the greatest possible one
 abbrev pub MayGrowTo : (larger : ℕ) → ChannelState → Type 0
@@ -111,4 +119,43 @@ MayGrowTo larger c = IsSomeAnd c.capacity (λ capacity. capacity < larger) × (l
 
 -- the channel with this capacity
 abbrev pub grown_to : (larger : ℕ) → Bool → ChannelState → ChannelState
-grown_to larger reserved c = record c { capacity = Some larger; is_reserved = reserved }
+grown_to larger reserved c = record c { capacity = Some larger; is_reserved = reserved; is_roomy = false }
+
+-- the channel with room for items that are joined to it
+abbrev pub roomy : Bool → ChannelState → ChannelState
+roomy reserved c = record c { is_reserved = reserved; is_roomy = true; is_wide = true }
+
+-- the same channel, whose next item is reserved if this says so
+abbrev pub with_reserved : Bool → ChannelState → ChannelState
+with_reserved reserved c = record c { is_reserved = reserved }
+
+-- whether so many items can be joined without memory; to a source none can, while its reader is there
+abbrev pub has_places_for : ℕ → ChannelState → Bool
+has_places_for count c =
+    nat_eq count 0
+    || (c.is_roomy
+    && ((c.is_retired || is_some c.capacity) && (nat_le count CHUNK && nat_le (length c.journal + count) MOST_GONE)))
+
+-- so many items may be counted as read and these be put, at once, if no more than so many were unread meanwhile. There
+-- are places for the items, and what is read was put. If the reader is there, what is unread is within the capacity
+pub record MayJoin (taken : ℕ) (items : List ℤ) (most : ℕ) (c : ChannelState) : Type 0 where
+  pub places : has_places_for (length items) c ≡ true
+  pub written : c.read + taken ≤ length c.journal + length items
+  pub within : c.is_retired ≡ false → 0 < length items → (capacity : ℕ) → c.capacity ≡ Some capacity
+      → length (unread c) + length items ≤ capacity + taken
+  pub seen : c.is_retired ≡ false → length (unread c) + length items ≤ max c.most most + taken
+
+-- the most items that were ever unread, with those of a batch
+abbrev pub most_with_batch : (most : ℕ) → ChannelState → ℕ
+most_with_batch most c = if c.is_retired then c.most else max c.most most
+
+-- the channel once so many items more are read, and these are put
+abbrev pub joined : (taken : ℕ) → List ℤ → (most : ℕ) → (reserved is_roomy : Bool) → ChannelState → ChannelState
+joined taken items most reserved is_roomy c =
+    record c {
+      journal = c.journal ++ items;
+      read = c.read + taken;
+      is_reserved = reserved;
+      most = most_with_batch most c;
+      is_roomy = is_roomy;
+    }

@@ -1,6 +1,6 @@
 -- A list of items in chunks: some full ones, and a last one, which may be shorter. Before them come those that were
 -- forgotten, which only proofs know.
-use Rattle.std.specs.Prelude.{◌≡◌, true, false, [], ◌≤◌, ◌<◌, ◌^◌, ℤ, Bool, nat_lt, List, ◌++◌, length, vec_len, vec_capacity, Vec}
+use Rattle.std.specs.Prelude.{◌≡◌, ℕ, ◌+◌, true, false, [], ◌≤◌, ◌<◌, ◌^◌, ℤ, Bool, nat_lt, List, ◌++◌, length, vec_len, vec_capacity, Vec}
 use Rattle.std.specs.List.{All, flat_map}
 use Rattle.kpn_chan.specs.declared.chunks.Chunks.{Chunks}
 use Rattle.kpn_chan.specs.declared.chunks.TheConstants.{CHUNK, MAX_CHUNKS, MOST_GONE}
@@ -23,7 +23,8 @@ module _ {A : Type 0} where
   AreFull chunks = All (λ v. length v.items ≡ CHUNK) chunks
 
   -- what holds of a channel's chunks: each but the last is full, and the last never has more places than a full one. Of
-  -- those that keep their items nothing was forgotten; the others have one chunk. What was forgotten is counted
+  -- those that keep their items nothing was forgotten; the others have one chunk. What was forgotten is counted. The
+  -- next chunk is free
   pub record IsChunks (c : Chunks A) : Type 0 where
     pub full : AreFull c.full.items
     pub few : vec_len c.full ≤ MAX_CHUNKS
@@ -32,6 +33,23 @@ module _ {A : Type 0} where
     pub forgotten : c.keeps ≡ false → c.full.items ≡ []
     pub count : length c.past.items ≡ c.gone
     pub bound : c.gone ≤ MOST_GONE
+    pub next : c.next.items ≡ []
+    pub next_places : vec_capacity c.next ≤ CHUNK
+    pub no_next : c.keeps ≡ false → vec_capacity c.next ≡ 0
+
+  -- the last chunk has the places of a full one, and there are a free chunk to follow it and a place for it among the
+  -- full ones
+  pub record HasNext (c : Chunks A) : Type 0 where
+    pub keeps : c.keeps ≡ true
+    pub slot : vec_len c.full < vec_capacity c.full
+    pub last : vec_capacity c.last ≡ CHUNK
+    pub next : vec_capacity c.next ≡ CHUNK
+
+  -- there are places for so many items more, and they can be counted
+  pub record HasPlacesFor (count : ℕ) (c : Chunks A) : Type 0 where
+    pub next : c.keeps ≡ true → HasNext c
+    pub few : count ≤ CHUNK
+    pub bound : length (all_of c) + count ≤ MOST_GONE
 
   -- what holds of any journal: its items can be counted
   pub record IsCounted (c : Chunks A) : Type 0 where

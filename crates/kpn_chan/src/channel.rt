@@ -1,12 +1,14 @@
 //! A channel: the journal of all items that were put, in chunks, and a ring of the unread ones, so that a read looks
 //! into no chunk.
-ghost use Rattle.std.specs.Prelude.{◌≡◌, ◌+◌, ◌*◌, ◌<◌, ◌≤◌, ◌^◌, max, length, [], ◌↔◌, IsTrue, false, IfErr, true, IsOk, IfOk, is_ok, if◌then◌else◌, slice_get, take, nat_lt};
-ghost use Rattle.kpn_chan.specs.Channel.{unread, is_full, next_item, next_at, opened, opened_as, kept_journal, with_room, after_put, after_get, retired, MayGrow, grown, MayGrowTo, grown_to};
+ghost use Rattle.std.specs.Option.{unwrap_or, is_none};
+ghost use Rattle.std.specs.Prelude.{◌≡◌, ◌++◌, drop, ◌+◌, ◌*◌, ◌<◌, ◌≤◌, ◌^◌, max, length, [], ◌↔◌, IsTrue, false, IfErr, true, IsOk, OnOk, OnErr, IfOk, is_ok, if◌then◌else◌, slice_get, take, nat_lt};
+ghost use Rattle.kpn_chan.specs.Channel.{unread, is_full, next_item, next_at, opened, opened_as, kept_journal, with_room, after_put, after_get, retired, MayGrow, grown, MayGrowTo, grown_to, roomy, with_reserved, MayJoin, joined, has_places_for};
+ghost use Rattle.kpn_chan.specs.Ring.{MayPass, passed_through};
 ghost use Rattle.kpn_chan.specs.declared.unread.Unread.TheVariants.{Forgotten};
 ghost use Rattle.kpn_chan.specs.declared.channel.TheConstants.{FIRST_PLACES};
 ghost use Rattle.kpn_chan.specs.declared.chunks.TheConstants.{CHUNK};
 
-use crate::chunks::{CHUNK, Chunks};
+use crate::chunks::{CHUNK, Chunks, MOST_GONE};
 use crate::journal::{Journal, Written};
 use crate::unread::Unread;
 use circular_buffer::HeapCircularBuffer;
@@ -26,6 +28,9 @@ pub struct Channel<A: Allocator = Global> {
     capacity: Option<u32>,
     // the most items that were ever unread while the reader was there
     most: usize,
+    roomy: bool,
+    // it was ever made roomy
+    wide: bool,
 }
 
 /// It is written out, so that a crate that drops a channel proves nothing about what is inside.
@@ -37,6 +42,8 @@ impl<A: Allocator> Drop for Channel<A> {
             read: _,
             capacity: _,
             most: _,
+            roomy: _,
+            wide: _,
         } = self;
         drop(journal);
         drop(ring);
@@ -60,9 +67,11 @@ impl<A: Allocator> Model for Channel<A> {
       is_reserved = has_room c.journal && has_place c.ring;
       is_kept = c.journal.keeps;
       most = c.most;
+      is_roomy = c.roomy;
+      is_wide = c.wide;
     } };
 
-    ghost invariant = { λ c. IsLaidOut c.journal c.read c.ring c.most };
+    ghost invariant = { λ c. IsLaidOut c.journal c.read c.ring c.capacity c.most c.roomy c.wide };
 }
 
 /// The most places that a ring begins with, and that of a source has.
@@ -88,6 +97,8 @@ impl<A: Allocator + Copy> Channel<A> {
             read: 0,
             capacity: cap,
             most: 0,
+            roomy: false,
+            wide: false,
         })
     }
 
@@ -139,7 +150,47 @@ impl<A: Allocator + Copy> Channel<A> {
             reserve_place(ring)?;
         }
         self.capacity = Some(cap);
+        self.roomy = false;
         Ok(())
+    }
+
+    /// Makes the channel roomy: then a `join` takes no memory, until the channel grows or a `join` has used up what was
+    /// made ready. There are as many places for unread items as fill the channel, and of a journal that is kept a free
+    /// chunk.
+    ///
+    /// The error is that memory ran out. A reserved item stays reserved.
+    pub fn make_roomy(&mut self) -> Result<(), AllocError>
+        ensures after { self.new ≡ (if is_ok result then roomy self.new.is_reserved self.old
+            else with_reserved self.new.is_reserved self.old) }
+        ensures reserved { IsTrue self.old.is_reserved → IsTrue self.new.is_reserved }
+    {
+        if !self.roomy {
+            self.journal.make_next()?;
+            if let Some(ring) = &mut self.ring {
+                widen(ring, self.capacity)?;
+            }
+        }
+        self.roomy = true;
+        self.wide = true;
+        Ok(())
+    }
+
+    /// Counts `taken` items more as read, and puts these behind the others, at once. Items that are put and read never
+    /// enter the ring. `most` items were unread meanwhile, or fewer. It takes no memory.
+    ///
+    /// The contract leaves open whether an item is reserved, and whether the channel is roomy, unless nothing is put.
+    pub fn join(&mut self, taken: usize, items: &[i64], most: usize)
+        requires { MayJoin taken items.now most self.old }
+        ensures after { self.new ≡ joined taken items.now most
+            self.new.is_reserved self.new.is_roomy self.old }
+        ensures reserved { items.now ≡ [] → IsTrue self.old.is_reserved
+            → IsTrue self.new.is_reserved }
+        ensures roomy { items.now ≡ [] → IsTrue self.old.is_roomy → IsTrue self.new.is_roomy }
+    {
+        pass_through(&mut self.ring, &mut self.most, taken, items, most);
+        self.read += taken;
+        let is_ready = self.journal.append(items);
+        self.roomy = self.roomy && is_ready;
     }
 }
 
@@ -162,6 +213,7 @@ impl<A: Allocator> Channel<A> {
         ensures { self.new ≡ grown_to cap true self.old }
     {
         self.capacity = Some(cap);
+        self.roomy = false;
     }
 
     /// Puts an item at the end of the journal, in the room that is reserved. It takes no memory.
@@ -262,9 +314,13 @@ impl<A: Allocator> Channel<A> {
     }
 
     /// For how many items there is memory. If the journal is not kept, these are the places of a chunk, some places to
-    /// begin with, and at most twice as many as items were ever unread.
+    /// begin with, and at most twice as many as items were ever unread. If the channel was ever made roomy, there may
+    /// also be twice as many as fill it.
     pub fn places(&self) -> usize
-        ensures { self.now.is_kept ≡ false → result ≤ CHUNK + FIRST_PLACES + 2 * self.now.most }
+        ensures unless_wide { self.now.is_wide ≡ false
+            → self.now.is_kept ≡ false → result ≤ CHUNK + FIRST_PLACES + 2 * self.now.most }
+        ensures bound { self.now.is_kept ≡ false
+            → result ≤ CHUNK + FIRST_PLACES + 2 * max self.now.most (unwrap_or self.now.capacity 0) }
     {
         let chunk = self.journal.places();
         match &self.ring {
@@ -285,6 +341,19 @@ impl<A: Allocator> Channel<A> {
         ensures { result ≡ self.now.is_kept }
     {
         self.journal.keeps
+    }
+
+    /// Whether so many items can be joined without memory: the channel is roomy, they are at most 4,096, and all items
+    /// can be counted then. To a source none can be joined while its reader is there.
+    #[tactic(auto, using(crate::proofs::Places::bounded_with_chunk))]
+    pub fn has_places_for(&self, count: usize) -> bool
+        ensures { result ≡ has_places_for count self.now }
+    {
+        count == 0
+            || (self.roomy
+                && (self.ring.is_none() || self.capacity.is_some())
+                && count <= CHUNK
+                && self.journal.count() + count <= MOST_GONE)
     }
 
     /// The item at a place of the journal, counted from 0, or `None` past its end. Of a journal that is not kept it may
@@ -344,6 +413,8 @@ impl<A: Allocator> Channel<A> {
             read: _,
             capacity: _,
             most: _,
+            roomy: _,
+            wide: _,
         } = self;
         drop(ring);
         if !journal.keeps {
@@ -364,6 +435,8 @@ impl<A: Allocator> Channel<A> {
             read: _,
             capacity: _,
             most: _,
+            roomy: _,
+            wide: _,
         } = self;
         drop(ring);
         if journal.keeps {
@@ -373,11 +446,12 @@ impl<A: Allocator> Channel<A> {
     }
 
     /// Does nothing. A caller's proof learns from it what holds of every channel: no more items were read than were
-    /// put, and their number fits a `usize`.
+    /// put, their number fits a `usize`, and no more are unread than ever were.
     #[tactic(auto, using(crate::proofs::Places::bounded))]
     pub fn known(&self)
         ensures read { self.now.read ≤ length self.now.journal }
         ensures bound { length self.now.journal < 2 ^ 64 }
+        ensures most { self.now.is_retired ≡ false → length (unread self.now) ≤ self.now.most }
     {
         let _ = &self.journal;
     }
@@ -401,6 +475,7 @@ fn reserve_place<A: Allocator + Copy>(
     ensures items { ring.new.items ≡ ring.old.items }
     ensures place { nat_lt (length ring.new.items) ring.new.capacity ≡ is_ok result }
     ensures already { length ring.old.items < ring.old.capacity → IsOk result }
+    ensures grows { ring.old.capacity ≤ ring.new.capacity }
     ensures bound { ring.new.capacity
         ≤ max ring.old.capacity (2 * length ring.old.items + 1) }
 {
@@ -409,4 +484,44 @@ fn reserve_place<A: Allocator + Copy>(
         return Ok(());
     }
     ring.resize((2 * places).max(1))
+}
+
+/// Makes as many places in a ring as fill a channel of this capacity. The error is that memory ran out.
+fn widen<A: Allocator + Copy>(
+    ring: &mut HeapCircularBuffer<i64, A>,
+    cap: Option<u32>,
+) -> Result<(), AllocError>
+    ensures items { ring.new.items ≡ ring.old.items }
+    ensures places { OnOk result (unwrap_or cap 0 ≤ ring.new.capacity) }
+    ensures grows { ring.old.capacity ≤ ring.new.capacity }
+    ensures bound { ring.new.capacity ≤ max ring.old.capacity (unwrap_or cap 0) }
+    ensures refused { OnErr result (ring.new.capacity ≡ ring.old.capacity) }
+{
+    let places = cap.unwrap_or(0) as usize;
+    if places <= ring.capacity() {
+        return Ok(());
+    }
+    ring.resize(places)
+}
+
+/// So many items leave a ring, if there is one, and these enter it behind the others. Those that enter and leave do
+/// neither. The most items that were ever there become so many, if they were fewer.
+fn pass_through<A: Allocator>(
+    ring: &mut Option<HeapCircularBuffer<i64, A>>,
+    most: &mut usize,
+    taken: usize,
+    items: &[i64],
+    seen: usize,
+)
+    requires { MayPass taken items.now ring.old }
+    ensures ring { ring.new ≡ passed_through taken items.now ring.old }
+    ensures most { most.new ≡ (if is_none ring.old then most.old else max most.old seen) }
+{
+    let Some(ring) = ring else {
+        return;
+    };
+    let gone = taken.min(ring.len());
+    ring.truncate_front(ring.len() - gone);
+    let _entered = ring.fill_from_slice(&items[taken - gone..]);
+    *most = seen.max(*most);
 }

@@ -1,8 +1,8 @@
 //! A list in chunks, so that an item never moves once its chunk is full. It has all that was put on a channel, or it
 //! hands what it has to proofs when its chunk is full, and forgets it.
-ghost use Rattle.std.specs.Prelude.{◌≡◌, ◌↔◌, Some, false, OnOk, OnErr, ◌<◌, ◌≤◌, [], ◌∷◌, ◌++◌, length, take, drop, is_ok, IsOk, IfOk, IsTrue, slice_get, vec_len, vec_capacity};
-ghost use Rattle.kpn_chan.specs.Chunks.{items_of, all_of, has_room, IsChunks, IsCounted};
-ghost use Rattle.kpn_chan.specs.declared.chunks.TheConstants.{CHUNK};
+ghost use Rattle.std.specs.Prelude.{◌≡◌, ◌↔◌, ◌+◌, Some, true, false, OnOk, OnErr, ◌<◌, ◌≤◌, [], ◌∷◌, ◌++◌, length, take, drop, is_ok, IsOk, IfOk, IsTrue, slice_get, vec_len, vec_capacity};
+ghost use Rattle.kpn_chan.specs.Chunks.{items_of, all_of, has_room, IsChunks, IsCounted, HasNext, HasPlacesFor};
+ghost use Rattle.kpn_chan.specs.declared.chunks.TheConstants.{CHUNK, MOST_GONE};
 
 use kpn_past::Past;
 use std::alloc::{AllocError, Allocator};
@@ -33,6 +33,8 @@ pub struct Chunks<A: Allocator> {
     pub(crate) keeps: bool,
     pub(crate) full: Vec<Vec<i64, A>, A>,
     pub(crate) last: Vec<i64, A>,
+    // a free chunk to follow the last one, or one without places
+    pub(crate) next: Vec<i64, A>,
 }
 
 impl<A: Allocator + Copy> Chunks<A> {
@@ -48,6 +50,7 @@ impl<A: Allocator + Copy> Chunks<A> {
             keeps,
             full: Vec::new(alloc),
             last: Vec::new(alloc),
+            next: Vec::new(alloc),
         }
     }
 
@@ -60,6 +63,7 @@ impl<A: Allocator + Copy> Chunks<A> {
         ensures chunks { IsChunks self.new }
         ensures room { has_room self.new ≡ is_ok result }
         ensures already { IsTrue (has_room self.old) → IsOk result }
+        ensures next { HasNext self.old → HasNext self.new }
     {
         if self.has_room() {
             return Ok(());
@@ -77,6 +81,7 @@ impl<A: Allocator + Copy> Chunks<A> {
         ensures keeps { self.new.keeps ≡ self.old.keeps }
         ensures chunks { IsChunks self.new }
         ensures room { has_room self.new ≡ is_ok result }
+        ensures next { HasNext self.old → HasNext self.new }
     {
         if !self.keeps {
             return self.forget();
@@ -91,7 +96,8 @@ impl<A: Allocator + Copy> Chunks<A> {
             return Err(AllocError);
         }
         let next = Vec::with_capacity(*self.full.allocator(), CHUNK)?;
-        self.full.reserve(1)?;
+        // also one for the next chunk
+        self.full.reserve(2)?;
         let full = mem::replace(&mut self.last, next);
         self.full.push_reserved(full);
         Ok(())
@@ -120,6 +126,77 @@ impl<A: Allocator + Copy> Chunks<A> {
         self.last.clear();
         Ok(())
     }
+
+    /// Makes ready what `append` takes, if the items are kept: a last chunk with all its places, and one to follow it.
+    /// The error is that memory ran out.
+    pub(crate) fn make_next(&mut self) -> Result<(), AllocError>
+        requires { IsChunks self.old }
+        ensures items { all_of self.new ≡ all_of self.old }
+        ensures keeps { self.new.keeps ≡ self.old.keeps }
+        ensures chunks { IsChunks self.new }
+        ensures room { IsTrue (has_room self.old) → IsTrue (has_room self.new) }
+        ensures next { OnOk result (self.old.keeps ≡ true → HasNext self.new) }
+    {
+        if !self.keeps {
+            return Ok(());
+        }
+        self.last.reserve_exact(CHUNK - self.last.len())?;
+        self.full.reserve(1)?;
+        if self.next.capacity() < CHUNK {
+            self.next = Vec::with_capacity(*self.full.allocator(), CHUNK)?;
+        }
+        Ok(())
+    }
+
+    /// Puts these behind the others, at most as many as a chunk has. It takes no memory, and returns whether what
+    /// `make_next` has made ready is still there.
+    pub(crate) fn append(&mut self, items: &[i64]) -> bool
+        requires chunks { IsChunks self.old }
+        requires places { 0 < length items.now → HasPlacesFor (length items.now) self.old }
+        ensures items { all_of self.new ≡ all_of self.old ++ items.now }
+        ensures keeps { self.new.keeps ≡ self.old.keeps }
+        ensures chunks { IsChunks self.new }
+        ensures room { items.now ≡ [] → IsTrue (has_room self.old) → IsTrue (has_room self.new) }
+        ensures next { IsTrue result → HasNext self.old → HasNext self.new }
+        ensures ready { items.now ≡ [] → IsTrue result }
+    {
+        if items.is_empty() {
+            return true;
+        }
+        if !self.keeps {
+            self.pass(items);
+            return true;
+        }
+        let room = self.last.capacity() - self.last.len();
+        if items.len() <= room {
+            push_all(&mut self.last, items);
+            return true;
+        }
+        let (first, rest) = items.split_at(room);
+        push_all(&mut self.last, first);
+        let none = Vec::new(*self.full.allocator());
+        let next = mem::replace(&mut self.next, none);
+        let full = mem::replace(&mut self.last, next);
+        self.full.push_reserved(full);
+        push_all(&mut self.last, rest);
+        false
+    }
+
+    /// What is in memory becomes past, and these behind it.
+    fn pass(&mut self, items: &[i64])
+        requires chunks { IsChunks self.old }
+        requires keeps { self.old.keeps ≡ false }
+        requires count { length (all_of self.old) + length items.now ≤ MOST_GONE }
+        ensures items { all_of self.new ≡ all_of self.old ++ items.now }
+        ensures keeps { self.new.keeps ≡ self.old.keeps }
+        ensures chunks { IsChunks self.new }
+        ensures room { vec_capacity self.new.last ≡ vec_capacity self.old.last }
+    {
+        self.gone += self.last.len() + items.len();
+        let past = mem::replace(&mut self.past, Past::new());
+        self.past = past.and_all(&self.last).and_all(items);
+        self.last.clear();
+    }
 }
 
 impl<A: Allocator> Chunks<A> {
@@ -137,7 +214,7 @@ impl<A: Allocator> Chunks<A> {
         requires { IsChunks self.now }
         ensures { self.now.keeps ≡ false → result ≤ CHUNK }
     {
-        self.full.len() * CHUNK + self.last.capacity()
+        self.full.len() * CHUNK + self.last.capacity() + self.next.capacity()
     }
 
     /// Whether there is room for one more item behind the last one.
@@ -155,6 +232,7 @@ impl<A: Allocator> Chunks<A> {
         ensures items { all_of self.new ≡ all_of self.old ++ item ∷ [] }
         ensures keeps { self.new.keeps ≡ self.old.keeps }
         ensures chunks { IsChunks self.new }
+        ensures next { HasNext self.old → HasNext self.new }
     {
         self.last.push_reserved(item);
     }
@@ -266,6 +344,17 @@ impl<A: Allocator> Chunks<A> {
             items.extend_from_slice(&piece[..more])?;
         }
         Ok(items)
+    }
+}
+
+/// Puts items behind those of a chunk, which has places for them.
+fn push_all<A: Allocator>(chunk: &mut Vec<i64, A>, items: &[i64])
+    requires { vec_len chunk.old + length items.now ≤ vec_capacity chunk.old }
+    ensures items { chunk.new.items ≡ chunk.old.items ++ items.now }
+    ensures capacity { vec_capacity chunk.new ≡ vec_capacity chunk.old }
+{
+    'items: for k in 0..items.len() {
+        chunk.push_reserved(items[k]);
     }
 }
 

@@ -118,6 +118,7 @@ impl<A: Allocator + Copy> Journal<A> {
                 keeps: true,
                 full: Vec::new(alloc),
                 last: items,
+                next: Vec::new(alloc),
             },
         }
     }

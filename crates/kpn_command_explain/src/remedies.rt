@@ -29,29 +29,65 @@ fn without_parentheses(habit: Habit) -> &'static [u8] {
     }
 }
 
+// Remedies that fill a line, each named for its habit.
+const SIDES: &[u8] =
+    b"Parenthesize each operator with two sides: `((x + y) + 1)`, or begin the text with `language 2;`.";
+
+const MIXED: &[u8] =
+    b"Put parentheses around one of the two operators: `(x & 1) == 0`. Languages differ on which comes first.";
+
+const CHAIN: &[u8] =
+    b"Join two comparisons by `&&`: `x < y && y < z`. To compare what one gives, put parentheses around it.";
+
+const PARENTHESES: &[u8] =
+    b"Leave these parentheses out: they stand only around an operator with two sides, as in `(x + 1)`.";
+
+const SHIFT_RIGHT: &[u8] =
+    b"There is no shift: divide by a power of two, as in `(x / 4)`, or begin the text with `language 2;`.";
+
+const SHIFT_LEFT: &[u8] =
+    b"There is no shift: multiply by a power of two, as in `(x * 4)`, or begin the text with `language 2;`.";
+
+const SLASHES: &[u8] =
+    b"A comment begins with `#` and ends with its line. A quotient is written `(x / 2)`.";
+
+const ELSE_IF: &[u8] =
+    b"Open a block behind `else`: `else { if x { } else { } }`, or begin the text with `language 2;`.";
+
+const NO_ELSE: &[u8] =
+    b"Each `if` has an `else`, whose block may be empty: `else { }`, or begin the text with `language 2;`.";
+
+const BITS: &[u8] =
+    b"There are no operators on bits: `&&` is and, `||` is or, or begin the text with `language 2;`.";
+
+const COMPLEMENT: &[u8] =
+    b"There is no `~`: write `(-x - 1)` in place of `~x`, or begin the text with `language 2;`.";
+
+const QUESTION: &[u8] =
+    b"There is no `?`: use `if` and `else`, or begin the text with `language 2;`.";
+
+const OPENING: &[u8] =
+    b"There are languages 1 and 2: a text of language 2 begins with `language 2;`, the other without.";
+
+const DECLARES: &[u8] = b"The first assignment makes a variable: `x = 0;`, with no word before it.";
+
+const PLACE: &[u8] =
+    b"There are no arrays: give each place a variable of its own, as in `a0 = x;`, or a channel.";
+
 fn usual(habit: Habit) -> &'static [u8] {
     match habit {
-        Habit::Sides =>
-            b"Parenthesize each operator with two sides: `((x + y) + 1)`, or begin the text with `language 2;`.",
-        Habit::Mixed =>
-            b"Put parentheses around one of the two operators: `(x & 1) == 0`. Languages differ on which comes first.",
-        Habit::Chain =>
-            b"Join two comparisons by `&&`: `x < y && y < z`. To compare what one gives, put parentheses around it.",
-        Habit::Parentheses =>
-            b"Leave these parentheses out: they stand only around an operator with two sides, as in `(x + 1)`.",
-        Habit::ShiftRight =>
-            b"There is no shift: divide by a power of two, as in `(x / 4)`, or begin the text with `language 2;`.",
-        Habit::ShiftLeft =>
-            b"There is no shift: multiply by a power of two, as in `(x * 4)`, or begin the text with `language 2;`.",
+        Habit::Sides => SIDES,
+        Habit::Mixed => MIXED,
+        Habit::Chain => CHAIN,
+        Habit::Parentheses => PARENTHESES,
+        Habit::ShiftRight => SHIFT_RIGHT,
+        Habit::ShiftLeft => SHIFT_LEFT,
         Habit::Comment => b"A comment begins with `#` and ends with its line.",
-        Habit::Slashes =>
-            b"A comment begins with `#` and ends with its line. A quotient is written `(x / 2)`.",
+        Habit::Slashes => SLASHES,
         Habit::For => b"There is no `for`: use `while`, and count in a variable.",
         Habit::Break => b"There is no `break`: let the condition of the loop end it.",
-        Habit::ElseIf =>
-            b"Open a block behind `else`: `else { if x { } else { } }`, or begin the text with `language 2;`.",
-        Habit::NoElse =>
-            b"Each `if` has an `else`, whose block may be empty: `else { }`, or begin the text with `language 2;`.",
+        Habit::ElseIf => ELSE_IF,
+        Habit::NoElse => NO_ELSE,
         Habit::Changes => b"A variable changes only by an assignment of its own: `x = (x + 1);`.",
         Habit::Compares => b"`=` assigns. Compare by `==`, between parentheses: `(x == 1)`.",
         Habit::Assigns => b"`==` compares. Assign by `=`: `x = 1;`.",
@@ -60,18 +96,13 @@ fn usual(habit: Habit) -> &'static [u8] {
         Habit::Or => b"Write `||` for or, between parentheses: `(x || y)`.",
         Habit::Not => b"Write `!` for not: `!x`.",
         Habit::Differs => b"Write `!=` in place of `<>`.",
-        Habit::Bits =>
-            b"There are no operators on bits: `&&` is and, `||` is or, or begin the text with `language 2;`.",
-        Habit::Complement =>
-            b"There is no `~`: write `(-x - 1)` in place of `~x`, or begin the text with `language 2;`.",
-        Habit::Question =>
-            b"There is no `?`: use `if` and `else`, or begin the text with `language 2;`.",
+        Habit::Bits => BITS,
+        Habit::Complement => COMPLEMENT,
+        Habit::Question => QUESTION,
         Habit::Choice => b"Put parentheses around a choice: `(x ? 1 : 0)`.",
-        Habit::Opening =>
-            b"There are languages 1 and 2: a text of language 2 begins with `language 2;`, the other without.",
+        Habit::Opening => OPENING,
         Habit::Truth => b"Write 1 for true and 0 for false.",
-        Habit::Declares =>
-            b"The first assignment makes a variable: `x = 0;`, with no word before it.",
+        Habit::Declares => DECLARES,
         Habit::Reads => b"An item comes by a statement of its own: `read PORT VARIABLE;`.",
         Habit::Ports => b"Write `in`, `out` and `par` once each, as in `in a, b; out c, d; par k`.",
         Habit::NoCapacity => b"Write a capacity behind the name, as in `channel a cap 1;`.",
@@ -79,7 +110,6 @@ fn usual(habit: Habit) -> &'static [u8] {
         Habit::Digits => b"Numbers have decimal digits alone: write `31` in place of `0x1F`.",
         Habit::Power => b"There is no `^`: a power is a product, as in `((x * x) * x)`.",
         Habit::Stars => b"There is no `**`: a power is a product, as in `(x * x)`.",
-        Habit::Place =>
-            b"There are no arrays: give each place a variable of its own, as in `a0 = x;`, or a channel.",
+        Habit::Place => PLACE,
     }
 }

@@ -303,8 +303,9 @@ first K items. The trace is stored first, then the sinks in the order of the des
 can't be stored, no report is written, and the files before it stay.
 
 With --workers the processes are stepped side by side. What is then written of `ended` and `enough`
-is the same for any number of them. Four workers are faster than one thread if processes compute for
-a microsecond or longer between two reads or writes, and else about as fast.
+is the same for any number of them. Workers are faster than one thread in long runs if channels have
+capacities of 32 and more, or if processes compute for a microsecond or longer between two reads or
+writes, and else about as fast.
 
 The file of a source has an item on each line: an optional `-` and 1 to 19 digits.
 

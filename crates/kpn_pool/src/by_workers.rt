@@ -21,7 +21,7 @@ use std::time::Clock;
 /// limits. The processes are stepped by 1 to `MAX_WORKERS` workers, each on a thread of its own.
 ///
 /// The calling thread feeds each source its whole list, closes it, and takes from the sinks what is put on them, while
-/// the workers run. The gate is asked before each commit. The report keeps the promise of `kpn_book::run_here`: the
+/// the workers run. The gate is asked before each commit, unless it lets all through. The report keeps the promise of `kpn_book::run_here`: the
 /// lists were fed whole and the sources closed, under every outcome. Which capacities and which prefixes of the
 /// journals of other channels it shows depends on the schedule. The workers may make up to 127 commits more than the
 /// limit. A quota of 0 counts as 1.

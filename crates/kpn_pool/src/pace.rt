@@ -14,6 +14,8 @@ pub(crate) struct Pace {
     held: Option<Instant>,
     /// How many commits there were when the turn began.
     pub commits: u64,
+    /// Whether the steps of each process are timed.
+    pub is_timed: bool,
 }
 
 impl Pace {
@@ -24,6 +26,7 @@ impl Pace {
             begun: None,
             held: None,
             commits: u64::MAX,
+            is_timed: false,
         }
     }
 
@@ -53,6 +56,11 @@ impl Pace {
     /// The worker makes turns in a row, so this hold is not measured. The next turn is, since a row takes long.
     pub(crate) fn make_row(&mut self) {
         self.held = None;
+        self.turns = 0;
+    }
+
+    /// The next turn is measured.
+    pub(crate) fn measure(&mut self) {
         self.turns = 0;
     }
 

@@ -31,8 +31,14 @@ const TRIES: u32 = 400;
 // moment.
 const TRIES_OUTSIDE: u32 = 16_000;
 
+// Somebody who looks on reads the clock so many times before each try, so that those that are busy get the lock.
+const LOOKS: u32 = 16;
+
 // For how many microseconds somebody looks on: some times as long as it takes to sleep and to be woken.
 const MOMENT: u64 = 20;
+
+// For how many a worker does while others run regions: as long as one of these takes.
+const REGION_MOMENT: u64 = 100;
 
 /// A desk under its lock.
 #[derive(Drop)]
@@ -110,7 +116,8 @@ impl<'n, J: Job, A: Allocator + Copy> Shared<'n, J, A> {
             opened.sinks.items ≡ new_ends is_sink network.now) }
     {
         let EndSeats { sources, sinks } = end_seats(alloc, network)?;
-        let (desk, workers) = Desk::with_seats(alloc, blank, network, workers, keeping)?;
+        let (mut desk, workers) = Desk::with_seats(alloc, blank, network, workers, keeping)?;
+        desk.divide(max_commits);
         Ok(Opened {
             shared: Shared {
                 desk: Mutex::new(desk),
@@ -194,13 +201,19 @@ impl<'n, J: Job, A: Allocator> Shared<'n, J, A> {
         &self,
         rt: &R,
         seats: Option<&[SinkSeat<B>]>,
+        moment: Duration,
     ) -> MutexGuard<'_, Desk<'n, J, A>> {
         let Ok(begun) = Instant::now(rt) else {
             return self.lock_after(rt, TRIES);
         };
+        let mut looks: u32 = 0;
         for _ in rt.forever() {
-            if begun.elapsed(rt).unwrap_or(Duration::MAX) > Duration::from_micros(MOMENT) {
+            if begun.elapsed(rt).unwrap_or(Duration::MAX) > moment {
                 return self.lock_after(rt, TRIES);
+            }
+            looks = looks.wrapping_add(1);
+            if looks % LOOKS > 0 {
+                continue;
             }
             if let Some(desk) = self.desk.try_lock() {
                 if desk.has_work(seats, self.max_commits) {
@@ -218,7 +231,8 @@ impl<'n, J: Job, A: Allocator> Shared<'n, J, A> {
         rt: &R,
         seats: &[SinkSeat<B>],
     ) -> MutexGuard<'_, Desk<'n, J, A>> {
-        let mut desk = self.lock_in_moment(rt, Some(seats));
+        let moment = Duration::from_micros(MOMENT);
+        let mut desk = self.lock_in_moment(rt, Some(seats), moment);
         if let Some(most) = desk.await_due(seats) {
             desk = self.called.wait_timeout(rt, desk, most).0;
         }

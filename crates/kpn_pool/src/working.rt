@@ -3,7 +3,7 @@ ghost use Rattle.std.specs.Prelude.{◌≡◌, ◌<◌, ◌≤◌, IsSome};
 
 use crate::pace::Pace;
 use crate::shared::Shared;
-use kpn_pool_desk::{Batch, Gate, Job, WorkerSeat};
+use kpn_pool_desk::{Batch, Gate, Job, RegionTurn, WorkerSeat};
 use std::alloc::Allocator;
 use std::sync::Wait;
 use std::time::Clock;
@@ -14,6 +14,11 @@ use std::time::Clock;
 /// at most `quota` steps with the lock free, and the gate is asked; then they are committed in that order. Steps that
 /// are refused there as of a process that is not held, or of another one, are dropped, and count as no commit. The last
 /// batches may lead past the commits that are allowed: by 127 at most, with 16 workers.
+///
+/// If the gate lets everything through, the network may be cut into regions once the run has gone on for some time.
+/// Then a worker claims a whole region, runs it with the lock free, and commits together what it has done. What no more
+/// agrees with the book is dropped in the same way. Regions are claimed only while the commits that are allowed are far:
+/// by themselves they lead to no more.
 ///
 /// It returns only once there is such a reason. So a thread that calls this hangs if it also has to take from a sink:
 /// once the sink is full, the run waits for a take that does not come. Take on another thread, or call
@@ -33,11 +38,26 @@ pub fn work<'n, J: Job, A: Allocator + Copy, G: Gate, R: Wait + Clock>(
     let mut seat = seat;
     let mut pace = Pace::new();
     let mut batch = Batch::new();
+    let mut region = RegionTurn::new();
     for _ in rt.forever() {
-        if !shared.go_on(rt, gate, &mut seat, quota, &mut pace, &mut batch) {
+        if !shared.go_on(
+            rt,
+            gate,
+            &mut seat,
+            quota,
+            &mut pace,
+            &mut batch,
+            &mut region,
+        ) {
             return seat;
         }
-        batch.step(gate, seat.number(), quota);
+        if region.is_held() {
+            region.run(quota);
+        } else if pace.is_timed {
+            batch.step_timed(rt, gate, seat.number(), quota);
+        } else {
+            batch.step(gate, seat.number(), quota);
+        }
     }
     unreachable!()
 }

@@ -3,3 +3,4 @@ pub mod Keeping
 pub mod Recording
 pub mod InARow
 pub mod Seating
+pub mod Dividing

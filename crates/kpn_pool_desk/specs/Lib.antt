@@ -1,6 +1,7 @@
 pub mod Gate
 pub mod Desk
 pub mod Rows
+pub mod RegionTurn
 pub mod Seat
 pub mod Invariant
 pub mod OutsideSeats

@@ -13,10 +13,11 @@ use crate::phases::Next;
 use crate::rows::go_in_rows;
 use crate::seat::{Why, WorkerSeat};
 use crate::turn::Turn;
+use crate::watch::{ClockWatch, NoWatch, Watch};
 use arrayvec::ArrayVec;
 use std::alloc::Allocator;
 use std::marker::Model;
-use std::time::Duration;
+use std::time::{Clock, Duration};
 
 /// Turns of which the first ones are held, and of these the gate has let the first ones through.
 #[derive(Drop)]
@@ -96,7 +97,26 @@ impl<'n, J: Job> Batch<'n, J> {
             (claimed_by self.new.turns) }
     {
         let held = self.held;
-        self.passed = step_each(gate, worker, quota, self.turns.as_mut_slice(), held);
+        self.passed = step_each(
+            gate,
+            &NoWatch,
+            worker,
+            quota,
+            self.turns.as_mut_slice(),
+            held,
+        );
+    }
+
+    /// The same, and each process is timed.
+    pub fn step_timed<G: Gate, R: Clock>(&mut self, rt: &R, gate: &G, worker: usize, quota: u32)
+        ensures held { self.new.held ≡ self.old.held }
+        ensures claimed { claimed_by self.new.turns ≡ claimed_by self.old.turns }
+        ensures gate { LetsThrough (G.may_answer gate.now worker) self.new.passed self.new.held
+            (claimed_by self.new.turns) }
+    {
+        let held = self.held;
+        let watch = ClockWatch { rt };
+        self.passed = step_each(gate, &watch, worker, quota, self.turns.as_mut_slice(), held);
     }
 
     /// A worker is back from these turns, which began after so many commits and left the lock free for so long, if that
@@ -121,8 +141,13 @@ impl<'n, J: Job> Batch<'n, J> {
     {
         let is_alone = desk.book.commits() == commits;
         desk.crew.come_back(self.held, away);
+        let turns = self.turns.as_slice();
+        note_each(desk, &turns[..self.passed]);
         if let Some(why) = self.settle(desk, seat) {
             return Next::End(why);
+        }
+        if gate.lets_all() {
+            desk.cut();
         }
         go_in_rows(gate, desk, seat, quota, most);
         desk.next(most, is_alone, true)
@@ -177,8 +202,9 @@ fn claim_each<'n, J: Job, A: Allocator>(
 
 /// Steps each of the first turns and asks the gate for it. Returns how many it lets through before it ends the
 /// worker.
-fn step_each<J: Job, G: Gate>(
+fn step_each<J: Job, G: Gate, W: Watch>(
     gate: &G,
+    watch: &W,
     worker: usize,
     quota: u32,
     turns: &mut [Turn<'_, J>],
@@ -192,13 +218,22 @@ fn step_each<J: Job, G: Gate>(
 {
     'turns: for i in 0..held {
         let turn = &mut turns[i];
-        let process = turn.step(quota);
+        let process = turn.step_timed(watch, quota);
         match gate.between(worker, process) {
             Go::On => {}
             Go::Abandon => return i,
         }
     }
     held
+}
+
+/// Notes for how long the steps of each turn took, if they were timed.
+fn note_each<'n, J: Job, A: Allocator>(desk: &mut Desk<'n, J, A>, turns: &[Turn<'n, J>])
+    ensures { desk.new ≡ desk.old }
+{
+    'turns: for i in 0..turns.len() {
+        turns[i].note(desk);
+    }
 }
 
 /// Commits each turn. Returns for how many there was memory.

@@ -13,14 +13,15 @@
 //! A worker joins if a process is ready and fewer workers are busy than pays. It joins in any case if it has waited in
 //! vain: nobody has committed since it left the lock, so the gate or long turns hold those that are busy.
 //!
-//! If no more than one worker pays, that one makes turns in a row while it has the lock.
+//! If no more than one worker pays, that one makes turns in a row while it has the lock. Once the network is cut into
+//! regions, workers claim these in place of processes, and each counts as one turn (`division.rt`).
 //!
 //! **No notification is lost.** A worker is counted as one that rests, or as one that was notified, under the lock. A
 //! `Condvar` that is notified once the lock is free wakes a worker that began to rest before that. So each one that is
 //! counted as notified comes.
 //!
-//! **No process that is ready waits for longer than a short rest**, unless all workers are busy. It becomes ready in
-//! one of these ways:
+//! **No process that is ready waits for longer than a short rest**, unless all workers are busy, or its region is held or
+//! waits for its place in the rotation. It becomes ready in one of these ways:
 //! - By a commit, or by a worker that puts it back and ends. If this worker leaves it ready, by a claim of another one
 //!   or by its end, it notifies somebody, unless somebody looks on, was notified or keeps watch. If this worker may not
 //!   join, it looks on itself, and rests after that as the one that keeps watch if nobody else does.
@@ -98,6 +99,8 @@ pub(crate) struct Crew {
     away: u32,
     // and of those for which it keeps the lock
     hold: u32,
+    // whole regions are claimed, each of which pays
+    goes_by_regions: bool,
     // somebody outside sleeps until the outside is called
     is_awaited: bool,
     // somebody of those sleeps until a sink has an item
@@ -159,6 +162,9 @@ impl Crew {
 
     /// How many busy workers pay.
     fn paying(&self) -> usize {
+        if self.goes_by_regions {
+            return usize::MAX;
+        }
         (self.away / self.hold.max(1)) as usize + 1
     }
 
@@ -166,6 +172,13 @@ impl Crew {
     /// the outside does not wait for the lock. Before turns were measured it makes none.
     pub(crate) fn makes_rows(&self) -> bool {
         self.away > 0 && self.paying() == 1 && self.yields == 0
+    }
+
+    /// From now on workers claim whole regions, or processes.
+    pub(crate) fn go_by_regions(&mut self, goes_by_regions: bool)
+        ensures { self.new.working ≡ self.old.working }
+    {
+        self.goes_by_regions = goes_by_regions;
     }
 
     /// A worker is busy from now on.

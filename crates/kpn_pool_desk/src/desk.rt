@@ -15,6 +15,7 @@ ghost use Rattle.kpn_run_state.specs.Snapshot.{ShowsARun, ShowsJournals, IsBelow
 ghost use Rattle.kpn_pool_desk.specs.Invariant.{AreBelowLeast, AreReadThenQueued, AreWithinCapacity, AreBlockedCounts, AreOwedGrowths, AreLeastWhenQuiet, HasNoneLeftToGrow, HasNoneLeftAtStop};
 
 use crate::crew::{Awaited, Crew, Need, share};
+use crate::division::Division;
 use crate::job::Job;
 use crate::outside_seats::SinkSeat;
 use crate::rows::Takers;
@@ -37,10 +38,12 @@ pub struct Desk<'n, J: Job, A: Allocator = Global> {
     pub(crate) book: Book<'n, A>,
     pub(crate) total: ledger::Book<J>,
     halts: bool,
-    workers: usize,
+    pub(crate) workers: usize,
     pub(crate) takers: Takers,
     // no contract sees which workers step and which rest, only how many have not ended
     pub(crate) crew: Crew,
+    // nor how the network is divided among them
+    pub(crate) division: Division<A>,
 }
 
 impl<'n, J: Job, A: Allocator> Model for Desk<'n, J, A> {
@@ -118,6 +121,7 @@ impl<'n, J: Job, A: Allocator + Copy> Desk<'n, J, A> {
             workers,
             takers: Takers::Seats,
             crew: Crew::new(workers),
+            division: Division::new(alloc),
             _gap: [0; 8],
         })
     }
@@ -343,6 +347,16 @@ impl<'n, J: Job, A: Allocator> Desk<'n, J, A> {
         if self.crew.awaits_room() || self.have_taken_enough() {
             self.crew.owe_call();
         }
+    }
+
+    /// Notes the same of a region, which may have put items on all sinks.
+    pub(crate) fn note_sinks(&mut self)
+        ensures { self.new ≡ self.old }
+    {
+        'channels: for c in 0..self.book.network().channels() {
+            self.note_put(c);
+        }
+        self.note_rows();
     }
 
     /// Whether the last event was a put or a get that somebody outside waits for.

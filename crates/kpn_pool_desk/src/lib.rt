@@ -5,16 +5,21 @@
 mod batch;
 mod complete;
 mod crew;
+mod cut;
 mod desk;
+mod division;
 mod gate;
 mod job;
 mod opening;
 mod outside_seats;
 mod phases;
 mod recent;
+mod region_turn;
+mod regions;
 mod rows;
 mod seat;
 mod turn;
+mod watch;
 
 pub use batch::Batch;
 pub use crew::{Awaited, Need};
@@ -25,5 +30,6 @@ pub use kpn_run_state::{Refused, View};
 pub use opening::{EndSeats, end_seats};
 pub use outside_seats::{SinkSeat, SnapFault, SourceSeat, take_from_each};
 pub use phases::{Next, Notices, Stay, Workers};
+pub use region_turn::RegionTurn;
 pub use rows::Takers;
 pub use seat::{Why, WorkerSeat};

@@ -63,7 +63,7 @@ impl<'n, J: Job, A: Allocator> Desk<'n, J, A> {
         if let Some(why) = self.reason_to_end(most) {
             return Next::End(why);
         }
-        if self.crew.has_place(self.ready(), in_vain) {
+        if self.crew.has_place(self.claimable(), in_vain) {
             return Next::Claim;
         }
         let commits = self.book.commits();
@@ -110,12 +110,12 @@ impl<'n, J: Job, A: Allocator> Desk<'n, J, A> {
     pub fn join(&mut self, turns: usize, held: Option<Duration>) -> (Notices, u64)
         ensures { self.new ≡ self.old }
     {
-        let ready = self.ready();
+        let claimable = self.claimable();
         if let Some(held) = held {
             self.crew.held(turns, held);
         }
         self.crew.join();
-        let workers = if self.crew.notify(ready, false) {
+        let workers = if self.crew.notify(claimable, false) {
             Workers::One
         } else {
             Workers::Nobody
@@ -129,8 +129,8 @@ impl<'n, J: Job, A: Allocator> Desk<'n, J, A> {
     pub fn tell(&mut self) -> Notices
         ensures { self.new ≡ self.old }
     {
-        let ready = self.ready();
-        let notifies = self.crew.notify(ready, true);
+        let claimable = self.claimable();
+        let notifies = self.crew.notify(claimable, true);
         let workers = if self.book.verdict().is_some() {
             Workers::All
         } else if notifies {
@@ -150,7 +150,7 @@ impl<'n, J: Job, A: Allocator> Desk<'n, J, A> {
         match seats {
             Some(seats) => self.are_due(seats),
             None => {
-                self.crew.has_place(self.ready(), false) || self.reason_to_end(most).is_some()
+                self.crew.has_place(self.claimable(), false) || self.reason_to_end(most).is_some()
             }
         }
     }

@@ -26,14 +26,14 @@ const LONGEST_TURN: u32 = 1_000;
 pub enum Takers {
     /// Those outside, by the seats of the sinks.
     Seats,
-    /// The workers where they make turns in a row, and else those outside. Once so many items were read of each sink,
-    /// if that is given, the workers make no turns in a row.
+    /// The workers where they make turns in a row or run regions, and else those outside. If so many items of each sink
+    /// are wanted, they make no turns in a row once these were read. By regions they may take more.
     Workers(Option<u64>),
 }
 
 impl<'n, J: Job, A: Allocator> Desk<'n, J, A> {
-    /// From now on workers that make turns in a row take what comes to the sinks, until so many items were read of
-    /// each, if that is given. What they take is in no seat's list.
+    /// From now on workers that make turns in a row or run regions take what comes to the sinks. If so many items are
+    /// wanted of each, those that make turns in a row take no more. What they take is in no seat's list.
     pub fn let_workers_take(&mut self, wanted: Option<u64>)
         ensures { self.new ≡ taken_by (Workers wanted) self.old }
     {
@@ -95,7 +95,7 @@ impl<'n, J: Job, A: Allocator> Desk<'n, J, A> {
     }
 
     /// Takes all that is unread at the sinks, if the workers take.
-    fn take_from_sinks(&mut self)
+    pub(crate) fn take_from_sinks(&mut self)
         ensures takes { TakesOn self.old.takers self.old.book self.new.book }
         ensures same { self.new ≡ with_book self.new.book self.old }
     {
@@ -163,7 +163,7 @@ pub(crate) fn go_in_rows<J: Job, A: Allocator + Copy, G: Gate>(
     if !gate.lets_all() {
         return;
     }
-    if !desk.crew.makes_rows() {
+    if !desk.makes_rows() {
         return;
     }
     if desk.has_to_end() || desk.ends_rows() || quota > LONGEST_TURN {

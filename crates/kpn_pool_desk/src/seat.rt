@@ -4,6 +4,7 @@ ghost use Rattle.kpn_net.specs.Tables.{program_of};
 ghost use Rattle.kpn_step.specs.Stops.{IsAdvance, IsAtPort, advanced_of};
 ghost use Rattle.kpn_run_state.specs.Commits.{Commits};
 ghost use Rattle.kpn_run_state.specs.Refusals.{RefusesCommit};
+ghost use Rattle.kpn_run_state.specs.RegionCalls.{CommitsRegion, RefusesRegion};
 ghost use Rattle.kpn_pool_desk.specs.Desk.{with_commit, with_total, without_worker};
 ghost use Rattle.kpn_pool_desk.specs.Rows.{MakesRow};
 ghost use Rattle.kpn_pool_desk.specs.Seat.{new_seat, ended, with_commits};
@@ -11,6 +12,7 @@ ghost use Rattle.kpn_pool_desk.specs.Seat.{new_seat, ended, with_commits};
 use crate::desk::Desk;
 use crate::job::Job;
 use crate::phases::{Notices, Workers};
+use kpn_region::Batch;
 use kpn_run_state::laws::what_a_commit_does;
 use kpn_run_state::{Done, Refused};
 use kpn_step::{Frame, Stop};
@@ -144,6 +146,31 @@ impl<J: Job> WorkerSeat<J> {
         desk.book.known();
         self.count(&mut desk.total, desk.book.commits() - before);
         sink.unwrap_or(None)
+    }
+
+    /// Commits what a region has done. Returns whether there was memory for the stop of each of its processes. The book's
+    /// commits, the ledger's total and this seat's share rise together.
+    pub(crate) fn commit_region<'n, A: Allocator + Copy, B: Allocator>(
+        &mut self,
+        desk: &mut Desk<'n, J, A>,
+        batch: &Batch<'n, B>,
+    ) -> Result<bool, Refused>
+        requires { batch.now.tables ≡ J.network }
+        ensures done { IfOk result (λ memory.
+            CommitsRegion batch.now memory desk.old.book desk.new.book) }
+        ensures share { OnOk result (self.new ≡ with_commits
+            (self.old.commits + (desk.new.book.commits - desk.old.book.commits)) self.old) }
+        ensures same { desk.new ≡ with_total desk.new.book desk.new.total desk.old }
+        ensures refused { IfErr result (RefusesRegion batch.now desk.old.book) }
+        ensures as_before { OnErr result ((self.new ≡ self.old) × (desk.new ≡ desk.old)) }
+    {
+        desk.known();
+        let before = desk.book.commits();
+        let memory = desk.book.commit_region(batch)?;
+        desk.book.known();
+        let made = desk.book.commits() - before;
+        self.count(&mut desk.total, made);
+        Ok(memory)
     }
 
     /// Counts so many commits, in the ledger and here.

@@ -7,10 +7,15 @@ ghost use Rattle.kpn_pool_desk.specs.Batch.{Claims, MayCommit, CommitsOrDrops, P
 use crate::desk::Desk;
 use crate::job::Job;
 use crate::seat::WorkerSeat;
+use crate::watch::Watch;
 use kpn_run_state::{Claim, Refused};
 use kpn_step::{Frame, Stop};
 use std::alloc::Allocator;
 use std::marker::{Model, PhantomData};
+use std::time::Instant;
+
+// No turn takes fewer nanoseconds.
+const SHORTEST: u64 = 20;
 
 /// A process that was claimed, and where it came to from the frame of its claim.
 #[derive(Drop)]
@@ -27,6 +32,8 @@ pub(crate) struct Stepped<'n> {
 pub(crate) struct Turn<'n, J: Job> {
     process: usize,
     last: Option<Stepped<'n>>,
+    // for how many nanoseconds the steps took, if they were timed
+    pub(crate) nanos: u64,
     run: PhantomData<J>,
 }
 
@@ -53,6 +60,7 @@ impl<'n, J: Job> Turn<'n, J> {
         Turn {
             process: 0,
             last: None,
+            nanos: 0,
             run: PhantomData,
         }
     }
@@ -99,6 +107,33 @@ impl<'n, J: Job> Turn<'n, J> {
         self.process
     }
 
+    /// The same, timed.
+    pub(crate) fn step_timed<W: Watch>(&mut self, watch: &W, quota: u32) -> usize
+        ensures same { self.new.process ≡ self.old.process }
+        ensures process { result ≡ self.new.process }
+    {
+        let begun = watch.read();
+        let process = self.step(quota);
+        let ended = watch.read();
+        // to read the clock takes longer than a short turn
+        let clock = between(ended, watch.read());
+        self.nanos = match between(begun, ended) {
+            0 => 0,
+            nanos => nanos.saturating_sub(clock).max(SHORTEST),
+        };
+        process
+    }
+
+    /// Notes for how long the steps took, if they were timed.
+    pub(crate) fn note<A: Allocator>(&self, desk: &mut Desk<'n, J, A>)
+        ensures { desk.new ≡ desk.old }
+    {
+        if self.nanos > 0 {
+            let processes = desk.book.network().instances();
+            desk.division.note(processes, self.process, self.nanos);
+        }
+    }
+
     /// Commits the steps. Returns whether there was memory for that.
     ///
     /// Steps of a process that is not held, or of another one, which nothing known behind a lock rules out, are
@@ -140,4 +175,12 @@ impl<'n, J: Job> Turn<'n, J> {
         let _ = desk.book.put_back(self.process);
         desk.book.known();
     }
+}
+
+/// How many nanoseconds lie between two times, if both are known.
+fn between(begun: Option<Instant>, ended: Option<Instant>) -> u64 {
+    let (Some(begun), Some(ended)) = (begun, ended) else {
+        return 0;
+    };
+    u64::try_from(ended.duration_since(begun).as_nanos()).unwrap_or(u64::MAX)
 }

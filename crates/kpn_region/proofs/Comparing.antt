@@ -62,6 +62,7 @@ module _ (t : Tables) (c : ℕ) (sink : Bool) (is : sink ≡ is_sink (channel_at
   agrees_if begins rest =
       let first = and_parts (keeps_capacity side channel) _ rest in
       let others = and_parts (empties_a_sink sink side channel) _ first.1 in
+      let last = and_parts (takes_in_order side channel) _ others.1 in
       record {
         claim = record {
           count = let long = length-take side.claimed side.items in omega (arith, long, few);
@@ -73,7 +74,8 @@ module _ (t : Tables) (c : ℕ) (sink : Bool) (is : sink ≡ is_sink (channel_at
               let at = (sink_means side.is_drained sink channel.is_retired side.claimed).0 others.0 drains in
               record { sink = sym is ∙ at.0; open_still = at.1; none = at.2 };
         };
-        in_order = (order_means side channel).0 others.1;
+        in_order = (order_means side channel).0 last.0;
+        places = last.1;
       }
 
   pub rest_if : ChannelAgrees t c side channel → rest_agrees sink side channel ≡ true
@@ -84,7 +86,7 @@ module _ (t : Tables) (c : ℕ) (sink : Bool) (is : sink ≡ is_sink (channel_at
       (both_true (empties_a_sink sink side channel) _
       ((sink_means side.is_drained sink channel.is_retired side.claimed).1
       (λ drains. let at = h.claim.drained drains in (is ∙ at.sink, at.open_still, at.none)))
-      ((order_means side channel).1 h.in_order))
+      (both_true (takes_in_order side channel) _ ((order_means side channel).1 h.in_order) h.places))
 
 -- the item that a read returns after so many others is that item of what can be read
 pub next_is : (k : ℕ) (channel : ChannelState) → next_at k channel ≡ slice_get (readable channel) k

@@ -5,3 +5,5 @@ pub mod Numbers
 pub mod OnTheWay
 pub mod Playing
 pub mod Turns
+pub mod Sides
+pub mod Piecewise

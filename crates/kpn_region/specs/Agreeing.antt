@@ -1,8 +1,9 @@
 -- Scaffolding: the tests by which the code compares a channel with its claim. Only contracts of private functions cite
 -- it.
 use Rattle.std.specs.Prelude.{ℕ, ◌+◌, Bool, true, not, ◌&&◌, ◌||◌, nat_le, nat_eq, length, Option, Some, None}
-use Rattle.kpn_chan.specs.Channel.{ChannelState, unread}
+use Rattle.kpn_chan.specs.Channel.{ChannelState, unread, has_places_for}
 use Rattle.kpn_region.specs.Local.{SideState}
+use Rattle.kpn_region.specs.Joining.{put_on}
 
 -- so much is within the capacity, if there is one, and these items
 abbrev pub is_within_capacity : (wanted claimed : ℕ) → Option ℕ → Bool
@@ -25,6 +26,11 @@ abbrev pub takes_in_order : SideState → ChannelState → Bool
 takes_in_order side channel =
     nat_le side.taken side.claimed || nat_eq side.claimed (length (unread channel))
 
+-- what the region has put can be joined without memory
+abbrev pub has_places : SideState → ChannelState → Bool
+has_places side channel = has_places_for (length (put_on side)) channel
+
 abbrev pub rest_agrees : (is_sink : Bool) → SideState → ChannelState → Bool
 rest_agrees is_sink side channel =
-    keeps_capacity side channel && (empties_a_sink is_sink side channel && takes_in_order side channel)
+    keeps_capacity side channel
+    && (empties_a_sink is_sink side channel && (takes_in_order side channel && has_places side channel))

@@ -4,7 +4,7 @@ use Rattle.std.specs.Prelude.{◌≡◌, ℕ, zero, suc, ◌+◌, ◌-◌, ◌<�
 use Rattle.kpn_net.specs.declared.wait.Wait.{Wait}
 use Rattle.kpn_net.specs.declared.wait.Wait.TheVariants.{Nobody, Empty, Full}
 use Rattle.kpn_net.specs.Tables.{Tables, channel_at, is_sink}
-use Rattle.kpn_chan.specs.Channel.{ChannelState, unread}
+use Rattle.kpn_chan.specs.Channel.{ChannelState, unread, has_places_for}
 use Rattle.kpn_run_configuration.specs.Configuration.{Configuration, channel_in, wait_in, end_in, frame_in}
 use Rattle.kpn_region.specs.Local.{SideState, as_claimed, Local, is_within, frame_at, side_at}
 use Rattle.kpn_region.specs.Turn.{side_in}
@@ -40,10 +40,15 @@ pub record IsClaimOf (t : Tables) (c : ℕ) (claim : SideState) (channel : Chann
 abbrev pub TakesInOrder : SideState → ChannelState → Type 0
 TakesInOrder side channel = (side.taken ≤ side.claimed) ⊎ (side.claimed ≡ length (unread channel))
 
--- what the region sees of a channel agrees with it
+-- the items that the region has put on a channel
+abbrev pub put_on : SideState → List ℤ
+put_on side = drop side.claimed side.items
+
+-- what the region sees of a channel agrees with it, and what it has put can be joined without memory
 pub record ChannelAgrees (t : Tables) (c : ℕ) (side : SideState) (channel : ChannelState) : Type 0 where
   pub claim : IsClaimOf t c (as_claimed side) channel
   pub in_order : TakesInOrder side channel
+  pub places : has_places_for (length (put_on side)) channel ≡ true
 
 -- if the process is in the region, it has not ended, and is where it was claimed
 abbrev pub ProcessAgrees : (claim : Local) → Configuration → (p : ℕ) → Type 0
@@ -62,10 +67,6 @@ pub record AgreesWith (b : Batch) (s : Configuration) : Type 0 where
   pub channels : ChannelsAgree b s
 
 -- ---- the configuration with the batch
-
--- the items that the region has put on a channel
-abbrev pub put_on : SideState → List ℤ
-put_on side = drop side.claimed side.items
 
 abbrev pub has_put : SideState → Bool
 has_put side = nat_lt side.claimed (length side.items)

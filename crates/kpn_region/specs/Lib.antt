@@ -3,3 +3,4 @@ pub mod Batch
 pub mod Turn
 pub mod Joining
 pub mod Agreeing
+pub mod JoiningParts

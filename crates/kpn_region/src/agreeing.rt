@@ -5,7 +5,7 @@ ghost use Rattle.kpn_chan.specs.Channel.{next_at};
 ghost use Rattle.kpn_run_configuration.specs.Configuration.{channel_in, IsConfiguration};
 ghost use Rattle.kpn_region.specs.Local.{side_at};
 ghost use Rattle.kpn_region.specs.Joining.{readable, ChannelAgrees, ProcessAgrees, ProcessesAgree, ChannelsAgree, AgreesWith};
-ghost use Rattle.kpn_region.specs.Agreeing.{is_within_capacity, keeps_capacity, empties_a_sink, takes_in_order, rest_agrees};
+ghost use Rattle.kpn_region.specs.Agreeing.{is_within_capacity, keeps_capacity, empties_a_sink, takes_in_order, has_places, rest_agrees};
 
 use crate::batch::Batch;
 use crate::side::Side;
@@ -135,6 +135,7 @@ fn rest_agrees<A: Allocator, B: Allocator>(side: &Side<A>, channel: &Channel<B>,
     keeps_capacity(side, channel)
         && empties_a_sink(side, channel, sink)
         && takes_in_order(side, channel)
+        && has_places(side, channel)
 }
 
 /// Whether the room and what is unread are within the capacity and what was claimed, if the reader is there.
@@ -173,4 +174,12 @@ fn takes_in_order<A: Allocator, B: Allocator>(side: &Side<A>, channel: &Channel<
     ensures { result ≡ takes_in_order side.now channel.now }
 {
     side.taken() <= side.claimed() || side.claimed() == channel.len()
+}
+
+/// Whether what the region has put can be joined to the channel without memory.
+fn has_places<A: Allocator, B: Allocator>(side: &Side<A>, channel: &Channel<B>) -> bool
+    ensures { result ≡ has_places side.now channel.now }
+{
+    side.known();
+    channel.has_places_for(side.items().len() - side.claimed())
 }

@@ -1,23 +1,22 @@
 //! A batch of a region.
-ghost use Rattle.std.specs.Prelude.{◌≡◌, ℕ, ◌<◌, ◌≤◌, length, IsTrue, IfOk, OnErr, Some, None, true, false, is_ok, if◌then◌else◌, replicate, slice_index_or};
+ghost use Rattle.std.specs.Prelude.{◌≡◌, ℕ, ◌<◌, ◌≤◌, length, take, IsTrue, IfOk, OnErr, Some, None, true, false, is_ok, if◌then◌else◌, replicate, slice_index_or};
 ghost use Rattle.kpn_net.specs.Tables.{program_of};
 ghost use Rattle.kpn_step.specs.Frame.{fits};
 ghost use Rattle.kpn_run_configuration.specs.Configuration.{no_frame};
 ghost use Rattle.kpn_region.specs.Local.{claimed_with, no_side, is_within, frame_at, side_at, with_side};
+ghost use Rattle.kpn_region.specs.Joining.{readable};
 ghost use Rattle.kpn_region.specs.Batch.{stop_of, IsBatch, IsFresh, IsEmpty, with_process, RunsOn};
 
 use crate::ready::Ready;
 use crate::side::Side;
 use crate::traffic::{Halt, Traffic};
+use kpn_chan::Channel;
 use kpn_net::Network;
 use kpn_run_configuration::frames_at_start;
 use kpn_run_history::Event;
 use kpn_step::{Frame, Stop};
 use std::alloc::{AllocError, Allocator, Global};
 use std::marker::Model;
-
-/// So many events of the budget a pause takes.
-const PAUSE: u32 = 512;
 
 /// A region of a network as it was claimed, the events that it has made since, and what stands in it.
 ///
@@ -138,6 +137,27 @@ impl<'n, A: Allocator> Batch<'n, A> {
         side.claim(items, room, drains)
     }
 
+    /// Takes a channel into the region as `claim_channel` does, with the first `n` of its unread items.
+    pub fn claim_front<B: Allocator>(
+        &mut self,
+        c: usize,
+        channel: &Channel<B>,
+        n: usize,
+        room: u64,
+        drains: bool,
+    ) -> Result<(), AllocError>
+        requires channel { c < length self.old.tables.channels }
+        requires items { n ≤ length (readable channel.now) }
+        requires fresh { IsFresh self.old }
+        ensures tables { self.new.tables ≡ self.old.tables }
+        ensures claims { self.new.first ≡ with_side c (if is_ok result
+            then claimed_with (take n (readable channel.now)) room drains else no_side) self.old.first }
+        ensures fresh { IsFresh self.new }
+    {
+        let side = &mut self.traffic.sides[c];
+        side.claim_front(channel, n, room, drains)
+    }
+
     /// Process `p` can't go on because of channel `c`, until an item is got from there or put there.
     pub fn hold(&mut self, p: usize, c: usize)
         requires process { p < length self.old.tables.instances }
@@ -211,8 +231,9 @@ impl<'n, A: Allocator> Batch<'n, A> {
     }
 
     /// Runs the region by itself. Its processes make gets and puts, at most `budget` of them, and what is put on a sink
-    /// that the region empties is taken at once. A process makes at most `quota` steps before each. It ends when no
-    /// process can go on, or when the budget is used; a pause takes 512 of it, and a turn without an event 1.
+    /// that the region empties is taken at once. A process makes at most `quota` steps before each, and if that
+    /// is not enough, it goes on after a commit. It ends when no process goes on, or when the budget is used, of which a
+    /// turn without an event takes 1.
     ///
     /// The error is that memory ran out. What was made before that stands.
     pub fn run(&mut self, quota: u32, budget: u32) -> Result<(), AllocError>
@@ -251,10 +272,6 @@ impl<'n, A: Allocator> Batch<'n, A> {
             Halt::Spent => {
                 self.traffic.ready.insert(p);
                 Ok(rest)
-            }
-            Halt::Paused => {
-                self.traffic.ready.insert(p);
-                Ok(rest.saturating_sub(PAUSE))
             }
             Halt::NoMemory => Err(AllocError),
         }

@@ -4,6 +4,7 @@
 
 mod agreeing;
 mod batch;
+mod joining;
 pub mod laws;
 mod ready;
 mod side;

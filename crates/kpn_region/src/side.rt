@@ -1,7 +1,9 @@
 //! A channel, as far as a region sees it.
-ghost use Rattle.std.specs.Prelude.{◌≡◌, ◌<◌, ◌≤◌, ◌++◌, true, length, IsTrue, OnErr, is_ok, if◌then◌else◌, IfSome, IfNone};
+ghost use Rattle.std.specs.Prelude.{◌≡◌, ◌<◌, ◌≤◌, ◌++◌, true, [], length, take, IsTrue, OnOk, OnErr, is_ok, if◌then◌else◌, IfSome, IfNone};
+ghost use Rattle.kpn_region.specs.Joining.{readable};
 ghost use Rattle.kpn_region.specs.Local.{claimed_with, no_side, untaken, next_of, with_next_taken, with_item, as_claimed};
 
+use kpn_chan::Channel;
 use std::alloc::{AllocError, Allocator, Global};
 use std::marker::Model;
 
@@ -83,6 +85,27 @@ impl<A: Allocator> Side<A> {
         Ok(())
     }
 
+    /// The channel as it is claimed, with its first `n` unread items. The error is that memory ran out: the region then
+    /// sees nothing of it.
+    pub(crate) fn claim_front<B: Allocator>(
+        &mut self,
+        channel: &Channel<B>,
+        n: usize,
+        room: u64,
+        drains: bool,
+    ) -> Result<(), AllocError>
+        requires { n ≤ length (readable channel.now) }
+        ensures { self.new ≡ (if is_ok result
+            then claimed_with (take n (readable channel.now)) room drains else no_side) }
+    {
+        self.clear();
+        fill_front(&mut self.items, channel, n)?;
+        self.claimed = n;
+        self.room = room;
+        self.drains = drains;
+        Ok(())
+    }
+
     /// The items that were claimed, and then those that the region has put.
     pub fn items(&self) -> &[i64]
         ensures { result.now ≡ self.now.items }
@@ -117,6 +140,13 @@ impl<A: Allocator> Side<A> {
         ensures { result ≡ self.now.is_drained }
     {
         self.drains
+    }
+
+    /// The most items that were there and not taken when the region had put one; 0 if it has put none.
+    pub(crate) fn most(&self) -> usize
+        ensures { result ≡ self.now.most }
+    {
+        self.most
     }
 
     /// Does nothing. A caller's proof learns from it what holds of every side.
@@ -177,4 +207,26 @@ impl<A: Allocator> Side<A> {
         self.stuck = NOBODY;
         Some(stuck)
     }
+}
+
+/// Fills a list, which is empty, with the next `n` items that a reader gets. The error is that memory ran out, and then
+/// it stays empty.
+fn fill_front<A: Allocator, B: Allocator>(
+    items: &mut Vec<i64, A>,
+    channel: &Channel<B>,
+    n: usize,
+) -> Result<(), AllocError>
+    requires empty { items.old.items ≡ [] }
+    requires there { n ≤ length (readable channel.now) }
+    ensures ok { OnOk result (items.new.items ≡ take n (readable channel.now)) }
+    ensures err { OnErr result (items.new.items ≡ []) }
+{
+    items.reserve(n)?;
+    'items: for k in 0..n {
+        let Some(item) = channel.peek_at(k) else {
+            unreachable!();
+        };
+        items.push_reserved(item);
+    }
+    Ok(())
 }

@@ -30,10 +30,8 @@ pub(crate) struct Traffic<A: Allocator> {
 pub(crate) enum Passed {
     /// The process made its event and is past it.
     On,
-    /// It can't go on.
+    /// It can't go on, or has made as many steps as it was allowed.
     Stuck,
-    /// It may make more steps.
-    Paused,
     /// Memory ran out.
     NoMemory,
 }
@@ -41,10 +39,8 @@ pub(crate) enum Passed {
 /// How the turn of a process ended.
 #[derive(Clone, Copy)]
 pub(crate) enum Halt {
-    /// It can't go on from this stop.
+    /// It can't go on from this stop, or has made as many steps as it was allowed.
     Stuck(Stop),
-    /// It has made as many steps as it was allowed.
-    Paused,
     /// It has made as many events as it was allowed.
     Spent,
     /// Memory ran out.
@@ -52,7 +48,7 @@ pub(crate) enum Halt {
 }
 
 impl Halt {
-    /// The stop from which the process can't go on, if there is one.
+    /// The stop from which the process does not go on, if there is one.
     #[inline(always)]
     pub(crate) fn stop(self) -> Option<Stop>
         ensures { (t : Tables) (p : ℕ) (f : Frame) → halts_at self t p f
@@ -122,7 +118,6 @@ impl<A: Allocator> Traffic<A> {
                     continue 'events;
                 }
                 Passed::Stuck => Halt::Stuck(stop),
-                Passed::Paused => Halt::Paused,
                 Passed::NoMemory => Halt::NoMemory,
             };
             return Turned { made, halt };
@@ -165,12 +160,10 @@ impl<A: Allocator> Traffic<A> {
                         Passed::On
                     }
                     Passed::Stuck => Passed::Stuck,
-                    Passed::Paused => Passed::Paused,
                     Passed::NoMemory => Passed::NoMemory,
                 }
             }
-            Stop::Done | Stop::Faulted(_) => Passed::Stuck,
-            Stop::Paused => Passed::Paused,
+            Stop::Done | Stop::Faulted(_) | Stop::Paused => Passed::Stuck,
         }
     }
 

@@ -14,6 +14,7 @@ pub mod OneStop
 pub mod Parts
 pub mod Ports
 pub mod Reserving
+pub mod Joining
 pub mod Running
 pub mod Settling
 pub mod StopGrowth

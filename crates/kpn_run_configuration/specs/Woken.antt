@@ -1,6 +1,6 @@
 -- Which process an event on a channel wakes: the writer if it waits on the channel as full, or the reader if it waits
 -- on it as empty.
-use Rattle.std.specs.Prelude.{◌≡◌, ℕ, Bool, true, false, nat_eq, if◌then◌else◌, List, Option, Some, None, slice_set}
+use Rattle.std.specs.Prelude.{◌≡◌, ℕ, Bool, true, false, ◌&&◌, ◌||◌, nat_eq, if◌then◌else◌, List, Option, Some, None, slice_set}
 use Rattle.kpn_net.specs.declared.wait.Wait.{Wait}
 use Rattle.kpn_net.specs.declared.wait.Wait.TheVariants.{Nobody, Empty, Full}
 use Rattle.kpn_net.specs.declared.tables.End.{End}
@@ -51,3 +51,7 @@ woken_at kind waits end = free_now (waiting_at kind waits end) waits
 -- each process that had a wait of this kind waits for nobody, and all others wait as before
 pub record AreWoken (kind : Wait → Bool) (before after : List Wait) : Type 0 where
   pub each : (q : ℕ) → wait_at after q ≡ (if kind (wait_at before q) then Nobody else wait_at before q)
+
+-- a batch ends this wait: it is on this channel as empty and items were put there, or as full and items were taken
+abbrev pub ends_by_batch : (c : ℕ) → (taken put : Bool) → Wait → Bool
+ends_by_batch c taken put wait = (put && is_wait_on_empty c wait) || (taken && is_wait_on_full c wait)

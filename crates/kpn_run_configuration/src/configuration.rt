@@ -17,6 +17,7 @@ use std::marker::Model;
 
 mod complete;
 mod growth;
+mod joining;
 mod marked_waits;
 mod outside;
 mod processes;

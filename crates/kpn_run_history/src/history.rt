@@ -125,6 +125,16 @@ impl<A: Allocator> History<A> {
         self.events.push_reserved(event);
     }
 
+    /// Puts these events behind the others, at once. It takes no memory.
+    pub fn append(&mut self, events: &[Event])
+        requires { length events.now ≤ self.old.room }
+        ensures events { self.new.events ≡ self.old.events ++ events.now }
+        ensures room { self.old.room ≤ self.new.room + length events.now }
+        ensures kept { self.new.is_kept ≡ self.old.is_kept }
+    {
+        let _appended = self.events.extend_from_slice(events);
+    }
+
     /// Whether the events are kept.
     pub fn is_kept(&self) -> bool
         ensures { result ≡ self.now.is_kept }

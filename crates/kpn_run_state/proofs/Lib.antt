@@ -18,3 +18,7 @@ pub mod Starting
 pub mod Agreeing
 pub mod Journals
 pub mod Snapshots
+pub mod Regions
+pub mod Settling
+pub mod Joined
+pub mod Claiming

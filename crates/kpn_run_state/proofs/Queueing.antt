@@ -27,7 +27,7 @@ range_distinct : (a n : ℕ) → AreDistinct (range_with_len a n)
 range_distinct a zero = tt
 range_distinct a (suc n) = (λ h. let above = (range_from (a + 1) n a h).0 in omega arith, range_distinct (a + 1) n)
 
-range_has : (n q : ℕ) → q < n → Contains (range_with_len 0 n) q
+pub range_has : (n q : ℕ) → q < n → Contains (range_with_len 0 n) q
 range_has n q below =
     (q, omega (arith, length-range_with_len 0 n), get_or-range_with_len 0 n q q below ∙ omega arith)
 

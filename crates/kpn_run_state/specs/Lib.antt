@@ -12,3 +12,8 @@ pub mod Kept
 pub mod Open
 pub mod Snapshot
 pub mod Detached
+pub mod Regions
+pub mod BatchCommits
+pub mod RegionCalls
+pub mod RegionClaims
+pub mod ClaimParts

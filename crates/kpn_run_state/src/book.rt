@@ -30,6 +30,7 @@ mod complete;
 mod detaching;
 mod outside;
 mod processes;
+mod regions;
 mod waiting;
 
 /// The value under the lock of a run: its network, the history so far, the configuration to which it leads, the

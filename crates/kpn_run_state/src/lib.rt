@@ -10,6 +10,7 @@ mod detached;
 pub mod laws;
 mod open_book;
 mod queue;
+pub mod region_laws;
 mod schedule;
 mod view;
 

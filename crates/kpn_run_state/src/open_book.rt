@@ -14,8 +14,10 @@ use kpn_run_configuration::Configuration;
 use kpn_run_history::{History, State, Verdict};
 use std::alloc::Allocator;
 
+mod claims;
 mod commits;
 mod outside;
+pub(crate) mod regions;
 mod turns;
 
 /// How a process is held that is committed.

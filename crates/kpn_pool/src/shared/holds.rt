@@ -1,12 +1,12 @@
 //! The holds of a worker: each time it has the lock it commits what it has stepped, and claims the next processes or
 //! waits. It notifies others once the lock is free.
-ghost use Rattle.std.specs.Prelude.{◌≡◌, ◌+◌, ◌<◌, ◌≤◌, false, IfNone, IsSome};
+ghost use Rattle.std.specs.Prelude.{◌≡◌, ◌+◌, ◌<◌, ◌≤◌, false, IfNone, IsSome, None};
 ghost use Rattle.kpn_pool_desk.specs.Gate.{LetsAll};
 ghost use Rattle.kpn_pool_desk.specs.Seat.{ended};
 
-use super::{Shared, TRIES};
+use super::{MOMENT, REGION_MOMENT, Shared, TRIES, TRIES_OUTSIDE};
 use crate::pace::Pace;
-use kpn_pool_desk::{Batch, Desk, Gate, Job, Next, Stay, Why, WorkerSeat};
+use kpn_pool_desk::{Batch, Desk, Gate, Job, Next, RegionTurn, Stay, Why, WorkerSeat};
 use std::alloc::{Allocator, Global};
 use std::sync::{MutexGuard, Wait};
 use std::time::{Clock, Duration, Instant};
@@ -16,8 +16,8 @@ use std::time::{Clock, Duration, Instant};
 const HOLD: u64 = 100;
 
 impl<'n, J: Job, A: Allocator> Shared<'n, J, A> {
-    /// Commits the batch of a worker, which becomes that of the next processes, and makes turns in a row in between.
-    /// Returns whether there are such processes: if not, the worker ends.
+    /// Commits what a worker has in hand, its batch of turns or the region that it holds, and makes turns in a row.
+    /// Then it claims the next region or the next processes. Returns whether there are such: if not, the worker ends.
     pub(crate) fn go_on<G: Gate, R: Wait + Clock>(
         &self,
         rt: &R,
@@ -26,46 +26,82 @@ impl<'n, J: Job, A: Allocator> Shared<'n, J, A> {
         quota: u32,
         pace: &mut Pace,
         batch: &mut Batch<'n, J>,
+        region: &mut RegionTurn<'n, J, A>,
     ) -> bool
     where
         A: Copy,
+        requires { IsSome region.old → LetsAll (G.may_answer gate.now) }
         ensures number { seat.new.number ≡ seat.old.number }
         ensures commits { seat.old.commits ≤ seat.new.commits }
         ensures ended { (result ≡ false) → IsSome seat.new.why }
-        // turns that the gate was not asked for are committed only if it lets everything through
+        // what the gate was not asked for is claimed and committed only if it lets everything through
+        ensures region { IsSome region.new → LetsAll (G.may_answer gate.now) }
         ensures asked { seat.old.commits + batch.old.passed < seat.new.commits
             → LetsAll (G.may_answer gate.now) }
     {
         let away = pace.time(rt);
-        let turns = batch.len();
-        let mut desk = self.lock_after(rt, TRIES);
+        let turns = if region.is_held() { 1 } else { batch.len() };
+        // others may have the lock for as long as a region takes to be committed
+        let tries = if region.is_held() {
+            TRIES_OUTSIDE
+        } else {
+            TRIES
+        };
+        let mut desk = self.lock_after(rt, tries);
         pace.hold(rt);
-        let before = seat.commits();
-        let mut next = batch.come_back(
-            &mut desk,
-            gate,
-            seat,
-            pace.commits,
-            away,
-            quota,
-            self.max_commits,
-        );
-        if seat.commits() - before > turns as u64 {
-            pace.make_row();
-            next = self.go_on_in_rows(rt, gate, seat, quota, &mut desk, next);
-        }
+        let next = self.come_back(rt, gate, seat, quota, pace, batch, region, &mut desk, away);
         let Some(mut desk) = self.wait_for_work(rt, seat, pace, desk, next) else {
             return false;
         };
-        if !batch.claim(&mut desk) {
+        pace.is_timed = desk.times();
+        if !region.claim(&mut desk, gate) && !batch.claim(&mut desk) {
             self.end(desk, seat, Why::Limit);
             return false;
+        }
+        if region.is_held() {
+            pace.measure();
         }
         let held = pace.held(rt);
         let (notices, commits) = desk.join(turns, held);
         self.let_go(desk, notices);
         pace.begin(rt, commits);
         true
+    }
+
+    /// Commits what a worker has in hand, and makes turns in a row after that. Returns what it does next.
+    fn come_back<G: Gate, R: Wait + Clock>(
+        &self,
+        rt: &R,
+        gate: &G,
+        seat: &mut WorkerSeat<J>,
+        quota: u32,
+        pace: &mut Pace,
+        batch: &mut Batch<'n, J>,
+        region: &mut RegionTurn<'n, J, A>,
+        desk: &mut Desk<'n, J, A>,
+        away: Option<Duration>,
+    ) -> Next
+    where
+        A: Copy,
+        requires { IsSome region.old → LetsAll (G.may_answer gate.now) }
+        ensures region { region.new ≡ None }
+        ensures number { seat.new.number ≡ seat.old.number }
+        ensures commits { seat.old.commits ≤ seat.new.commits }
+        ensures asked { seat.old.commits + batch.old.passed < seat.new.commits
+            → LetsAll (G.may_answer gate.now) }
+    {
+        let most = self.max_commits;
+        if region.is_held() {
+            return region.come_back(desk, seat, pace.commits, away, most);
+        }
+        let turns = batch.len() as u64;
+        let before = seat.commits();
+        let next = batch.come_back(desk, gate, seat, pace.commits, away, quota, most);
+        if seat.commits() - before <= turns {
+            return next;
+        }
+        pace.make_row();
+        self.go_on_in_rows(rt, gate, seat, quota, desk, next)
     }
 
     /// A worker that makes turns in a row goes on with them for a tenth of a millisecond. Returns what it does then.
@@ -139,11 +175,16 @@ impl<'n, J: Job, A: Allocator> Shared<'n, J, A> {
         desk: MutexGuard<'l, Desk<'n, J, A>>,
         stay: Stay,
     ) -> (MutexGuard<'l, Desk<'n, J, A>>, Next) {
+        let moment = if desk.goes_by_regions() {
+            REGION_MOMENT
+        } else {
+            MOMENT
+        };
         drop(desk);
         if stay.calls {
             self.called.notify_all();
         }
-        let mut desk = self.lock_in_moment::<Global, R>(rt, None);
+        let mut desk = self.lock_in_moment::<Global, R>(rt, None, Duration::from_micros(moment));
         let next = desk.look_away(stay, self.max_commits);
         (desk, next)
     }

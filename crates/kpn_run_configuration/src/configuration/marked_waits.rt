@@ -1,12 +1,12 @@
 //! What each process waits for, and marks on the channels on which one may wait. A channel has one writer and one
 //! reader, so an event on it wakes at most one process; if the channel has no mark, it wakes none.
-ghost use Rattle.std.specs.Prelude.{◌≡◌, ℕ, ◌<◌, Bool, false, true, length, replicate, slice_index_or, slice_set, IfOk, Contains};
+ghost use Rattle.std.specs.Prelude.{◌≡◌, ℕ, ◌<◌, Bool, false, true, length, replicate, slice_index_or, slice_set, if◌then◌else◌, IfOk, Contains};
 ghost use Rattle.kpn_net.specs.declared.wait.Wait.TheVariants.{Nobody, Empty, Full};
 ghost use Rattle.kpn_net.specs.declared.tables.End.TheVariants.{Process};
 ghost use Rattle.kpn_net.specs.Tables.{writer_of, reader_of};
 ghost use Rattle.kpn_net.specs.Waits.{AreWaits, WaitsFor};
 ghost use Rattle.kpn_run_configuration.specs.Marks.{is_marked};
-ghost use Rattle.kpn_run_configuration.specs.Woken.{is_wait, waiting_at, waiting_writer, waiting_reader, woken_at};
+ghost use Rattle.kpn_run_configuration.specs.Woken.{is_wait, waiting_at, waiting_writer, waiting_reader, woken_at, AreWoken, ends_by_batch};
 
 use kpn_cycle::Waits;
 use kpn_net::{End, Network, Wait};
@@ -102,6 +102,44 @@ impl<A: Allocator> MarkedWaits<A> {
         }
         set_mark(&mut self.empty, c, false);
         wake(&mut self.waits, network.reader_of(c), Wait::Empty(c))
+    }
+
+    /// Wakes those whom a batch wakes at a channel: the reader, if it waits on it as empty and items were `put`, and
+    /// the writer, if it waits on it as full and items were `taken`.
+    pub(super) fn wake_by_batch(&mut self, network: &Network, c: usize, taken: bool, put: bool)
+        requires channel { c < length network.now.channels }
+        requires waits { AreWaits network.now self.old }
+        ensures woken { AreWoken (ends_by_batch c taken put) self.old self.new }
+        ensures waits { AreWaits network.now self.new }
+    {
+        self.wake_reader_if(network, c, put);
+        self.wake_writer_if(network, c, taken);
+    }
+
+    /// Wakes the reader of a channel, as `wake_reader` does, if items were `put` there.
+    fn wake_reader_if(&mut self, network: &Network, c: usize, put: bool)
+        requires channel { c < length network.now.channels }
+        requires waits { AreWaits network.now self.old }
+        ensures { self.new ≡ (if put then woken_at (is_wait (Empty c)) self.old
+            (reader_of network.now c) else self.old) }
+    {
+        if !put {
+            return;
+        }
+        let _reader = self.wake_reader(network, c);
+    }
+
+    /// Wakes the writer of a channel, as `wake_writer` does, if items were `taken` from there.
+    fn wake_writer_if(&mut self, network: &Network, c: usize, taken: bool)
+        requires channel { c < length network.now.channels }
+        requires waits { AreWaits network.now self.old }
+        ensures { self.new ≡ (if taken then woken_at (is_wait (Full c)) self.old
+            (writer_of network.now c) else self.old) }
+    {
+        if !taken {
+            return;
+        }
+        let _writer = self.wake_writer(network, c);
     }
 
     /// Whether a process may wait for process `p`. If not, there is no cycle through `p`.

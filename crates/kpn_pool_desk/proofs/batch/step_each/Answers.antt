@@ -12,15 +12,15 @@ turns-preserved g c =
     let may = g.G.Gate.may_answer c.args.gate.now c.args.worker in
     let turn = c.index-turns-i.result in
     let below : c.turns.i < length c.turns.turns = search rules in
-    let same = c.step-process.ensures.same in
-    let kept = claimed_by-set c.turns.turns c.turns.i c.step-process.new.self turn below same in
+    let same = c.step_timed-process.ensures.same in
+    let kept = claimed_by-set c.turns.turns c.turns.i c.step_timed-process.new.self turn below same in
     let there =
-    claimed_at c.turns.turns c.turns.i turn below ∙ ap Some (sym (c.step-process.ensures.process ∙ same)) in
+    claimed_at c.turns.turns c.turns.i turn below ∙ ap Some (sym (c.step_timed-process.ensures.process ∙ same)) in
     record {
       claimed = kept ∙ c.turns.invariant.claimed;
       through = λ j q less at.
-          through_more may (claimed_by c.turns.turns) c.turns.i c.step-process.result there
-          (subst (λ go. may c.step-process.result go) c.in-On.is c.between.ensures) c.turns.invariant.through j q less
+          through_more may (claimed_by c.turns.turns) c.turns.i c.step_timed-process.result there
+          (subst (λ go. may c.step_timed-process.result go) c.in-On.is c.between.ensures) c.turns.invariant.through j q less
           (subst (λ ps. slice_get ps j ≡ Some q) kept at);
     }
 
@@ -29,17 +29,17 @@ returns-in-Abandon g c =
     let may = g.G.Gate.may_answer c.args.gate.now c.args.worker in
     let turn = c.index-turns-i.result in
     let below : c.turns.i < length c.turns.turns = search rules in
-    let same = c.step-process.ensures.same in
-    let kept = claimed_by-set c.turns.turns c.turns.i c.step-process.new.self turn below same in
+    let same = c.step_timed-process.ensures.same in
+    let kept = claimed_by-set c.turns.turns c.turns.i c.step_timed-process.new.self turn below same in
     let there =
-    claimed_at c.turns.turns c.turns.i turn below ∙ ap Some (sym (c.step-process.ensures.process ∙ same)) in
+    claimed_at c.turns.turns c.turns.i turn below ∙ ap Some (sym (c.step_timed-process.ensures.process ∙ same)) in
     record {
       count = omega arith;
       claimed = kept ∙ c.turns.invariant.claimed;
       gate =
           subst (λ ps. LetsThrough may c.turns.i c.args.held ps) (sym kept)
-          (stopped_at may (claimed_by c.turns.turns) c.turns.i c.step-process.result c.args.held there
-          (subst (λ go. may c.step-process.result go) c.in-Abandon.is c.between.ensures) c.turns.invariant.through);
+          (stopped_at may (claimed_by c.turns.turns) c.turns.i c.step_timed-process.result c.args.held there
+          (subst (λ go. may c.step_timed-process.result go) c.in-Abandon.is c.between.ensures) c.turns.invariant.through);
     }
 
 pub returns-clause-gate : goal.returns-clause-gate

@@ -18,7 +18,7 @@ returns-then-has_to_end-clause-goes g c =
 pub returns-clause-goes : goal.returns-clause-goes
 returns-clause-goes g c =
     let all = c.lets_all.ensures (search rules) in
-    let counts = c.commits.ensures ∙ ap (λ (d : Desk). d.book.commits) c.desk-2.view_is in
+    let counts = c.commits.ensures ∙ ap (λ (d : Desk). d.book.commits) c.desk.view_is in
     let limits =
     c.min-limit.ensures ∙ ap (λ n. min n c.args.most) c.saturating_add.ensures in
     gone (g.G.Gate.may_answer c.args.gate.now) c.args.quota c.args.most c.min-limit.result c.commits.result

@@ -1,4 +1,4 @@
-use Rattle.std.proofs.Common.{◌≡◌, ◌≤◌, true, length, refl, sym, ◌∙◌, arith, rules}
+use Rattle.std.proofs.Common.{◌≤◌, length, refl, sym, ◌∙◌, arith, rules}
 use Rattle.std.proofs.lemmas.List.{take_all}
 use Rattle.kpn_chan.specs.Chunks.{items_of}
 use Rattle.kpn_chan.proofs.Places.{begins_by_places}

@@ -34,8 +34,5 @@ invariant_of-self-in-Stuck g c = after g (goal.at.invariant_of-self-in-Stuck g c
 pub invariant_of-self-in-Spent : goal.invariant_of-self-in-Spent
 invariant_of-self-in-Spent g c = after g (goal.at.invariant_of-self-in-Spent g c).After-stop
 
-pub invariant_of-self-in-Paused : goal.invariant_of-self-in-Paused
-invariant_of-self-in-Paused g c = after g (goal.at.invariant_of-self-in-Paused g c).After-stop
-
 pub invariant_of-self-in-NoMemory : goal.invariant_of-self-in-NoMemory
 invariant_of-self-in-NoMemory g c = after g (goal.at.invariant_of-self-in-NoMemory g c).After-stop

@@ -55,14 +55,6 @@ returns-in-Stuck-clause-goes g c =
     c.run-stop.result.1 c.events.invariant.goes
     (advance g (goal.at.returns-in-Stuck-clause-goes g c).After-run-stop) c.in-Stuck.ensures.passes
 
-pub returns-in-Paused-clause-goes : goal.returns-in-Paused-clause-goes
-returns-in-Paused-clause-goes g c =
-    goes_and_stops c.args.network.now c.args.p c.events.made c.args.frame.now c.events.frame c.run-stop.new.self
-    c.pass.new.frame c.args.self.now.sides.items c.events.self.sides.items c.pass.new.self.sides.items
-    c.args.self.now.events.items c.events.self.events.items c.pass.new.self.events.items c.run-stop.result.0
-    c.run-stop.result.1 c.events.invariant.goes
-    (advance g (goal.at.returns-in-Paused-clause-goes g c).After-run-stop) c.in-Paused.ensures.passes
-
 pub returns-in-NoMemory-clause-goes : goal.returns-in-NoMemory-clause-goes
 returns-in-NoMemory-clause-goes g c =
     goes_and_stops c.args.network.now c.args.p c.events.made c.args.frame.now c.events.frame c.run-stop.new.self

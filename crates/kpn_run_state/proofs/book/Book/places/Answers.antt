@@ -1,4 +1,4 @@
-use Rattle.std.proofs.Common.{◌≡◌, ℕ, ◌+◌, ◌*◌, ◌≤◌, Option, None, Some, refl, ap, ◌∙◌, arith, subst}
+use Rattle.std.proofs.Common.{◌≡◌, ℕ, ◌+◌, ◌*◌, ◌≤◌, max, Option, None, Some, refl, ap, ◌∙◌, arith, subst}
 use Rattle.std.specs.Option.{unwrap_or}
 use Rattle.kpn_chan.specs.declared.channel.TheConstants.{FIRST_PLACES}
 use Rattle.kpn_chan.specs.declared.chunks.TheConstants.{CHUNK}
@@ -7,9 +7,9 @@ use Rattle.kpn_run_state.specs.Kept.{IsKept}
 use Rattle.kpn_run_state.proofs.book.Book.places.Goals as goal
 
 within : (most : ℕ) (capacity : Option ℕ) → ((cap : ℕ) → capacity ≡ Some cap → most ≤ cap)
-    → most ≤ unwrap_or capacity most
+    → max most (unwrap_or capacity 0) ≤ unwrap_or capacity most
 within most None bound = omega arith
-within most (Some cap) bound = bound cap refl
+within most (Some cap) bound = let few = bound cap refl in omega (arith, few)
 
 pub returns : goal.returns
 returns g c forgets =
@@ -17,9 +17,9 @@ returns g c forgets =
     let channel = channel_in c.args.self.now.configuration c.args.c in
     let is : c.channel.result.now ≡ channel =
     c.channel.ensures ∙ ap (λ b. channel_in b.configuration c.args.c) c.self.view_is in
-    let few : c.places.result ≤ CHUNK + FIRST_PLACES + 2 * channel.most =
-    subst (λ x. c.places.result ≤ CHUNK + FIRST_PLACES + 2 * x.most) is
-    (c.places.ensures (ap (λ x. x.is_kept) is ∙ forgets)) in
-    let unread : channel.most ≤ unwrap_or channel.capacity channel.most =
+    let few : c.places.result ≤ CHUNK + FIRST_PLACES + 2 * max channel.most (unwrap_or channel.capacity 0) =
+    subst (λ x. c.places.result ≤ CHUNK + FIRST_PLACES + 2 * max x.most (unwrap_or x.capacity 0)) is
+    (c.places.ensures.bound (ap (λ x. x.is_kept) is ∙ forgets)) in
+    let unread : max channel.most (unwrap_or channel.capacity 0) ≤ unwrap_or channel.capacity channel.most =
     within channel.most channel.capacity (λ cap. kept.in_step.run.shape.within c.args.c cap c.requires) in
     omega (arith, few, unread)

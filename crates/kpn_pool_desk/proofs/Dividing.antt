@@ -1,0 +1,96 @@
+-- Regions are claimed and committed: the network stays, and commits are only added.
+use Rattle.std.proofs.Common.{◌≡◌, ℕ, ◌+◌, ◌≤◌, Bool, true, false, Option, Some, None, refl, sym, ap, ◌∙◌, subst, arith}
+use Rattle.kpn_step.specs.declared.stop.Stop.{Stop}
+use Rattle.kpn_region.specs.Batch.{Batch}
+use Rattle.kpn_run_state.specs.declared.answers.Done.{Done}
+use Rattle.kpn_run_state.specs.Book.{Book, counted}
+use Rattle.kpn_run_state.specs.Commits.{HandlesStop, ready_if_paused}
+use Rattle.kpn_run_state.specs.Regions.{commits_or_not, goes_to, settles_if, has_part, Settles, SettleBelow, none_yet, one_more}
+use Rattle.kpn_run_state.specs.RegionCalls.{CommitsRegion}
+use Rattle.kpn_run_state.specs.RegionClaims.{IsSameBook, ClaimsRegion}
+use Rattle.kpn_run_state.proofs.Appended.{base_tables, base_commits, commits_stay, tables_stay}
+use Rattle.kpn_region.specs.Batch.{stop_of}
+use Rattle.kpn_pool_desk.proofs.InARow.{IsFurther}
+
+-- ---- a claim
+
+pub same_book : (b : Book) → IsSameBook b b
+same_book b = record {
+  same = refl;
+  rest = refl;
+  count = refl;
+  channels = λ c. record { same = refl; reserved = λ is. is };
+}
+
+pub same_network : (before after : Book) → IsSameBook before after → after.tables ≡ before.tables
+same_network before after is = ap (λ (b : Book). b.tables) is.same
+
+pub same_commits : (before after : Book) → IsSameBook before after → after.commits ≡ before.commits
+same_commits before after is = ap (λ (b : Book). b.commits) is.same
+
+pub claimed_network : (of : _) (most : ℕ) (drains : Bool) (batch : Batch) (before after : Book)
+    → ClaimsRegion of most drains batch before after → after.tables ≡ before.tables
+claimed_network of most drains batch before after is =
+    ap (λ (b : Book). b.tables) is.held ∙ same_network before is.roomy is.same
+
+pub claimed_commits : (of : _) (most : ℕ) (drains : Bool) (batch : Batch) (before after : Book)
+    → ClaimsRegion of most drains batch before after → after.commits ≡ before.commits
+claimed_commits of most drains batch before after is =
+    ap (λ (b : Book). b.commits) is.held ∙ same_commits before is.roomy is.same
+
+-- ---- a commit
+
+stays : (before after : Book) → after ≡ before → IsFurther before after
+stays before after same =
+    let is = ap (λ (b : Book). b.commits) same in
+    record { tables = ap (λ (b : Book). b.tables) same; commits = omega (arith, is) }
+
+then_further : (a b c : Book) → IsFurther a b → IsFurther b c → IsFurther a c
+then_further a b c one two =
+    let first = one.commits in
+    let second = two.commits in
+    record { tables = two.tables ∙ one.tables; commits = omega (arith, first, second) }
+
+handled : (p : ℕ) (s : Stop) (answer : Done) (before after : Book) → HandlesStop p s answer before after
+    → IsFurther before after
+handled p s answer before after is =
+    let base = ready_if_paused p answer (counted before) in
+    let more : after.commits ≡ before.commits + 1 =
+    commits_stay is.events base after is.appends ∙ base_commits answer p (counted before) in
+    record {
+      tables = tables_stay is.events base after is.appends ∙ base_tables answer p (counted before);
+      commits = omega (arith, more);
+    }
+
+by_memory : (memory : Bool) (p : ℕ) (s : Stop) (before after : Book) → commits_or_not memory p s before after
+    → IsFurther before after
+by_memory true p s before after is = handled p s is.0 before after is.1
+by_memory false p s before after is =
+    let same = ap (λ (b : Book). b.commits) is.1 in
+    record { tables = ap (λ (b : Book). b.tables) is.1; commits = omega (arith, same) }
+
+by_stop : (memory : Bool) (p : ℕ) (o : Option Stop) (before after : Book) → goes_to memory p o before after
+    → IsFurther before after
+by_stop memory p (Some s) before after is = by_memory memory p s before after is
+by_stop memory p None before after is =
+    let same = ap (λ (b : Book). b.commits) is.1 in
+    record { tables = ap (λ (b : Book). b.tables) is.1; commits = omega (arith, same) }
+
+by_part : (part memory : Bool) (batch : Batch) (p : ℕ) (before after : Book)
+    → settles_if part memory batch p before after → IsFurther before after
+by_part true memory batch p before after is = by_stop memory p (stop_of batch p) before after is
+by_part false memory batch p before after is = stays before after is.1
+
+settled_further : (batch : Batch) (first : Book) {n : ℕ} {memory : Bool} {after : Book}
+    → SettleBelow batch first n memory after → IsFurther first after
+settled_further batch first none_yet = stays first first refl
+settled_further batch first (one_more {n} enough before after so_far settles) =
+    then_further first before after (settled_further batch first so_far)
+    (by_part (has_part batch n before) enough batch n before after settles)
+
+pub region_further : (batch : Batch) (memory : Bool) (before after : Book) → CommitsRegion batch memory before after
+    → IsFurther before after
+region_further batch memory before after is =
+    let rest = settled_further batch _ is.settle in
+    let more = rest.commits in
+    record { tables = rest.tables; commits = omega (arith, more) }

@@ -1,0 +1,6 @@
+use Rattle.std.proofs.Common.{◌<◌, take}
+use Rattle.std.specs.List.{All}
+use Rattle.kpn_pool_desk.proofs.division.are_below.Given as goal
+
+abbrev pub invariant-numbers : goal.invariant-numbers
+invariant-numbers l = All (λ p. p < l.count) (take l.k l.numbers)

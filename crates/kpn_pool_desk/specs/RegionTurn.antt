@@ -1,0 +1,81 @@
+-- What a worker does with a region between two holds of the lock.
+use Rattle.std.specs.Prelude.{◌≡◌, ℕ, ◌⊎◌, Bool, true, false, List, Option, Some, None}
+use Rattle.kpn_region.specs.Batch.{Batch, RunsOn}
+use Rattle.kpn_run_state.specs.declared.answers.Refused.{Refused}
+use Rattle.kpn_run_state.specs.declared.answers.Refused.TheVariants as refused
+use Rattle.kpn_run_state.specs.Book.{Book}
+use Rattle.kpn_run_state.specs.RegionClaims.{ClaimsRegion}
+use Rattle.kpn_run_state.specs.RegionCalls.{CommitsRegion, RefusesRegion}
+use Rattle.kpn_run_state.specs.Regions.{batch_put_back}
+use Rattle.kpn_pool_desk.specs.declared.phases.Next.{Next}
+use Rattle.kpn_pool_desk.specs.declared.phases.Next.TheVariants as next
+use Rattle.kpn_pool_desk.specs.declared.rows.Takers.{Takers}
+use Rattle.kpn_pool_desk.specs.declared.rows.Takers.TheVariants.{Seats, Workers}
+use Rattle.kpn_pool_desk.specs.declared.seat.Why.{Why}
+use Rattle.kpn_pool_desk.specs.declared.seat.Why.TheVariants.{NoMemory}
+use Rattle.kpn_pool_desk.specs.Desk.{Desk, EndsFor, KeepsWorkers, with_book}
+use Rattle.kpn_pool_desk.specs.Rows.{TakesOn}
+
+-- the region in hand, if one is held
+abbrev pub held_of : (is_held : Bool) → Option Batch → Option Batch
+held_of true batch = batch
+held_of false batch = None
+
+-- whether regions empty their sinks: they do if the workers take
+abbrev pub DrainsFor : Takers → (drains : Bool) → Type 0
+DrainsFor Seats drains = drains ≡ false
+DrainsFor (Workers wanted) drains = drains ≡ true
+
+-- a region is claimed for a batch
+pub record ClaimsFor (takers : Takers) (batch : Batch) (before after : Book) : Type 0 where
+  pub of : List ℕ
+  pub drains : Bool
+  pub drained : DrainsFor takers drains
+  pub claims : ClaimsRegion of 4096 drains batch before after
+
+-- a worker claims a region, which it then has in hand
+pub record ClaimsOne (takers : Takers) (hand : Option Batch) (before after : Book) : Type 0 where
+  pub batch : Batch
+  pub in_hand : hand ≡ Some batch
+  pub claims : ClaimsFor takers batch before after
+
+-- the region in hand runs by itself, and makes at most 4,096 gets and puts
+abbrev pub Runs : (before after : Option Batch) → Type 0
+Runs None after = after ≡ None
+Runs (Some batch) after = (run : Batch) × (after ≡ Some run) × RunsOn 4096 0 batch run
+
+-- a batch is committed, for all of whose processes there was memory or not; or it is refused for this cause, and its
+-- processes are put back
+abbrev pub CommitsOrPutsBack : (memory : Bool) → Refused → Batch → (before after : Book) → Type 0
+CommitsOrPutsBack memory cause batch before after =
+    CommitsRegion batch memory before after
+    ⊎ (RefusesRegion batch before cause × (after ≡ batch_put_back batch before))
+
+-- why a worker ends whose region is settled. One that does not agree with the book is put back, and the worker goes on
+abbrev pub EndsSettled : Batch → Option Why → (before after : Desk) → Type 0
+EndsSettled batch None before after =
+    CommitsOrPutsBack true refused.Stranger batch before.book after.book × (after.halts ≡ before.halts)
+EndsSettled batch (Some NoMemory) before after =
+    CommitsOrPutsBack false refused.NoMemory batch before.book after.book × (after.halts ≡ true)
+EndsSettled batch (Some why) before after = ⊥
+
+-- the region in hand is settled
+pub record SettlesRegion (hand : Option Batch) (why : Option Why) (before after : Desk) : Type 0 where
+  pub batch : Batch
+  pub in_hand : hand ≡ Some batch
+  pub ends : EndsSettled batch why before after
+  pub keeps : KeepsWorkers before after
+
+-- after a region was settled, a worker ends if there is a reason for that; else it takes from the sinks, if the workers
+-- take, and if it ends then, there is a reason too
+abbrev pub GoesOnAfterRegion : (most : ℕ) → Option Why → Next → (between after : Desk) → Type 0
+GoesOnAfterRegion most (Some why) then between after = (then ≡ next.End why) × (after ≡ between)
+GoesOnAfterRegion most None then between after =
+    TakesOn between.takers between.book after.book × (after ≡ with_book after.book between) × EndsFor after most then
+
+-- a worker is back from its region: this is settled, and the worker goes on after that
+pub record ComesBackFromRegion (most : ℕ) (hand : Option Batch) (then : Next) (before after : Desk) : Type 0 where
+  pub why : Option Why
+  pub between : Desk
+  pub settles : SettlesRegion hand why before between
+  pub goes_on : GoesOnAfterRegion most why then between after

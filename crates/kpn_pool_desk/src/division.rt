@@ -1,0 +1,376 @@
+//! How a run divides its network among the workers.
+//!
+//! Where turns are short, the lock costs more than they do. So a worker then claims the processes of a whole region,
+//! runs them with the lock free, and commits what they have done together. Before that, the first turns of a run are
+//! timed, and the network is cut by what each process took.
+//!
+//! Regions are claimed while the limit of commits is so far that each of those that are held, and one more, may use all
+//! of its budget. Nearer to it, the workers make turns, or rows of them, once no region is held. While one is held, a
+//! worker waits rather than claim a single process: one of a held region that moves by itself would make the region's
+//! batch lost, which is put back then.
+ghost use Rattle.std.specs.Prelude.{◌≡◌, ◌<◌, true, false, IfOk, IfSome, OnErr};
+ghost use Rattle.std.specs.List.{All};
+ghost use Rattle.kpn_run_state.specs.RegionClaims.{IsSameBook};
+ghost use Rattle.kpn_run_state.specs.Regions.{batch_put_back};
+ghost use Rattle.kpn_pool_desk.specs.Desk.{with_book};
+ghost use Rattle.kpn_pool_desk.specs.RegionTurn.{DrainsFor, ClaimsFor};
+
+use crate::desk::Desk;
+use crate::job::Job;
+use crate::regions::Regions;
+use crate::rows::Takers;
+use kpn_region::Batch;
+use kpn_run_history::State;
+use kpn_run_state::Book;
+use std::alloc::{AllocError, Allocator};
+
+// Before so many commits the workers make single turns, which are timed.
+const TIMED: u64 = 2_000;
+
+// The network is cut after so many commits, and anew after so many times as many, since what goes through it may change.
+const FIRST: u64 = 20_000;
+
+const LATER: u64 = 16;
+
+// No turn counts for more nanoseconds: one that was interrupted weighs little.
+const LONGEST: u64 = 16_000;
+
+/// So many gets and puts a batch of a region makes at most.
+pub(crate) const BUDGET: u32 = 4_096;
+
+/// For how long the turns of each process took, and the regions into which the network is cut.
+#[derive(Drop)]
+pub(crate) struct Division<A: Allocator> {
+    pub(crate) alloc: A,
+    // so many commits are allowed in a run whose network may be cut, and 0 in others
+    limit: u64,
+    // how many nanoseconds the turns of each process took that were timed, and how many there were
+    taken: Vec<u64, A>,
+    turns: Vec<u64, A>,
+    // the network is cut once there are so many commits
+    due: u64,
+    // no region is claimed before there are so many
+    from: u64,
+    regions: Option<Regions<A>>,
+    // how many of them are held
+    held: usize,
+    // which is looked at first when one is claimed
+    next: usize,
+}
+
+impl<A: Allocator> Division<A> {
+    /// Of a network that is not cut.
+    pub(crate) fn new(alloc: A) -> Self
+    where
+        A: Copy,
+    {
+        Division {
+            alloc,
+            limit: 0,
+            taken: Vec::new(alloc),
+            turns: Vec::new(alloc),
+            due: FIRST,
+            from: 0,
+            regions: None,
+            held: 0,
+            next: 0,
+        }
+    }
+
+    /// The network is no longer divided.
+    pub(crate) fn stop(&mut self) {
+        self.limit = 0;
+        self.let_go();
+    }
+
+    /// A region is held no longer.
+    pub(crate) fn release(&mut self) {
+        self.held = self.held.saturating_sub(1);
+        self.let_go();
+    }
+
+    /// A region has made no commit: its batch was refused, or memory ran out in its run. Turns are made until there are
+    /// some commits more.
+    pub(crate) fn rest(&mut self, commits: u64) {
+        self.from = commits.saturating_add(u64::from(BUDGET));
+    }
+
+    /// If the network is no longer divided, and no region is held, the regions go.
+    fn let_go(&mut self) {
+        if self.limit == 0 && self.held == 0 {
+            self.regions = None;
+        }
+    }
+
+    /// A turn of a process, of so many, took so many nanoseconds. If memory for that runs out, the network is not
+    /// divided.
+    pub(crate) fn note(&mut self, processes: usize, process: usize, nanos: u64) {
+        if !fill(&mut self.taken, processes) || !fill(&mut self.turns, processes) {
+            self.stop();
+            return;
+        }
+        if let Some(taken) = self.taken.get_mut(process) {
+            *taken = taken.saturating_add(nanos.min(LONGEST));
+        }
+        if let Some(turns) = self.turns.get_mut(process) {
+            *turns = turns.saturating_add(1);
+        }
+    }
+
+    /// Cuts the network, if it is time. If memory for that runs out, the network is not divided.
+    fn cut_if_due(&mut self, book: &Book<'_, A>, drains: bool, workers: usize)
+    where
+        A: Copy,
+    {
+        let commits = book.commits();
+        if self.limit == 0 || self.held > 0 || commits < self.due {
+            return;
+        }
+        self.due = commits.saturating_mul(LATER);
+        match self.cut(book, drains, workers) {
+            Ok(regions) => self.regions = regions,
+            Err(_error) => self.stop(),
+        }
+    }
+
+    /// Cuts the network by what was timed and what its channels have carried.
+    fn cut(
+        &self,
+        book: &Book<'_, A>,
+        drains: bool,
+        workers: usize,
+    ) -> Result<Option<Regions<A>>, AllocError>
+    where
+        A: Copy,
+    {
+        let network = book.network();
+        let mut carried = Vec::with_capacity(self.alloc, network.channels())?;
+        for c in 0..network.channels() {
+            carried.push((book.read_count(c) as u64).saturating_add(book.unread_count(c) as u64))?;
+        }
+        Regions::cut(
+            self.alloc,
+            network,
+            carried.as_slice(),
+            self.taken.as_slice(),
+            self.turns.as_slice(),
+            drains,
+            workers,
+        )
+    }
+
+    /// How many regions there are.
+    fn len(&self) -> usize {
+        match &self.regions {
+            Some(regions) => regions.len(),
+            None => 0,
+        }
+    }
+
+    /// The processes of a region. None, if there is no such region.
+    fn processes(&self, region: usize) -> &[usize] {
+        match &self.regions {
+            Some(regions) => regions.processes(region),
+            None => &[],
+        }
+    }
+}
+
+/// Fills a list with zeros up to so many. Returns whether there was memory for it.
+fn fill<A: Allocator>(list: &mut Vec<u64, A>, count: usize) -> bool {
+    for _ in list.len()..count {
+        if list.push(0).is_err() {
+            return false;
+        }
+    }
+    true
+}
+
+/// Whether all these numbers are below this count.
+fn are_below(count: usize, numbers: &[usize]) -> bool
+    ensures { (result ≡ true) → All (λ p. p < count) numbers.now }
+{
+    'numbers: for k in 0..numbers.len() {
+        if numbers[k] >= count {
+            return false;
+        }
+    }
+    true
+}
+
+impl<'n, J: Job, A: Allocator> Desk<'n, J, A> {
+    /// The network may be cut into regions, if so many commits are allowed.
+    pub fn divide(&mut self, most: u64)
+        ensures { self.new ≡ self.old }
+    {
+        self.division.limit = most;
+    }
+
+    /// Whether turns are to be timed.
+    pub fn times(&self) -> bool {
+        self.division.limit > 0 && self.book.commits() < TIMED
+    }
+
+    /// Cuts the network, if it is time.
+    pub(crate) fn cut(&mut self)
+    where
+        A: Copy,
+        ensures { self.new ≡ self.old }
+    {
+        let drains = self.drains();
+        self.division.cut_if_due(&self.book, drains, self.workers);
+        let goes_by_regions = self.goes_by_regions();
+        self.crew.go_by_regions(goes_by_regions);
+    }
+
+    /// Whether a worker that has the lock makes turns in a row.
+    pub(crate) fn makes_rows(&self) -> bool {
+        self.crew.makes_rows() && !self.goes_by_regions() && !self.times()
+    }
+
+    /// How many there are to claim: regions, or, where none is held and none may be claimed, processes.
+    pub(crate) fn claimable(&self) -> usize {
+        let ready = self.ready();
+        if ready == 0 || !self.goes_by_regions() {
+            return ready;
+        }
+        let regions = self.claimable_regions();
+        if regions == 0 && self.division.held == 0 {
+            return ready;
+        }
+        regions
+    }
+
+    /// How many regions may be claimed.
+    fn claimable_regions(&self) -> usize {
+        if !self.claims_regions() {
+            return 0;
+        }
+        let mut count: usize = 0;
+        for region in 0..self.division.len() {
+            if self.may_claim(region) {
+                count = count.saturating_add(1);
+            }
+        }
+        count
+    }
+
+    /// Whether workers claim regions, or wait for those that are held, and claim no single process.
+    pub fn goes_by_regions(&self) -> bool {
+        self.division.held > 0 || self.claims_regions()
+    }
+
+    /// Whether a region more may be claimed: the last one has made a commit, or turns have since; it is not time to cut
+    /// anew; and the limit is far.
+    fn claims_regions(&self) -> bool {
+        self.division.regions.is_some()
+            && self.division.from <= self.book.commits()
+            && self.book.commits() < self.division.due
+            && self.is_limit_far()
+    }
+
+    /// Whether each region that is held, and one more, may use its budget.
+    fn is_limit_far(&self) -> bool {
+        let processes = self.book.network().instances() as u64;
+        let regions = (self.division.held as u64).saturating_add(1);
+        let most = u64::from(BUDGET)
+            .saturating_add(processes)
+            .saturating_mul(regions);
+        most <= self.division.limit.saturating_sub(self.book.commits())
+    }
+
+    /// Whether regions empty their sinks: they do if the workers take.
+    fn drains(&self) -> bool
+        ensures { DrainsFor self.now.takers result }
+    {
+        match self.takers {
+            Takers::Seats => false,
+            Takers::Workers(_wanted) => true,
+        }
+    }
+
+    /// Whether a region may be claimed: none of its processes is held, and one is ready.
+    fn may_claim(&self, region: usize) -> bool {
+        let of = self.division.processes(region);
+        if !are_below(self.book.network().instances(), of) {
+            return false;
+        }
+        let mut is_ready = false;
+        'processes: for k in 0..of.len() {
+            match self.book.state(of[k]) {
+                State::Held => return false,
+                State::Ready => is_ready = true,
+                _ => {}
+            }
+        }
+        is_ready
+    }
+
+    /// The region that a worker is to claim, if there is one. If there are no more regions than workers, it is this last
+    /// one that the worker had, where that may be claimed; else the next one behind that which was claimed last.
+    pub(crate) fn next_region(&self, last: Option<usize>) -> Option<usize> {
+        if !self.claims_regions() {
+            return None;
+        }
+        let count = self.division.len();
+        if let Some(last) = last {
+            if count <= self.workers && self.may_claim(last) {
+                return Some(last);
+            }
+        }
+        for k in 0..count {
+            let region = self.division.next.wrapping_add(k) % count;
+            if self.may_claim(region) {
+                return Some(region);
+            }
+        }
+        None
+    }
+
+    /// Claims a region for a batch. Returns whether it could. The error is that memory ran out.
+    pub(crate) fn claim_region(
+        &mut self,
+        region: usize,
+        batch: &mut Batch<'n, A>,
+    ) -> Result<bool, AllocError>
+    where
+        A: Copy,
+        requires { batch.old.tables ≡ J.network }
+        ensures tables { batch.new.tables ≡ J.network }
+        ensures claims { IfOk result (λ claimed. (claimed ≡ true)
+            → ClaimsFor self.old.takers batch.new self.old.book self.new.book) }
+        ensures same_book { IfOk result (λ claimed. (claimed ≡ false)
+            → IsSameBook self.old.book self.new.book) }
+        ensures no_memory { OnErr result (IsSameBook self.old.book self.new.book) }
+        ensures same { self.new ≡ with_book self.new.book self.old }
+    {
+        let drains = self.drains();
+        let of = self.division.processes(region);
+        if !are_below(self.book.network().instances(), of) {
+            return Ok(false);
+        }
+        let claimed = match self.book.claim_region(of, batch, BUDGET as usize, drains) {
+            Ok(claimed) => claimed,
+            Err(error) => {
+                self.book.known();
+                return Err(error);
+            }
+        };
+        self.book.known();
+        if claimed {
+            self.division.held = self.division.held.saturating_add(1);
+            self.division.next = region.wrapping_add(1);
+        }
+        Ok(claimed)
+    }
+
+    /// Puts the processes of a batch back that are held.
+    pub(crate) fn put_back_region(&mut self, batch: &Batch<'n, A>)
+        requires { batch.now.tables ≡ J.network }
+        ensures back { self.new.book ≡ batch_put_back batch.now self.old.book }
+        ensures same { self.new ≡ with_book self.new.book self.old }
+    {
+        self.book.put_back_region(batch);
+        self.book.known();
+    }
+}
