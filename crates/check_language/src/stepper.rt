@@ -2,7 +2,7 @@
 ghost use Rattle.std.specs.Prelude.{IsTrue};
 ghost use Rattle.kpn_step.specs.Frame.{fits};
 
-use crate::worked::{COPY, Line, Value, Worked, program_of};
+use crate::worked::{COPY, Line, Value, Worked, celled, program_of};
 use kpn_lang::{Fault, Program, Sequence};
 use kpn_step::{Advance, AloneStop, Frame, Said, Stop, advance, alone};
 use std::alloc::{AllocError, Global};
@@ -101,6 +101,33 @@ const CHOOSING: Worked<'static> = (
     ],
 );
 
+// An array of two cells and the table 5, 7: for each k that it reads, `a[k] = t[k]; write o a[k]; write o a[0];`.
+const SETTING: Worked<'static> = (
+    1,
+    1,
+    1,
+    &[
+        &[Line::While(Value::Num(1), 1)],
+        &[
+            Line::Read(0, 0),
+            Line::Set(64, 2, 0, Value::Cell(66, 2, 0)),
+            Line::Write(0, Value::Cell(64, 2, 0)),
+            Line::Assign(0, Value::Num(0)),
+            Line::Write(0, Value::Cell(64, 2, 0)),
+        ],
+    ],
+);
+
+const SET: &[Said] = &[
+    Said::Got(0, 1),
+    Said::Put(0, 7),
+    Said::Put(0, 0),
+    Said::Got(0, 0),
+    Said::Put(0, 5),
+    Said::Put(0, 5),
+    Said::Got(0, 2),
+];
+
 /// A program, the items of its in port, a quota, and what it then has said and where it has stopped.
 type Row<'a> = (Worked<'a>, &'a [i64], u64, &'a [Said], AloneStop);
 
@@ -165,6 +192,29 @@ fn goes_on_within_each_quota(rt: HostRuntime) -> Result<(), Fail> {
     Ok(())
 }
 
+// It takes four steps until it reads again. With one of the fourth round the index is none.
+#[test]
+fn sets_cells(rt: HostRuntime) -> Result<(), Fail> {
+    const INDEX: AloneStop = AloneStop::Faulted(Fault::Index);
+    for (quota, talk, stop) in [
+        (1, &SET[..1], AloneStop::Paused),
+        (2, &SET[..2], AloneStop::Paused),
+        (9, &SET[..7], AloneStop::Paused),
+        (10, SET, INDEX),
+    ] {
+        let program = celled(rt.alloc(), SETTING, 2, &[5, 7])?;
+        let said = says(
+            &rt,
+            rt.alloc(),
+            &program,
+            &(SETTING, &[1, 0, 2], quota, talk, stop),
+        );
+        drop(program);
+        assert!(rt; said?, "within {quota} steps");
+    }
+    Ok(())
+}
+
 // The frame past the read, or past the write, where an advance stopped.
 fn given(rt: &impl Abort, reading: &Advance<'_>, item: i64) -> Frame
     ensures { IsTrue (fits reading.now.program result) }
@@ -199,7 +249,7 @@ fn first_stop(
     quota: u32,
 ) -> Result<Stop, Fail> {
     let program = program_of(alloc, worked)?;
-    assert!(rt; program.pars() == 0);
+    assert!(rt; program.pars() == 0 && program.cells() == 0);
     let stop = advance(&program, Frame::start(&program, &[]), quota).stop();
     drop(program);
     Ok(stop)
@@ -221,7 +271,7 @@ fn refutes_faulting_write_puts_zero(rt: &impl Abort, alloc: Global) -> Result<()
 fn advances_from_stop_to_stop(rt: HostRuntime) -> Result<(), Fail> {
     refutes_faulting_write_puts_zero(&rt, rt.alloc())?;
     let program = program_of(rt.alloc(), COPY)?;
-    assert!(rt; program.pars() == 0);
+    assert!(rt; program.pars() == 0 && program.cells() == 0);
     let start = Frame::start(&program, &[]);
     assert!(rt; start.fits(&program));
     let reading = advance(&program, start.copy(), 9);
@@ -237,7 +287,7 @@ fn advances_from_stop_to_stop(rt: HostRuntime) -> Result<(), Fail> {
 #[test]
 fn frames_differ_by_each_field(rt: HostRuntime) -> Result<(), Fail> {
     let program = program_of(rt.alloc(), WIDE)?;
-    assert!(rt; program.pars() == 0);
+    assert!(rt; program.pars() == 0 && program.cells() == 0);
     let start = Frame::start(&program, &[]);
     let reading = advance(&program, start.copy(), 9);
     let five = given(&rt, &reading, 5);
@@ -255,7 +305,7 @@ fn frames_differ_by_each_field(rt: HostRuntime) -> Result<(), Fail> {
 #[test]
 fn refutes_always_pauses_in_place(rt: HostRuntime) -> Result<(), Fail> {
     let program = program_of(rt.alloc(), COPY)?;
-    assert!(rt; program.pars() == 0);
+    assert!(rt; program.pars() == 0 && program.cells() == 0);
     let start = Frame::start(&program, &[]);
     let mut frame = start.copy();
     let (steps, stop) = frame.run(&program, 9);

@@ -1,6 +1,6 @@
 -- It comes to the other's length from above or from below.
 use Rattle.std.proofs.Common.{◌≤◌, ◌-◌, length}
-use Rattle.kpn_step.proofs.frame.set_from.Given as goal
+use Rattle.kpn_step.proofs.lists.set_from.Given as goal
 
 abbrev pub decreases-less : goal.decreases-less
 decreases-less g l = length l.items.items

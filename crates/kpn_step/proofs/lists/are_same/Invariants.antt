@@ -1,6 +1,6 @@
 use Rattle.std.proofs.Common.{◌≡◌, true, length, take}
 use Rattle.std.specs.Cmp.Lexicographic.{pointwise}
-use Rattle.kpn_step.proofs.frame.are_same.Given as goal
+use Rattle.kpn_step.proofs.lists.are_same.Given as goal
 
 abbrev pub invariant-items : goal.invariant-items
 invariant-items g l =

@@ -1,5 +1,5 @@
 use Rattle.std.proofs.Common.{◌≡◌, length, take}
-use Rattle.kpn_step.proofs.frame.write_over.Given as goal
+use Rattle.kpn_step.proofs.lists.write_over.Given as goal
 
 abbrev pub invariant-items : goal.invariant-items
 invariant-items g l = record {
