@@ -1,6 +1,6 @@
 #!/usr/bin/env python3
 """Writes the stored table of crates/check_language: each operator on pairs at the ends of the range, with the right
-answer, and shifts by counts at the ends of theirs. It computes with whole numbers that have no bound.
+answer, shifts by counts at the ends of theirs, and indices of cells. It computes with whole numbers that have no bound.
 
 It also writes the lines of crates/check_examples below the heading `# Operators in processes`: the same operators in
 assignments, with a variable or a number on each side, and the comparisons as tests. Each pair without a value has a
@@ -79,6 +79,10 @@ def rows():
         for b in COUNTS:
             for spelling, give in SHIFTS.items():
                 yield f'{a} {spelling} {b}', give(a, b)
+    for cells in [], [7], [5, -3, MOST]:
+        for index in [LEAST, -len(cells) - 1, -len(cells), -1, 0, 1, 2, len(cells), 2**32, 2**32 + 1, MOST]:
+            answer = str(cells[index]) if 0 <= index < len(cells) else 'index'
+            yield ' '.join([f'{index} in', *map(str, cells)]), answer
 
 
 # ---- operators in processes

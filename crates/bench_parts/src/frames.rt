@@ -2,9 +2,9 @@
 use anyhow::{Result, bail};
 use kpn_lang::Program;
 use kpn_net::Network;
-use kpn_step::{Frame, advance};
+use kpn_step::{Frame, try_advance};
 use kpn_text::read_network;
-use std::alloc::Global;
+use std::alloc::{AllocError, Global};
 
 /// A process with two variables, which counts in a block inside its body.
 const COUNTING: &str = "process loop(par wanted) {
@@ -19,15 +19,20 @@ fn equal_copies(program: &Program, count: u64) -> Result<u64> {
     if program.pars() != 1 {
         bail!("the loop has other parameters");
     }
-    let start = Frame::start(program, &[i64::MAX]);
-    let first = advance(program, start.copy(), 2);
-    let second = advance(program, start.copy(), 5);
-    let mut kept = start;
+    let start = Frame::try_start(program, &[i64::MAX])?;
+    let first = try_advance(program, start.try_copy()?, 2)?;
+    let second = try_advance(program, start.try_copy()?, 5)?;
+    Ok(copies_like(start, first.to(), second.to(), count)?)
+}
+
+/// How many of so many copies, of one of two frames in turn, were equal to the first one.
+fn copies_like(frame: Frame, first: &Frame, second: &Frame, count: u64) -> Result<u64, AllocError> {
+    let mut kept = frame;
     let mut equal = 0;
     for index in 0..count {
-        let other = if index % 2 == 0 { &first } else { &second };
-        kept.copy_from(other.to());
-        if kept == *first.to() {
+        let other = if index % 2 == 0 { first } else { second };
+        kept.try_copy_from(other)?;
+        if kept == *first {
             equal += 1;
         }
     }

@@ -1,8 +1,8 @@
--- A plain test of tables. If it says yes, they keep the rules of a network.
-use Rattle.std.specs.Prelude.{nat_le}
+-- A plain test of tables. If it says yes, they keep the rules of a network, and no program has cells.
+use Rattle.std.specs.Prelude.{nat_le, ◌==◌}
 use Rattle.std.specs.List.{list_all}
-use Rattle.std.proofs.Common.{◌≡◌, ℕ, zero, suc, ◌<◌, Bool, true, false, ◌&&◌, List, [], ◌∷◌, length, get_or, Option, Some, None, refl, arith}
-use Rattle.std.proofs.lemmas.Bool.{and_parts, leb-true}
+use Rattle.std.proofs.Common.{◌≡◌, ℕ, zero, suc, ◌+◌, ◌<◌, Bool, true, false, ◌&&◌, List, [], ◌∷◌, length, get_or, Option, Some, None, refl, arith}
+use Rattle.std.proofs.lemmas.Bool.{and_parts, leb-true, eqb-true}
 use Rattle.kpn_lang.specs.declared.program.ProgramFault.{ProgramFault}
 use Rattle.kpn_lang.specs.Parts as parts
 use Rattle.kpn_lang.specs.Parts.{Parts, IsProgram}
@@ -18,11 +18,17 @@ is_none-true None e = refl
 is_none-true (Some fault) e = absurd cc
 
 abbrev pub is_program : Parts → Bool
-is_program p = is_none (parts.first_fault p) && nat_le p.pars p.vars
+is_program p = (is_none (parts.first_fault p) && nat_le p.pars p.vars) && p.free + length p.tables == 0
 
 is_program-true : (p : Parts) → is_program p ≡ true → IsProgram p
 is_program-true p e =
-    let both = and_parts _ _ e in record { sound = is_none-true _ both.0; counted = leb-true _ _ both.1 }
+    let all = and_parts _ _ e in
+    let both = and_parts _ _ all.0 in
+    record {
+      sound = is_none-true _ both.0;
+      counted = leb-true _ _ both.1;
+      apart = λ _. eqb-true (p.free + length p.tables) 0 all.1;
+    }
 
 programs_at : (ps : List Parts) (k : ℕ) (d : Parts) → list_all is_program ps ≡ true → k < length ps
     → IsProgram (get_or ps k d)

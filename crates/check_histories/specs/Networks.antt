@@ -16,7 +16,7 @@ use Rattle.kpn_net.specs.View.{tables_with}
 
 -- a program without parameters: its in ports, out ports, variables, and blocks
 abbrev program : (ins outs vars : ℕ) → List (List Statement) → Parts
-program ins outs vars blocks = record { ins = ins; outs = outs; pars = 0; vars = vars; blocks = blocks }
+program ins outs vars blocks = record { ins = ins; outs = outs; pars = 0; vars = vars; free = 0; tables = []; blocks = blocks }
 
 -- a process without parameters
 abbrev instance : (program : ℕ) → (ins outs : List ℕ) → Instance
@@ -56,6 +56,8 @@ h_parts = record {
   outs = 1;
   pars = 1;
   vars = 2;
+  free = 0;
+  tables = [];
   blocks = (Write 0 (Var 0) ∷ While (Num (pos 1)) 1 ∷ []) ∷ (Read 0 1 ∷ Write 0 (Var 1) ∷ []) ∷ [];
 }
 

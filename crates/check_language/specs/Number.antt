@@ -1,5 +1,5 @@
 -- Scaffolding: what an operand of the table is.
-use Rattle.kpn_lang.specs.Syntax.{Term, Num, Var, Neg, Not, BitNot, Bin, Choice}
+use Rattle.kpn_lang.specs.Syntax.{Term, Num, Var, Neg, Not, BitNot, Bin, Choice, Cell}
 
 -- a number, and no name
 abbrev pub IsNumber : Term → Type 0
@@ -10,3 +10,4 @@ IsNumber (Not e) = ⊥
 IsNumber (BitNot e) = ⊥
 IsNumber (Bin op a b) = ⊥
 IsNumber (Choice c a b) = ⊥
+IsNumber (Cell base size e) = ⊥

@@ -4,7 +4,7 @@ ghost use Rattle.kpn_lang.specs.Syntax.{term_of};
 ghost use Rattle.check_language.specs.Number.{IsNumber};
 
 use anyhow::{Result, bail};
-use kpn_lang::{Expr, Fault, Op, eval};
+use kpn_lang::{Expr, Fault, Op, eval, eval_in};
 use std::alloc::Global;
 
 /// The operator that is spelled so.
@@ -32,13 +32,28 @@ fn operator(word: &str) -> Option<Op> {
     }
 }
 
-fn operand(alloc: Global, word: &str) -> Result<Box<Expr>>
-    ensures { IfOk result (λ found. IsNumber (term_of found.value)) }
-{
+fn number(word: &str) -> Result<i64> {
     let Ok(number) = word.parse::<i64>() else {
         bail!("an operand is a whole number");
     };
+    Ok(number)
+}
+
+fn operand(alloc: Global, word: &str) -> Result<Box<Expr>>
+    ensures { IfOk result (λ found. IsNumber (term_of found.value)) }
+{
+    let number = number(word)?;
     Ok(Box::new(alloc, Expr::Num(number))?)
+}
+
+/// The value of a cell, if these are the cells.
+fn cell(alloc: Global, index: &str, words: &[&str]) -> Result<std::result::Result<i64, Fault>> {
+    let mut cells = Vec::new(alloc);
+    for word in words {
+        cells.push(number(word)?)?;
+    }
+    let expr = Expr::Cell(0, cells.len(), operand(alloc, index)?);
+    Ok(eval_in(&expr, &[], &cells))
 }
 
 /// The value of the expression on a line.
@@ -48,6 +63,7 @@ pub(crate) fn answer(alloc: Global, line: &str) -> Result<std::result::Result<i6
         ["-", word] => Ok(eval(&Expr::Neg(operand(alloc, word)?), &[])),
         ["!", word] => Ok(eval(&Expr::Not(operand(alloc, word)?), &[])),
         ["~", word] => Ok(eval(&Expr::BitNot(operand(alloc, word)?), &[])),
+        [index, "in", values @ ..] => cell(alloc, index, values),
         [left, word, right] => {
             let Some(op) = operator(word) else {
                 bail!("no such operator");

@@ -1,10 +1,10 @@
 //! Rows of the stepper: how many steps it may make, and what the process says within them.
-ghost use Rattle.std.specs.Prelude.{IsTrue};
+ghost use Rattle.std.specs.Prelude.{IfOk, IsTrue};
 ghost use Rattle.kpn_step.specs.Frame.{fits};
 
-use crate::worked::{COPY, Line, Value, Worked, program_of};
-use kpn_lang::{Fault, Program, Sequence};
-use kpn_step::{Advance, AloneStop, Frame, Said, Stop, advance, alone};
+use crate::worked::{COPY, Line, Value, Worked, celled, program_of};
+use kpn_lang::{Fault, Program, ProgramFault, Sequence};
+use kpn_step::{Advance, AloneStop, Frame, Said, Stop, advance, alone, try_advance};
 use std::alloc::{AllocError, Global};
 use std::process::Abort;
 use std::test::Fail;
@@ -101,6 +101,33 @@ const CHOOSING: Worked<'static> = (
     ],
 );
 
+// An array of two cells and the table 5, 7: for each k that it reads, `a[k] = t[k]; write o a[k]; write o a[0];`.
+const SETTING: Worked<'static> = (
+    1,
+    1,
+    1,
+    &[
+        &[Line::While(Value::Num(1), 1)],
+        &[
+            Line::Read(0, 0),
+            Line::Set(64, 2, 0, Value::Cell(66, 2, 0)),
+            Line::Write(0, Value::Cell(64, 2, 0)),
+            Line::Assign(0, Value::Num(0)),
+            Line::Write(0, Value::Cell(64, 2, 0)),
+        ],
+    ],
+);
+
+const SET: &[Said] = &[
+    Said::Got(0, 1),
+    Said::Put(0, 7),
+    Said::Put(0, 0),
+    Said::Got(0, 0),
+    Said::Put(0, 5),
+    Said::Put(0, 5),
+    Said::Got(0, 2),
+];
+
 /// A program, the items of its in port, a quota, and what it then has said and where it has stopped.
 type Row<'a> = (Worked<'a>, &'a [i64], u64, &'a [Said], AloneStop);
 
@@ -165,23 +192,51 @@ fn goes_on_within_each_quota(rt: HostRuntime) -> Result<(), Fail> {
     Ok(())
 }
 
+// It takes four steps until it reads again. With one of the fourth round the index is none.
+#[test]
+fn sets_cells(rt: HostRuntime) -> Result<(), Fail> {
+    const INDEX: AloneStop = AloneStop::Faulted(Fault::Index);
+    for (quota, talk, stop) in [
+        (1, &SET[..1], AloneStop::Paused),
+        (2, &SET[..2], AloneStop::Paused),
+        (9, &SET[..7], AloneStop::Paused),
+        (10, SET, INDEX),
+    ] {
+        let program = celled(rt.alloc(), SETTING, 2, &[5, 7])??;
+        let said = says(
+            &rt,
+            rt.alloc(),
+            &program,
+            &(SETTING, &[1, 0, 2], quota, talk, stop),
+        );
+        drop(program);
+        assert!(rt; said?, "within {quota} steps");
+    }
+    // all cells are those of a table
+    let refused = celled(rt.alloc(), SETTING, 0, &[0, 0, 5, 7])?;
+    assert!(rt; matches!(refused, Err(ProgramFault::NoSuchVar)));
+    Ok(())
+}
+
 // The frame past the read, or past the write, where an advance stopped.
-fn given(rt: &impl Abort, reading: &Advance<'_>, item: i64) -> Frame
-    ensures { IsTrue (fits reading.now.program result) }
+fn given(rt: &impl Abort, reading: &Advance<'_>, item: i64) -> Result<Frame, AllocError>
+    ensures { IfOk result (λ frame. IsTrue (fits reading.now.program frame)) }
 {
     reading.known();
+    let frame = reading.to().try_copy()?;
     match reading.stop() {
-        Stop::WantRead(_) => reading.to().copy().give(reading.program(), item),
+        Stop::WantRead(_) => Ok(frame.give(reading.program(), item)),
         _ => panic!(rt; "no read"),
     }
 }
 
-fn written(rt: &impl Abort, writing: &Advance<'_>) -> Frame
-    ensures { IsTrue (fits writing.now.program result) }
+fn written(rt: &impl Abort, writing: &Advance<'_>) -> Result<Frame, AllocError>
+    ensures { IfOk result (λ frame. IsTrue (fits writing.now.program frame)) }
 {
     writing.known();
+    let frame = writing.to().try_copy()?;
     match writing.stop() {
-        Stop::WantWrite(..) => writing.to().copy().wrote(writing.program()),
+        Stop::WantWrite(..) => Ok(frame.wrote(writing.program())),
         _ => panic!(rt; "no write"),
     }
 }
@@ -199,7 +254,7 @@ fn first_stop(
     quota: u32,
 ) -> Result<Stop, Fail> {
     let program = program_of(alloc, worked)?;
-    assert!(rt; program.pars() == 0);
+    assert!(rt; program.pars() == 0 && program.cells() == 0);
     let stop = advance(&program, Frame::start(&program, &[]), quota).stop();
     drop(program);
     Ok(stop)
@@ -221,15 +276,17 @@ fn refutes_faulting_write_puts_zero(rt: &impl Abort, alloc: Global) -> Result<()
 fn advances_from_stop_to_stop(rt: HostRuntime) -> Result<(), Fail> {
     refutes_faulting_write_puts_zero(&rt, rt.alloc())?;
     let program = program_of(rt.alloc(), COPY)?;
-    assert!(rt; program.pars() == 0);
+    assert!(rt; program.pars() == 0 && program.cells() == 0);
     let start = Frame::start(&program, &[]);
     assert!(rt; start.fits(&program));
     let reading = advance(&program, start.copy(), 9);
     assert!(rt; *reading.from() == start);
     assert!(rt; came_to(&reading, 1, Stop::WantRead(0)));
-    let writing = advance(&program, given(&rt, &reading, 5), 9);
+    let past = given(&rt, &reading, 5)?;
+    let writing = try_advance(&program, past, 9)?;
     assert!(rt; came_to(&writing, 0, Stop::WantWrite(0, 5)));
-    let paused = advance(&program, written(&rt, &writing), 1);
+    let past = written(&rt, &writing)?;
+    let paused = try_advance(&program, past, 1)?;
     assert!(rt; came_to(&paused, 1, Stop::Paused));
     Ok(())
 }
@@ -237,25 +294,26 @@ fn advances_from_stop_to_stop(rt: HostRuntime) -> Result<(), Fail> {
 #[test]
 fn frames_differ_by_each_field(rt: HostRuntime) -> Result<(), Fail> {
     let program = program_of(rt.alloc(), WIDE)?;
-    assert!(rt; program.pars() == 0);
+    assert!(rt; program.pars() == 0 && program.cells() == 0);
     let start = Frame::start(&program, &[]);
     let reading = advance(&program, start.copy(), 9);
-    let five = given(&rt, &reading, 5);
-    assert!(rt; *reading.to() == reading.to().copy());
+    let five = given(&rt, &reading, 5)?;
+    let zero = given(&rt, &reading, 0)?;
+    let six = given(&rt, &reading, 6)?;
+    let same = reading.to().try_copy()?;
+    assert!(rt; *reading.to() == same);
     assert!(rt; *reading.to() != start, "by the places");
-    assert!(rt;
-        *reading.to() != given(&rt, &reading, 0),
-        "by the innermost place"
-    );
-    assert!(rt; five != given(&rt, &reading, 6), "by the variables");
-    assert!(rt; five == five.copy());
+    assert!(rt; *reading.to() != zero, "by the innermost place");
+    assert!(rt; five != six, "by the variables");
+    let same = five.try_copy()?;
+    assert!(rt; five == same);
     Ok(())
 }
 
 #[test]
 fn refutes_always_pauses_in_place(rt: HostRuntime) -> Result<(), Fail> {
     let program = program_of(rt.alloc(), COPY)?;
-    assert!(rt; program.pars() == 0);
+    assert!(rt; program.pars() == 0 && program.cells() == 0);
     let start = Frame::start(&program, &[]);
     let mut frame = start.copy();
     let (steps, stop) = frame.run(&program, 9);

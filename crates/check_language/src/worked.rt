@@ -1,5 +1,5 @@
 //! Programs as plain lists, from which their trees are built.
-use kpn_lang::{Expr, Op, Program, Stmt};
+use kpn_lang::{Expr, Op, Program, ProgramFault, Stmt};
 use std::alloc::{AllocError, Global};
 use std::test::Fail;
 
@@ -20,6 +20,8 @@ pub enum Value {
     QuotientOr(i64, usize, i64),
     /// A number shifted to the left by a variable.
     ShiftedBy(i64, usize),
+    /// The cell of a row, by its first cell and its size, whose index is a variable.
+    Cell(usize, usize, usize),
 }
 
 /// A statement.
@@ -30,6 +32,8 @@ pub enum Line {
     Write(usize, Value),
     If(Value, usize, usize),
     While(Value, usize),
+    /// Sets the cell of a row whose index is a variable.
+    Set(usize, usize, usize, Value),
 }
 
 fn both(alloc: Global, op: Op, left: Expr, right: Expr) -> Result<Expr, AllocError> {
@@ -54,6 +58,10 @@ fn expr_of(alloc: Global, value: Value) -> Result<Expr, AllocError> {
             Ok(Expr::Choice(test, first, second))
         }
         Value::ShiftedBy(left, x) => both(alloc, Op::Shl, Expr::Num(left), Expr::Var(x)),
+        Value::Cell(base, size, x) => {
+            let index = Box::new(alloc, Expr::Var(x))?;
+            Ok(Expr::Cell(base, size, index))
+        }
     }
 }
 
@@ -64,6 +72,9 @@ fn stmt_of(alloc: Global, line: Line) -> Result<Stmt, AllocError> {
         Line::Write(port, value) => Ok(Stmt::Write(port, expr_of(alloc, value)?)),
         Line::If(value, first, second) => Ok(Stmt::If(expr_of(alloc, value)?, first, second)),
         Line::While(value, block) => Ok(Stmt::While(expr_of(alloc, value)?, block)),
+        Line::Set(base, size, x, value) => {
+            Ok(Stmt::Set(base, size, Expr::Var(x), expr_of(alloc, value)?))
+        }
     }
 }
 
@@ -90,6 +101,19 @@ pub fn program_of(alloc: Global, worked: Worked<'_>) -> Result<Program, Fail> {
     let (ins, outs, locals, blocks) = worked;
     let blocks = blocks_of(alloc, blocks)?;
     Ok(Program::new(alloc, ins, outs, 0, locals, blocks)?)
+}
+
+/// The same with cells: how many are those of arrays, and the values of the tables. It may break a rule.
+pub fn celled(
+    alloc: Global,
+    worked: Worked<'_>,
+    free: usize,
+    tables: &[i64],
+) -> Result<Result<Program, ProgramFault>, AllocError> {
+    let (ins, outs, locals, blocks) = worked;
+    let blocks = blocks_of(alloc, blocks)?;
+    let tables = tables.to_vec(alloc)?;
+    Ok(Program::with_cells(alloc, ins, outs, 0, locals, free, tables, blocks))
 }
 
 /// `while 1 { read i x; write o x; }`

@@ -105,7 +105,7 @@ fn claim_all(
 {
     network.known();
     'processes: for p in 0..network.instances() {
-        let frame = Frame::start(network.program(p), network.pars(p));
+        let frame = Frame::try_start(network.program(p), network.pars(p))?;
         batch.claim_process(p, &frame, true);
     }
     'channels: for c in 0..network.channels() {

@@ -142,7 +142,7 @@ fn beside_batches<J: Job>(
     let mut batch = Batch::new();
     let mut turns: u64 = 0;
     'batches: for _batch in 0..10 {
-        if batch.claim(&mut desk) {
+        if batch.claim(&mut desk)? {
             batch.step(gate, 0, 10);
             turns = turns.saturating_add(batch.len() as u64);
             let _ = batch.come_back(&mut desk, gate, &mut seat, 0, Some(away), 10, u64::MAX);

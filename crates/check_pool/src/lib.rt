@@ -9,6 +9,8 @@ mod always;
 #[cfg(test)]
 mod batching;
 #[cfg(test)]
+mod cells;
+#[cfg(test)]
 mod commits;
 #[cfg(test)]
 mod complete;

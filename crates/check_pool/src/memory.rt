@@ -2,7 +2,7 @@
 use kpn_book::{Limits, run_here};
 use kpn_net::Network;
 use kpn_run_state::{Book, Done, Refused};
-use kpn_step::advance;
+use kpn_step::try_advance;
 use kpn_text::read_network;
 use std::alloc::{AllocError, Global};
 use std::test::Fail;
@@ -21,10 +21,10 @@ fn first_commit(
     network: &Network,
 ) -> Result<Option<Result<Done, Refused>>, AllocError> {
     let mut book = Book::new(alloc, network)?;
-    let Some(claim) = book.claim() else {
+    let Some(claim) = book.try_claim()? else {
         return Ok(None);
     };
-    let steps = advance(claim.program, claim.frame, 1_000);
+    let steps = try_advance(claim.program, claim.frame, 1_000)?;
     Ok(Some(book.commit(claim.process, &steps)))
 }
 

@@ -7,7 +7,7 @@ use crate::endings::is_ready;
 use crate::networks::{copying, pouring};
 use crate::outside::shows;
 use kpn_net::Network;
-use kpn_pool::{Opened, Shared, close, feed, gather, leave, snapshot, take, work};
+use kpn_pool::{Opened, Shared, close, feed, feed_when_room, gather, leave, snapshot, take, work};
 use kpn_pool_desk::{Go, Job, Refused, SinkSeat, SnapFault, SourceSeat, Why};
 use linked_list_allocator::LocalHeap;
 use std::alloc::{AllocError, Global};
@@ -52,8 +52,9 @@ fn all_refused<'a, J: Job, R: Wait>(
         && shows(&snapshot(rt, alloc, shared, source), &[], &[])
 }
 
-/// Feeds until memory is refused. Returns whether the seat and the run then have what was fed before.
-fn feeds_until_refused<'a, J: Job, R: Wait>(
+/// Feeds by three items at a time until memory is refused for one, and then one item. Returns whether the seat and the
+/// run then have what was fed before.
+fn feeds_until_refused<'a, J: Job, R: Wait + Clock>(
     rt: &R,
     alloc: Global,
     shared: &Shared<'_, J, &'a LocalHeap>,
@@ -61,17 +62,34 @@ fn feeds_until_refused<'a, J: Job, R: Wait>(
 ) -> bool {
     for item in 0..1_000i64 {
         let before = source.fed().len();
-        if let Err(refused) = feed(rt, shared, source, item, 1_000) {
-            return refused == Refused::NoMemory
-                && source.fed().len() == before
-                && shows(&snapshot(rt, alloc, shared, source), source.fed(), &[]);
+        match feed_when_room(rt, shared, source, &[item, item, item], 1_000) {
+            Ok(3) => {}
+            Ok(_) => return false,
+            Err(refused) => {
+                return refused == Refused::NoMemory
+                    && source.fed().len() > before
+                    && is_refused_one(rt, alloc, shared, source);
+            }
         }
     }
     false
 }
 
+/// Whether one item more is refused, and the seat and the run have what was fed before.
+fn is_refused_one<'a, J: Job, R: Wait>(
+    rt: &R,
+    alloc: Global,
+    shared: &Shared<'_, J, &'a LocalHeap>,
+    source: &mut SourceSeat<&'a LocalHeap>,
+) -> bool {
+    let before = source.fed().len();
+    feed(rt, shared, source, 0, 1_000) == Err(Refused::NoMemory)
+        && source.fed().len() == before
+        && shows(&snapshot(rt, alloc, shared, source), source.fed(), &[])
+}
+
 /// A run that is fed. Returns whether all is answered as it has to be, while the heap is full and then.
-fn is_fed<'a, J: Job, R: Wait>(
+fn is_fed<'a, J: Job, R: Wait + Clock>(
     rt: &R,
     alloc: Global,
     heap: &'a LocalHeap,

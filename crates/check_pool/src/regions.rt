@@ -3,7 +3,7 @@ ghost use Rattle.std.specs.Prelude.{◌≡◌};
 
 use crate::abandoning::TestGate;
 use kpn_net::Network;
-use kpn_pool_desk::{Batch, Desk, Job, Next, RegionTurn, Why, WorkerSeat};
+use kpn_pool_desk::{Batch, Desk, Job, Next, RegionTurn, Why, WorkerSeat, end_seats};
 use kpn_run_state::Keeping;
 use kpn_text::read_network;
 use linked_list_allocator::LocalHeap;
@@ -74,7 +74,8 @@ impl<'n, 'a, J: Job> Worker<'n, 'a, J> {
             if self.region.claim(&mut self.desk, &self.gate) {
                 return Ok(true);
             }
-            if !batch.claim(&mut self.desk) {
+            let some = batch.claim(&mut self.desk);
+            if !some.map_err(|_error| Why::NoMemory)? {
                 return Ok(false);
             }
             batch.step(&self.gate, 0, 1_000);
@@ -102,6 +103,26 @@ impl<'n, 'a, J: Job> Worker<'n, 'a, J> {
         (why, self.seat.commits() - before)
     }
 
+    /// Whether its seat has counted all commits of the run, and no more.
+    fn has_counted(&self) -> bool {
+        let commits = self.seat.commits();
+        self.desk.reason_to_end(commits) == Some(Why::Limit)
+            && self.desk.reason_to_end(commits.saturating_add(1)).is_none()
+    }
+
+    /// Whether nothing is there to take from the sink.
+    fn has_nothing_there(
+        &mut self,
+        heap: &'a LocalHeap,
+        network: &Network,
+    ) -> Result<bool, AllocError> {
+        let mut ends = end_seats(heap, network)?;
+        let Some(mut sink) = ends.take_sink(2) else {
+            return Ok(false);
+        };
+        Ok(sink.take_there(&mut self.desk) == Ok(None))
+    }
+
     /// Whether no process is held, and the other workers, if there were any, would end.
     fn has_halted(&self) -> bool {
         self.desk.counts().held == 0 && self.desk.reason_to_end(self.most) == Some(Why::Halted)
@@ -122,10 +143,16 @@ fn comes_to_the_limit<'a, J: Job>(
     let Some(mut worker) = worker else {
         return Ok(false);
     };
+    if !worker.has_nothing_there(heap, network)? {
+        return Ok(false);
+    }
     for regions in 0..1_000 {
         match worker.claim_region() {
             Ok(true) => {}
-            Err(Why::Limit) => return Ok(regions > 4 && !worker.desk.goes_by_regions()),
+            Err(Why::Limit) => {
+                let is_whole = !worker.desk.goes_by_regions();
+                return Ok(regions > 4 && is_whole && worker.has_counted());
+            }
             _ => return Ok(false),
         }
         let (why, commits) = worker.run_region();

@@ -84,7 +84,7 @@ network {
 ";
 
 /// A run until a verdict.
-const ALL: Limits = Limits {
+pub const ALL: Limits = Limits {
     commits: 1_000_000,
     take: None,
     quota: 1_000,
@@ -139,7 +139,7 @@ fn told_of(report: &Report) -> Told {
 
 /// What a run by workers comes to, beside one on one thread.
 #[derive(Clone, Copy)]
-struct Beside {
+pub struct Beside {
     workers: Result<Told, RunFault>,
     here: Told,
     /// Both took the same items of the sinks. Where only so many are wanted, the workers may take some more.
@@ -162,7 +162,7 @@ fn has_items_of(report: &Report, here: &Report, limits: &Limits) -> bool {
 impl Beside {
     /// Whether the outcome and the items are the same, and so is the number of commits if their limit stopped the run.
     /// A run of several processes may pass the limit.
-    fn is_same(&self, limits: &Limits) -> bool {
+    pub fn is_same(&self, limits: &Limits) -> bool {
         let Ok(told) = self.workers else {
             return false;
         };
@@ -217,7 +217,7 @@ fn ran_beside<R: Threads + Wait + Clock + Sync>(
 }
 
 /// A run of a network by this many workers, beside one on one thread. `None` if there is no list for each source.
-fn run_network<R: Threads + Wait + Clock + Sync>(
+pub fn run_network<R: Threads + Wait + Clock + Sync>(
     rt: &R,
     alloc: Global,
     network: &Network,

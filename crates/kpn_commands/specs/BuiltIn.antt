@@ -31,5 +31,7 @@ program_of process =
       outs = 1;
       pars = 0;
       vars = variables_of process;
+      free = 0;
+      tables = [];
       blocks = (While (Num (pos 1)) 1 ∷ []) ∷ turn_of process ∷ [];
     }

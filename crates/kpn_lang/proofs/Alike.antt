@@ -1,6 +1,7 @@
 -- A run says only what it got from its lists, and depends on nothing else. Whatever puts runs together keeps each law,
 -- so the run of a tree keeps it.
-use Rattle.std.proofs.Common.{◌≡◌, ℕ, zero, suc, ℤ, cond, Bool, true, false, Result, Ok, Err, List, [], ◌∷◌, ◌++◌, set, refl, sym, ap, ◌∙◌, inl, inr, eq-eqb}
+use Rattle.std.proofs.Common.{◌≡◌, ℕ, zero, suc, ◌+◌, ℤ, cond, Bool, true, false, Result, Ok, Err, List, [], ◌∷◌, ◌++◌, set, refl, sym, ap, ◌∙◌, inl, inr, eq-eqb}
+use Rattle.std.specs.Prelude.{unsigned_abs}
 use Rattle.std.proofs.lemmas.Bool.{cases_eq, ne_eqb}
 use Rattle.kpn_lang.specs.declared.value.Fault.{Fault}
 use Rattle.kpn_lang.specs.declared.talk.Said.{Said}
@@ -8,8 +9,8 @@ use Rattle.kpn_lang.specs.declared.talk.Said.TheVariants.{Got, Put}
 use Rattle.kpn_lang.specs.declared.talk.Ending.{Ending}
 use Rattle.kpn_lang.specs.declared.talk.Ending.TheVariants.{Faulted, Cut}
 use Rattle.kpn_lang.specs.Syntax.{Term}
-use Rattle.kpn_lang.specs.Value.{value, is_zero}
-use Rattle.kpn_lang.specs.Tree.{Tree, End, Assign, Read, Write, If, While}
+use Rattle.kpn_lang.specs.Value.{value, is_zero, index_in, ◌>>=◌}
+use Rattle.kpn_lang.specs.Tree.{Tree, End, Assign, Read, Write, If, While, Set}
 use Rattle.kpn_lang.specs.Run.{Ran, Next, Lists, list_at, ends, says, with_value, with_item, choose, turns, run}
 use Rattle.kpn_lang.specs.Prefix.{IsPrefix}
 use Rattle.kpn_lang.specs.Alone.{got_at}
@@ -128,6 +129,14 @@ Accounts-run (If e first second rest) n next h =
     }
 Accounts-run (While e body rest) n next h =
     Accounts-turns e (run body n) (λ k f. Accounts-run body n k f) n (run rest n next) (Accounts-run rest n next h)
+Accounts-run (Set base size i e rest) n next h =
+    let after = Accounts-run rest n next h in
+    record {
+      accounts = λ variables lists.
+          Accounts-with_value (value i variables >>= index_in size) variables lists _ (λ index.
+          Accounts-with_value (value e variables) variables lists _ (λ v.
+          after.accounts (set variables (base + unsigned_abs index) v) lists));
+    }
 
 -- ---- the same is said wherever the same is got
 
@@ -280,3 +289,11 @@ Local-run (If e first second rest) n next h =
     }
 Local-run (While e body rest) n next h =
     Local-turns e (run body n) (λ k f. Local-run body n k f) n (run rest n next) (Local-run rest n next h)
+Local-run (Set base size i e rest) n next h =
+    let after = Local-run rest n next h in
+    record {
+      local = λ variables lists others.
+          SaysAlike-with_value (value i variables >>= index_in size) variables lists others _ _ (λ index.
+          SaysAlike-with_value (value e variables) variables lists others _ _ (λ v.
+          after.local (set variables (base + unsigned_abs index) v) lists others));
+    }

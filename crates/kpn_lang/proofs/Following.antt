@@ -53,6 +53,7 @@ split inner (syntax.Read i x) rest n next variables lists = refl
 split inner (syntax.Write o e) rest n next variables lists = refl
 split inner (syntax.If e a b) rest n next variables lists = refl
 split inner (syntax.While e b) rest n next variables lists = refl
+split inner (syntax.Set base size i e) rest n next variables lists = refl
 
 pub LeadsTo-next : (inner : ℕ → Tree) (n : ℕ) (s : Statement) (rest : List Statement) (before after : Standing) →
     LeadsTo (run (tree_over inner (s ∷ [])) n) (goes_on None) before after →

@@ -1,14 +1,15 @@
 -- With longer lists and more turns a run goes further. With only more turns, one that was not cut stays the same.
 -- Whatever puts runs together keeps each law, so the run of a tree keeps it.
-use Rattle.std.proofs.Common.{◌≡◌, ◌≢◌, ℕ, zero, suc, ◌≤◌, ℤ, cond, Bool, true, false, Result, Ok, Err, List, [], ◌∷◌, ◌++◌, set, refl, ap, arith}
+use Rattle.std.proofs.Common.{◌≡◌, ◌≢◌, ℕ, zero, suc, ◌+◌, ◌≤◌, ℤ, cond, Bool, true, false, Result, Ok, Err, List, [], ◌∷◌, ◌++◌, set, refl, ap, arith}
+use Rattle.std.specs.Prelude.{unsigned_abs}
 use Rattle.kpn_lang.specs.declared.value.Fault.{Fault}
 use Rattle.kpn_lang.specs.declared.talk.Said.{Said}
 use Rattle.kpn_lang.specs.declared.talk.Said.TheVariants.{Got, Put}
 use Rattle.kpn_lang.specs.declared.talk.Ending.{Ending}
 use Rattle.kpn_lang.specs.declared.talk.Ending.TheVariants.{Faulted, Cut}
 use Rattle.kpn_lang.specs.Syntax.{Term}
-use Rattle.kpn_lang.specs.Value.{value, is_zero}
-use Rattle.kpn_lang.specs.Tree.{Tree, End, Assign, Read, Write, If, While}
+use Rattle.kpn_lang.specs.Value.{value, is_zero, index_in, ◌>>=◌}
+use Rattle.kpn_lang.specs.Tree.{Tree, End, Assign, Read, Write, If, While, Set}
 use Rattle.kpn_lang.specs.Run.{Ran, Next, Lists, list_at, ends, says, with_value, with_item, choose, turns, run}
 use Rattle.kpn_lang.specs.Laws.{Grows, GoesOn}
 use Rattle.kpn_lang.proofs.Families.{Grows-read}
@@ -140,6 +141,14 @@ module _ (more : ℕ → List ℤ) where
   Follows-run (While e body rest) n m le next further h =
       Follows-turns e (run body n) (run body m) (λ k k' f. Follows-run body n m le k k' f) n m le
       (run rest n next) (run rest m further) (Follows-run rest n m le next further h)
+  Follows-run (Set base size i e rest) n m le next further h =
+      let after = Follows-run rest n m le next further h in
+      record {
+        goes = λ variables lists longer g.
+            GoesOn-with_value (value i variables >>= index_in size) variables lists longer _ _ g (λ index.
+            GoesOn-with_value (value e variables) variables lists longer _ _ g (λ v.
+            after.goes (set variables (base + unsigned_abs index) v) lists longer g));
+      }
 
 -- ---- one after the other
 
@@ -245,3 +254,11 @@ Stays-run (If e first second rest) n m le next further h =
 Stays-run (While e body rest) n m le next further h =
     Stays-turns e (run body n) (run body m) (λ k k' f. Stays-run body n m le k k' f) n m le
     (run rest n next) (run rest m further) (Stays-run rest n m le next further h)
+Stays-run (Set base size i e rest) n m le next further h =
+    let after = Stays-run rest n m le next further h in
+    record {
+      stays = λ variables lists.
+          StaysUncut-with_value (value i variables >>= index_in size) variables lists _ _ (λ index.
+          StaysUncut-with_value (value e variables) variables lists _ _ (λ v.
+          after.stays (set variables (base + unsigned_abs index) v) lists));
+    }

@@ -1,13 +1,15 @@
 -- The steps of the plain program: why its calls go to greater block numbers, and what a block has done after one
 -- statement more and a loop after one turn more.
-use Rattle.std.proofs.Common.{◌≡◌, ℕ, suc, ◌+◌, ◌-◌, ◌*◌, ◌<◌, max, true, Ok, Some, None, List, [], ◌∷◌, length, get_or, drop, refl, sym, ap, ◌∙◌, arith, lt-ltb}
+use Rattle.std.proofs.Common.{◌≡◌, ℕ, suc, ◌+◌, ◌-◌, ◌*◌, ◌<◌, ◌≤◌, max, true, Ok, Some, None, List, [], ◌∷◌, length, get_or, drop, refl, sym, ap, ◌∙◌, arith, lt-ltb}
 use Rattle.std.proofs.lemmas.List.{drop_more, get_or-map, length-map}
 use Rattle.std.proofs.lemmas.Bool.{and_from}
+use Rattle.std.proofs.lemmas.Bool.Decides.{nat_tests}
+use Rattle.std.specs.Prelude.{nat_le}
 use Rattle.kpn_lang.specs.declared.syntax.Stmt.{Stmt}
 use Rattle.kpn_lang.specs.declared.talk.Ending.{Ending}
-use Rattle.kpn_lang.specs.Syntax.{Term, Statement, Assign, Read, Write, If, While, statement_of}
+use Rattle.kpn_lang.specs.Syntax.{Term, Statement, Assign, Read, Write, If, While, Set, statement_of, lies_within}
 use Rattle.kpn_lang.specs.Value.{value}
-use Rattle.kpn_lang.specs.Parts.{Parts, IsProgram, names_variables_below, names_ports_below}
+use Rattle.kpn_lang.specs.Parts.{Parts, IsProgram, names_its_own, names_ports_below}
 use Rattle.kpn_lang.specs.View.{statements_of}
 use Rattle.kpn_lang.specs.Tree.{Tree, block_at, tree_of, tree_over}
 use Rattle.kpn_lang.specs.Run.{Next, run, turns}
@@ -24,28 +26,41 @@ blocks_inside n (Read i x) = 0
 blocks_inside n (Write o e) = 0
 blocks_inside n (If e a b) = max (n - a) (n - b)
 blocks_inside n (While e b) = n - b
+blocks_inside n (Set base size i e) = 0
 
 -- what a call on a statement of a block asks for
 pub record IsReady (parts : Parts) (b : ℕ) (s : Statement) : Type 0 where
-  pub variables : names_variables_below parts.vars s ≡ true
+  pub names : names_its_own parts s ≡ true
   pub ports : names_ports_below parts.ins parts.outs s ≡ true
   pub falls : 3 * blocks_inside (length parts.blocks) s + 2 < 3 * (length parts.blocks - b)
+
+up_to : (a b : ℕ) → a ≤ b → nat_le a b ≡ true
+up_to a b h = grind (arith, nat_tests, h)
+
+row_lies : (n m base size : ℕ) → n ≤ base → base + size ≤ m → lies_within n m base size ≡ true
+row_lies n m base size h k = and_from _ _ (up_to n base h) (up_to (base + size) m k)
 
 ready_by_rules : (parts : Parts) (b : ℕ) (s : Statement) → b < length parts.blocks → KeepsRules parts b s →
     IsReady parts b s
 ready_by_rules parts b (Assign x e) h k =
-    record { variables = and_from _ _ (lt-ltb x parts.vars k.0) k.1; ports = refl; falls = omega arith }
+    record { names = and_from _ _ (lt-ltb x parts.vars k.0) k.1; ports = refl; falls = omega arith }
 ready_by_rules parts b (Read i x) h k =
-    record { variables = lt-ltb x parts.vars k.1; ports = lt-ltb i parts.ins k.0; falls = omega arith }
+    record { names = lt-ltb x parts.vars k.1; ports = lt-ltb i parts.ins k.0; falls = omega arith }
 ready_by_rules parts b (Write o e) h k =
-    record { variables = k.1; ports = lt-ltb o parts.outs k.0; falls = omega arith }
+    record { names = k.1; ports = lt-ltb o parts.outs k.0; falls = omega arith }
 ready_by_rules parts b (If e a c) h k =
     let after_a = k.1 in
     let after_c = k.3 in
-    record { variables = k.0; ports = refl; falls = omega arith }
+    record { names = k.0; ports = refl; falls = omega arith }
 ready_by_rules parts b (While e c) h k =
     let after_c = k.1 in
-    record { variables = k.0; ports = refl; falls = omega arith }
+    record { names = k.0; ports = refl; falls = omega arith }
+ready_by_rules parts b (Set base size i e) h k =
+    record {
+      names = and_from _ _ (and_from _ _ (row_lies _ _ base size k.0 k.1) k.2) k.3;
+      ports = refl;
+      falls = omega arith;
+    }
 
 module _ (statements : List Stmt) (i : ℕ) (s : Stmt) (within : i < length statements)
     (read : s ≡ get_or statements i s) where
@@ -120,6 +135,10 @@ pub MayRun-does : (parts : Parts) (part left : Next → Next) (before after : St
     MayRun parts before → MayRun parts after
 MayRun-does parts part left before after d f =
     record { program = f.program; variables = d.variables ∙ f.variables; lists = d.lists ∙ f.lists }
+
+-- the trees of the blocks
+abbrev pub trees : Parts → ℕ → Tree
+trees parts = tree_of parts.blocks
 
 -- the body of a loop
 abbrev pub body_at : Parts → (block n : ℕ) → Next → Next

@@ -1,4 +1,5 @@
 pub mod Alike
+pub mod Cells
 pub mod Chains
 pub mod Families
 pub mod Following
@@ -13,5 +14,6 @@ pub mod Remainders
 pub mod Remaining
 pub mod Rules
 pub mod Sequential
+pub mod Setting
 pub mod Spotted
 pub mod Talks

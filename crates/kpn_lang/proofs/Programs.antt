@@ -1,5 +1,5 @@
 -- What it means for the blocks and statements of a program that it keeps the rules, for the layers above.
-use Rattle.std.proofs.Common.{◌≡◌, ℕ, zero, suc, ◌+◌, ◌<◌, ◌≤◌, Bool, true, false, not, ◌&&◌, ◌||◌, cond, List, [], ◌∷◌, ◌++◌, length, Option, Some, None, refl, sym, ◌∙◌, ap, subst, arith, inl, inr, eqb}
+use Rattle.std.proofs.Common.{◌≡◌, ℕ, zero, suc, ◌+◌, ◌<◌, ◌≤◌, Bool, true, false, not, ◌&&◌, ◌||◌, cond, List, [], ◌∷◌, ◌++◌, length, max, Option, Some, None, refl, sym, ◌∙◌, ap, subst, arith, inl, inr, eqb}
 use Rattle.std.specs.Prelude.{nat_lt, nat_le, slice_index_or, slice_get}
 use Rattle.std.specs.List.{list_any, list_all, flat_map, range_with_len, AllByRecursion as Each}
 use Rattle.std.specs.Cmp.Lexicographic.{bytes_decides}
@@ -8,14 +8,15 @@ use Rattle.std.proofs.lemmas.Bool.Decides.{nat_tests}
 use Rattle.std.proofs.lemmas.Bool.{cases_lt}
 use Rattle.std.proofs.lemmas.List.{get_or_past}
 use Rattle.std.proofs.lemmas.Option.{same_Some, option_and_then_some, slice_get-get_or}
-use Rattle.kpn_limits.specs.declared.TheConstants.{MAX_VARIABLES, MAX_PORTS, MAX_LEVELS}
+use Rattle.kpn_limits.specs.declared.TheConstants.{MAX_VARIABLES, MAX_CELLS, MAX_PORTS, MAX_LEVELS}
 use Rattle.kpn_lang.specs.declared.program.ProgramFault.{ProgramFault}
 use Rattle.kpn_lang.specs.declared.program.ProgramFault.TheVariants.{TooMany, NoSuchBlock, BlockOrder, NoSuchVar, NoSuchPort, TooDeep}
-use Rattle.kpn_lang.specs.Syntax.{Statement, Assign, Read, Write, If, While, names_below}
+use Rattle.kpn_lang.specs.Syntax.{Term, Statement, Assign, Read, Write, If, While, Set, lies_within}
 use Rattle.kpn_lang.specs.Tree as tree
 use Rattle.kpn_lang.specs.Tree.{Tree, End, tree_over, block_at, tree_to, tree_of}
-use Rattle.kpn_lang.specs.Parts.{Parts, IsProgram, inner_blocks, children, order_to, is_in_order, is_within, is_too_large, names_from, lacks_a_block, each_statement, names_variables_below, names_ports_below, nests_too_deep}
+use Rattle.kpn_lang.specs.Parts.{Parts, IsProgram, inner_blocks, children, order_to, is_in_order, is_within, is_too_large, names_from, lacks_a_block, each_statement, is_there, names_its_own, names_ports_below, nests_too_deep}
 use Rattle.kpn_lang.specs.Counting.{count_through}
+use Rattle.kpn_lang.specs.View.{vars_with}
 
 -- ---- the rules one by one
 
@@ -24,18 +25,18 @@ pub record Kept (parts : Parts) : Type 0 where
   pub small : is_too_large parts ≡ false
   pub blocks : lacks_a_block parts ≡ false
   pub ordered : is_in_order parts ≡ true
-  pub variables : each_statement (names_variables_below parts.vars) parts.blocks ≡ true
+  pub names : each_statement (names_its_own parts) parts.blocks ≡ true
   pub ports : each_statement (names_ports_below parts.ins parts.outs) parts.blocks ≡ true
   pub shallow : nests_too_deep parts ≡ false
 
 none : (fault : ProgramFault) {A : Type 0} → ◌≡◌ {A = Option ProgramFault} (Some fault) None → A
 none fault h = absurd (cc)
 
-chain : (large lacks ordered variables ports deep : Bool) →
+chain : (large lacks ordered names ports deep : Bool) →
     (cond large (Some TooMany) (cond lacks (Some NoSuchBlock)
-    (cond (not ordered) (Some BlockOrder) (cond (not variables) (Some NoSuchVar)
+    (cond (not ordered) (Some BlockOrder) (cond (not names) (Some NoSuchVar)
     (cond (not ports) (Some NoSuchPort) (cond deep (Some TooDeep) None)))))) ≡ None →
-    (large ≡ false) × (lacks ≡ false) × (ordered ≡ true) × (variables ≡ true) × (ports ≡ true) × (deep ≡ false)
+    (large ≡ false) × (lacks ≡ false) × (ordered ≡ true) × (names ≡ true) × (ports ≡ true) × (deep ≡ false)
 chain false false true true true false h = (refl, refl, refl, refl, refl, refl)
 chain true _ _ _ _ _ h = none TooMany h
 chain false true _ _ _ _ h = none NoSuchBlock h
@@ -47,9 +48,9 @@ chain false false true true true true h = none TooDeep h
 pub kept : (parts : Parts) → IsProgram parts → Kept parts
 kept parts h =
     let each = chain (is_too_large parts) (lacks_a_block parts) (is_in_order parts)
-    (each_statement (names_variables_below parts.vars) parts.blocks)
+    (each_statement (names_its_own parts) parts.blocks)
     (each_statement (names_ports_below parts.ins parts.outs) parts.blocks) (nests_too_deep parts) h.sound in
-    record { small = each.0; blocks = each.1; ordered = each.2; variables = each.3; ports = each.4; shallow = each.5 }
+    record { small = each.0; blocks = each.1; ordered = each.2; names = each.3; ports = each.4; shallow = each.5 }
 
 -- ---- tests of lists, at their elements
 
@@ -219,12 +220,14 @@ nested parts h b =
 
 -- what the rules say of a statement of block b
 abbrev pub KeepsRules : Parts → ℕ → Statement → Type 0
-KeepsRules p b (Assign x e) = (x < p.vars) × (names_below p.vars e ≡ true)
+KeepsRules p b (Assign x e) = (x < p.vars) × (is_there p e ≡ true)
 KeepsRules p b (Read i x) = (i < p.ins) × (x < p.vars)
-KeepsRules p b (Write o e) = (o < p.outs) × (names_below p.vars e ≡ true)
+KeepsRules p b (Write o e) = (o < p.outs) × (is_there p e ≡ true)
 KeepsRules p b (If e a c) =
-    (names_below p.vars e ≡ true) × (b < a) × (a < length p.blocks) × (b < c) × (c < length p.blocks)
-KeepsRules p b (While e c) = (names_below p.vars e ≡ true) × (b < c) × (c < length p.blocks)
+    (is_there p e ≡ true) × (b < a) × (a < length p.blocks) × (b < c) × (c < length p.blocks)
+KeepsRules p b (While e c) = (is_there p e ≡ true) × (b < c) × (c < length p.blocks)
+KeepsRules p b (Set base size i e) =
+    (p.vars ≤ base) × (base + size ≤ p.vars + p.free) × (is_there p i ≡ true) × (is_there p e ≡ true)
 
 below : (a b : ℕ) → nat_lt a b ≡ true → a < b
 below a b h = grind (arith, nat_tests, h)
@@ -232,20 +235,38 @@ below a b h = grind (arith, nat_tests, h)
 pub not_past : (a b : ℕ) → nat_le a b ≡ false → b < a
 not_past a b h = grind (arith, nat_tests, h)
 
-rules_of : (p : Parts) (b : ℕ) (s : Statement) → names_variables_below p.vars s ≡ true →
+up_to : (a b : ℕ) → nat_le a b ≡ true → a ≤ b
+up_to a b h = grind (arith, nat_tests, h)
+
+-- the first number and the end of a row of cells
+pub row_within : (n m base size : ℕ) → lies_within n m base size ≡ true → (n ≤ base) × (base + size ≤ m)
+row_within n m base size h =
+    let h' = both (nat_le n base) (nat_le (base + size) m) h in (up_to n base h'.0, up_to (base + size) m h'.1)
+
+-- what the rules say of a row of cells that is set
+pub set_rules : (p : Parts) (base size : ℕ) (i e : Term) → names_its_own p (Set base size i e) ≡ true →
+    (p.vars ≤ base) × (base + size ≤ p.vars + p.free) × (is_there p i ≡ true) × (is_there p e ≡ true)
+set_rules p base size i e names =
+    let whole = both (lies_within p.vars (p.vars + p.free) base size && is_there p i) (is_there p e) names in
+    let front = both (lies_within p.vars (p.vars + p.free) base size) (is_there p i) whole.0 in
+    let row = row_within p.vars (p.vars + p.free) base size front.0 in
+    (row.0, row.1, front.1, whole.1)
+
+rules_of : (p : Parts) (b : ℕ) (s : Statement) → names_its_own p s ≡ true →
     names_ports_below p.ins p.outs s ≡ true →
     names_from (length p.blocks) s ≡ false → Each (λ c. b < c) (inner_blocks s) → KeepsRules p b s
-rules_of p b (Assign x e) variables ports there above =
-    let v = both (nat_lt x p.vars) (names_below p.vars e) variables in (below x p.vars v.0, v.1)
-rules_of p b (Read i x) variables ports there above = (below i p.ins ports, below x p.vars variables)
-rules_of p b (Write o e) variables ports there above = (below o p.outs ports, variables)
-rules_of p b (If e a c) variables ports there above =
+rules_of p b (Assign x e) names ports there above =
+    let v = both (nat_lt x p.vars) (is_there p e) names in (below x p.vars v.0, v.1)
+rules_of p b (Read i x) names ports there above = (below i p.ins ports, below x p.vars names)
+rules_of p b (Write o e) names ports there above = (below o p.outs ports, names)
+rules_of p b (If e a c) names ports there above =
     let first = neither (nat_le (length p.blocks) a) (nat_le (length p.blocks) c || false) there in
     let second = neither (nat_le (length p.blocks) c) false first.1 in
-    (variables, above.0, not_past (length p.blocks) a first.0, above.1.0, not_past (length p.blocks) c second.0)
-rules_of p b (While e c) variables ports there above =
+    (names, above.0, not_past (length p.blocks) a first.0, above.1.0, not_past (length p.blocks) c second.0)
+rules_of p b (While e c) names ports there above =
     let inner = neither (nat_le (length p.blocks) c) false there in
-    (variables, above.0, not_past (length p.blocks) c inner.0)
+    (names, above.0, not_past (length p.blocks) c inner.0)
+rules_of p b (Set base size i e) names ports there above = set_rules p base size i e names
 
 pub rules_at : (parts : Parts) → IsProgram parts → (b i : ℕ) (s : Statement) →
     slice_get (block_at parts.blocks b) i ≡ Some s → KeepsRules parts b s
@@ -254,7 +275,7 @@ rules_at parts h b i s e =
     let missing = neither (nat_lt (length parts.blocks) 1)
     (list_any (list_any (names_from (length parts.blocks))) parts.blocks) k.blocks in
     rules_of parts b s
-    (each_at (names_variables_below parts.vars) parts.blocks b i s k.variables e)
+    (each_at (names_its_own parts) parts.blocks b i s k.names e)
     (each_at (names_ports_below parts.ins parts.outs) parts.blocks b i s k.ports e)
     (any_at (names_from (length parts.blocks)) (block_at parts.blocks b) i s
     (any_blocks (list_any (names_from (length parts.blocks))) parts.blocks b missing.1 refl) e)
@@ -278,6 +299,7 @@ AreWithin blocks levels (Read i x) = Unit {0}
 AreWithin blocks levels (Write o e) = Unit {0}
 AreWithin blocks levels (If e a c) = (is_within blocks levels a ≡ true) × (is_within blocks levels c ≡ true)
 AreWithin blocks levels (While e c) = is_within blocks levels c ≡ true
+AreWithin blocks levels (Set base size i e) = Unit {0}
 
 within_of : (blocks : List (List Statement)) (levels : ℕ) (s : Statement) →
     Each (λ c. is_within blocks levels c ≡ true) (inner_blocks s) → AreWithin blocks levels s
@@ -286,6 +308,7 @@ within_of blocks levels (Read i x) h = tt
 within_of blocks levels (Write o e) h = tt
 within_of blocks levels (If e a c) h = (h.0, h.1.0)
 within_of blocks levels (While e c) h = h.0
+within_of blocks levels (Set base size i e) h = tt
 
 pub within_at : (blocks : List (List Statement)) (levels b i : ℕ) (s : Statement) →
     is_within blocks (suc levels) b ≡ true → slice_get (block_at blocks b) i ≡ Some s → AreWithin blocks levels s
@@ -321,23 +344,47 @@ pub record Limits (parts : Parts) : Type 0 where
   pub variables : parts.vars ≤ MAX_VARIABLES
   pub ins : parts.ins ≤ MAX_PORTS
   pub outs : parts.outs ≤ MAX_PORTS
+  pub cells : parts.free + length parts.tables ≤ MAX_CELLS
 
 not_above : (limit n : ℕ) → nat_lt limit n ≡ false → n ≤ limit
 not_above limit n h = grind (arith, nat_tests, h)
 
-pub limits : (parts : Parts) → IsProgram parts → Limits parts
-limits parts h =
-    let all = neither (nat_lt MAX_VARIABLES parts.vars || nat_lt MAX_PORTS parts.ins || nat_lt MAX_PORTS parts.outs) _
-    (kept parts h).small in
-    let ports = neither (nat_lt MAX_VARIABLES parts.vars || nat_lt MAX_PORTS parts.ins)
-    (nat_lt MAX_PORTS parts.outs) all.0 in
-    let variables = neither (nat_lt MAX_VARIABLES parts.vars) (nat_lt MAX_PORTS parts.ins) ports.0 in
+pub limits_kept : (parts : Parts) → is_too_large parts ≡ false → Limits parts
+limits_kept parts h =
+    let vars = nat_lt MAX_VARIABLES parts.vars in
+    let ins = nat_lt MAX_PORTS parts.ins in
+    let outs = nat_lt MAX_PORTS parts.outs in
+    let cells = nat_lt MAX_CELLS (parts.free + length parts.tables) in
+    let all = neither (vars || ins || outs || cells) _ h in
+    let front = neither (vars || ins || outs) cells all.0 in
+    let ports = neither (vars || ins) outs front.0 in
+    let variables = neither vars ins ports.0 in
     record {
       variables = not_above MAX_VARIABLES parts.vars variables.0;
-      ins =
-          not_above MAX_PORTS parts.ins variables.1;
+      ins = not_above MAX_PORTS parts.ins variables.1;
       outs = not_above MAX_PORTS parts.outs ports.1;
+      cells = not_above MAX_CELLS (parts.free + length parts.tables) front.1;
     }
+
+pub limits : (parts : Parts) → IsProgram parts → Limits parts
+limits parts h =
+    limits_kept parts (kept parts h).small
+
+-- ---- the number of variables
+
+with_cells : (named cells : ℕ) → vars_with named (suc cells) ≡ max named MAX_VARIABLES
+with_cells named cells =
+    let some : eqb (suc cells) 0 ≡ false = grind (arith, nat_tests) in
+    ap (λ b. cond b named (max named MAX_VARIABLES)) some
+
+pub at_least_named : (named cells : ℕ) → named ≤ vars_with named cells
+at_least_named named zero = omega arith
+at_least_named named (suc cells) = omega (arith, with_cells named cells)
+
+-- fewer variables than cells have before them
+pub apart_by_number : (named cells : ℕ) → vars_with named cells < MAX_VARIABLES → cells ≡ 0
+apart_by_number named zero h = refl
+apart_by_number named (suc cells) h = absurd (omega (arith, h, with_cells named cells))
 
 -- ---- the tree of a block is the block with each child replaced by its tree
 
@@ -349,6 +396,7 @@ tree_over-same f g (Read i x ∷ rest) h = ap (λ t. tree.Read i x t) (tree_over
 tree_over-same f g (Write o e ∷ rest) h = ap (λ t. tree.Write o e t) (tree_over-same f g rest h)
 tree_over-same f g (If e a c ∷ rest) h = λ k. tree.If e (h.0 k) (h.1.0 k) (tree_over-same f g rest h.1.1 k)
 tree_over-same f g (While e c ∷ rest) h = λ k. tree.While e (h.0 k) (tree_over-same f g rest h.1 k)
+tree_over-same f g (Set base size i e ∷ rest) h = ap (λ t. tree.Set base size i e t) (tree_over-same f g rest h)
 
 module _ (blocks : List (List Statement)) (nest : (b : ℕ) → Each (λ c. b < c) (children blocks b)) where
   -- a block that is not there has no statements

@@ -10,7 +10,7 @@ use Rattle.std.proofs.lemmas.Option.{slice_get-map, slice_get-get_or}
 use Rattle.std.specs.Option.{option_and_then, option_map}
 use Rattle.std.specs.Global.{Vec}
 use Rattle.kpn_lang.specs.declared.syntax.Stmt.{Stmt}
-use Rattle.kpn_lang.specs.Syntax.{Term, Num, Var, Neg, Not, BitNot, Bin, Choice, Statement, statement_of}
+use Rattle.kpn_lang.specs.Syntax.{Term, Num, Var, Neg, Not, BitNot, Bin, Choice, Cell, Statement, statement_of}
 use Rattle.kpn_lang.proofs.Programs.{count_through-append, neither, any_at, any_blocks}
 use Rattle.kpn_lang.specs.Tree.{block_at}
 use Rattle.kpn_lang.specs.View.{statements_of, blocks_of}
@@ -26,6 +26,7 @@ no_depth_at_zero (Not e) = grind (arith, nat_tests)
 no_depth_at_zero (BitNot e) = grind (arith, nat_tests)
 no_depth_at_zero (Bin op a b) = grind (arith, nat_tests)
 no_depth_at_zero (Choice c a b) = grind (arith, nat_tests)
+no_depth_at_zero (Cell base size e) = grind (arith, nat_tests)
 
 -- and has at least one node
 pub some_node : (e : Term) → 0 < nodes e
@@ -36,6 +37,7 @@ some_node (Not e) = omega arith
 some_node (BitNot e) = omega arith
 some_node (Bin op a b) = omega arith
 some_node (Choice c a b) = omega arith
+some_node (Cell base size e) = omega arith
 
 -- ---- a test of each statement that the code holds, block after block
 

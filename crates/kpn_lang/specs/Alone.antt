@@ -5,7 +5,7 @@ use Rattle.kpn_lang.specs.declared.talk.Said.{Said}
 use Rattle.kpn_lang.specs.declared.talk.Said.TheVariants.{Got, Put}
 use Rattle.kpn_lang.specs.declared.talk.Ending.{Ending}
 use Rattle.kpn_lang.specs.declared.talk.Ending.TheVariants.{Done, Cut}
-use Rattle.kpn_lang.specs.Parts.{Parts}
+use Rattle.kpn_lang.specs.Parts.{Parts, cells_of}
 use Rattle.kpn_lang.specs.Tree.{tree_of}
 use Rattle.kpn_lang.specs.Run.{Ran, Lists, run, ends}
 use Rattle.kpn_lang.specs.Prefix.{IsPrefix}
@@ -26,9 +26,9 @@ pub record ComesTo (process : Process) (lists : Lists) (ending : Ending) (talk :
   pub said : (process turns lists).talk ≡ talk
   pub whole : ending ≢ Cut
 
--- the variables at the start: the parameters, then zeros
+-- the variables at the start, and the cells behind them: the parameters, zeros, and the first values of the cells
 abbrev pub start_of : Parts → List ℤ → List ℤ
-start_of parts pars = pars ++ replicate (parts.vars - length pars) (pos 0)
+start_of parts pars = pars ++ replicate (parts.vars - length pars) (pos 0) ++ cells_of parts
 
 -- a program alone with these parameters
 abbrev pub alone : Parts → List ℤ → Process

@@ -1,12 +1,15 @@
 -- Scaffolding: where the plain program is in a run, and what a part of it has done there. Only contracts of private
 -- functions use it. To read what a run is, nobody needs it.
-use Rattle.std.specs.Prelude.{◌≡◌, ℤ, List, ◌++◌, length, Option, Some, None, Result, Ok, Err, Bool, not}
+use Rattle.std.specs.Prelude.{◌≡◌, ℕ, ℤ, List, [], ◌∷◌, ◌++◌, length, Option, Some, None, Result, Ok, Err, Bool, not}
 use Rattle.kpn_lang.specs.declared.value.Fault.{Fault}
 use Rattle.kpn_lang.specs.declared.talk.Said.{Said}
 use Rattle.kpn_lang.specs.declared.talk.Ending.{Ending}
+use Rattle.kpn_lang.specs.declared.talk.Ending.TheVariants.{Faulted}
+use Rattle.kpn_lang.specs.Syntax.{Statement}
 use Rattle.kpn_lang.specs.Value.{is_zero}
-use Rattle.kpn_lang.specs.Parts.{Parts, IsProgram}
-use Rattle.kpn_lang.specs.Run.{Ran, Next, Lists, ends}
+use Rattle.kpn_lang.specs.Parts.{Parts, IsProgram, places}
+use Rattle.kpn_lang.specs.Tree.{Tree, tree_over}
+use Rattle.kpn_lang.specs.Run.{Ran, Next, Lists, ends, run}
 
 -- the variables, what remains of the lists, and what was said so far
 pub record Standing : Type 0 where
@@ -34,11 +37,21 @@ pub record LeadsTo (part residual : Next → Next) (before after : Standing) : T
   pub variables : length after.variables ≡ length before.variables
   pub lists : length after.lists ≡ length before.lists
 
--- the program keeps the rules, and there are as many variables and lists as it has
+-- the program keeps the rules, and there are as many variables, cells and lists as it has
 pub record MayRun (parts : Parts) (here : Standing) : Type 0 where
   pub program : IsProgram parts
-  pub variables : length here.variables ≡ parts.vars
+  pub variables : length here.variables ≡ places parts
   pub lists : length here.lists ≡ parts.ins
+
+-- the end of a run by a fault, if there is one
+abbrev pub faulted : Result (Unit {0}) Fault → Option Ending
+faulted (Ok done) = None
+faulted (Err fault) = Some (Faulted fault)
+
+-- a statement without blocks was done, or ended the run by a fault
+abbrev pub Does : Statement → Result (Unit {0}) Fault → (before after : Standing) → Type 0
+Does s result before after =
+    (inner : ℕ → Tree) (n : ℕ) → LeadsTo (run (tree_over inner (s ∷ [])) n) (goes_on (faulted result)) before after
 
 -- whether a test holds: its value is not 0
 abbrev pub holds : Result ℤ Fault → Result Bool Fault

@@ -1,15 +1,15 @@
 -- The run of a process on whole lists of items, by the structure of its tree, in the style of a denotational semantics
 -- with continuations (Strachey and Wadsworth 1974). Each loop that the run enters has a number of turns, so that each
 -- run ends. What a run does with ever more turns is what the process does (Kahn 1974).
-use Rattle.std.specs.Prelude.{ℕ, zero, suc, ℤ, Result, Ok, Err, List, [], ◌∷◌, slice_index_or, slice_set, if◌then◌else◌}
+use Rattle.std.specs.Prelude.{ℕ, zero, suc, ◌+◌, ℤ, unsigned_abs, Result, Ok, Err, List, [], ◌∷◌, slice_index_or, slice_set, if◌then◌else◌}
 use Rattle.kpn_lang.specs.declared.value.Fault.{Fault}
 use Rattle.kpn_lang.specs.declared.talk.Said.{Said}
 use Rattle.kpn_lang.specs.declared.talk.Said.TheVariants.{Got, Put}
 use Rattle.kpn_lang.specs.declared.talk.Ending.{Ending}
 use Rattle.kpn_lang.specs.declared.talk.Ending.TheVariants.{Faulted, Starved, Cut}
 use Rattle.kpn_lang.specs.Syntax.{Term}
-use Rattle.kpn_lang.specs.Value.{value, is_zero}
-use Rattle.kpn_lang.specs.Tree.{Tree, End, Assign, Read, Write, If, While}
+use Rattle.kpn_lang.specs.Value.{value, is_zero, index_in, ◌>>=◌}
+use Rattle.kpn_lang.specs.Tree.{Tree, End, Assign, Read, Write, If, While, Set}
 
 -- the items that come in, a list for each in port, in order of port
 abbrev pub Lists : Type 0
@@ -76,3 +76,7 @@ run (If e first second rest) n next variables lists =
     choose v (run first n (run rest n next) variables lists) (run second n (run rest n next) variables lists))
 run (While e body rest) n next variables lists =
     turns n e (λ after. run body n after) (run rest n next) variables lists
+run (Set base size i e rest) n next variables lists =
+    with_value (value i variables >>= index_in size) variables lists (λ index.
+    with_value (value e variables) variables lists (λ v.
+    run rest n next (slice_set variables (base + unsigned_abs index) v) lists))

@@ -11,6 +11,7 @@ pub data Tree : Type 0 where
   Write : (port : ℕ) → Term → (rest : Tree) → Tree
   If : Term → (first second rest : Tree) → Tree
   While : Term → (body rest : Tree) → Tree
+  Set : (base size : ℕ) → (index item : Term) → (rest : Tree) → Tree
 
 -- the statements of a block over the trees of the blocks inside it
 abbrev pub tree_over : (ℕ → Tree) → List Statement → Tree
@@ -20,6 +21,7 @@ tree_over inner (syntax.Read i x ∷ rest) = Read i x (tree_over inner rest)
 tree_over inner (syntax.Write o e ∷ rest) = Write o e (tree_over inner rest)
 tree_over inner (syntax.If e a b ∷ rest) = If e (inner a) (inner b) (tree_over inner rest)
 tree_over inner (syntax.While e b ∷ rest) = While e (inner b) (tree_over inner rest)
+tree_over inner (syntax.Set base size i e ∷ rest) = Set base size i e (tree_over inner rest)
 
 -- the statements of a block; none if there is no such block
 abbrev pub block_at : List (List Statement) → ℕ → List Statement

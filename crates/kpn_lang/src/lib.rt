@@ -32,4 +32,4 @@ pub use spine::{Links, Spine};
 pub use start::Start;
 pub use syntax::{BlockId, Expr, Op, Stmt};
 pub use talk::{Ending, Said};
-pub use value::{Fault, eval};
+pub use value::{Fault, eval, eval_in, index_in};

@@ -1,20 +1,20 @@
 //! The plain program: it runs a program alone on whole lists by recursion over its blocks, as the
 //! definition of a run says.
 ghost use Rattle.std.specs.Prelude.{◌≡◌, ◌≤◌, ◌<◌, [], ◌∷◌, ◌++◌, length, drop, IfOk, IsTrue, slice_set};
-ghost use Rattle.kpn_lang.specs.Syntax.{term_of, statement_of, names_below};
+ghost use Rattle.kpn_lang.specs.Syntax.{Set, term_of, statement_of};
 ghost use Rattle.kpn_lang.specs.Value.{value};
-ghost use Rattle.kpn_lang.specs.Parts.{names_variables_below, names_ports_below};
+ghost use Rattle.kpn_lang.specs.Parts.{is_there, names_its_own, names_ports_below, places};
 ghost use Rattle.kpn_lang.specs.Tree.{tree_of, tree_over};
 ghost use Rattle.kpn_lang.specs.Run.{run, turns};
 ghost use Rattle.kpn_lang.specs.Lists.{remaining, next_at, without_next};
 ghost use Rattle.kpn_lang.specs.Alone.{alone, start_of};
-ghost use Rattle.kpn_lang.specs.Plain.{holds, goes_on, LeadsTo, MayRun};
+ghost use Rattle.kpn_lang.specs.Plain.{Does, holds, goes_on, LeadsTo, MayRun};
 
 use crate::program::Program;
 use crate::sequence::{Sequence, next_item};
 use crate::syntax::{BlockId, Expr, Stmt};
 use crate::talk::{Ending, Said};
-use crate::value::{Fault, eval};
+use crate::value::{Fault, eval_in, index_in};
 use std::alloc::{AllocError, Global};
 use std::marker::Model;
 
@@ -45,7 +45,7 @@ impl Run {
         self.ending
     }
 
-    /// The variables at the end, the parameters first.
+    /// The variables at the end, the parameters first, and the cells behind them.
     pub fn variables(&self) -> &[i64]
         ensures { result.now ≡ self.now.variables }
     {
@@ -121,8 +121,7 @@ impl Interpreter<'_> {
         statement: &Stmt,
     ) -> Result<Option<Ending>, AllocError>
         requires may_run { MayRun self.now.program.now state.old }
-        requires variables { let vars = self.now.program.now.vars in
-            IsTrue (names_variables_below vars (statement_of statement.now)) }
+        requires names { IsTrue (names_its_own self.now.program.now (statement_of statement.now)) }
         requires ports { let parts = self.now.program.now in
             IsTrue (names_ports_below parts.ins parts.outs (statement_of statement.now)) }
         ensures { let inner = tree_of self.now.program.now.blocks in
@@ -131,7 +130,7 @@ impl Interpreter<'_> {
             LeadsTo (run tree self.now.turns) (goes_on answer) state.old state.new) }
     {
         match statement {
-            Stmt::Assign(variable, expr) => match eval(expr, &state.variables) {
+            Stmt::Assign(variable, expr) => match state.value(self.program, expr) {
                 Ok(value) => {
                     state.assign(*variable, value);
                     Ok(None)
@@ -146,19 +145,25 @@ impl Interpreter<'_> {
                 }
                 None => Ok(Some(Ending::Starved(*port))),
             },
-            Stmt::Write(port, expr) => match eval(expr, &state.variables) {
+            Stmt::Write(port, expr) => match state.value(self.program, expr) {
                 Ok(value) => {
                     state.say(Said::Put(*port, value))?;
                     Ok(None)
                 }
                 Err(fault) => Ok(Some(Ending::Faulted(fault))),
             },
-            Stmt::If(test, first, second) => match state.test(test) {
+            Stmt::If(test, first, second) => match state.test(self.program, test) {
                 Ok(true) => self.block(state, *first),
                 Ok(false) => self.block(state, *second),
                 Err(fault) => Ok(Some(Ending::Faulted(fault))),
             },
             Stmt::While(test, body) => self.repeat(state, test, *body),
+            Stmt::Set(base, size, index, item) => {
+                match state.set(self.program, *base, *size, index, item) {
+                    Ok(()) => Ok(None),
+                    Err(fault) => Ok(Some(Ending::Faulted(fault))),
+                }
+            }
         }
     }
 
@@ -171,14 +176,14 @@ impl Interpreter<'_> {
         body: BlockId,
     ) -> Result<Option<Ending>, AllocError>
         requires may_run { MayRun self.now.program.now state.old }
-        requires variables { IsTrue (names_below self.now.program.now.vars (term_of test.now)) }
+        requires names { IsTrue (is_there self.now.program.now (term_of test.now)) }
         ensures { let round = run (tree_of self.now.program.now.blocks body) self.now.turns in
             IfOk result (λ answer.
             LeadsTo (turns self.now.turns (term_of test.now) round) (goes_on answer)
             state.old state.new) }
     {
         for _turn in 0..self.turns {
-            match state.test(test) {
+            match state.test(self.program, test) {
                 Ok(true) => {}
                 Ok(false) => return Ok(None),
                 Err(fault) => return Ok(Some(Ending::Faulted(fault))),
@@ -187,7 +192,7 @@ impl Interpreter<'_> {
                 return Ok(Some(ending));
             }
         }
-        match state.test(test) {
+        match state.test(self.program, test) {
             Ok(true) => Ok(Some(Ending::Cut)),
             Ok(false) => Ok(None),
             Err(fault) => Ok(Some(Ending::Faulted(fault))),
@@ -221,7 +226,7 @@ impl<'a> Model for State<'a> {
 }
 
 impl<'a> State<'a> {
-    // The parameters, then zeros, and nothing read or said.
+    // The parameters, zeros and the cells, and nothing read or said.
     fn start(
         alloc: Global,
         program: &Program,
@@ -234,6 +239,7 @@ impl<'a> State<'a> {
     {
         let mut variables = pars.to_vec(alloc)?;
         variables.resize(program.vars(), 0)?;
+        program.push_cells(&mut variables)?;
         Ok(State {
             lists,
             places: vec![in alloc; 0; lists.len()]?,
@@ -242,11 +248,44 @@ impl<'a> State<'a> {
         })
     }
 
-    fn test(&self, expr: &Expr) -> Result<bool, Fault>
-        requires { IsTrue (names_below (length self.now.variables) (term_of expr.now)) }
+    fn value(&self, program: &Program, expr: &Expr) -> Result<i64, Fault>
+        requires all { length self.now.variables ≡ places program.now }
+        requires there { IsTrue (is_there program.now (term_of expr.now)) }
+        ensures { result ≡ value (term_of expr.now) self.now.variables }
+    {
+        let (variables, cells) = self.variables.as_slice().split_at(program.vars());
+        eval_in(expr, variables, cells)
+    }
+
+    fn test(&self, program: &Program, expr: &Expr) -> Result<bool, Fault>
+        requires all { length self.now.variables ≡ places program.now }
+        requires there { IsTrue (is_there program.now (term_of expr.now)) }
         ensures { result ≡ holds (value (term_of expr.now) self.now.variables) }
     {
-        Ok(eval(expr, &self.variables)? != 0)
+        Ok(self.value(program, expr)? != 0)
+    }
+
+    // Sets a cell, or finds the fault of its index or of the expression.
+    fn set(
+        &mut self,
+        program: &Program,
+        base: usize,
+        size: usize,
+        index: &Expr,
+        item: &Expr,
+    ) -> Result<(), Fault>
+        requires all { length self.old.variables ≡ places program.now }
+        requires there { let i = term_of index.now in let e = term_of item.now in
+            IsTrue (names_its_own program.now (Set base size i e)) }
+        ensures { let i = term_of index.now in let e = term_of item.now in
+            Does (Set base size i e) result self.old self.new }
+    {
+        program.known();
+        let number = self.value(program, index)?;
+        let place = index_in(size, number)?;
+        let new = self.value(program, item)?;
+        self.assign(base + place, new);
+        Ok(())
     }
 
     fn assign(&mut self, variable: usize, value: i64)

@@ -1,4 +1,5 @@
-//! The syntax of processes: expressions as trees, statements that name blocks by number.
+//! The syntax of processes: expressions as trees, statements that name blocks by number. Behind the variables of a
+//! process are the cells of its arrays and tables. They have the numbers that come next.
 
 /// An operator of two operands.
 #[derive(Clone, Copy, PartialEq)]
@@ -23,7 +24,7 @@ pub enum Op {
     Shr,
 }
 
-/// An expression over the variables of a process, which it names by number.
+/// An expression over the variables and the cells of a process, which it names by number.
 #[derive(Drop)]
 pub enum Expr {
     /// A whole number.
@@ -40,6 +41,9 @@ pub enum Expr {
     Bin(Op, Box<Expr>, Box<Expr>),
     /// The second expression if the first is not 0, else the third.
     Choice(Box<Expr>, Box<Expr>, Box<Expr>),
+    /// The value of a cell of an array or a table: `Cell(base, size, index)`, where its first cell has the number
+    /// `base`, and the index goes from 0 to `size - 1`.
+    Cell(usize, usize, Box<Expr>),
 }
 
 /// The number of a block of statements in its program. Block 0 is the body of the process.
@@ -58,4 +62,6 @@ pub enum Stmt {
     If(Expr, BlockId, BlockId),
     /// The block again and again, as long as the expression is not 0.
     While(Expr, BlockId),
+    /// Sets a cell of an array to the value of an expression: `Set(base, size, index, expression)`.
+    Set(usize, usize, Expr, Expr),
 }

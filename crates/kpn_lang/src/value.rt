@@ -1,8 +1,9 @@
 //! The value of an expression.
-ghost use Rattle.std.specs.Prelude.{◌≡◌, ◌<◌, ◌^◌, ◌*ℤ◌, ◌-ℤ◌, neg_ℤ, pos, false, length, IfNone, IfSome, IsTrue};
+ghost use Rattle.std.specs.Prelude.{◌≡◌, ◌+◌, ◌<◌, ◌^◌, ◌*ℤ◌, ◌-ℤ◌, neg_ℤ, pos, false, ◌++◌, length, IfErr, IfNone, IfOk, IfSome, IsTrue};
 ghost use Rattle.kpn_lang.specs.declared.syntax.Op.TheVariants.{Add, Sub, Mul, Div, Rem, Shl, Shr};
-ghost use Rattle.kpn_lang.specs.Syntax.{term_of, names_below};
-ghost use Rattle.kpn_lang.specs.Value.{value, in_range, is_count, result_of, truth_of};
+ghost use Rattle.kpn_lang.specs.declared.value.Fault.TheVariants.{Index};
+ghost use Rattle.kpn_lang.specs.Syntax.{term_of, has_cells, names_below, names_within};
+ghost use Rattle.kpn_lang.specs.Value.{value, in_range, is_count, is_index, result_of, truth_of};
 
 use crate::syntax::{Expr, Op};
 
@@ -13,7 +14,7 @@ pub enum Fault {
     Overflow,
     /// A division or a remainder by 0.
     ZeroDivisor,
-    /// An element that is not there.
+    /// A cell that is not there.
     Index,
     /// A count of a shift that is below 0 or above 63.
     Shift,
@@ -151,35 +152,75 @@ pub(crate) fn apply(op: Op, left: i64, right: i64) -> Result<i64, Fault>
     }
 }
 
-/// The value of an expression if the variables have these values. The left side comes first, and the first fault is the
-/// fault; `&&` and `||` leave out a right side that cannot matter, and
-/// a choice the expression that it does not choose.
+/// The index of a cell that a number is, if there are so many cells.
+pub fn index_in(size: usize, number: i64) -> Result<usize, Fault>
+    ensures ok { IfOk result (λ index. (number ≡ pos index) × (index < size)) }
+    ensures err { IfErr result (λ fault. (fault ≡ Index) × (is_index size number ≡ false)) }
+{
+    match usize::try_from(number) {
+        Ok(index) if index < size => Ok(index),
+        _ => Err(Fault::Index),
+    }
+}
+
+/// The value of an expression without cells if the variables have these values. The left side comes first, and the
+/// first fault is the fault; `&&` and `||` leave out a right side that cannot matter, and a choice the expression that
+/// it does not choose.
 pub fn eval(expr: &Expr, variables: &[i64]) -> Result<i64, Fault>
     requires { IsTrue (names_below (length variables.now) (term_of expr.now)) }
     ensures { result ≡ value (term_of expr.now) variables.now }
 {
+    eval_in(expr, variables, &[])
+}
+
+/// The value of an expression if the variables, and the cells behind them, have these values.
+pub fn eval_in(expr: &Expr, variables: &[i64], cells: &[i64]) -> Result<i64, Fault>
+    requires { let vars = length variables.now in
+        IsTrue (names_within vars (vars + length cells.now) (term_of expr.now)) }
+    ensures { result ≡ value (term_of expr.now) (variables.now ++ cells.now) }
+{
     match expr {
         Expr::Num(number) => Ok(*number),
         Expr::Var(variable) => Ok(variables[*variable]),
-        Expr::Neg(operand) => eval(operand, variables)?
+        Expr::Neg(operand) => eval_in(operand, variables, cells)?
             .checked_neg()
             .ok_or(Fault::Overflow),
-        Expr::Not(operand) => Ok(truth(eval(operand, variables)? == 0)),
-        Expr::BitNot(operand) => Ok(complement(eval(operand, variables)?)),
+        Expr::Not(operand) => Ok(truth(eval_in(operand, variables, cells)? == 0)),
+        Expr::BitNot(operand) => Ok(complement(eval_in(operand, variables, cells)?)),
         Expr::Bin(op, left, right) => {
-            let left = eval(left, variables)?;
+            let left = eval_in(left, variables, cells)?;
             match op {
                 Op::And if left == 0 => Ok(0),
                 Op::Or if left != 0 => Ok(1),
-                _ => apply(*op, left, eval(right, variables)?),
+                _ => apply(*op, left, eval_in(right, variables, cells)?),
             }
         }
         Expr::Choice(test, first, second) => {
-            if eval(test, variables)? != 0 {
-                eval(first, variables)
+            if eval_in(test, variables, cells)? != 0 {
+                eval_in(first, variables, cells)
             } else {
-                eval(second, variables)
+                eval_in(second, variables, cells)
             }
         }
+        Expr::Cell(base, size, index) => {
+            let number = eval_in(index, variables, cells)?;
+            let place = index_in(*size, number)?;
+            Ok(cells[*base - variables.len() + place])
+        }
+    }
+}
+
+/// Whether an expression names a cell.
+pub(crate) fn has_cells(expr: &Expr) -> bool
+    ensures { result ≡ has_cells (term_of expr.now) }
+{
+    match expr {
+        Expr::Num(_) | Expr::Var(_) => false,
+        Expr::Neg(operand) | Expr::Not(operand) | Expr::BitNot(operand) => has_cells(operand),
+        Expr::Bin(_, left, right) => has_cells(left) || has_cells(right),
+        Expr::Choice(test, first, second) => {
+            has_cells(test) || has_cells(first) || has_cells(second)
+        }
+        Expr::Cell(_, _, _) => true,
     }
 }

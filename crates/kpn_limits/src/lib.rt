@@ -5,6 +5,9 @@
 /// The most variables that a process may have, parameters included.
 pub const MAX_VARIABLES: usize = 64;
 
+/// The most cells that a process may have: those of its arrays and of its tables.
+pub const MAX_CELLS: usize = 4_096;
+
 /// The most in ports that a process may have, and the most out ports.
 pub const MAX_PORTS: usize = 16;
 

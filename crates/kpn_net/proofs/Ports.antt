@@ -1,5 +1,6 @@
 -- A process names only its own ports: what it says is at one of its in ports or out ports.
-use Rattle.std.proofs.Common.{◌≡◌, ℕ, zero, suc, ◌<◌, ℤ, cond, Bool, true, false, List, [], ◌∷◌, length, Result, Ok, Err, set, refl}
+use Rattle.std.proofs.Common.{◌≡◌, ℕ, zero, suc, ◌+◌, ◌<◌, ℤ, cond, Bool, true, false, List, [], ◌∷◌, length, Result, Ok, Err, set, refl}
+use Rattle.std.specs.Prelude.{unsigned_abs}
 use Rattle.std.specs.List.{list_all}
 use Rattle.std.proofs.lemmas.Bool.{ltb-true, and_parts}
 use Rattle.kpn_lang.specs.declared.value.Fault.{Fault}
@@ -9,8 +10,8 @@ use Rattle.kpn_lang.specs.declared.talk.Ending.{Ending}
 use Rattle.kpn_lang.specs.declared.talk.Ending.TheVariants.{Done, Faulted, Starved, Cut}
 use Rattle.kpn_lang.specs.Syntax.{Term, Statement}
 use Rattle.kpn_lang.specs.Syntax as syntax
-use Rattle.kpn_lang.specs.Value.{value, is_zero}
-use Rattle.kpn_lang.specs.Tree.{Tree, End, Assign, Read, Write, If, While, tree_over, tree_to, tree_of, block_at}
+use Rattle.kpn_lang.specs.Value.{value, is_zero, index_in, ◌>>=◌}
+use Rattle.kpn_lang.specs.Tree.{Tree, End, Assign, Read, Write, If, While, Set, tree_over, tree_to, tree_of, block_at}
 use Rattle.kpn_lang.specs.Parts.{Parts, IsProgram, names_ports_below, each_statement}
 use Rattle.kpn_lang.specs.Run.{Ran, Next, Lists, list_at, ends, says, with_value, with_item, choose, turns, run}
 use Rattle.kpn_lang.specs.Alone.{alone, start_of}
@@ -26,6 +27,7 @@ TreeNames ins outs (Write o e rest) = (o < outs) × TreeNames ins outs rest
 TreeNames ins outs (If e first second rest) =
     TreeNames ins outs first × TreeNames ins outs second × TreeNames ins outs rest
 TreeNames ins outs (While e body rest) = TreeNames ins outs body × TreeNames ins outs rest
+TreeNames ins outs (Set base size index e rest) = TreeNames ins outs rest
 
 abbrev pub SaidNames : (ins outs : ℕ) → Said → Type 0
 SaidNames ins outs (Got i v) = i < ins
@@ -62,6 +64,7 @@ tree_over-names ins outs inner h (syntax.Write o t ∷ rest) e = let p =
     and_parts _ _ e in (ltb-true o outs p.0, tree_over-names ins outs inner h rest p.1)
 tree_over-names ins outs inner h (syntax.If t a b ∷ rest) e = (h a, h b, tree_over-names ins outs inner h rest e)
 tree_over-names ins outs inner h (syntax.While t b ∷ rest) e = (h b, tree_over-names ins outs inner h rest e)
+tree_over-names ins outs inner h (syntax.Set base size i t ∷ rest) e = tree_over-names ins outs inner h rest e
 
 block_at-names : (ins outs : ℕ) (blocks : List (List Statement)) (b : ℕ)
     → each_statement (names_ports_below ins outs) blocks ≡ true
@@ -152,6 +155,14 @@ module _ (ins outs : ℕ) where
   NextNames-run (While e body rest) t n next h =
       NextNames-turns e (run body n) (λ k f. NextNames-run body t.0 n k f) n (run rest n next)
       (NextNames-run rest t.1 n next h)
+  NextNames-run (Set base size i e rest) t n next h =
+      let after = NextNames-run rest t n next h in
+      record {
+        names = λ variables lists.
+            RanNames-with_value (value i variables >>= index_in size) variables lists _ (λ index.
+            RanNames-with_value (value e variables) variables lists _ (λ v.
+            after.names (set variables (base + unsigned_abs index) v) lists));
+      }
 
 -- a program alone names only its ports
 pub alone-names : (parts : Parts) → IsProgram parts → (pars : List ℤ) (n : ℕ) (lists : Lists)

@@ -1,6 +1,7 @@
 -- The tables of a network, and the ends of its channels. As in Kahn 1974, one-way channels, each with one writer and
 -- one reader, join sequential processes. As in Parks 1995, a channel has a capacity.
-use Rattle.std.specs.Prelude.{ℕ, suc, ◌+◌, ◌*◌, min, Bool, true, false, nat_eq, if◌then◌else◌, List, [], ◌∷◌, ◌++◌, slice_index_or, Option, Some, None}
+use Rattle.std.specs.Prelude.{ℕ, suc, ◌+◌, ◌*◌, min, Bool, true, false, nat_eq, nat_lt, length, if◌then◌else◌, List, [], ◌∷◌, ◌++◌, slice_index_or, Option, Some, None}
+use Rattle.std.specs.List.{list_any}
 use Rattle.kpn_lang.specs.Parts.{Parts}
 use Rattle.kpn_net.specs.declared.tables.ChannelSpec.{ChannelSpec}
 use Rattle.kpn_net.specs.declared.tables.ChannelSpec.TheVariants as channel
@@ -29,7 +30,7 @@ under policy growth t = record t { policy = policy; growth = growth }
 
 -- a program without blocks stands for one that is not there
 abbrev pub program_at : Tables → ℕ → Parts
-program_at t i = slice_index_or t.programs i (record { ins = 0; outs = 0; pars = 0; vars = 0; blocks = [] })
+program_at t i = slice_index_or t.programs i (record { ins = 0; outs = 0; pars = 0; vars = 0; free = 0; tables = []; blocks = [] })
 
 -- an instance without ports stands for one that is not there
 abbrev pub instance_at : Tables → ℕ → Instance
@@ -42,6 +43,10 @@ channel_at t c = slice_index_or t.channels c (channel.Inner 0)
 -- the program of a process
 abbrev pub program_of : Tables → ℕ → Parts
 program_of t p = program_at t (instance_at t p).program
+
+-- a program has cells of arrays or tables
+abbrev pub has_cells : Tables → Bool
+has_cells t = list_any (λ program. nat_lt 0 (program.free + length program.tables)) t.programs
 
 -- ---- the ends of a channel
 

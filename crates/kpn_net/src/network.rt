@@ -1,6 +1,6 @@
 //! Networks: tables that keep the rules, made once and read many times.
 ghost use Rattle.std.specs.Prelude.{◌≡◌, ◌<◌, ◌↔◌, IsTrue, length, IfSome, IfNone, IfOk, MatchResult};
-ghost use Rattle.kpn_net.specs.Tables.{instance_at, program_at, program_of, channel_at, is_source, is_sink, writer_of, reader_of, capacity, larger_capacity, under};
+ghost use Rattle.kpn_net.specs.Tables.{instance_at, program_at, program_of, has_cells, channel_at, is_source, is_sink, writer_of, reader_of, capacity, larger_capacity, under};
 ghost use Rattle.kpn_net.specs.Faults.{first_fault, IsNetwork};
 ghost use Rattle.kpn_net.specs.Iteration.{sources};
 ghost use Rattle.kpn_net.specs.View.{tables_with};
@@ -156,6 +156,16 @@ impl Network {
         ensures { result ≡ length self.now.channels }
     {
         self.parts.channels.len()
+    }
+
+    /// Whether a program has cells of arrays or tables.
+    pub fn has_cells(&self) -> bool
+        ensures { result ≡ has_cells self.now }
+    {
+        self.parts
+            .programs
+            .iter()
+            .any(|program| program.cells() > 0)
     }
 
     /// The program of process `p`.

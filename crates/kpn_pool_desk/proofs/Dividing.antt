@@ -19,7 +19,7 @@ same_book b = record {
   same = refl;
   rest = refl;
   count = refl;
-  channels = λ c. record { same = refl; reserved = λ is. is };
+  channels = λ c. record { same = refl; reserved = λ is. is; roomy = λ is. is };
 }
 
 pub same_network : (before after : Book) → IsSameBook before after → after.tables ≡ before.tables

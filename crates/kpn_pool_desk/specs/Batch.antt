@@ -86,6 +86,12 @@ abbrev pub InTurn : (Turn → Book → Book → Type 0) → List Turn → Book �
 InTurn Does [] before after = after ≡ before
 InTurn Does (turn ∷ turns) before after = (between : Book) × Does turn before between × InTurn Does turns between after
 
+-- the first turns claim in order, and then their processes are put back in order
+abbrev pub ClaimsInVain : List Turn → Book → Book → Type 0
+ClaimsInVain turns before after =
+    (count : ℕ) × (between : Book) × InTurn Claims (take count turns) before between
+    × InTurn PutsBack (take count turns) between after
+
 -- why a worker ends that has committed so many of the turns that it holds: memory is wanted for the next one, and all
 -- workers shall end; or the gate did not let the next one through
 abbrev pub IsEnd : (committed : ℕ) → Batch → (before after : Desk) → Option Why → Type 0

@@ -1,7 +1,7 @@
 //! The turns that a worker makes between two holds of the lock, in the order of their claims.
-ghost use Rattle.std.specs.Prelude.{◌≡◌, ◌↔◌, ◌+◌, ◌<◌, ◌≤◌, IsTrue, take, length};
+ghost use Rattle.std.specs.Prelude.{◌≡◌, ◌↔◌, ◌+◌, ◌<◌, ◌≤◌, IsTrue, IfOk, OnErr, take, length};
 ghost use Rattle.kpn_run_state.specs.Stepping.{ClaimsNobody};
-ghost use Rattle.kpn_pool_desk.specs.Batch.{InTurn, Claims, CommitsOrDrops, PutsBack, Settles, claimed_by, ComesBack};
+ghost use Rattle.kpn_pool_desk.specs.Batch.{InTurn, Claims, ClaimsInVain, CommitsOrDrops, PutsBack, Settles, claimed_by, ComesBack};
 ghost use Rattle.kpn_pool_desk.specs.Gate.{LetsThrough, LetsAll};
 ghost use Rattle.kpn_pool_desk.specs.Desk.{share_in, with_book, with_total};
 
@@ -15,7 +15,7 @@ use crate::seat::{Why, WorkerSeat};
 use crate::turn::Turn;
 use crate::watch::{ClockWatch, NoWatch, Watch};
 use arrayvec::ArrayVec;
-use std::alloc::Allocator;
+use std::alloc::{AllocError, Allocator};
 use std::marker::Model;
 use std::time::{Clock, Duration};
 
@@ -73,20 +73,25 @@ impl<'n, J: Job> Batch<'n, J> {
         self.held
     }
 
-    /// Claims a worker's share of those that are ready, at most 8. Returns whether there is one.
-    pub fn claim<A: Allocator>(&mut self, desk: &mut Desk<'n, J, A>) -> bool
-        ensures claims { InTurn Claims (take self.new.held self.new.turns) desk.old.book desk.new.book }
+    /// Claims a worker's share of those that are ready, at most 8. Returns whether there is one. The error is that
+    /// memory ran out: then those that were claimed are put back, and none is held.
+    pub fn claim<A: Allocator>(&mut self, desk: &mut Desk<'n, J, A>) -> Result<bool, AllocError>
+        ensures claims { IfOk result (λ _.
+            InTurn Claims (take self.new.held self.new.turns) desk.old.book desk.new.book) }
         ensures share { self.new.held ≤ share_in J.parts desk.old.book }
-        ensures all { self.new.held < share_in J.parts desk.old.book
-            → ClaimsNobody desk.new.book }
-        ensures some { IsTrue result ↔ (0 < self.new.held) }
+        ensures all { IfOk result (λ _. self.new.held < share_in J.parts desk.old.book
+            → ClaimsNobody desk.new.book) }
+        ensures some { IfOk result (λ some. IsTrue some ↔ (0 < self.new.held)) }
+        ensures none { OnErr result (self.new.held ≡ 0) }
+        ensures back { OnErr result (ClaimsInVain self.new.turns desk.old.book desk.new.book) }
         ensures same { desk.new ≡ with_book desk.new.book desk.old }
     {
         desk.known();
         let most = desk.share();
-        self.held = claim_each(desk, self.turns.as_mut_slice(), most);
+        self.held = 0;
         self.passed = 0;
-        self.held > 0
+        self.held = claim_each(desk, self.turns.as_mut_slice(), most)?;
+        Ok(self.held > 0)
     }
 
     /// Steps each process and asks the gate for it, in order, until the gate ends the worker.
@@ -179,25 +184,33 @@ impl<'n, J: Job> Batch<'n, J> {
     }
 }
 
-/// Claims a process for each of the first turns, so many at most. Returns how many there were.
+/// Claims a process for each of the first turns, so many at most. Returns how many there were. The error is that memory
+/// ran out: then those that were claimed are put back.
 fn claim_each<'n, J: Job, A: Allocator>(
     desk: &mut Desk<'n, J, A>,
     turns: &mut [Turn<'n, J>],
     most: usize,
-) -> usize
+) -> Result<usize, AllocError>
     requires { most ≤ length turns.old }
-    ensures claims { InTurn Claims (take result turns.new) desk.old.book desk.new.book }
+    ensures claims { IfOk result (λ count.
+        InTurn Claims (take count turns.new) desk.old.book desk.new.book) }
     ensures same { desk.new ≡ with_book desk.new.book desk.old }
-    ensures count { result ≤ most }
-    ensures all { result < most → ClaimsNobody desk.new.book }
+    ensures count { IfOk result (λ count. count ≤ most) }
+    ensures all { IfOk result (λ count. count < most → ClaimsNobody desk.new.book) }
+    ensures back { OnErr result (ClaimsInVain turns.new desk.old.book desk.new.book) }
 {
     'turns: for i in 0..most {
         let turn = &mut turns[i];
-        if !turn.claim(desk) {
-            return i;
+        match turn.claim(desk) {
+            Ok(true) => {}
+            Ok(false) => return Ok(i),
+            Err(error) => {
+                put_back_each(desk, &turns[..i]);
+                return Err(error);
+            }
         }
     }
-    most
+    Ok(most)
 }
 
 /// Steps each of the first turns and asks the gate for it. Returns how many it lets through before it ends the

@@ -1,5 +1,5 @@
 //! What a worker does with one process between two holds of the lock: its claim, its steps, and their commit.
-ghost use Rattle.std.specs.Prelude.{◌≡◌, ◌+◌, ◌≤◌, true, false, None};
+ghost use Rattle.std.specs.Prelude.{◌≡◌, ◌+◌, ◌≤◌, ◌⊎◌, true, false, None, IfOk, OnErr};
 ghost use Rattle.kpn_run_state.specs.Stepping.{ClaimsNobody};
 ghost use Rattle.kpn_pool_desk.specs.Desk.{with_book, with_total};
 ghost use Rattle.kpn_pool_desk.specs.Batch.{Claims, MayCommit, CommitsOrDrops, PutsBack};
@@ -10,7 +10,7 @@ use crate::seat::WorkerSeat;
 use crate::watch::Watch;
 use kpn_run_state::{Claim, Refused};
 use kpn_step::{Frame, Stop};
-use std::alloc::Allocator;
+use std::alloc::{AllocError, Allocator};
 use std::marker::{Model, PhantomData};
 use std::time::Instant;
 
@@ -65,44 +65,54 @@ impl<'n, J: Job> Turn<'n, J> {
         }
     }
 
-    /// Claims the first process of the queue, which is held from now on. Returns whether there was one.
-    pub(crate) fn claim<A: Allocator>(&mut self, desk: &mut Desk<'n, J, A>) -> bool
-        ensures claims { (result ≡ true) → Claims self.new desk.old.book desk.new.book }
-        ensures nobody { (result ≡ false) → ClaimsNobody desk.old.book × (desk.new ≡ desk.old) }
+    /// Claims the first process of the queue, which is held from now on. Returns whether there was one. The error is
+    /// that memory ran out: then nobody is claimed.
+    pub(crate) fn claim<A: Allocator>(
+        &mut self,
+        desk: &mut Desk<'n, J, A>,
+    ) -> Result<bool, AllocError>
+        ensures claims { IfOk result (λ some. (some ≡ true)
+            → Claims self.new desk.old.book desk.new.book) }
+        ensures nobody { IfOk result (λ some. (some ≡ false)
+            → ClaimsNobody desk.old.book × (desk.new ≡ desk.old)) }
+        ensures no_memory { OnErr result (desk.new ≡ desk.old) }
         ensures same { desk.new ≡ with_book desk.new.book desk.old }
     {
         desk.known();
         if let Some(last) = &mut self.last {
-            if !desk.book.claim_into(&mut last.claim) {
-                return false;
+            if !desk.book.claim_into(&mut last.claim)? {
+                return Ok(false);
             }
             desk.book.known();
             last.made = None;
             self.process = last.claim.process;
-            return true;
+            return Ok(true);
         }
-        let Some(claim) = desk.book.claim() else {
-            return false;
+        let Some(claim) = desk.book.try_claim()? else {
+            return Ok(false);
         };
         desk.book.known();
         self.process = claim.process;
-        let to = claim.frame.copy();
+        let to = Frame::empty(claim.program);
         self.last = Some(Stepped {
             claim,
             to,
             made: None,
         });
-        true
+        Ok(true)
     }
 
-    /// Makes at most `quota` steps of the process that is claimed. Returns which it is.
+    /// Makes at most `quota` steps of the process that is claimed, if there is memory for its cells. Returns which it
+    /// is.
     pub(crate) fn step(&mut self, quota: u32) -> usize
         ensures same { self.new.process ≡ self.old.process }
         ensures process { result ≡ self.new.process }
     {
         if let Some(last) = &mut self.last {
-            last.to.copy_from(&last.claim.frame);
-            last.made = Some(last.to.run(last.claim.program, quota));
+            last.made = match last.to.try_copy_from(&last.claim.frame) {
+                Ok(()) => Some(last.to.run(last.claim.program, quota)),
+                Err(_error) => None,
+            };
         }
         self.process
     }
@@ -134,7 +144,7 @@ impl<'n, J: Job> Turn<'n, J> {
         }
     }
 
-    /// Commits the steps. Returns whether there was memory for that.
+    /// Commits the steps. Returns whether there was memory for that, and for the steps.
     ///
     /// Steps of a process that is not held, or of another one, which nothing known behind a lock rules out, are
     /// dropped, and nothing is counted.
@@ -144,7 +154,8 @@ impl<'n, J: Job> Turn<'n, J> {
         seat: &mut WorkerSeat<J>,
     ) -> bool
         ensures commits { (result ≡ true) → CommitsOrDrops self.now desk.old.book desk.new.book }
-        ensures refused { (result ≡ false) → MayCommit self.now desk.old.book × (desk.new ≡ desk.old) }
+        ensures refused { (result ≡ false) → ((self.now.steps ≡ None)
+            ⊎ MayCommit self.now desk.old.book) × (desk.new ≡ desk.old) }
         ensures same { desk.new ≡ with_total desk.new.book desk.new.total desk.old }
         ensures number { seat.new.number ≡ seat.old.number }
         ensures counted { seat.old.commits ≤ seat.new.commits }
@@ -154,7 +165,7 @@ impl<'n, J: Job> Turn<'n, J> {
             return true;
         };
         let Some(made) = last.made else {
-            return true;
+            return false;
         };
         match seat.commit(desk, self.process, &last.claim.frame, &last.to, made) {
             Ok(done) => {

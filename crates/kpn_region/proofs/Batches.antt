@@ -9,7 +9,7 @@ use Rattle.kpn_run_history.specs.declared.event.Event.{Event}
 use Rattle.kpn_run_configuration.specs.Configuration.{no_frame}
 use Rattle.kpn_region.specs.Local.{SideState, no_side, claimed_with, as_claimed, Local, frame_at, with_side, IsLocal, Plays, no_event}
 use Rattle.kpn_region.specs.Batch.{Batch, batch_of, IsStuckAt, IsBatch, IsFresh, IsEmpty}
-use Rattle.kpn_region.specs.Turn.{with_part, HasPart, GoesOn}
+use Rattle.kpn_region.specs.Turn.{GoesOn}
 use Rattle.kpn_region.proofs.Turns.{as_many}
 
 -- ---- lists of one value

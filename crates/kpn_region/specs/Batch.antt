@@ -1,12 +1,12 @@
 -- A batch: what was claimed of a region, the events that it has made since, and what stands in it.
-use Rattle.std.specs.Prelude.{◌≡◌, ℕ, ◌+◌, ◌<◌, ◌≤◌, false, true, List, [], ◌++◌, length, map, Option, Some, None, slice_index_or, slice_set, ℤ, Bool}
+use Rattle.std.specs.Prelude.{◌≡◌, ℕ, ◌+◌, ◌<◌, ◌≤◌, false, true, List, [], ◌++◌, length, map, Option, Some, None, slice_index_or, slice_set, Bool}
 use Rattle.kpn_net.specs.Tables.{Tables, program_of}
 use Rattle.kpn_step.specs.declared.stop.Stop.{Stop}
 use Rattle.kpn_step.specs.Frame.{Frame}
 use Rattle.kpn_step.specs.Stops.{StandsAt, IsAtPort}
 use Rattle.kpn_run_history.specs.declared.event.Event.{Event}
 use Rattle.kpn_run_history.specs.Talks.{process_events}
-use Rattle.kpn_region.specs.Local.{SideState, as_claimed, no_side, Local, is_within, frame_at, side_at, with_frame, IsLocal, Plays}
+use Rattle.kpn_region.specs.Local.{SideState, as_claimed, no_side, Local, is_within, frame_at, side_at, IsLocal, Plays}
 
 pub record Batch : Type 0 where
   pub tables : Tables

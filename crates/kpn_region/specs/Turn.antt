@@ -1,6 +1,6 @@
 -- Scaffolding: what the turn of one process does to its frame, to the channels of the region and to the events. Only the
 -- contracts of private functions cite it.
-use Rattle.std.specs.Prelude.{◌≡◌, ℕ, ◌+◌, ◌*◌, ◌<◌, ◌≤◌, true, ℤ, IsTrue, List, [], ◌∷◌, ◌++◌, length, map, slice_index_or, slice_set, Option, Some, None}
+use Rattle.std.specs.Prelude.{◌≡◌, ℕ, ◌*◌, ◌<◌, ◌≤◌, true, ℤ, IsTrue, List, [], ◌∷◌, ◌++◌, length, map, slice_index_or, slice_set, Option, Some, None}
 use Rattle.kpn_net.specs.Tables.{Tables, program_of}
 use Rattle.kpn_step.specs.Frame.{Frame, fits}
 use Rattle.kpn_run_history.specs.declared.event.Event.{Event}

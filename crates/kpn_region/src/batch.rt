@@ -327,6 +327,9 @@ fn clear_processes<A: Allocator>(
     requires first { length first.now.items ≡ length within.old.items }
     requires frames { length frames.old.items ≡ length within.old.items }
     requires stops { length stops.old.items ≡ length within.old.items }
+    requires sizes { (p : ℕ) → p < length within.old.items
+        → length (slice_index_or first.now.items p no_frame).variables
+        ≡ length (slice_index_or frames.old.items p no_frame).variables }
     requires outside { (p : ℕ) → slice_index_or within.old.items p false ≡ false
         → slice_index_or frames.old.items p no_frame ≡ slice_index_or first.now.items p no_frame }
     ensures within { within.new.items ≡ replicate (length within.old.items) false }

@@ -1,8 +1,10 @@
 //! How a batch is joined to a configuration.
-ghost use Rattle.std.specs.Prelude.{◌≡◌, ◌+◌, ◌<◌, ◌≤◌, ◌^◌, length, if◌then◌else◌};
+ghost use Rattle.std.specs.Prelude.{◌≡◌, ℕ, ◌+◌, ◌<◌, ◌≤◌, ◌^◌, length, IsTrue, if◌then◌else◌};
+ghost use Rattle.kpn_net.specs.Tables.{program_of};
 ghost use Rattle.kpn_net.specs.Waits.{AreWaits};
+ghost use Rattle.kpn_step.specs.Frame.{fits};
 ghost use Rattle.kpn_chan.specs.Channel.{unread};
-ghost use Rattle.kpn_run_configuration.specs.Configuration.{channel_in, with_frame, IsConfiguration};
+ghost use Rattle.kpn_run_configuration.specs.Configuration.{channel_in, frame_in, with_frame, IsConfiguration};
 ghost use Rattle.kpn_region.specs.Local.{is_within, frame_at, side_at};
 ghost use Rattle.kpn_region.specs.Joining.{ChannelAgrees, AgreesWith, Joins};
 ghost use Rattle.kpn_region.specs.JoiningParts.{most_seen, JoinsChannel, JoinsChannels, JoinsFrames};
@@ -67,11 +69,14 @@ impl<'n, A: Allocator> Batch<'n, A> {
 
     /// The processes of the region go to where they stand in the batch.
     fn join_frames<B: Allocator + Copy>(&self, configuration: &mut Configuration<B>)
-        requires { length configuration.old.frames ≡ length self.now.tables.instances }
+        requires frames { length configuration.old.frames ≡ length self.now.tables.instances }
+        requires fit { (p : ℕ) → p < length self.now.tables.instances
+            → IsTrue (fits (program_of self.now.tables p) (frame_in configuration.old p)) }
         ensures { JoinsFrames self.now (length self.now.tables.instances)
             configuration.old configuration.new }
     {
         let network = self.network();
+        self.known();
         'processes: for p in 0..network.instances() {
             self.join_frame(p, configuration);
         }
@@ -81,6 +86,8 @@ impl<'n, A: Allocator> Batch<'n, A> {
     fn join_frame<B: Allocator + Copy>(&self, p: usize, configuration: &mut Configuration<B>)
         requires process { p < length self.now.tables.instances }
         requires frames { length configuration.old.frames ≡ length self.now.tables.instances }
+        requires size { length (frame_at self.now.now p).variables
+            ≡ length (frame_in configuration.old p).variables }
         ensures { configuration.new ≡ (if is_within self.now.now p
             then with_frame p (frame_at self.now.now p) configuration.old else configuration.old) }
     {

@@ -8,8 +8,10 @@ use Rattle.kpn_net.specs.declared.tables.End.TheVariants.{Process, Sink}
 use Rattle.kpn_net.specs.Tables.{Tables, channel_at, is_source, reader_of, writer_of, program_of}
 use Rattle.kpn_net.specs.Waits.{wait_at, IsOwnWait, AreWaits}
 use Rattle.kpn_net.proofs.WaitTables.{waits-set}
-use Rattle.kpn_step.specs.Frame.{Frame, passed}
+use Rattle.kpn_lang.specs.Parts.{Parts}
+use Rattle.kpn_step.specs.Frame.{Frame, fits, passed}
 use Rattle.kpn_step.specs.Stops.{IsGiven}
+use Rattle.kpn_step.proofs.Places.{Fits-from}
 use Rattle.kpn_chan.specs.Channel.{ChannelState, after_put, after_get, retired, is_full, most_after}
 use Rattle.kpn_run_history.specs.declared.event.How.{How}
 use Rattle.kpn_run_history.specs.declared.event.Event.{Event}
@@ -97,6 +99,11 @@ channel_put t e c v r ch writes reads stays cap =
     }
 
 -- ---- frames
+
+-- two frames of one program have as many variables and cells
+pub same_size : (parts : Parts) (f g : Frame) → IsTrue (fits parts f) → IsTrue (fits parts g)
+    → length f.variables ≡ length g.variables
+same_size parts f g one other = (Fits-from parts f one).variables ∙ sym (Fits-from parts g other).variables
 
 pub frame_in-same : (s : Configuration) (p : ℕ) (g : Frame) → p < length s.frames → frame_in (with_frame p g s) p ≡ g
 frame_in-same s p g there = get_or-set_same s.frames p g _ there

@@ -1,6 +1,7 @@
 -- A region is claimed: its processes, the channels, and what that makes of the book.
-use Rattle.std.proofs.Common.{◌≡◌, ◌↔◌, ◌⊎◌, ℕ, ◌+◌, ◌-◌, ◌/◌, ◌<◌, ◌≤◌, ◌^◌, min, ℤ, Bool, true, false, not, ◌&&◌, eqb, cond, IsTrue, List, [], ◌∷◌, ◌++◌, length, take, drop, get_or, set, Option, Some, None, is_some, refl, sym, ap, ◌∙◌, subst, inl, inr, arith, length-drop}
+use Rattle.std.proofs.Common.{◌≡◌, ◌↔◌, ◌⊎◌, ℕ, ◌+◌, ◌-◌, ◌/◌, ◌<◌, ◌≤◌, ◌^◌, min, ℤ, Bool, true, false, not, ◌&&◌, eqb, cond, IsTrue, List, [], ◌∷◌, ◌++◌, length, take, drop, get_or, set, Option, Some, None, is_some, is_ok, Result, Ok, Err, refl, sym, ap, ◌∙◌, subst, inl, inr, arith, length-drop}
 use Rattle.std.specs.List.{Contains}
+use Rattle.std.specs.Prelude.{OnOk}
 use Rattle.std.proofs.lemmas.Bool.{cases_eq, false≢true, both_ways, eqb-true}
 use Rattle.std.proofs.lemmas.List.{length-set, get_or-set_same, get_or-set_other, length-take-le, take_all}
 use Rattle.std.proofs.lemmas.List.Elements.{Contains-append_left, Contains-push, Contains-push_cases}
@@ -23,7 +24,7 @@ use Rattle.kpn_run_state.specs.Book.{Book}
 use Rattle.kpn_run_state.specs.Kept.{IsStateBy, IsKept}
 use Rattle.kpn_run_state.specs.Regions.{batch_held}
 use Rattle.kpn_run_state.specs.RegionCalls.{CanCount}
-use Rattle.kpn_run_state.specs.RegionClaims.{may_claim, is_end_within, at_most_half, items_claimed, free_room, room_claimed, drains_claimed, side_by, side_claimed, IsSameButMemory, IsSameBook, ClaimsRegion}
+use Rattle.kpn_run_state.specs.RegionClaims.{may_claim, is_end_within, at_most_half, items_claimed, free_room, room_claimed, drains_claimed, side_by, side_claimed, IsRoomyToWrite, IsSameButMemory, IsSameBook, ClaimsRegion}
 use Rattle.kpn_run_state.specs.ClaimParts.{with_process_of, HasProcesses, MakesRoom, SeesChannel, SeesChannels}
 use Rattle.kpn_run_state.proofs.Regions.{and_left, and_right}
 
@@ -135,7 +136,7 @@ pub no_room_made : (s : Configuration) → MakesRoom s s
 no_room_made s = record {
   rest = refl;
   count = refl;
-  channels = λ c. record { same = refl; reserved = λ is. is };
+  channels = λ c. record { same = refl; reserved = λ is. is; roomy = λ is. is };
   run = λ t H run. run;
 }
 
@@ -145,6 +146,7 @@ same_then x y z first second = record {
       second.same
       ∙ ap (λ (w : ChannelState). record w { is_reserved = z.is_reserved; is_roomy = z.is_roomy; is_wide = z.is_wide }) first.same;
   reserved = λ is. second.reserved (first.reserved is);
+  roomy = λ is. second.roomy (first.roomy is);
 }
 
 pub more_room_made : (x y z : Configuration) → MakesRoom x y → MakesRoom y z → MakesRoom x z
@@ -163,11 +165,13 @@ made_same true reserved before after is keep = record {
   same =
       is ∙ ap (λ x. record before { is_reserved = x.is_reserved; is_roomy = x.is_roomy; is_wide = x.is_wide }) (sym is);
   reserved = keep;
+  roomy = λ was. ap (λ (x : ChannelState). x.is_roomy) is;
 }
 made_same false reserved before after is keep = record {
   same =
       is ∙ ap (λ x. record before { is_reserved = x.is_reserved; is_roomy = x.is_roomy; is_wide = x.is_wide }) (sym is);
   reserved = keep;
+  roomy = λ was. ap (λ (x : ChannelState). x.is_roomy) is ∙ was;
 }
 
 -- a channel was made roomy, whether or not that was refused
@@ -189,13 +193,25 @@ room_made_on s after c done reserved there is keep run =
             | inr other ↦
                 subst (λ x. IsSameButMemory (channel_in s d) x)
                 (sym (ap (λ x. channel_in x d) is ∙ get_or-set_other s.channels c d made (opened None false) other))
-                (record { same = refl; reserved = λ was. was })
+                (record { same = refl; reserved = λ was. was; roomy = λ was. was })
           ];
       run = run;
     }
   where
     made : ChannelState
     made = cond done (roomy reserved (channel_in s c)) (with_reserved reserved (channel_in s c))
+
+-- it is roomy then, if it was written and this was not refused
+pub made_roomy : {T E : Type 0} (r : Result T E) (writes : Bool) (s after : Configuration) (c : ℕ) (reserved : Bool)
+    → c < length s.channels
+    → after
+    ≡ with_channel c (cond (is_ok r) (roomy reserved (channel_in s c)) (with_reserved reserved (channel_in s c))) s
+    → OnOk r (writes ≡ true → IsTrue (channel_in after c).is_roomy)
+made_roomy (Ok _) writes s after c reserved there is =
+    λ _. ap (λ x. (channel_in x c).is_roomy) is
+    ∙ ap (λ (x : ChannelState). x.is_roomy)
+    (get_or-set_same s.channels c (roomy reserved (channel_in s c)) (opened None false) there)
+made_roomy (Err _) writes s after c reserved there is = tt
 
 -- ---- channels
 
@@ -275,6 +291,25 @@ module _ (most : ℕ) (drains : Bool) (s : Configuration) where
                 ∙ sees.sides c (omega (arith, below, other))
           ];
     }
+
+-- what the region writes is roomy, of the channels so far and of the next one
+pub one_roomy_more : (t : Tables) (first now : Local) (n : ℕ) (before after : Configuration)
+    → now.within ≡ first.within → ((c : ℕ) → c < n → IsRoomyToWrite t first before c) → MakesRoom before after
+    → IsRoomyToWrite t now after n → (c : ℕ) → c < n + 1 → IsRoomyToWrite t first after c
+one_roomy_more t first now n before after same so_far room one c below writes =
+    elim (cases_eq c n) [
+      | inl this ↦
+          subst (λ z. IsTrue (channel_in after z).is_roomy) (sym this)
+          (one
+          (end_same now first same (writer_of t n)
+          ∙ subst (λ z. is_end_within first (writer_of t z) ≡ true) this writes))
+      | inr other ↦ (room.channels c).roomy (so_far c (omega (arith, below, other)) writes)
+    ]
+
+-- what is claimed of a channel, and is returned, whether or not that was refused
+pub on_ok : {T E : Type 0} {P : Type 0} (r : Result T E) → P → OnOk r P
+on_ok (Ok _) is = is
+on_ok (Err _) is = tt
 
 -- ---- what is claimed of a channel agrees with it
 
@@ -394,7 +429,8 @@ same_with_room book s room =
 module _ (of : List ℕ) (most : ℕ) (drains : Bool) (book : Book) (s : Configuration) (first batch : Batch)
     (network : IsNetwork book.tables) (kept : IsKept book)
     (has : HasProcesses of book.tables book.configuration first) (room : MakesRoom book.configuration s)
-    (sees : SeesChannels most drains book.configuration (length first.tables.channels) first batch) where
+    (sees : SeesChannels most drains book.configuration (length first.tables.channels) first batch)
+    (places : (c : ℕ) → c < length first.tables.channels → IsRoomyToWrite first.tables first.first s c) where
   tables : batch.tables ≡ book.tables
   tables = sees.tables ∙ has.tables
 
@@ -448,6 +484,10 @@ module _ (of : List ℕ) (most : ℕ) (drains : Bool) (book : Book) (s : Configu
     sides = side_is;
     roomy = record book { configuration = s };
     same = same_with_room book s room;
+    places = λ c below writes.
+        places c (subst (λ x. c < length x.channels) (sym has.tables) below)
+        (ap (λ x. is_end_within first.first (writer_of x c)) has.tables
+        ∙ end_same first.first batch.first (sym sees.within) (writer_of book.tables c) ∙ writes);
     agrees = agrees;
     held = refl;
   }

@@ -1,5 +1,5 @@
 -- A commit, and a step in place: a process is held, goes to the end of its steps, and is committed there.
-use Rattle.std.proofs.Common.{◌≡◌, ◌≢◌, ℕ, ◌+◌, ◌-◌, ◌<◌, ◌≤◌, ◌^◌, ℤ, true, false, cond, if◌then◌else◌, is_ok, IsTrue, List, [], length, set, Option, Some, None, refl, sym, ap, ◌∙◌, subst, inl, inr, arith, IfSome, IfNone, Result, Ok, Err, slice_index}
+use Rattle.std.proofs.Common.{◌≡◌, ◌≢◌, ℕ, ◌+◌, ◌-◌, ◌<◌, ◌≤◌, ◌^◌, ℤ, true, false, cond, if◌then◌else◌, is_ok, IsTrue, List, [], length, set, Option, None, refl, sym, ap, ◌∙◌, subst, inl, inr, arith, Result, Ok, Err, slice_index}
 use Rattle.std.proofs.lemmas.Bool.{cases_eq, cases_lt, false≢true}
 use Rattle.std.proofs.lemmas.List.{length-set, get_or-set_same, get_or-set_other, get_or_past}
 use Rattle.kpn_net.specs.Tables.{Tables, instance_at, program_of, channel_at, is_source}
@@ -25,7 +25,7 @@ use Rattle.kpn_run_state.specs.declared.answers.Done.{Done}
 use Rattle.kpn_run_state.specs.Book.{Book, IsHeld, held_count, standing_at, put_back, IsClaimed}
 use Rattle.kpn_run_state.specs.Commits.{IsWriteTo, HandlesStop, IsOwnAdvance, Commits}
 use Rattle.kpn_run_state.specs.Kept.{IsStateBy, IsKept}
-use Rattle.kpn_run_state.specs.Open.{Follows, GrowsAtStop, of_process, claims_by, reserves_by, IsReserved, is_but_reserved, reserved_on}
+use Rattle.kpn_run_state.specs.Open.{Follows, GrowsAtStop, of_process, reserves_by, IsReserved, is_but_reserved, reserved_on}
 use Rattle.kpn_run_configuration.specs.Due.{Stands, ReadsFrom, WritesTo}
 use Rattle.kpn_run_state.proofs.CommitCounts.{held_in, held_more}
 use Rattle.kpn_run_state.specs.Stepping.{ClaimsAndSteps, StepsNext, StepsInVain}
@@ -198,17 +198,6 @@ pub kept_claimed : (b : Book) → IsKept b → (p : ℕ) (a : Book) → IsClaime
     → (b.commits + held_count b ≡ 2 ^ 64 - 1 → ⊥) → IsKept a
 kept_claimed b kept p a claimed more =
     subst IsKept (sym claimed.same) (kept_with b kept p a.schedule claimed.holds more)
-
--- ---- what the calls return
-
-pub claims_from : (r : Option ℕ) (b : Book) (s : Schedule) → IsKept b
-    → (b.commits + held_count b ≡ 2 ^ 64 - 1 → ⊥) → IfSome r (λ p. HoldsFirst p b.schedule s)
-    → IfNone r ((b.schedule.queue ≡ []) × (s ≡ b.schedule))
-    → claims_by r b (recorded b b.history b.configuration s)
-claims_from None b s kept more held none = inl none.0
-claims_from (Some p) b s kept more held none =
-    let claimed : IsClaimed p b (recorded b b.history b.configuration s) = record { holds = held; same = refl } in
-    (claimed, kept_claimed b kept p (recorded b b.history b.configuration s) claimed more)
 
 -- ---- an event of the outside
 

@@ -1,8 +1,9 @@
 -- The first process of the queue makes steps and is committed. It is held in between, though no state says so.
-use Rattle.std.proofs.Common.{◌≡◌, ◌≢◌, ℕ, ◌+◌, ◌<◌, ◌≤◌, ◌^◌, ℤ, Bool, true, false, cond, is_some, List, [], ◌∷◌, ◌++◌, drop, slice_get, slice_index, Option, Some, None, Result, Ok, Err, refl, sym, ap, ◌∙◌, subst, arith, inl, inr}
+use Rattle.std.proofs.Common.{◌≡◌, ◌≢◌, ℕ, ◌+◌, ◌-◌, ◌<◌, ◌≤◌, ◌^◌, ℤ, Bool, true, false, cond, is_some, List, [], ◌∷◌, ◌++◌, drop, slice_get, slice_index, Option, Some, None, Result, Ok, Err, refl, sym, ap, ◌∙◌, subst, arith, inl, inr}
 use Rattle.std.specs.List.{last_or}
 use Rattle.std.specs.Prelude.{OnErr}
 use Rattle.std.proofs.lemmas.Bool.{cases_eq, false≢true}
+use Rattle.std.proofs.lemmas.List.{set-set}
 use Rattle.kpn_net.specs.Tables.{Tables, instance_at, channel_at, is_sink}
 use Rattle.kpn_net.specs.Faults.{IsNetwork}
 use Rattle.kpn_step.specs.declared.stop.Stop.{Stop}
@@ -10,10 +11,11 @@ use Rattle.kpn_step.specs.declared.stop.Stop.TheVariants as stop
 use Rattle.kpn_step.specs.Stops.{Advanced, IsAdvance, IsWithinQuota}
 use Rattle.kpn_run_history.specs.declared.event.Event.{Event}
 use Rattle.kpn_run_history.specs.declared.event.Event.TheVariants as event
+use Rattle.kpn_run_history.specs.declared.state.State.TheVariants.{Held}
 use Rattle.kpn_run_history.specs.Views.{is_held}
 use Rattle.kpn_run_history.proofs.Events.{last_or-push}
 use Rattle.kpn_run_configuration.specs.Configuration.{Configuration, with_frame}
-use Rattle.kpn_run_state.specs.Schedule.{Schedule, IsSchedule, HoldsFirst, first_held}
+use Rattle.kpn_run_state.specs.Schedule.{Schedule, IsSchedule, HoldsFirst, first_held, with_state}
 use Rattle.kpn_run_state.proofs.Waiting.{first_taken}
 use Rattle.kpn_run_state.proofs.Queueing.{HoldsFirst-popped}
 use Rattle.kpn_run_state.specs.declared.answers.Done.{Done}
@@ -25,7 +27,7 @@ use Rattle.kpn_run_state.specs.Stepping.{StepsNext}
 use Rattle.kpn_run_state.specs.InARow.{PutsOnNoSink, puts_on, StepsInRow, no_step, one_step_more, RunsOn, RunsInVain, StepsUncommitted}
 use Rattle.kpn_run_state.specs.declared.open_book.Hold.{Hold}
 use Rattle.kpn_run_state.specs.declared.open_book.Hold.TheVariants as hold
-use Rattle.kpn_run_state.specs.Open.{first_claimed, IsHeldBy, held_by, IsSound, if_sink, sink_of, sink_by, is_but_reserved, AnsweredFirst, HandlesFirst, IsTurn}
+use Rattle.kpn_run_state.specs.Open.{first_claimed, IsNext, next_by, IsHeldBy, held_by, IsSound, if_sink, sink_of, sink_by, is_but_reserved, AnsweredFirst, HandlesFirst, IsTurn}
 use Rattle.kpn_run_state.proofs.CommitCounts.{held_more}
 use Rattle.kpn_run_state.proofs.Appended.{claimed_is_held, tables_stay, history_then, commits_stay, base_tables, base_history, base_commits}
 use Rattle.kpn_run_state.proofs.Following.{recorded}
@@ -52,6 +54,36 @@ module _ (b : Book) (kept : IsKept b) (p : ℕ) (holds : HoldsFirst p b.schedule
 
   pub kept_first : IsKept (first_claimed p b)
   kept_first = kept_claimed b kept p (first_claimed p b) claimed (λ is. omega (arith, is, more))
+
+no_first : (xs : List ℕ) → slice_get xs 0 ≡ None → xs ≡ []
+no_first [] none = refl
+no_first (x ∷ xs) none = absurd cc
+
+-- which process is the next to be held
+pub next_from : (r : Option ℕ) (b : Book) → IsSchedule b.schedule → b.commits + held_count b < 2 ^ 64
+    → (b.commits + held_count b ≡ 2 ^ 64 - 1 → ⊥) → r ≡ slice_get b.schedule.queue 0 → next_by r b
+next_from None b is count more first = inl (no_first b.schedule.queue (sym first))
+next_from (Some p) b is count more first = record {
+  holds = holds_first b.schedule is p (sym first);
+  countable =
+      elim (cases_eq (b.commits + held_count b) (2 ^ 64 - 1)) [
+        | inl same ↦ absurd (more same)
+        | inr other ↦ omega (arith, other, count)
+      ];
+}
+
+-- its state is written once
+pub held_once : (p : ℕ) (s : Schedule) → with_state p Held (first_held p s) ≡ first_held p s
+held_once p s = ap (λ xs. record { states = xs; queue = drop 1 s.queue }) (set-set s.states p Held Held)
+
+pub first_by : (p : ℕ) (b : Book) → IsNext p b → slice_get b.schedule.queue 0 ≡ Some p
+first_by p b is = ap (λ xs. slice_get xs 0) is.holds.queue
+
+pub claimed_by : (p : ℕ) (b : Book) → IsNext p b → (s : Schedule) → s ≡ with_state p Held (first_held p b.schedule)
+    → IsClaimed p b (recorded b b.history b.configuration s)
+claimed_by p b is s same =
+    subst (λ x. IsClaimed p b (recorded b b.history b.configuration x)) (sym (same ∙ held_once p b.schedule))
+    (record { holds = is.holds; same = refl })
 
 -- ---- on which sink it has put an item
 

@@ -22,3 +22,4 @@ pub mod Regions
 pub mod Settling
 pub mod Joined
 pub mod Claiming
+pub mod Plain

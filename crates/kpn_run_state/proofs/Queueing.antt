@@ -278,16 +278,6 @@ module _ (states : List State) (queue : List ℕ) (p : ℕ)
   pub first_is_ready : get_or states p Ready ≡ Ready
   first_is_ready = first_ready states p (drop 1 queue) apart
 
-  -- it leaves the queue and is held
-  pub HoldsFirst-left :
-      HoldsFirst p (scheduled states queue) (with_state p Held (first_held p (scheduled states queue)))
-  HoldsFirst-left = record {
-    there = first_is_there;
-    was_ready = first_is_ready;
-    queue = first_taken queue 0 p first;
-    states = set-set states p Held Held;
-  }
-
   -- it leaves the queue for another state
   pub IsSchedule-left : (state : State) → is_ready state ≡ false
       → IsSchedule (record { states = set states p state; queue = drop 1 queue })

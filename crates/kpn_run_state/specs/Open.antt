@@ -1,5 +1,5 @@
 -- What stays true of a book in the midst of a call. A reader of the public contracts needs none of it.
-use Rattle.std.specs.Prelude.{◌≡◌, ◌≢◌, ℕ, ◌+◌, ◌<◌, ◌≤◌, ◌⊎◌, false, ℤ, IsTrue, if◌then◌else◌, List, [], ◌∷◌, ◌++◌, length, Option, Some, None, Contains, Result, Ok, Err, slice_index}
+use Rattle.std.specs.Prelude.{◌≡◌, ◌≢◌, ℕ, ◌+◌, ◌<◌, ◌≤◌, ◌^◌, ◌⊎◌, false, ℤ, IsTrue, if◌then◌else◌, List, [], ◌∷◌, ◌++◌, length, Option, Some, None, Contains, Result, Ok, Err, slice_index}
 use Rattle.kpn_net.specs.Tables.{Tables, instance_at, channel_at, is_sink}
 use Rattle.kpn_net.specs.Waits.{AreDistinct}
 use Rattle.kpn_step.specs.declared.stop.Stop.{Stop}
@@ -155,7 +155,17 @@ pub record GrowsAtStop (channel : Option ℕ) (before after : Book) : Type 0 whe
   pub sound : IsSound after
   pub held : held_count after ≡ held_count before
 
+-- process p is the next to be held: it is the first of the queue, and one more held process can be counted
+pub record IsNext (p : ℕ) (b : Book) : Type 0 where
+  pub holds : HoldsFirst p b.schedule (first_held p b.schedule)
+  pub countable : b.commits + held_count b + 1 < 2 ^ 64
+
 -- ---- what the calls return, and the book after them
+
+-- this process is the next to be held, or none can be
+abbrev pub next_by : Option ℕ → Book → Type 0
+next_by (Some p) b = IsNext p b
+next_by None b = ClaimsNobody b
 
 -- the first process of the queue is claimed, or none can be
 abbrev pub claims_by : Option ℕ → (before after : Book) → Type 0

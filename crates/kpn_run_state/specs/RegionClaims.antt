@@ -69,11 +69,12 @@ side_claimed t claim c most drains channel =
 
 -- ---- the claim
 
--- the same channel, except for what is reserved, whether it is roomy, and whether it was ever made so
+-- the same channel, except that an item may have been reserved, and that it may have become roomy
 pub record IsSameButMemory (before after : ChannelState) : Type 0 where
   pub same : after
       ≡ record before { is_reserved = after.is_reserved; is_roomy = after.is_roomy; is_wide = after.is_wide }
   pub reserved : IsTrue before.is_reserved → IsTrue after.is_reserved
+  pub roomy : IsTrue before.is_roomy → IsTrue after.is_roomy
 
 -- the same book, except for that
 pub record IsSameBook (before after : Book) : Type 0 where
@@ -82,8 +83,12 @@ pub record IsSameBook (before after : Book) : Type 0 where
   pub count : length after.configuration.channels ≡ length before.configuration.channels
   pub channels : (c : ℕ) → IsSameButMemory (channel_in before.configuration c) (channel_in after.configuration c)
 
+-- if a process of the region writes the channel, it is roomy
+abbrev pub IsRoomyToWrite : Tables → Local → Configuration → (c : ℕ) → Type 0
+IsRoomyToWrite t claim s c = is_end_within claim (writer_of t c) ≡ true → IsTrue (channel_in s c).is_roomy
+
 -- these processes are claimed: those that have not ended are in the region, where they stand, and it sees their
--- channels as far as it may. Those that are ready are held
+-- channels as far as it may. Those on which it may put items are roomy. Its processes that are ready are held
 pub record ClaimsRegion (of : List ℕ) (most : ℕ) (drains : Bool) (batch : Batch) (before after : Book) : Type 0 where
   pub may : may_claim of before.schedule.states ≡ true
   pub countable : CanCount 0 before
@@ -95,6 +100,8 @@ pub record ClaimsRegion (of : List ℕ) (most : ℕ) (drains : Bool) (batch : Ba
       ≡ side_claimed before.tables batch.first c most drains (channel_in before.configuration c)
   pub roomy : Book
   pub same : IsSameBook before roomy
+  pub places : (c : ℕ) → c < length before.tables.channels
+      → IsRoomyToWrite before.tables batch.first roomy.configuration c
   pub agrees : AgreesWith batch roomy.configuration
   pub held : after ≡ batch_held batch roomy
 

@@ -4,9 +4,9 @@ ghost use Rattle.kpn_run_history.specs.declared.state.Verdict.{Verdict as Told};
 ghost use Rattle.kpn_run_configuration.specs.Configuration.{IsConfiguration};
 ghost use Rattle.kpn_run_configuration.specs.Settled.{IsVerdictNow};
 ghost use Rattle.kpn_run_state.specs.Appending.{all_made_ready};
-ghost use Rattle.kpn_run_state.specs.Book.{IsHeld, held_count};
+ghost use Rattle.kpn_run_state.specs.Book.{IsHeld, IsClaimed, held_count};
 ghost use Rattle.kpn_run_state.specs.Kept.{IsKept};
-ghost use Rattle.kpn_run_state.specs.Open.{MayBeReady, book_of, claims_by};
+ghost use Rattle.kpn_run_state.specs.Open.{MayBeReady, IsNext, book_of, next_by, claims_by};
 
 use crate::schedule::Schedule;
 use kpn_net::Network;
@@ -48,17 +48,40 @@ impl<'n, A: Allocator> OpenBook<'n, A> {
         p < self.schedule.len() && self.schedule.state(p) == State::Held
     }
 
-    /// Holds the first process of the queue, and returns it. `None` if no process is ready, or if the commits and the
-    /// held processes are as many as can be counted.
+    /// The process that is the next to be held, the first of the queue. `None` if no process is ready, or if the commits
+    /// and the held processes are as many as can be counted.
+    pub(crate) fn next(&self) -> Option<usize>
+        requires { IsKept (book_of self.now) }
+        ensures { next_by result (book_of self.now) }
+    {
+        self.schedule.known();
+        if self.is_counted_out() {
+            return None;
+        }
+        self.schedule.next()
+    }
+
+    /// Holds process `p`, which is the next to be held.
+    pub(crate) fn hold(&mut self, p: usize)
+        requires next { IsNext p (book_of self.old) }
+        requires kept { IsKept (book_of self.old) }
+        ensures claimed { IsClaimed p (book_of self.old) (book_of self.new) }
+        ensures kept { IsKept (book_of self.new) }
+    {
+        self.schedule.set_first(p, State::Held);
+    }
+
+    /// Holds the process that is the next to be held, and returns it. `None` if there is none.
     pub(crate) fn hold_next(&mut self) -> Option<usize>
         requires { IsKept (book_of self.old) }
         ensures claims { claims_by result (book_of self.old) (book_of self.new) }
         ensures same { IfNone result (self.new ≡ self.old) }
     {
-        if self.is_counted_out() {
+        let Some(p) = self.next() else {
             return None;
-        }
-        self.schedule.hold_next()
+        };
+        self.hold(p);
+        Some(p)
     }
 
     /// Whether the commits and the held processes are as many as can be counted.

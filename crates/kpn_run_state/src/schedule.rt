@@ -1,9 +1,9 @@
 //! A schedule as it is stored: the states of the processes, and a queue with room for all of them.
-ghost use Rattle.std.specs.Prelude.{◌≡◌, ◌↔◌, ℕ, ◌<◌, ◌^◌, true, false, [], length, replicate, count_by, slice_get, slice_set, Some, IfOk, IfSome, IfNone};
+ghost use Rattle.std.specs.Prelude.{◌≡◌, ◌↔◌, ◌<◌, ◌^◌, true, false, length, replicate, count_by, slice_get, slice_set, Some, IfOk};
 ghost use Rattle.kpn_run_history.specs.declared.state.State.TheVariants.{Ready};
 ghost use Rattle.kpn_run_history.specs.Views.{AreCounts, is_ready, is_held};
 ghost use Rattle.kpn_run_state.specs.Counting.{IsTally};
-ghost use Rattle.kpn_run_state.specs.Schedule.{state_at, IsSchedule, HaveStopped, all_ready, HoldsFirst, first_held, made_ready, with_state};
+ghost use Rattle.kpn_run_state.specs.Schedule.{state_at, IsSchedule, HaveStopped, all_ready, first_held, made_ready, with_state};
 
 use crate::counting::{Tally, enter, leave};
 use crate::queue::Queue;
@@ -108,16 +108,6 @@ impl<A: Allocator> Schedule<A> {
         ensures { result ≡ slice_get self.now.queue 0 }
     {
         self.queue.first()
-    }
-
-    /// Makes the first process of the queue held, and returns it. It returns `None` if no process is ready.
-    pub fn hold_next(&mut self) -> Option<usize>
-        ensures held { IfSome result (λ p. HoldsFirst p self.old self.new) }
-        ensures none { IfNone result ((self.old.queue ≡ []) × (self.new ≡ self.old)) }
-    {
-        let p = self.queue.first()?;
-        self.set_first(p, State::Held);
-        Some(p)
     }
 
     /// Makes process `p`, which is not ready, ready, at the tail of the queue.

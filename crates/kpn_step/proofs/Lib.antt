@@ -2,7 +2,9 @@ mod Rounds
 pub mod After
 pub mod Along
 pub mod AtOnce
+pub mod Behind
 pub mod Blocks
+pub mod Changing
 pub mod Going
 pub mod Leaving
 pub mod MayStep

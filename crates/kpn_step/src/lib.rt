@@ -1,4 +1,4 @@
-//! The stepper: a process is a frame of fixed size that goes step by step through its program. The contracts tie this
+//! The stepper: a process is a frame that goes step by step through its program. The contracts tie this
 //! to what the process does alone on whole lists.
 #![tactic(auto)]
 
@@ -6,9 +6,11 @@ mod advanced;
 mod alone_run;
 mod frame;
 pub mod laws;
+mod lists;
 mod place;
 mod stepper;
 mod stop;
+mod values;
 mod walk;
 mod whole_lists;
 
@@ -16,6 +18,6 @@ pub use advanced::Advance;
 pub use alone_run::AloneRun;
 pub use frame::Frame;
 pub use kpn_lang::Said;
-pub use stepper::advance;
+pub use stepper::{advance, try_advance};
 pub use stop::{AloneStop, Stop};
 pub use whole_lists::alone;

@@ -17,7 +17,7 @@ use kpn_limits::MAX_PORTS;
 use std::alloc::{AllocError, Global};
 
 /// Steps a program from its start, on a list for each in port, until it ends or has made `quota` steps. There are as
-/// many values as parameters. Only the talk takes memory.
+/// many values as parameters. Only the talk and the cells take memory.
 pub fn alone(
     alloc: Global,
     program: &Program,
@@ -30,7 +30,7 @@ pub fn alone(
     ensures { IfOk result (λ r. AloneGives program.now pars.now lists.now quota r.talk r.stop) }
 {
     program.known();
-    let mut frame = Frame::start(program, pars);
+    let mut frame = Frame::try_start(program, pars)?;
     let mut taken = none_taken(lists);
     let mut talk = Sequence::new(alloc);
     let mut unused = quota;

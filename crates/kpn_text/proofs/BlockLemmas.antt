@@ -8,7 +8,7 @@ use Rattle.kpn_limits.specs.declared.TheConstants.{MAX_LEVELS}
 use Rattle.kpn_lang.specs.declared.syntax.Stmt.{Stmt}
 use Rattle.kpn_lang.specs.Parts.{Parts, IsProgram, inner_blocks, is_within}
 use Rattle.kpn_lang.specs.Syntax as lang
-use Rattle.kpn_lang.specs.Syntax.{Statement, Assign, Read, Write, If, While, statement_of}
+use Rattle.kpn_lang.specs.Syntax.{Statement, Assign, Read, Write, If, While, Set, statement_of}
 use Rattle.kpn_lang.specs.Tree.{Tree, tree_of, tree_over, block_at}
 use Rattle.kpn_lang.specs.View.{statements_of}
 use Rattle.kpn_lang.proofs.Programs.{AreWithin, tree_of_block, within_at, within_positive, within_read}
@@ -37,6 +37,7 @@ block_text-cons l level names inner (Read i x) ss more = refl
 block_text-cons l level names inner (Write o e) ss more = refl
 block_text-cons l level names inner (If e a b) ss more = refl
 block_text-cons l level names inner (While e a) ss more = refl
+block_text-cons l level names inner (Set base size i e) ss more = refl
 
 -- a block is its statements
 pub block_text-is : (l : Language) (level : ℕ) (names : ProcessNames) (parts : Parts) → IsProgram parts
@@ -70,6 +71,7 @@ within_listed blocks levels (Read i x) h = refl
 within_listed blocks levels (Write o e) h = refl
 within_listed blocks levels (If e a c) h = and_from _ _ h.0 (and_from _ _ h.1 refl)
 within_listed blocks levels (While e c) h = and_from _ _ h refl
+within_listed blocks levels (Set base size i e) h = refl
 
 -- what a statement of a block asks for
 pub record IsReady (blocks : List (List Statement)) (depth : ℕ) (s : Statement) : Type 0 where
@@ -214,6 +216,7 @@ several language.Two level names below e a c (Read i x) ss inside branch more = 
 several language.Two level names below e a c (Write o v) ss inside branch more = refl
 several language.Two level names below e a c (If v d f) ss inside branch more = refl
 several language.Two level names below e a c (While v d) ss inside branch more = refl
+several language.Two level names below e a c (Set base size i v) ss inside branch more = refl
 
 with_braces : (l : Language) (level : ℕ) (names : ProcessNames) (below : ℕ → Tree) (ss : List Statement)
     → HasBraces l ss → (inside branch : List ℕ → List ℕ) (more : List ℕ)
@@ -229,6 +232,7 @@ with_braces language.Two level names below (Assign x e ∷ ss) has inside branch
 with_braces language.Two level names below (Read i x ∷ ss) has inside branch more = refl
 with_braces language.Two level names below (Write o e ∷ ss) has inside branch more = refl
 with_braces language.Two level names below (While e a ∷ ss) has inside branch more = refl
+with_braces language.Two level names below (Set base size i e ∷ ss) has inside branch more = refl
 
 -- a block in braces
 pub braces_text : {X E : Type 0} (r : Result X E) (l : Language) (level : ℕ) (names : ProcessNames) (parts : Parts)
@@ -265,3 +269,4 @@ long_more (Read i x) (t ∷ ts) some = tt
 long_more (Write o e) (t ∷ ts) some = tt
 long_more (If e a b) (t ∷ ts) some = tt
 long_more (While e a) (t ∷ ts) some = tt
+long_more (Set base size i e) (t ∷ ts) some = tt

@@ -1,5 +1,5 @@
 -- A process has its parameters among its variables: its body only adds variables.
-use Rattle.std.proofs.Common.{◌≡◌, ◌≤◌, Ok, List, [], ◌∷◌, ◌++◌, length, sym, ap, subst, ◌∙◌, arith, length-append}
+use Rattle.std.proofs.Common.{◌≡◌, ◌+◌, ◌≤◌, Ok, List, [], ◌∷◌, ◌++◌, length, refl, sym, ap, subst, ◌∙◌, arith, length-append}
 use Rattle.std.specs.Prelude.{All}
 use Rattle.std.proofs.lemmas.List.Elements.{All-nil, All-cons, All-append, All-map}
 use Rattle.kpn_lang.specs.Parts.{Parts}
@@ -15,9 +15,13 @@ use Rattle.kpn_text_names.proofs.Chains.{ok_is, went}
 use Rattle.kpn_text_names.proofs.Steps.{keeps}
 use Rattle.kpn_text.proofs.NamedBodies.{Grows, block_back}
 
--- the parameters are among the variables
+-- the parameters are among the variables, and there are no cells
+pub record Counts (p : Parts) : Type 0 where
+  pub counted : p.pars ≤ p.vars
+  pub plain : p.free + length p.tables ≡ 0
+
 pub record HasItsParameters (p : NamedProgram) : Type 0 where
-  pub counted : p.parts.pars ≤ p.parts.vars
+  pub counts : Counts p.parts
 
 program_has : (p : Process) (q : NamedProgram) → program_of p ≡ Ok q → HasItsParameters q
 program_has p q e =
@@ -31,7 +35,7 @@ program_has p q e =
     let count : length body.value.scope.vars ≡ length (s.value.vars ++ grown.more) = ap length longer in
     let few : length s.value.vars ≤ length body.value.scope.vars =
     omega (arith, count, length-append s.value.vars grown.more) in
-    subst HasItsParameters (ok_is _ q body.rest) (record { counted = few })
+    subst HasItsParameters (ok_is _ q body.rest) (record { counts = record { counted = few; plain = refl } })
 
 -- the same of all of them
 pub record HaveTheirParameters (p : Programs) : Type 0 where
@@ -46,18 +50,18 @@ process_has s t p e h =
     subst HaveTheirParameters (ok_is _ t made.rest)
     (record { all = All-append HasItsParameters s.programs (made.value ∷ []) h.all one })
 
-All-weaken : (ps : List NamedProgram) → All HasItsParameters ps → All (λ p. p.parts.pars ≤ p.parts.vars) ps
-All-weaken ps all = λ k d at. (all k d at).counted
+All-weaken : (ps : List NamedProgram) → All HasItsParameters ps → All (λ p. Counts p.parts) ps
+All-weaken ps all = λ k d at. (all k d at).counts
 
 -- a process has its parameters among its variables, wherever a description names it
-pub resolved_has : (d : Description) (n : Named) → resolve d ≡ Ok n → All (λ p. p.pars ≤ p.vars) n.tables.programs
+pub resolved_has : (d : Description) (n : Named) → resolve d ≡ Ok n → All Counts n.tables.programs
 resolved_has d n e =
     let p = went (programs_of d.processes) _ n e in
     let w = went (wiring p.value.names d.network.items) _ n p.rest in
-    let P : Named → Type 0 = λ m. All (λ q. q.pars ≤ q.vars) m.tables.programs in
+    let P : Named → Type 0 = λ m. All Counts m.tables.programs in
     let h : HaveTheirParameters p.value =
     keeps with_process HaveTheirParameters process_has d.processes (record { names = []; programs = [] }) p.value
     p.first (record { all = All-nil HasItsParameters }) in
     subst P (ok_is _ n w.rest)
-    (All-map (λ (q : Parts). q.pars ≤ q.vars) (λ (q : NamedProgram). q.parts) p.value.programs
+    (All-map Counts (λ (q : NamedProgram). q.parts) p.value.programs
     (All-weaken p.value.programs h.all))

@@ -3,7 +3,7 @@ use Rattle.std.specs.Prelude.{ℕ, suc, ℤ, pos, negsuc, nat_lt, if◌then◌el
 use Rattle.kpn_lang.specs.Parts.{Parts}
 use Rattle.kpn_limits.specs.declared.TheConstants.{MAX_CAPACITY}
 use Rattle.kpn_lang.specs.Syntax as lang
-use Rattle.kpn_lang.specs.Tree.{Tree, End, Assign, Read, Write, If, While, tree_of}
+use Rattle.kpn_lang.specs.Tree.{Tree, End, Assign, Read, Write, If, While, Set, tree_of}
 use Rattle.kpn_net.specs.declared.tables.ChannelSpec.{ChannelSpec}
 use Rattle.kpn_net.specs.declared.tables.ChannelSpec.TheVariants.{Inner, Source, Sink}
 use Rattle.kpn_net.specs.declared.tables.Growth.{Growth}
@@ -23,7 +23,7 @@ abbrev pub number_named : ℤ → Term
 number_named (pos n) = numeral n
 number_named (negsuc n) = minus (numeral (suc n))
 
--- an expression over these variables
+-- an expression over these variables; no text names a cell yet
 abbrev pub term_named : (vars : List Name) → lang.Term → Term
 term_named vars (lang.Num z) = number_named z
 term_named vars (lang.Var k) = variable (name_at vars k)
@@ -32,6 +32,7 @@ term_named vars (lang.Not e) = negation (term_named vars e)
 term_named vars (lang.BitNot e) = complement (term_named vars e)
 term_named vars (lang.Bin o a b) = binary o (term_named vars a) (term_named vars b)
 term_named vars (lang.Choice e a b) = conditional (term_named vars e) (term_named vars a) (term_named vars b)
+term_named vars (lang.Cell base size e) = term_named vars e
 
 -- statements over these ports and variables
 abbrev pub statements_named : ProcessNames → Tree → Statements
@@ -47,6 +48,8 @@ statements_named names (If e a b rest) =
     (statements_named names rest)
 statements_named names (While e a rest) =
     statement (loop (term_named names.vars e) (statements_named names a)) (statements_named names rest)
+statements_named names (Set base size i e rest) =
+    statement (assign (name_at names.vars base) (term_named names.vars e)) (statements_named names rest)
 
 -- a process: the first of its variables are its parameters
 abbrev pub process_named : ProcessNames → Parts → Process

@@ -80,7 +80,8 @@ impl Body<'_> {
     {
         indent(out, indents)?;
         match statement {
-            Stmt::Assign(variable, value) => {
+            // no text names a cell yet
+            Stmt::Assign(variable, value) | Stmt::Set(variable, _, _, value) => {
                 name(out, self.names.vars.as_slice(), *variable)?;
                 bytes(out, b" = ")?;
                 self.value(out, value)

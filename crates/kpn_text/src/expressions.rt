@@ -50,6 +50,8 @@ pub(crate) fn expression(
             expression(out, language, right_side(*op), vars, right)?;
             close_unless(out, free)
         }
+        // no text names a cell yet
+        Expr::Cell(_base, _size, index) => expression(out, language, tight, vars, index),
         Expr::Choice(test, first, second) => {
             bytes(out, b"(")?;
             expression(out, language, LOOSEST, vars, test)?;

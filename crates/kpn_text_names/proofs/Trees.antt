@@ -2,7 +2,7 @@
 use Rattle.std.proofs.Common.{◌≡◌, ℕ, zero, suc, ◌+◌, ◌≤◌, List, [], ◌∷◌, ◌++◌, length, refl, sym, ap, ◌∙◌, append_assoc, append-nil, length-append, arith}
 use Rattle.std.proofs.Math.Seq.{get_or-append_seam}
 use Rattle.kpn_lang.specs.Syntax as lang
-use Rattle.kpn_lang.specs.Tree.{Tree, End, Assign, Read, Write, If, While, tree_over, tree_to, tree_of, block_at}
+use Rattle.kpn_lang.specs.Tree.{Tree, End, Assign, Read, Write, If, While, Set, tree_over, tree_to, tree_of, block_at}
 use Rattle.kpn_text_names.specs.Blocks.{blocks_in, own, inner, blocks_of}
 use Rattle.kpn_text_names.proofs.Writing.{length-inner}
 
@@ -89,6 +89,8 @@ tree_at (While e a rest) all n (suc levels) before after is at fits =
     let tree_rest : tree_over (tree_to all (suc levels)) (own m rest) ≡ rest =
     tree_at rest all m (suc levels) (before ++ first) after all_third (length_behind before a n at) (omega arith) in
     λ i. While e (tree_a i) (tree_rest i)
+tree_at (Set base size i e rest) all n levels before after is at fits =
+    ap (Set base size i e) (tree_at rest all n levels before after is at fits)
 
 pub blocks_are_the_tree : (t : Tree) → tree_of (blocks_of t) 0 ≡ t
 blocks_are_the_tree t =

@@ -3,7 +3,7 @@
 use Rattle.std.proofs.Common.{◌≡◌, ℕ, suc, ◌+◌, List, [], ◌∷◌, ◌++◌, length, set, Result, Ok, Err, refl, sym, ap, subst, ◌∙◌, append_assoc, append-nil, length-append, arith}
 use Rattle.std.proofs.Math.Seq.{set-append_seam}
 use Rattle.kpn_lang.specs.Syntax as lang
-use Rattle.kpn_lang.specs.Tree.{Tree, End, Assign, Read, Write, If, While}
+use Rattle.kpn_lang.specs.Tree.{Tree, End, Assign, Read, Write, If, While, Set}
 use Rattle.kpn_text_grammar.specs.Syntax.{Statement, assign, receive, send, choice, loop, Statements, no_statements, statement}
 use Rattle.kpn_text_names.specs.declared.scope.Scope.{Scope}
 use Rattle.kpn_text_names.specs.declared.fault.NameFault.{NameFault}
@@ -52,6 +52,7 @@ length-inner n (While e a rest) =
     let r : length (inner (n + suc (blocks_in a)) rest) ≡ blocks_in rest =
     length-inner (n + suc (blocks_in a)) rest in
     simp length-append (omega (arith, p, r))
+length-inner n (Set base size i e rest) = length-inner n rest
 
 -- ---- the law
 

@@ -2,7 +2,7 @@
 -- the blocks inside it.
 use Rattle.std.specs.Prelude.{ℕ, suc, ◌+◌, List, [], ◌∷◌, ◌++◌, Result, Ok}
 use Rattle.kpn_lang.specs.Syntax as lang
-use Rattle.kpn_lang.specs.Tree.{Tree, End, Assign, Read, Write, If, While}
+use Rattle.kpn_lang.specs.Tree.{Tree, End, Assign, Read, Write, If, While, Set}
 use Rattle.kpn_text_grammar.specs.Syntax.{Statements}
 use Rattle.kpn_text_names.specs.declared.scope.Scope.{Scope}
 use Rattle.kpn_text_names.specs.Fault.{NameError}
@@ -17,6 +17,7 @@ blocks_in (Read i x rest) = blocks_in rest
 blocks_in (Write o e rest) = blocks_in rest
 blocks_in (If e a b rest) = suc (blocks_in a) + (suc (blocks_in b) + blocks_in rest)
 blocks_in (While e a rest) = suc (blocks_in a) + blocks_in rest
+blocks_in (Set base size i e rest) = blocks_in rest
 
 -- the statements of a block, if the first block inside it has the number n
 abbrev pub own : (n : ℕ) → Tree → List lang.Statement
@@ -28,6 +29,7 @@ own n (If e a b rest) =
     let second : ℕ = n + suc (blocks_in a) in
     lang.If e n second ∷ own (second + suc (blocks_in b)) rest
 own n (While e a rest) = lang.While e n ∷ own (n + suc (blocks_in a)) rest
+own n (Set base size i e rest) = lang.Set base size i e ∷ own n rest
 
 -- the blocks inside, the first of which has the number n
 abbrev pub inner : (n : ℕ) → Tree → List (List lang.Statement)
@@ -40,6 +42,7 @@ inner n (If e a b rest) =
     own (suc n) a ∷ inner (suc n) a
     ++ (own (suc second) b ∷ inner (suc second) b ++ inner (second + suc (blocks_in b)) rest)
 inner n (While e a rest) = own (suc n) a ∷ inner (suc n) a ++ inner (n + suc (blocks_in a)) rest
+inner n (Set base size i e rest) = inner n rest
 
 -- all blocks of a body, which is block 0
 abbrev pub blocks_of : Tree → List (List lang.Statement)

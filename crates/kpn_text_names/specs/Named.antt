@@ -27,6 +27,8 @@ program_with s body =
             outs = length body.scope.outs;
             pars = length s.vars;
             vars = length body.scope.vars;
+            free = 0;
+            tables = [];
             blocks = body.blocks;
           };
     }

@@ -4,7 +4,7 @@ use anyhow::{Result, bail, ensure};
 use kpn_lang::Program;
 use kpn_net::Network;
 use kpn_run_state::{Book, Claim, View};
-use kpn_step::{Advance, Frame, advance};
+use kpn_step::{Advance, Frame, try_advance};
 use linked_list_allocator::LocalHeap;
 use std::alloc::{Allocator, Global};
 
@@ -17,7 +17,7 @@ fn claim<'n, A: Allocator>(
     book: &mut Book<'n, A>,
     steps: &mut Vec<Advance<'n>>,
 ) -> Result<String> {
-    let Some(claim) = book.claim() else {
+    let Some(claim) = book.try_claim()? else {
         return Ok(format!(in alloc; "None")?);
     };
     let Claim {
@@ -25,7 +25,8 @@ fn claim<'n, A: Allocator>(
         program,
         frame,
     } = claim;
-    steps.push(advance(program, frame, QUOTA))?;
+    let made = try_advance(program, frame, QUOTA)?;
+    steps.push(made)?;
     Ok(format!(in alloc; "Some({process})")?)
 }
 
@@ -37,14 +38,16 @@ fn step_from<'n>(
     frame: Frame,
 ) -> Result<String> {
     ensure!(frame.fits(program), "this is no frame of the program");
-    steps.push(advance(program, frame, QUOTA))?;
+    let made = try_advance(program, frame, QUOTA)?;
+    steps.push(made)?;
     Ok(format!(in alloc; "stepped")?)
 }
 
 /// Goes on from where other steps have stopped, though nothing was committed.
 fn go_on(alloc: Global, steps: &mut Vec<Advance<'_>>, number: usize) -> Result<String> {
     ensure!(number < steps.len(), "there are no such steps");
-    let (program, frame) = (steps[number].program(), steps[number].to().copy());
+    let program = steps[number].program();
+    let frame = steps[number].to().try_copy()?;
     step_from(alloc, steps, program, frame)
 }
 
@@ -58,7 +61,7 @@ fn step_twin<'n>(
 ) -> Result<String> {
     ensure!(process < twin.instances(), "there is no such process");
     ensure!(number < steps.len(), "there are no such steps");
-    let frame = steps[number].from().copy();
+    let frame = steps[number].from().try_copy()?;
     step_from(alloc, steps, twin.program(process), frame)
 }
 

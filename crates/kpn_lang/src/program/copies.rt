@@ -36,6 +36,11 @@ fn copy_stmt(alloc: Global, stmt: &Stmt) -> Result<Stmt, AllocError>
         Stmt::Write(port, expr) => Ok(Stmt::Write(*port, copy_expr(alloc, expr)?)),
         Stmt::If(test, first, second) => Ok(Stmt::If(copy_expr(alloc, test)?, *first, *second)),
         Stmt::While(test, body) => Ok(Stmt::While(copy_expr(alloc, test)?, *body)),
+        Stmt::Set(base, size, index, item) => {
+            let index = copy_expr(alloc, index)?;
+            let item = copy_expr(alloc, item)?;
+            Ok(Stmt::Set(*base, *size, index, item))
+        }
     }
 }
 
@@ -73,6 +78,10 @@ pub fn copy_expr(alloc: Global, expr: &Expr) -> Result<Expr, AllocError>
             let first = Box::new(alloc, first)?;
             let second = Box::new(alloc, second)?;
             Ok(Expr::Choice(test, first, second))
+        }
+        Expr::Cell(base, size, index) => {
+            let index = copy_expr(alloc, index)?;
+            Ok(Expr::Cell(*base, *size, Box::new(alloc, index)?))
         }
     }
 }

@@ -12,6 +12,13 @@ pub fn same_blocks(left: &[Vec<Stmt>], right: &[Vec<Stmt>]) -> bool
     left.len() == right.len() && left.iter().zip(right).all(|(x, y)| same_block(x, y))
 }
 
+/// Whether two lists of numbers are equal.
+pub fn same_values(left: &[i64], right: &[i64]) -> bool
+    ensures { IsTrue result ↔ (left.now ≡ right.now) }
+{
+    left == right
+}
+
 fn same_block(left: &[Stmt], right: &[Stmt]) -> bool
     ensures { IsTrue result ↔ (statements_of left.now ≡ statements_of right.now) }
 {
@@ -27,6 +34,9 @@ fn same_stmt(left: &Stmt, right: &Stmt) -> bool
         (Stmt::Write(o, e), Stmt::Write(p, f)) => o == p && same_expr(e, f),
         (Stmt::If(e, a, b), Stmt::If(f, c, d)) => a == c && b == d && same_expr(e, f),
         (Stmt::While(e, a), Stmt::While(f, b)) => a == b && same_expr(e, f),
+        (Stmt::Set(a, m, i, e), Stmt::Set(b, n, j, f)) => {
+            a == b && m == n && same_expr(i, j) && same_expr(e, f)
+        }
         _ => false,
     }
 }
@@ -46,6 +56,7 @@ fn same_expr(left: &Expr, right: &Expr) -> bool
         (Expr::Choice(a, b, c), Expr::Choice(d, e, f)) => {
             same_expr(a, d) && same_expr(b, e) && same_expr(c, f)
         }
+        (Expr::Cell(a, m, i), Expr::Cell(b, n, j)) => a == b && m == n && same_expr(i, j),
         _ => false,
     }
 }

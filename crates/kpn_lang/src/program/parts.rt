@@ -1,22 +1,26 @@
 //! The parts of a program, which may break the rules of the language, with a test for each rule.
-ghost use Rattle.std.specs.Prelude.{◌≡◌, ◌<◌, length, nat_le, sum_by, false};
+ghost use Rattle.std.specs.Prelude.{◌≡◌, ◌+◌, ◌<◌, length, nat_le, nat_lt, sum_by, false};
 ghost use Rattle.std.specs.List.{list_all, flat_map};
-ghost use Rattle.kpn_lang.specs.Syntax.{term_of, statement_of, names_below};
-ghost use Rattle.kpn_lang.specs.Parts.{is_too_large, lacks_a_block, is_in_order, names_variables_below, names_ports_below, nests_too_deep, first_fault, nodes, statement_nodes, depth, expressions, each_statement, names_from, inner_blocks, order_to, is_within};
+ghost use Rattle.kpn_lang.specs.Syntax.{term_of, statement_of, lies_within, names_within};
+ghost use Rattle.kpn_lang.specs.Parts.{is_too_large, lacks_a_block, is_in_order, names_there, names_its_own, names_ports_below, nests_too_deep, first_fault, nodes, statement_nodes, depth, expressions, each_statement, names_from, inner_blocks, order_to, is_within};
 ghost use Rattle.kpn_lang.specs.Counting.{budget_after, count_through};
+ghost use Rattle.kpn_limits.specs.declared.TheConstants.{MAX_CELLS};
 ghost use Rattle.kpn_lang.specs.View.{parts_of, statements_of, blocks_of};
 
 use crate::program::ProgramFault;
 use crate::syntax::{BlockId, Expr, Stmt};
-use kpn_limits::{MAX_LEVELS, MAX_NODES, MAX_PORTS, MAX_VARIABLES};
+use kpn_limits::{MAX_CELLS, MAX_LEVELS, MAX_NODES, MAX_PORTS, MAX_VARIABLES};
 
-/// How many in ports, out ports, parameters and variables, and the blocks of statements.
+/// How many in ports, out ports, parameters and variables, how many cells of arrays, the values of tables, and the
+/// blocks of statements.
 #[derive(Drop)]
 pub struct Parts {
     pub ins: usize,
     pub outs: usize,
     pub pars: usize,
     pub vars: usize,
+    pub free: usize,
+    pub tables: Vec<i64>,
     pub blocks: Vec<Vec<Stmt>>,
 }
 
@@ -31,7 +35,7 @@ impl Parts {
             Some(ProgramFault::NoSuchBlock)
         } else if !self.is_in_order() {
             Some(ProgramFault::BlockOrder)
-        } else if !self.names_its_variables() {
+        } else if !self.names_what_is_there() {
             Some(ProgramFault::NoSuchVar)
         } else if !self.names_its_ports() {
             Some(ProgramFault::NoSuchPort)
@@ -49,7 +53,15 @@ impl Parts {
         self.vars > MAX_VARIABLES
             || self.ins > MAX_PORTS
             || self.outs > MAX_PORTS
+            || self.has_too_many_cells()
             || budget_after_blocks(&self.blocks, MAX_NODES).is_none()
+    }
+
+    fn has_too_many_cells(&self) -> bool
+        ensures { let parts = parts_of self.now in
+            result ≡ nat_lt MAX_CELLS (parts.free + length parts.tables) }
+    {
+        self.free > MAX_CELLS || self.tables.len() > MAX_CELLS - self.free
     }
 
     /// 2: there is no body, or a statement names a block that is not there.
@@ -77,15 +89,20 @@ impl Parts {
         }
     }
 
-    /// 4 is kept: each variable that a statement names is there.
-    fn names_its_variables(&self) -> bool
+    /// 4 is kept: each variable and each cell that a statement names is there, and it sets no cell of a table.
+    fn names_what_is_there(&self) -> bool
+        requires { is_too_large (parts_of self.now) ≡ false }
         ensures { let parts = parts_of self.now in
-            result ≡ each_statement (names_variables_below parts.vars) parts.blocks }
+            result ≡ each_statement (names_its_own parts) parts.blocks }
     {
+        let vars = self.vars;
+        let free = vars + self.free;
+        let tables = self.tables.len();
+        let all = free + tables;
         self.blocks
             .iter()
             .flatten()
-            .all(|stmt| names_variables_below(self.vars, stmt))
+            .all(|stmt| names_there(vars, free, all, stmt))
     }
 
     /// 5 is kept: each port that a statement names is there.
@@ -197,9 +214,10 @@ fn budget_after_expr(expr: &Expr, budget: usize) -> Option<usize>
     let rest = budget.checked_sub(1)?;
     match expr {
         Expr::Num(_) | Expr::Var(_) => Some(rest),
-        Expr::Neg(operand) | Expr::Not(operand) | Expr::BitNot(operand) => {
-            budget_after_expr(operand, rest)
-        }
+        Expr::Neg(operand)
+        | Expr::Not(operand)
+        | Expr::BitNot(operand)
+        | Expr::Cell(_, _, operand) => { budget_after_expr(operand, rest) }
         Expr::Bin(_, first, second) => budget_after_expr(second, budget_after_expr(first, rest)?),
         Expr::Choice(test, first, second) => {
             let rest = budget_after_expr(test, rest)?;
@@ -218,6 +236,7 @@ fn budget_after_stmt(stmt: &Stmt, budget: usize) -> Option<usize>
         | Stmt::Write(_, expr)
         | Stmt::If(expr, _, _)
         | Stmt::While(expr, _) => { budget_after_expr(expr, rest) }
+        Stmt::Set(_, _, index, item) => budget_after_expr(item, budget_after_expr(index, rest)?),
     }
 }
 
@@ -253,32 +272,53 @@ fn names_from(count: usize, stmt: &Stmt) -> bool
     }
 }
 
-/// Whether each variable that an expression names is below this number.
-fn names_below(count: usize, expr: &Expr) -> bool
-    ensures { result ≡ names_below count (term_of expr.now) }
+/// Whether a row of cells lies from the first of two numbers up to the second.
+fn lies_within(first: usize, last: usize, base: usize, size: usize) -> bool
+    ensures { result ≡ lies_within first last base size }
+{
+    first <= base && base <= last && size <= last - base
+}
+
+/// Whether each variable that an expression names is below the first of two numbers, and each row of cells lies from
+/// there up to the second.
+fn names_within(first: usize, last: usize, expr: &Expr) -> bool
+    ensures { result ≡ names_within first last (term_of expr.now) }
 {
     match expr {
         Expr::Num(_) => true,
-        Expr::Var(variable) => *variable < count,
+        Expr::Var(variable) => *variable < first,
         Expr::Neg(operand) | Expr::Not(operand) | Expr::BitNot(operand) => {
-            names_below(count, operand)
+            names_within(first, last, operand)
         }
-        Expr::Bin(_, left, right) => names_below(count, left) && names_below(count, right),
-        Expr::Choice(test, first, second) => {
-            names_below(count, test) && names_below(count, first) && names_below(count, second)
+        Expr::Bin(_, left, right) => {
+            names_within(first, last, left) && names_within(first, last, right)
+        }
+        Expr::Choice(test, left, right) => {
+            names_within(first, last, test)
+                && names_within(first, last, left)
+                && names_within(first, last, right)
+        }
+        Expr::Cell(base, size, index) => {
+            lies_within(first, last, *base, *size) && names_within(first, last, index)
         }
     }
 }
 
-/// Whether each variable that a statement names is below this number.
-fn names_variables_below(count: usize, stmt: &Stmt) -> bool
-    ensures { result ≡ names_variables_below count (statement_of stmt.now) }
+/// Whether each variable that a statement names is below `vars` and each cell below `all`, and it sets only cells below
+/// `free`.
+fn names_there(vars: usize, free: usize, all: usize, stmt: &Stmt) -> bool
+    ensures { result ≡ names_there vars free all (statement_of stmt.now) }
 {
     match stmt {
-        Stmt::Assign(variable, expr) => *variable < count && names_below(count, expr),
-        Stmt::Read(_, variable) => *variable < count,
+        Stmt::Assign(variable, expr) => *variable < vars && names_within(vars, all, expr),
+        Stmt::Read(_, variable) => *variable < vars,
         Stmt::Write(_, expr) | Stmt::If(expr, _, _) | Stmt::While(expr, _) => {
-            names_below(count, expr)
+            names_within(vars, all, expr)
+        }
+        Stmt::Set(base, size, index, item) => {
+            lies_within(vars, free, *base, *size)
+                && names_within(vars, all, index)
+                && names_within(vars, all, item)
         }
     }
 }
@@ -304,9 +344,10 @@ fn is_depth_within(levels: usize, expr: &Expr) -> bool
     }
     match expr {
         Expr::Num(_) | Expr::Var(_) => true,
-        Expr::Neg(operand) | Expr::Not(operand) | Expr::BitNot(operand) => {
-            is_depth_within(levels - 1, operand)
-        }
+        Expr::Neg(operand)
+        | Expr::Not(operand)
+        | Expr::BitNot(operand)
+        | Expr::Cell(_, _, operand) => { is_depth_within(levels - 1, operand) }
         Expr::Bin(_, left, right) => {
             is_depth_within(levels - 1, left) && is_depth_within(levels - 1, right)
         }
@@ -329,5 +370,8 @@ fn is_shallow(levels: usize, stmt: &Stmt) -> bool
         | Stmt::Write(_, expr)
         | Stmt::If(expr, _, _)
         | Stmt::While(expr, _) => { is_depth_within(levels, expr) }
+        Stmt::Set(_, _, index, item) => {
+            is_depth_within(levels, index) && is_depth_within(levels, item)
+        }
     }
 }

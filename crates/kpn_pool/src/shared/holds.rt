@@ -54,12 +54,11 @@ impl<'n, J: Job, A: Allocator> Shared<'n, J, A> {
             return false;
         };
         pace.is_timed = desk.times();
-        if !region.claim(&mut desk, gate) && !batch.claim(&mut desk) {
-            self.end(desk, seat, Why::Limit);
-            return false;
-        }
-        if region.is_held() {
+        if region.claim(&mut desk, gate) {
             pace.measure();
+        } else if let Some(why) = claim_turns(batch, &mut desk) {
+            self.end(desk, seat, why);
+            return false;
         }
         let held = pace.held(rt);
         let (notices, commits) = desk.join(turns, held);
@@ -212,5 +211,20 @@ impl<'n, J: Job, A: Allocator> Shared<'n, J, A> {
         let mut desk = desk;
         let notices = seat.end(&mut desk, why);
         self.let_go(desk, notices);
+    }
+}
+
+/// Claims the turns of a worker. Returns why it ends, if there are none. If memory ran out, all workers have to end.
+fn claim_turns<'n, J: Job, A: Allocator>(
+    batch: &mut Batch<'n, J>,
+    desk: &mut Desk<'n, J, A>,
+) -> Option<Why> {
+    match batch.claim(desk) {
+        Ok(true) => None,
+        Ok(false) => Some(Why::Limit),
+        Err(_error) => {
+            desk.halt();
+            Some(Why::NoMemory)
+        }
     }
 }

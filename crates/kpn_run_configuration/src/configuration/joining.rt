@@ -4,7 +4,7 @@ ghost use Rattle.kpn_chan.specs.Channel.{roomy, with_reserved, MayJoin, joined};
 ghost use Rattle.kpn_net.specs.Tables.{Tables};
 ghost use Rattle.kpn_net.specs.Waits.{AreWaits};
 ghost use Rattle.kpn_run_history.specs.declared.event.Event.{Event};
-ghost use Rattle.kpn_run_configuration.specs.Configuration.{channel_in, with_channel, with_waits, with_frame, IsConfiguration};
+ghost use Rattle.kpn_run_configuration.specs.Configuration.{channel_in, frame_in, with_channel, with_waits, with_frame, IsConfiguration};
 ghost use Rattle.kpn_run_configuration.specs.Run.{IsRun};
 ghost use Rattle.kpn_run_configuration.specs.Woken.{AreWoken, ends_by_batch};
 
@@ -62,9 +62,11 @@ impl<A: Allocator + Copy> Configuration<A> {
             .wake_by_batch(network, c, 0 < taken, 0 < items.len());
     }
 
-    /// Takes a process to this frame.
+    /// Takes a process to this frame, which has as many variables and cells as its own.
     pub fn set_frame(&mut self, p: usize, frame: &Frame)
-        requires { p < length self.old.frames }
+        requires process { p < length self.old.frames }
+        requires size { length frame.now.variables
+            ≡ length (frame_in self.old p).variables }
         ensures { self.new ≡ with_frame p frame.now self.old }
     {
         let own = &mut self.frames[p];

@@ -104,7 +104,8 @@ pub fn frames_at_start<A: Allocator>(
     network.known();
     let mut frames = Vec::with_capacity(alloc, network.instances())?;
     for p in 0..network.instances() {
-        frames.push(Frame::start(network.program(p), network.pars(p)))?;
+        let frame = Frame::try_start(network.program(p), network.pars(p))?;
+        frames.push(frame)?;
     }
     Ok(frames)
 }

@@ -1,6 +1,6 @@
 //! The calls that step processes: claim, commit and put back, and one call that does all for a single owner.
 ghost use Rattle.std.specs.Prelude.{◌≡◌, ◌↔◌, ◌+◌, ◌<◌, ◌^◌, true, false, IfOk, IfErr, OnErr, IsTrue, IfSome, IfNone};
-ghost use Rattle.kpn_net.specs.Tables.{program_of};
+ghost use Rattle.kpn_net.specs.Tables.{program_of, has_cells};
 ghost use Rattle.kpn_step.specs.Frame.{fits};
 ghost use Rattle.kpn_step.specs.Stops.{IsAdvance, IsAtPort, advanced_of};
 ghost use Rattle.kpn_run_configuration.specs.Configuration.{frame_in};
@@ -21,8 +21,10 @@ use std::alloc::{AllocError, Allocator};
 
 impl<'n, A: Allocator> Book<'n, A> {
     /// Holds the first process of the queue, and returns it with its program and its frame. `None` if no process is
-    /// ready, or if the commits and the held processes are as many as can be counted.
+    /// ready, or if the commits and the held processes are as many as can be counted. No program has cells, so this
+    /// takes no memory.
     pub fn claim(&mut self) -> Option<Claim<'n>>
+        requires plain { has_cells self.old.tables ≡ false }
         ensures claimed { IfSome result (λ claim. IsClaimed claim.process self.old self.new) }
         ensures program { IfSome result (λ claim.
             claim.program.now ≡ program_of self.old.tables claim.process) }
@@ -32,41 +34,74 @@ impl<'n, A: Allocator> Book<'n, A> {
         ensures nobody { IfNone result (ClaimsNobody self.old) }
         ensures as_before { IfNone result (self.new ≡ self.old) }
     {
-        let Some(process) = self.parts.hold_next() else {
+        let network = self.parts.network;
+        network.known();
+        let Some(process) = self.parts.next() else {
             return None;
         };
-        let program = self.parts.network.program(process);
         let frame = self.parts.configuration.frame(process).copy();
+        self.parts.hold(process);
         Some(Claim {
             process,
-            program,
+            program: network.program(process),
             frame,
         })
     }
 
-    /// Claims the first process of the queue as `claim` does, in the memory that the claim has: it copies the frame,
-    /// and makes no step. It returns whether there was one.
-    pub fn claim_into(&mut self, claim: &mut Claim<'n>) -> bool
-        ensures claimed { (result ≡ true) → IsClaimed claim.new.process self.old self.new }
-        ensures program { (result ≡ true)
-            → claim.new.program.now ≡ program_of self.old.tables claim.new.process }
-        ensures frame { (result ≡ true)
-            → claim.new.frame ≡ frame_in self.old.configuration claim.new.process }
-        ensures fits { (result ≡ true)
-            → IsTrue (fits claim.new.program.now claim.new.frame) }
-        ensures nobody { (result ≡ false) → ClaimsNobody self.old }
-        ensures as_before { (result ≡ false)
-            → (self.new ≡ self.old) × (claim.new ≡ claim.old) }
+    /// The same for each network. The error is that there was no memory for the cells of the frame; then nobody is
+    /// held.
+    pub fn try_claim(&mut self) -> Result<Option<Claim<'n>>, AllocError>
+        ensures claimed { IfOk result (λ found. IfSome found (λ claim.
+            IsClaimed claim.process self.old self.new)) }
+        ensures program { IfOk result (λ found. IfSome found (λ claim.
+            claim.program.now ≡ program_of self.old.tables claim.process)) }
+        ensures frame { IfOk result (λ found. IfSome found (λ claim.
+            claim.frame ≡ frame_in self.old.configuration claim.process)) }
+        ensures fits { IfOk result (λ found. IfSome found (λ claim.
+            IsTrue (fits claim.program.now claim.frame))) }
+        ensures nobody { IfOk result (λ found. IfNone found (ClaimsNobody self.old)) }
+        ensures as_before { IfOk result (λ found. IfNone found (self.new ≡ self.old)) }
+        ensures refused { OnErr result (self.new ≡ self.old) }
     {
-        let Some(process) = self.parts.hold_next() else {
-            return false;
+        let Some(process) = self.parts.next() else {
+            return Ok(None);
         };
-        claim.process = process;
-        claim.program = self.parts.network.program(process);
+        let frame = self.parts.configuration.frame(process).try_copy()?;
+        self.parts.hold(process);
+        Ok(Some(Claim {
+            process,
+            program: self.parts.network.program(process),
+            frame,
+        }))
+    }
+
+    /// Claims the first process of the queue as `try_claim` does, in the memory that the claim has: it copies the frame,
+    /// and makes no step. It returns whether there was one. It takes memory if the frame has other cells than that of
+    /// the claim. The error is that memory ran out; then nobody is held.
+    pub fn claim_into(&mut self, claim: &mut Claim<'n>) -> Result<bool, AllocError>
+        ensures claimed { IfOk result (λ found. (found ≡ true)
+            → IsClaimed claim.new.process self.old self.new) }
+        ensures program { IfOk result (λ found. (found ≡ true)
+            → claim.new.program.now ≡ program_of self.old.tables claim.new.process) }
+        ensures frame { IfOk result (λ found. (found ≡ true)
+            → claim.new.frame ≡ frame_in self.old.configuration claim.new.process) }
+        ensures fits { IfOk result (λ found. (found ≡ true)
+            → IsTrue (fits claim.new.program.now claim.new.frame)) }
+        ensures nobody { IfOk result (λ found. (found ≡ false) → ClaimsNobody self.old) }
+        ensures as_before { IfOk result (λ found. (found ≡ false)
+            → (self.new ≡ self.old) × (claim.new ≡ claim.old)) }
+        ensures refused { OnErr result ((self.new ≡ self.old) × (claim.new ≡ claim.old)) }
+    {
+        let Some(process) = self.parts.next() else {
+            return Ok(false);
+        };
         claim
             .frame
-            .copy_from(self.parts.configuration.frame(process));
-        true
+            .try_copy_from(self.parts.configuration.frame(process))?;
+        claim.process = process;
+        claim.program = self.parts.network.program(process);
+        self.parts.hold(process);
+        Ok(true)
     }
 
     /// Commits the steps of process `p`, which is held. They are steps of its program from its frame. The stop of the

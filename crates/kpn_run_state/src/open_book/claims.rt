@@ -1,5 +1,5 @@
 //! The claim of a region: the frames of its processes and what they see of the channels are handed to a batch.
-ghost use Rattle.std.specs.Prelude.{◌≡◌, ℕ, ◌<◌, ◌≤◌, true, false, length, Contains, OnOk, IfOk, OnErr};
+ghost use Rattle.std.specs.Prelude.{◌≡◌, ℕ, ◌<◌, ◌≤◌, true, false, length, Contains, IsTrue, OnOk, IfOk, OnErr};
 ghost use Rattle.kpn_net.specs.Faults.{IsNetwork};
 ghost use Rattle.kpn_net.specs.Waits.{AreWaits};
 ghost use Rattle.kpn_net.specs.declared.tables.End.TheVariants.{Process};
@@ -8,7 +8,7 @@ ghost use Rattle.kpn_run_configuration.specs.Configuration.{channel_in, IsConfig
 ghost use Rattle.kpn_region.specs.Batch.{IsFresh, IsEmpty};
 ghost use Rattle.kpn_run_state.specs.Kept.{IsKept};
 ghost use Rattle.kpn_run_state.specs.Open.{book_of};
-ghost use Rattle.kpn_run_state.specs.RegionClaims.{may_claim, is_end_within, items_claimed, room_claimed, drains_claimed, ClaimsRegion, RefusesClaim, IsSameBook};
+ghost use Rattle.kpn_run_state.specs.RegionClaims.{may_claim, is_end_within, items_claimed, room_claimed, drains_claimed, IsRoomyToWrite, ClaimsRegion, RefusesClaim, IsSameBook};
 ghost use Rattle.kpn_run_state.specs.ClaimParts.{with_process_of, HasProcesses, MakesRoom, SeesChannel, SeesChannels};
 
 use super::OpenBook;
@@ -130,6 +130,8 @@ fn claim_channels<A: Allocator + Copy, B: Allocator>(
     requires fresh { IsFresh batch.old }
     ensures tables { batch.new.tables ≡ batch.old.tables }
     ensures room { MakesRoom configuration.old configuration.new }
+    ensures places { OnOk result ((c : ℕ) → c < length batch.old.tables.channels
+        → IsRoomyToWrite batch.old.tables batch.old.first configuration.new c) }
     ensures sees { OnOk result (SeesChannels most drains configuration.old
         (length batch.old.tables.channels) batch.old batch.new) }
 {
@@ -155,6 +157,8 @@ fn claim_channel<A: Allocator + Copy, B: Allocator>(
     requires fresh { IsFresh batch.old }
     ensures tables { batch.new.tables ≡ batch.old.tables }
     ensures room { MakesRoom configuration.old configuration.new }
+    ensures places { OnOk result
+        (IsRoomyToWrite batch.old.tables batch.old.first configuration.new c) }
     ensures sees { OnOk result (SeesChannel most drains c (channel_in configuration.old c)
         batch.old batch.new) }
 {
@@ -175,7 +179,8 @@ fn make_room<A: Allocator + Copy>(
     writes: bool,
 ) -> Result<(), AllocError>
     requires { c < length configuration.old.channels }
-    ensures { MakesRoom configuration.old configuration.new }
+    ensures room { MakesRoom configuration.old configuration.new }
+    ensures places { OnOk result (writes ≡ true → IsTrue (channel_in configuration.new c).is_roomy) }
 {
     if !writes {
         return Ok(());

@@ -2,7 +2,7 @@
 use Rattle.std.proofs.Common.{◌-◌, Ok, sym, ap, ◌∙◌, arith}
 use Rattle.kpn_lang.specs.Syntax.{term_of}
 use Rattle.kpn_lang.proofs.Following.{LeadsTo-trans, LeadsTo-leave, LeadsTo-cut, LeadsTo-turn_fault}
-use Rattle.kpn_lang.proofs.Interpreting.{body_at, IsReady-read, LeadsTo-block, LeadsTo-statement, LeadsTo-statement_ends, LeadsTo-one_turn, LeadsTo-turn_that_ends, MayRun-does}
+use Rattle.kpn_lang.proofs.Interpreting.{body_at, IsReady-read, LeadsTo-block, LeadsTo-statement, LeadsTo-statement_ends, LeadsTo-one_turn, LeadsTo-turn_that_ends, MayRun-does, trees}
 use Rattle.kpn_lang.proofs.plain.Interpreter.+interpreter.Goals as goal
 
 pub block-loop-statement-init : goal.block-loop-statement-init
@@ -13,7 +13,7 @@ block-statement-requires t c =
     let fits = MayRun-does _ _ _ _ _ c.loop-statement.invariant c.requires in
     let ready = IsReady-read c.in-Some.statements.now c.loop-statement.statement-index c.statement-item.result
     (omega arith) c.statement-item.is _ _ c.requires.program c.in-Some.ensures.0 c.in-Some.ensures.1 in
-    (omega arith, (fits, (ready.variables, ready.ports)))
+    (omega arith, (fits, (ready.names, ready.ports)))
 
 pub block-returns-in-Some-2 : goal.block-returns-in-Some-2
 block-returns-in-Some-2 t c =
@@ -25,6 +25,14 @@ pub block-loop-statement-preserved : goal.block-loop-statement-preserved
 block-loop-statement-preserved t c =
     LeadsTo-statement _ _ _ c.in-Some.statements.now c.loop-statement.statement-index c.statement-item.result _ _ _
     (omega arith) c.statement-item.is c.loop-statement.invariant (rw c.in_default-2.is at c.in_ok-ending.ensures)
+
+pub statement-returns-in-Ok-set : goal.statement-returns-in-Ok-set
+statement-returns-in-Ok-set t c =
+    rw c.in-Set.is (c.in-Ok-set.ensures (trees c.args.self.now.program.now) c.args.self.now.turns)
+
+pub statement-returns-in-Err-set : goal.statement-returns-in-Err-set
+statement-returns-in-Err-set t c =
+    rw c.in-Set.is (c.in-Err-set.ensures (trees c.args.self.now.program.now) c.args.self.now.turns)
 
 pub repeat-returns-in-Ok-false : goal.repeat-returns-in-Ok-false
 repeat-returns-in-Ok-false t c =

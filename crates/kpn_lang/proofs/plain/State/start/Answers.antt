@@ -1,5 +1,5 @@
--- The parameters, then zeros; all places are at the start of their lists.
-use Rattle.std.proofs.Common.{◌≡◌, arith}
+-- The parameters, zeros and the cells; all places are at the start of their lists.
+use Rattle.std.proofs.Common.{◌≡◌, append_assoc, arith}
 use Rattle.std.proofs.lemmas.List.{take_all}
 use Rattle.std.proofs.lemmas.Grind.{common_steps}
 use Rattle.kpn_lang.specs.Alone.{start_of}
@@ -9,8 +9,8 @@ use Rattle.kpn_lang.proofs.plain.State.start.Goals as goal
 
 pub returns : goal.returns
 returns c =
-    let all : c.resize.new.self.items ≡ start_of c.args.program.now c.args.pars.now =
-    grind (arith, common_steps, take_all) in
+    let all : c.push_cells.new.values.items ≡ start_of c.args.program.now c.args.pars.now =
+    grind (arith, common_steps, take_all, append_assoc) in
     let front : remaining c.args.lists.now c.in_ok-vec.field-0.items ≡ c.args.lists.now =
     grind (arith, common_steps, remaining-start) in
     Standing-same _ _ _ _ _ _ all front c.new.ensures.items

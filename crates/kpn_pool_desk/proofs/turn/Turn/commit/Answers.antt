@@ -1,4 +1,4 @@
-use Rattle.std.proofs.Common.{sym, ap, ◌∙◌, subst, inl}
+use Rattle.std.proofs.Common.{sym, ap, ◌∙◌, subst, inl, inr}
 use Rattle.kpn_net.specs.Tables.{program_of}
 use Rattle.kpn_step.specs.Stops.{advanced_of}
 use Rattle.kpn_run_state.specs.Book.{IsHeld}
@@ -45,7 +45,7 @@ returns-in-Err-NoMemory-clause-refused g c none_made =
     subst (RefusesCommit c.self.inside.process x c.args.desk.now.book) c.in-Err-NoMemory.field-0-is
     c.in-Err-NoMemory.ensures.refused in
     let process = ap (λ t. t.process) c.self.view_is in (
-      (
+      inr (
         x,
         steps,
         subst (λ p. IsHeld c.args.desk.now.book p) process refused.0,

@@ -1,12 +1,41 @@
-use Rattle.std.proofs.Common.{sym, subst}
+use Rattle.std.proofs.Common.{◌<◌, length, get_or, inl, sym, ap, ◌∙◌, subst}
+use Rattle.std.proofs.lemmas.List.{get_or_read}
 use Rattle.kpn_region.specs.Batch.{IsBatch, IsFresh, batch_of}
 use Rattle.std.proofs.Common.{slice_set, true, None, IsTrue}
 use Rattle.kpn_net.specs.Tables.{program_of}
 use Rattle.kpn_step.specs.Frame.{fits}
+use Rattle.kpn_run_configuration.specs.Configuration.{no_frame}
+use Rattle.kpn_run_configuration.proofs.Calls.{same_size}
 use Rattle.kpn_region.proofs.Batches.{process_claimed}
 use Rattle.kpn_region.proofs.batch.Batch.claim_process.Given as given
 use Rattle.kpn_region.proofs.batch.Batch.claim_process.Goals as goal
 use Rattle.kpn_region.proofs.batch.Batch.claim_process.Goals.{After-copy_from-2}
+
+pub copy_from-requires : goal.copy_from-requires
+copy_from-requires g c =
+    let s = c.self.inside in
+    let t = s.network.now in
+    let p = c.args.p in
+    let there : p < length t.instances =
+    subst (λ b. p < length b.tables.instances) (sym c.self.view_is) c.requires.process in
+    let framed : p < length s.first.items = subst (λ k. p < k) (sym c.self.invariant.was.frames) there in
+    let own = get_or_read s.first.items p c.index_mut-first.result.now framed c.index_mut-first.ensures.value no_frame in
+    inl (same_size (program_of t p) c.args.frame.now (get_or s.first.items p no_frame)
+    (subst (λ b. IsTrue (fits (program_of b.tables p) c.args.frame.now)) (sym c.self.view_is) c.requires.fits)
+    (c.self.invariant.was.fit p there) ∙ ap (λ f. length f.variables) (sym own))
+
+pub copy_from-requires-2 : goal.copy_from-requires-2
+copy_from-requires-2 g c =
+    let s = c.self.inside in
+    let t = s.network.now in
+    let p = c.args.p in
+    let there : p < length t.instances =
+    subst (λ b. p < length b.tables.instances) (sym c.self.view_is) c.requires.process in
+    let framed : p < length s.frames.items = subst (λ k. p < k) (sym c.self.invariant.is.frames) there in
+    let own = get_or_read s.frames.items p c.index_mut-now.result.now framed c.index_mut-now.ensures.value no_frame in
+    inl (same_size (program_of t p) c.args.frame.now (get_or s.frames.items p no_frame)
+    (subst (λ b. IsTrue (fits (program_of b.tables p) c.args.frame.now)) (sym c.self.view_is) c.requires.fits)
+    (c.self.invariant.is.fit p there) ∙ ap (λ f. length f.variables) (sym own))
 
 after : (g : given.Over) (c : After-copy_from-2 g)
     → IsBatch (batch_of c.self.inside.network.now (slice_set c.self.inside.within.items c.args.p true)

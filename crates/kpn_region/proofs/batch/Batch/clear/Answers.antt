@@ -1,10 +1,21 @@
-use Rattle.std.proofs.Common.{false, None, replicate, ◌∙◌, ap}
+use Rattle.std.proofs.Common.{◌<◌, false, None, length, get_or, replicate, ◌∙◌, ap, subst}
+use Rattle.kpn_net.specs.Tables.{program_of}
+use Rattle.kpn_run_configuration.specs.Configuration.{no_frame}
+use Rattle.kpn_run_configuration.proofs.Calls.{same_size}
 use Rattle.kpn_region.specs.Local.{no_side}
 use Rattle.kpn_region.specs.Batch.{batch_of}
 use Rattle.kpn_region.proofs.Batches.{IsNew, is_new}
 use Rattle.kpn_region.proofs.batch.Batch.clear.Given as given
 use Rattle.kpn_region.proofs.batch.Batch.clear.Goals as goal
 use Rattle.kpn_region.proofs.batch.Batch.clear.Goals.{After-clear}
+
+pub clear_processes-requires-clause-sizes : goal.clear_processes-requires-clause-sizes
+clear_processes-requires-clause-sizes g c p below =
+    let s = c.self.inside in
+    let t = s.network.now in
+    let there : p < length t.instances = subst (λ n. p < n) c.self.invariant.is.within below in
+    same_size (program_of t p) (get_or s.first.items p no_frame) (get_or s.frames.items p no_frame)
+    (c.self.invariant.was.fit p there) (c.self.invariant.is.fit p there)
 
 cleared : (g : given.Over) (c : After-clear g)
     → IsNew (batch_of c.self.inside.network.now c.clear_processes.new.within.items c.self.inside.first.items

@@ -1,9 +1,17 @@
-use Rattle.std.proofs.Common.{length, ap, ◌∙◌}
+use Rattle.std.proofs.Common.{List, length, get_or, IsTrue, sym, ap, ◌∙◌, subst}
+use Rattle.kpn_net.specs.Tables.{program_of}
+use Rattle.kpn_step.specs.Frame.{Frame, fits}
+use Rattle.kpn_run_configuration.specs.Configuration.{no_frame}
 use Rattle.kpn_region.proofs.Piecewise.{all_joined}
 use Rattle.kpn_region.proofs.batch.Batch.join.Goals as goal
 
-pub join_frames-requires : goal.join_frames-requires
-join_frames-requires g c = ap length c.join_channels.ensures.frames ∙ c.requires.shape.frames
+pub join_frames-requires-clause-frames : goal.join_frames-requires-clause-frames
+join_frames-requires-clause-frames g c = ap length c.join_channels.ensures.frames ∙ c.requires.shape.frames
+
+pub join_frames-requires-clause-fit : goal.join_frames-requires-clause-fit
+join_frames-requires-clause-fit g c p below =
+    subst (λ (fs : List Frame). IsTrue (fits (program_of c.args.self.now.tables p) (get_or fs p no_frame)))
+    (sym c.join_channels.ensures.frames) (c.requires.shape.fit p below)
 
 pub returns : goal.returns
 returns g c =

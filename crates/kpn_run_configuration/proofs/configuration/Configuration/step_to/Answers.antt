@@ -1,11 +1,22 @@
-use Rattle.std.proofs.Common.{refl, sym, ap, ◌∙◌, subst, arith}
+use Rattle.std.proofs.Common.{length, refl, sym, ap, ◌∙◌, subst, arith, inl}
 use Rattle.kpn_step.specs.Stops.{StandsAt}
 use Rattle.kpn_net.specs.Tables.{program_of}
-use Rattle.kpn_run_configuration.specs.Configuration.{frame_in, with_frame, IsConfiguration}
+use Rattle.kpn_run_configuration.specs.Configuration.{frame_in, no_frame, with_frame, IsConfiguration}
 use Rattle.kpn_run_configuration.specs.Run.{IsRun}
-use Rattle.kpn_run_configuration.proofs.Calls.{frame_in-same}
+use Rattle.kpn_run_configuration.proofs.Calls.{element, frame_in-same, same_size}
 use Rattle.kpn_run_configuration.proofs.Moving.{IsConfiguration-moved, IsRun-moved}
 use Rattle.kpn_run_configuration.proofs.configuration.Configuration.step_to.Goals as goal
+
+pub copy_from-requires : goal.copy_from-requires
+copy_from-requires g c =
+    let s = c.args.self.now in
+    let p = c.args.p in
+    let frame =
+    element c.self.inside.frames.items s.frames p c.index_mut-frame.result.now no_frame
+    (ap (λ x. x.frames) c.self.view_is) (omega (arith, c.requires.process, c.requires.shape.frames))
+    c.index_mut-frame.ensures.value in
+    inl (same_size (program_of c.args.network.now p) c.args.to.now (frame_in s p) c.requires.advance.to_fits
+    c.requires.advance.from_fits ∙ ap (λ f. length f.variables) (sym frame))
 
 pub returns : goal.returns
 returns g c =

@@ -1,17 +1,12 @@
-use Rattle.std.proofs.Common.{sym, subst}
+use Rattle.std.proofs.Common.{subst}
 use Rattle.std.proofs.lemmas.Bool.{false≢true}
 use Rattle.kpn_run_state.specs.Book.{IsClaimed}
-use Rattle.kpn_run_state.specs.Kept.{IsKept}
 use Rattle.kpn_run_state.specs.Open.{book_of}
 use Rattle.kpn_run_state.proofs.book.Book.claim_into.Goals as goal
 
 pub returns-clause-claimed : goal.returns-clause-claimed
 returns-clause-claimed g c is =
-    subst (λ x. IsClaimed c.in-Some.process x (book_of c.hold_next.new.self)) c.self.view_is
-    c.in-Some.ensures.claims.0
+    subst (λ x. IsClaimed c.in-Some.process x (book_of c.hold.new.self)) c.self.view_is c.hold.ensures.claimed
 
 pub returns-in_default-clause-claimed : goal.returns-in_default-clause-claimed
 returns-in_default-clause-claimed g c is = absurd (false≢true is)
-
-pub invariant_of-self : goal.invariant_of-self
-invariant_of-self g c = subst (λ o. IsKept (book_of o)) (sym c.in_default.ensures.same) c.self.invariant

@@ -59,8 +59,8 @@ returns-clause-claimed g c = λ yes.
     c.known.ensures c.requires.kept
     (subst (λ t. HasProcesses c.args.of.now t b.configuration c.claim_processes.new.batch)
     (c.clear.ensures.tables ∙ c.requires.tables) c.claim_processes.ensures)
-    c.in_ok-claim_channels.ensures.room c.in_ok-claim_channels.ensures.sees (sym c.may_claim.ensures ∙ may)
-    (c.can_count.ensures.0 counted)))
+    c.in_ok-claim_channels.ensures.room c.in_ok-claim_channels.ensures.sees c.in_ok-claim_channels.ensures.places
+    (sym c.may_claim.ensures ∙ may) (c.can_count.ensures.0 counted)))
 
 pub returns-clause-kept : goal.returns-clause-kept
 returns-clause-kept g c =

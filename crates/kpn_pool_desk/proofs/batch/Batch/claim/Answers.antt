@@ -1,0 +1,18 @@
+use Rattle.std.proofs.Common.{◌≡◌, length, drop, sym, ◌∙◌, subst, rules, arith}
+use Rattle.std.proofs.lemmas.List.{take-append-le, take_all}
+use Rattle.kpn_run_state.proofs.FirstOfQueue.{refused_with}
+use Rattle.std.specs.List.{refill}
+use Rattle.kpn_pool_desk.specs.Batch.{ClaimsInVain}
+use Rattle.kpn_pool_desk.proofs.batch.Batch.claim.Goals as goal
+
+pub returns-in_err-self-inside-clause-back : goal.returns-in_err-self-inside-clause-back
+returns-in_err-self-inside-clause-back g c =
+    let n = length c.self.inside.turns.items in
+    let turns = c.claim_each.new.turns in
+    let same : length turns ≡ n = search rules in
+    let all : refill n c.self.inside.turns.items turns ≡ turns =
+    take-append-le n turns (drop (length turns) c.self.inside.turns.items) (omega (arith, same))
+    ∙ take_all n turns (omega (arith, same)) in
+    refused_with c.from_residual.result
+    (subst (λ ts. ClaimsInVain ts c.args.desk.now.book c.claim_each.new.desk.book) (sym all)
+    c.in_err-self-inside.ensures.back)
