@@ -33,11 +33,11 @@ block_text-cons : (l : Language) (level : ℕ) (names : ProcessNames) (inner : �
     → block_text l level names inner (s ∷ ss) more
     ≡ block_text l level names inner (s ∷ []) (block_text l level names inner ss more)
 block_text-cons l level names inner (Assign x e) ss more = refl
+block_text-cons l level names inner (Set base size i e) ss more = refl
 block_text-cons l level names inner (Read i x) ss more = refl
 block_text-cons l level names inner (Write o e) ss more = refl
 block_text-cons l level names inner (If e a b) ss more = refl
 block_text-cons l level names inner (While e a) ss more = refl
-block_text-cons l level names inner (Set base size i e) ss more = refl
 
 -- a block is its statements
 pub block_text-is : (l : Language) (level : ℕ) (names : ProcessNames) (parts : Parts) → IsProgram parts
@@ -67,11 +67,11 @@ block_done l level names parts program b statements i a now e all so_far more =
 within_listed : (blocks : List (List Statement)) (levels : ℕ) (s : Statement) → AreWithin blocks levels s
     → list_all (is_within blocks levels) (inner_blocks s) ≡ true
 within_listed blocks levels (Assign x e) h = refl
+within_listed blocks levels (Set base size i e) h = refl
 within_listed blocks levels (Read i x) h = refl
 within_listed blocks levels (Write o e) h = refl
 within_listed blocks levels (If e a c) h = and_from _ _ h.0 (and_from _ _ h.1 refl)
 within_listed blocks levels (While e c) h = and_from _ _ h refl
-within_listed blocks levels (Set base size i e) h = refl
 
 -- what a statement of a block asks for
 pub record IsReady (blocks : List (List Statement)) (depth : ℕ) (s : Statement) : Type 0 where
@@ -184,7 +184,7 @@ module _ (l : Language) (level : ℕ) (names : ProcessNames) (parts : Parts) (pr
       → block_at parts.blocks b ≡ If test first second ∷ [] → (more : List ℕ)
       → indented level
       (codes "} else if "
-      ++ whole_text l (term_named names.vars test)
+      ++ whole_text l (term_named names test)
       (codes " {\n"
       ++ statements_text l (suc level) (statements_named names (tree_of parts.blocks first))
       (else_text l level (statements_named names (tree_of parts.blocks second)) more)))
@@ -192,12 +192,12 @@ module _ (l : Language) (level : ℕ) (names : ProcessNames) (parts : Parts) (pr
   if_alone test first second two e more =
       let ss : Statements =
       statement
-      (choice (term_named names.vars test) (statements_named names (tree_of parts.blocks first))
+      (choice (term_named names test) (statements_named names (tree_of parts.blocks first))
       (statements_named names (tree_of parts.blocks second))) no_statements in
       let head : List ℕ =
       indented level
       (codes "} else if "
-      ++ whole_text language.Two (term_named names.vars test)
+      ++ whole_text language.Two (term_named names test)
       (codes " {\n"
       ++ statements_text language.Two (suc level) (statements_named names (tree_of parts.blocks first))
       (else_text language.Two level (statements_named names (tree_of parts.blocks second)) more))) in
@@ -212,11 +212,11 @@ several : (l : Language) (level : ℕ) (names : ProcessNames) (below : ℕ → T
     branch more
 several language.One level names below e a c s ss inside branch more = refl
 several language.Two level names below e a c (Assign x v) ss inside branch more = refl
+several language.Two level names below e a c (Set base size i v) ss inside branch more = refl
 several language.Two level names below e a c (Read i x) ss inside branch more = refl
 several language.Two level names below e a c (Write o v) ss inside branch more = refl
 several language.Two level names below e a c (If v d f) ss inside branch more = refl
 several language.Two level names below e a c (While v d) ss inside branch more = refl
-several language.Two level names below e a c (Set base size i v) ss inside branch more = refl
 
 with_braces : (l : Language) (level : ℕ) (names : ProcessNames) (below : ℕ → Tree) (ss : List Statement)
     → HasBraces l ss → (inside branch : List ℕ → List ℕ) (more : List ℕ)
@@ -226,13 +226,13 @@ with_braces language.One level names below ss has inside branch more = refl
 with_braces language.Two level names below [] has inside branch more = absurd has
 with_braces language.Two level names below (If e a c ∷ []) has inside branch more = absurd has
 with_braces language.Two level names below (If e a c ∷ s ∷ ss) has inside branch more =
-    several language.Two level names below (term_named names.vars e) (statements_named names (below a))
+    several language.Two level names below (term_named names e) (statements_named names (below a))
     (statements_named names (below c)) s ss inside branch more
 with_braces language.Two level names below (Assign x e ∷ ss) has inside branch more = refl
+with_braces language.Two level names below (Set base size i e ∷ ss) has inside branch more = refl
 with_braces language.Two level names below (Read i x ∷ ss) has inside branch more = refl
 with_braces language.Two level names below (Write o e ∷ ss) has inside branch more = refl
 with_braces language.Two level names below (While e a ∷ ss) has inside branch more = refl
-with_braces language.Two level names below (Set base size i e ∷ ss) has inside branch more = refl
 
 -- a block in braces
 pub braces_text : {X E : Type 0} (r : Result X E) (l : Language) (level : ℕ) (names : ProcessNames) (parts : Parts)
@@ -265,8 +265,8 @@ pub long_more : (s : Statement) (others : List Stmt) → false ≡ (length other
     → IsLong (s ∷ statements_of others)
 long_more s [] some = absurd cc
 long_more (Assign x e) (t ∷ ts) some = tt
+long_more (Set base size i e) (t ∷ ts) some = tt
 long_more (Read i x) (t ∷ ts) some = tt
 long_more (Write o e) (t ∷ ts) some = tt
 long_more (If e a b) (t ∷ ts) some = tt
 long_more (While e a) (t ∷ ts) some = tt
-long_more (Set base size i e) (t ∷ ts) some = tt

@@ -1,9 +1,16 @@
 -- The lemmas. Other crates may cite the public ones.
+pub mod Growing
+pub mod KeptNames
 pub mod Parameters
 pub mod ReadingLaws
 pub mod Tables
 pub mod Refusals
 pub mod NamedBodies
+pub mod StandingRows
+pub mod SortedDeclarations
+pub mod DeclaredRows
+pub mod UsedTables
+pub mod SharedTables
 pub mod NamedProcesses
 pub mod NamedItems
 pub mod RoundTrip

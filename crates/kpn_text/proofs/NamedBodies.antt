@@ -1,79 +1,28 @@
 -- A body whose names were resolved is the body again once its numbers are replaced by their names.
-use Rattle.std.proofs.Common.{◌≡◌, ℕ, pos, List, [], ◌++◌, Ok, refl, sym, ap, subst, ◌∙◌, append_assoc, append-nil}
+use Rattle.std.proofs.Common.{◌≡◌, ℕ, pos, ◌||◌, List, ◌++◌, Ok, refl, sym, ap, subst, ◌∙◌, append_assoc}
 use Rattle.std.specs.List.{position_or_len}
 use Rattle.std.specs.Str.{bytes_eq}
 use Rattle.kpn_lang.specs.Syntax as lang
 use Rattle.kpn_lang.specs.Tree.{Tree}
-use Rattle.kpn_text_grammar.specs.Syntax.{Name, Term, numeral, variable, minus, negation, complement, binary, conditional, Statement, assign, receive, send, choice, loop, Statements, no_statements, statement}
+use Rattle.kpn_text_grammar.specs.Syntax.{Name, Term, numeral, variable, element, minus, negation, complement, binary, conditional, Statement, assign, store, receive, send, choice, loop, Statements, no_statements, statement}
 use Rattle.kpn_text_names.specs.declared.scope.Scope.{Scope}
 use Rattle.kpn_text_tokens.specs.Results.{and_then}
 use Rattle.kpn_text_names.specs.Names.{known, with_name, name_at}
-use Rattle.kpn_text_names.specs.Scope.{is_port, target}
+use Rattle.kpn_text_names.specs.declared.rows.Row.{Row}
+use Rattle.kpn_text_names.specs.Scope.{is_port, is_row, target, array_row, row_of}
 use Rattle.kpn_text_names.specs.Body.{term_in, statement_in, tree_in}
 use Rattle.kpn_text_names.specs.declared.network_names.ProcessNames.{ProcessNames}
-use Rattle.kpn_text.specs.Named.{term_named, statements_named}
+use Rattle.kpn_text.specs.Named.{row_name, term_named, statements_named}
 use Rattle.kpn_text_names.proofs.Chains.{ok_is, went}
-use Rattle.kpn_text_names.proofs.KnownNames.{IsNamed, is_named-append, known_named, target_named, with_name_longer, if_not}
-
--- ---- expressions
-
-term_back : (vars more : List Name) (t : Term) (e : lang.Term) → term_in vars t ≡ Ok e
-    → term_named (vars ++ more) e ≡ t
-unfolding term_in
-term_back vars more (numeral n) e h = ap (λ x. term_named (vars ++ more) x) (sym (ok_is (lang.Num (pos n)) e h))
-term_back vars more (variable x) e h =
-    let k = went (known vars x) (λ k. Ok (lang.Var k)) e h in
-    let named = is_named-append vars more k.value x (known_named vars x k.value k.first) in
-    ap (λ y. term_named (vars ++ more) y) (sym (ok_is (lang.Var k.value) e k.rest))
-    ∙ ap (λ y. variable y) named.name
-term_back vars more (minus t) e h =
-    let a = went (term_in vars t) (λ a. Ok (lang.Neg a)) e h in
-    ap (λ y. term_named (vars ++ more) y) (sym (ok_is (lang.Neg a.value) e a.rest))
-    ∙ ap (λ y. minus y) (term_back vars more t a.value a.first)
-term_back vars more (negation t) e h =
-    let a = went (term_in vars t) (λ a. Ok (lang.Not a)) e h in
-    ap (λ y. term_named (vars ++ more) y) (sym (ok_is (lang.Not a.value) e a.rest))
-    ∙ ap (λ y. negation y) (term_back vars more t a.value a.first)
-term_back vars more (complement t) e h =
-    let a = went (term_in vars t) (λ a. Ok (lang.BitNot a)) e h in
-    ap (λ y. term_named (vars ++ more) y) (sym (ok_is (lang.BitNot a.value) e a.rest))
-    ∙ ap (λ y. complement y) (term_back vars more t a.value a.first)
-term_back vars more (binary o t u) e h =
-    let a = went (term_in vars t) (λ a. and_then (term_in vars u) (λ b. Ok (lang.Bin o a b))) e h in
-    let b = went (term_in vars u) (λ b. Ok (lang.Bin o a.value b)) e a.rest in
-    let left = term_back vars more t a.value a.first in
-    let right = term_back vars more u b.value b.first in
-    ap (λ y. term_named (vars ++ more) y) (sym (ok_is (lang.Bin o a.value b.value) e b.rest))
-    ∙ (λ i. binary o (left i) (right i))
-term_back vars more (conditional t u v) e h =
-    let a = went (term_in vars t) _ e h in
-    let b = went (term_in vars u) _ e a.rest in
-    let c = went (term_in vars v) (λ c. Ok (lang.Choice a.value b.value c)) e b.rest in
-    let test = term_back vars more t a.value a.first in
-    let first = term_back vars more u b.value b.first in
-    let second = term_back vars more v c.value c.first in
-    ap (λ y. term_named (vars ++ more) y) (sym (ok_is (lang.Choice a.value b.value c.value) e c.rest))
-    ∙ (λ i. conditional (test i) (first i) (second i))
+use Rattle.kpn_text_names.proofs.KnownNames.{IsNamed, is_named-append, known_named, target_named, if_not}
+use Rattle.kpn_text.proofs.Growing.{Grows, grows_not, grows_on, target_grows}
 
 -- ---- scopes
 
--- a process knows more variables from here on
-pub record Grows (s t : Scope) : Type 0 where
-  pub ins : t.ins ≡ s.ins
-  pub outs : t.outs ≡ s.outs
-  pub more : List Name
-  pub vars : t.vars ≡ s.vars ++ more
-
-grows_not : (s : Scope) → Grows s s
-grows_not s = record { ins = refl; outs = refl; more = []; vars = sym (append-nil s.vars) }
-
-grows_on : (s t u : Scope) → Grows s t → Grows t u → Grows s u
-grows_on s t u g h = record {
-  ins = h.ins ∙ g.ins;
-  outs = h.outs ∙ g.outs;
-  more = g.more ++ h.more;
-  vars = h.vars ∙ ap (λ l. l ++ h.more) g.vars ∙ append_assoc s.vars g.more h.more;
-}
+-- the rows of a scope have the names that these say, by their places
+pub record RowsAgree (names : ProcessNames) (s : Scope) : Type 0 where
+  pub row : (x : Name) (r : Row) → row_of s x ≡ Ok r → row_name names r.base ≡ x
+  pub array : (x : Name) (r : Row) → array_row s x ≡ Ok r → row_name names r.base ≡ x
 
 -- the names of a whole process, of which this is known here
 pub record Agrees (names : ProcessNames) (s : Scope) : Type 0 where
@@ -81,6 +30,13 @@ pub record Agrees (names : ProcessNames) (s : Scope) : Type 0 where
   pub outs : names.outs ≡ s.outs
   pub more : List Name
   pub vars : names.vars ≡ s.vars ++ more
+  pub rows : RowsAgree names s
+
+rows_before : (names : ProcessNames) (s t : Scope) → Grows s t → RowsAgree names t → RowsAgree names s
+rows_before names s t g a =
+    let other : Scope = record s { arrays = t.arrays; tables = t.tables } in
+    let same : other ≡ s = λ i. record s { arrays = g.arrays i; tables = g.tables i } in
+    subst (λ (u : Scope). RowsAgree names u) same (record { row = a.row; array = a.array })
 
 agrees_before : (names : ProcessNames) (s t : Scope) → Grows s t → Agrees names t → Agrees names s
 agrees_before names s t g a = record {
@@ -88,11 +44,57 @@ agrees_before names s t g a = record {
   outs = a.outs ∙ g.outs;
   more = g.more ++ a.more;
   vars = a.vars ∙ ap (λ l. l ++ a.more) g.vars ∙ append_assoc s.vars g.more a.more;
+  rows = rows_before names s t g a.rows;
 }
 
-term_at : (names : ProcessNames) (s : Scope) → Agrees names s → (t : Term) (e : lang.Term) → term_in s.vars t ≡ Ok e
-    → term_named names.vars e ≡ t
-term_at names s a t e h = ap (λ vars. term_named vars e) a.vars ∙ term_back s.vars a.more t e h
+-- ---- expressions
+
+module _ (names : ProcessNames) (s : Scope) (agrees : Agrees names s) where
+  term_at : (t : Term) (e : lang.Term) → term_in s t ≡ Ok e → term_named names e ≡ t
+  unfolding term_in
+  term_at (numeral n) e h = ap (λ x. term_named names x) (sym (ok_is (lang.Num (pos n)) e h))
+  term_at (variable x) e h =
+      let k = went (known s.vars x) (λ k. Ok (lang.Var k)) e h in
+      let named = is_named-append s.vars agrees.more k.value x (known_named s.vars x k.value k.first) in
+      ap (λ y. term_named names y) (sym (ok_is (lang.Var k.value) e k.rest))
+      ∙ ap (λ y. variable y) (ap (λ vars. name_at vars k.value) agrees.vars ∙ named.name)
+  term_at (element x t) e h =
+      let row = went (row_of s x) _ e h in
+      let a = went (term_in s t) (λ a. Ok (lang.Cell row.value.base row.value.size a)) e row.rest in
+      let name = agrees.rows.row x row.value row.first in
+      let index = term_at t a.value a.first in
+      ap (λ y. term_named names y) (sym (ok_is (lang.Cell row.value.base row.value.size a.value) e a.rest))
+      ∙ (λ i. element (name i) (index i))
+  term_at (minus t) e h =
+      let a = went (term_in s t) (λ a. Ok (lang.Neg a)) e h in
+      ap (λ y. term_named names y) (sym (ok_is (lang.Neg a.value) e a.rest))
+      ∙ ap (λ y. minus y) (term_at t a.value a.first)
+  term_at (negation t) e h =
+      let a = went (term_in s t) (λ a. Ok (lang.Not a)) e h in
+      ap (λ y. term_named names y) (sym (ok_is (lang.Not a.value) e a.rest))
+      ∙ ap (λ y. negation y) (term_at t a.value a.first)
+  term_at (complement t) e h =
+      let a = went (term_in s t) (λ a. Ok (lang.BitNot a)) e h in
+      ap (λ y. term_named names y) (sym (ok_is (lang.BitNot a.value) e a.rest))
+      ∙ ap (λ y. complement y) (term_at t a.value a.first)
+  term_at (binary o t u) e h =
+      let a = went (term_in s t) (λ a. and_then (term_in s u) (λ b. Ok (lang.Bin o a b))) e h in
+      let b = went (term_in s u) (λ b. Ok (lang.Bin o a.value b)) e a.rest in
+      let left = term_at t a.value a.first in
+      let right = term_at u b.value b.first in
+      ap (λ y. term_named names y) (sym (ok_is (lang.Bin o a.value b.value) e b.rest))
+      ∙ (λ i. binary o (left i) (right i))
+  term_at (conditional t u v) e h =
+      let a = went (term_in s t) _ e h in
+      let b = went (term_in s u) _ e a.rest in
+      let c = went (term_in s v) (λ c. Ok (lang.Choice a.value b.value c)) e b.rest in
+      let test = term_at t a.value a.first in
+      let first = term_at u b.value b.first in
+      let second = term_at v c.value c.first in
+      ap (λ y. term_named names y) (sym (ok_is (lang.Choice a.value b.value c.value) e c.rest))
+      ∙ (λ i. conditional (test i) (first i) (second i))
+
+-- ---- names by number
 
 variable_at : (names : ProcessNames) (s : Scope) → Agrees names s → (k : ℕ) (x : Name) → IsNamed s.vars k x
     → name_at names.vars k ≡ x
@@ -111,15 +113,14 @@ record Targeted (s : Scope) (x : Name) (r : Scope × ℕ) : Type 0 where
   grows : Grows s r.0
   named : IsNamed r.0.vars r.1 x
 
-targeted : (s : Scope) (x : Name) (r : Scope × ℕ) → target s x ≡ Ok r → Targeted s x r
-targeted s x r h =
-    let longer = with_name_longer s.vars x in
+targeted : (shared : List Name) (s : Scope) (x : Name) (r : Scope × ℕ) → target shared s x ≡ Ok r → Targeted s x r
+targeted shared s x r h =
     let made : Scope × ℕ = (record s { vars = with_name s.vars x }, position_or_len (bytes_eq x) s.vars) in
-    subst (λ q. Targeted s x q) (if_not (is_port s x) made r h).1
-    (record {
-      grows = record { ins = refl; outs = refl; more = longer.more; vars = longer.is };
-      named = target_named s.vars x;
-    })
+    record {
+      grows = target_grows shared s x r h;
+      named = subst (λ (q : Scope × ℕ). IsNamed q.0.vars q.1 x) (if_not (is_port s x || is_row shared s x) made r h).1
+          (target_named s.vars x);
+    }
 
 -- ---- statements
 
@@ -137,11 +138,12 @@ pub record AllBack (s : Scope) (b : Statements) (r : Scope × Tree) : Type 0 whe
 mutual
   unfolding statement_in tree_in
 
-  statement_back : (s : Scope) (x : Statement) (r : Scope × (Tree → Tree)) → statement_in s x ≡ Ok r → Back s x r
-  statement_back s (assign x e) r h =
+  statement_back : (shared : List Name) (s : Scope) (x : Statement) (r : Scope × (Tree → Tree))
+      → statement_in shared s x ≡ Ok r → Back s x r
+  statement_back shared s (assign x e) r h =
       let t = went _ _ r h in
       let a = went _ _ r t.rest in
-      let named = targeted s x t.value t.first in
+      let named = targeted shared s x t.value t.first in
       subst (λ q. Back s (assign x e) q) (ok_is _ r a.rest) (record {
         grows = named.grows;
         back = λ names agrees rest. λ i. statement
@@ -149,10 +151,21 @@ mutual
             (term_at names t.value.0 agrees e a.value a.first i))
             (statements_named names rest);
       })
-  statement_back s (receive p x) r h =
+  statement_back shared s (store x i e) r h =
+      let row = went (array_row s x) _ r h in
+      let a = went _ _ r row.rest in
+      let b = went _ _ r a.rest in
+      subst (λ q. Back s (store x i e) q) (ok_is _ r b.rest) (record {
+        grows = grows_not s;
+        back = λ names agrees rest. λ j. statement
+            (store (agrees.rows.array x row.value row.first j) (term_at names s agrees i a.value a.first j)
+            (term_at names s agrees e b.value b.first j))
+            (statements_named names rest);
+      })
+  statement_back shared s (receive p x) r h =
       let port = went _ _ r h in
       let t = went _ _ r port.rest in
-      let named = targeted s x t.value t.first in
+      let named = targeted shared s x t.value t.first in
       subst (λ q. Back s (receive p x) q) (ok_is _ r t.rest) (record {
         grows = named.grows;
         back = λ names agrees rest.
@@ -162,7 +175,7 @@ mutual
             (variable_at names t.value.0 agrees t.value.1 x named.named i))
             (statements_named names rest);
       })
-  statement_back s (send o e) r h =
+  statement_back shared s (send o e) r h =
       let port = went _ _ r h in
       let a = went _ _ r port.rest in
       subst (λ q. Back s (send o e) q) (ok_is _ r a.rest) (record {
@@ -171,12 +184,12 @@ mutual
             (send (out_at names s agrees port.value o port.first i) (term_at names s agrees e a.value a.first i))
             (statements_named names rest);
       })
-  statement_back s (choice e b c) r h =
+  statement_back shared s (choice e b c) r h =
       let a = went _ _ r h in
       let first = went _ _ r a.rest in
       let second = went _ _ r first.rest in
-      let one = block_back s b first.value first.first in
-      let two = block_back first.value.0 c second.value second.first in
+      let one = block_back shared s b first.value first.first in
+      let two = block_back shared first.value.0 c second.value second.first in
       subst (λ q. Back s (choice e b c) q) (ok_is _ r second.rest) (record {
         grows = grows_on s first.value.0 second.value.0 one.grows two.grows;
         back = λ names agrees rest.
@@ -186,10 +199,10 @@ mutual
             (choice (term_at names s start e a.value a.first i) (one.back names between i) (two.back names agrees i))
             (statements_named names rest);
       })
-  statement_back s (loop e b) r h =
+  statement_back shared s (loop e b) r h =
       let a = went _ _ r h in
       let body = went _ _ r a.rest in
-      let one = block_back s b body.value body.first in
+      let one = block_back shared s b body.value body.first in
       subst (λ q. Back s (loop e b) q) (ok_is _ r body.rest) (record {
         grows = one.grows;
         back = λ names agrees rest.
@@ -199,15 +212,16 @@ mutual
             (statements_named names rest);
       })
 
-  pub block_back : (s : Scope) (b : Statements) (r : Scope × Tree) → tree_in s b ≡ Ok r → AllBack s b r
-  block_back s no_statements r h =
+  pub block_back : (shared : List Name) (s : Scope) (b : Statements) (r : Scope × Tree) → tree_in shared s b ≡ Ok r
+      → AllBack s b r
+  block_back shared s no_statements r h =
       subst (λ q. AllBack s no_statements q) (ok_is _ r h)
       (record { grows = grows_not s; back = λ names agrees. refl })
-  block_back s (statement x xs) r h =
+  block_back shared s (statement x xs) r h =
       let first = went _ _ r h in
       let rest = went _ _ r first.rest in
-      let one = statement_back s x first.value first.first in
-      let more = block_back first.value.0 xs rest.value rest.first in
+      let one = statement_back shared s x first.value first.first in
+      let more = block_back shared first.value.0 xs rest.value rest.first in
       subst (λ q. AllBack s (statement x xs) q) (ok_is _ r rest.rest) (record {
         grows = grows_on s first.value.0 rest.value.0 one.grows more.grows;
         back = λ names agrees.

@@ -25,7 +25,7 @@ literal_back : (z : ℤ) → literal_value (literal_named z) ≡ z
 literal_back (pos n) = refl
 literal_back (negsuc n) = refl
 
-literals_back : (zs : List ℤ) → map literal_value (map literal_named zs) ≡ zs
+pub literals_back : (zs : List ℤ) → map literal_value (map literal_named zs) ≡ zs
 literals_back [] = refl
 literals_back (z ∷ zs) = λ i. literal_back z i ∷ literals_back zs i
 
@@ -34,7 +34,7 @@ literal_proper (plain n) h = h
 literal_proper (negated zero) h = h
 literal_proper (negated (suc n)) h = h
 
-literals_proper : (vs : List Literal) → AllByRecursion IsProperLiteral vs
+pub literals_proper : (vs : List Literal) → AllByRecursion IsProperLiteral vs
     → AllByRecursion IsProperLiteral (map literal_named (map literal_value vs))
 literals_proper [] h = tt
 literals_proper (v ∷ vs) h = (literal_proper v h.0, literals_proper vs h.1)

@@ -1,5 +1,5 @@
--- The names of a document are text: they are names of its printed description, whose bytes are ASCII.
-use Rattle.std.proofs.Common.{◌≡◌, ℕ, zero, suc, ◌<◌, Bool, true, ◌||◌, List, [], ◌∷◌, ◌++◌, length, map, refl, sym, ap, ◌∙◌, subst, arith}
+-- The names of a document are text: they are names of its description, whose bytes are ASCII.
+use Rattle.std.proofs.Common.{◌≡◌, ℕ, zero, suc, ◌<◌, Bool, true, ◌||◌, List, [], ◌∷◌, ◌++◌, length, map, Ok, refl, sym, ◌∙◌, subst, arith}
 use Rattle.std.specs.Prelude.{All}
 use Rattle.std.specs.Char.{is_ascii_digit}
 use Rattle.std.specs.List.{AllByRecursion, list_all}
@@ -16,18 +16,22 @@ use Rattle.kpn_net.specs.Tables.{Tables}
 use Rattle.kpn_text_tokens.specs.declared.tokens.Language.{Language}
 use Rattle.kpn_text_tokens.specs.Lexing.{begins_name}
 use Rattle.kpn_text_tokens.specs.Rules.{IsName}
-use Rattle.kpn_text_grammar.specs.Syntax.{Name}
+use Rattle.kpn_text_grammar.specs.Syntax.{Name, Process, Description}
 use Rattle.kpn_text_names.specs.declared.network_names.NetworkNames.{NetworkNames}
 use Rattle.kpn_text_names.specs.Names.{name_at}
-use Rattle.kpn_text_names.specs.NetworkNames.{AreNamed, paired, process_names}
+use Rattle.kpn_text_names.specs.NetworkNames.{AreNamed, names_in, paired, process_names}
+use Rattle.kpn_text_names.specs.Shared.{shared_of}
+use Rattle.kpn_text_names.specs.Network.{settings_of, wiring}
+use Rattle.kpn_text_names.specs.Named.{Named, named_with, programs_of, resolve}
+use Rattle.kpn_text_names.proofs.Chains.{ok_is, went}
 use Rattle.kpn_text_names.proofs.Counts.{are_named, resolved_each}
-use Rattle.kpn_text_names.specs.Laws.{BlocksAreTheTree}
 use Rattle.kpn_text.specs.CanonicalLaws.{ReadDescriptionsAreProper}
-use Rattle.kpn_text.specs.Named.{process_named, channel_named, instance_named, description_named}
+use Rattle.kpn_text.specs.Named.{channel_named, instance_named, network_named}
 use Rattle.kpn_text.specs.Proper.{IsProperProcess, IsProperItem, IsProper}
 use Rattle.kpn_text.specs.Document.{Document}
 use Rattle.kpn_text.specs.Laws.{AreText, NamesAreText}
-use Rattle.kpn_text.proofs.RoundTrip.{LimitsAreInRange, proper, spelled_kept}
+use Rattle.kpn_text.proofs.KeptNames.{names_back, names_kept}
+use Rattle.kpn_text.proofs.NamedItems.{items_back}
 
 word_byte : (b : ℕ) → (begins_name b || is_ascii_digit b) ≡ true → b < 128
 word_byte b is = grind (arith, nat_tests)
@@ -68,17 +72,18 @@ all_parts : {X : Type 0} (P : X → Type 0) (xs ys : List X) → AllByRecursion 
 all_parts P [] ys all = (tt, all)
 all_parts P (x ∷ xs) ys all = let parts = all_parts P xs ys all.1 in ((all.0, parts.0), parts.1)
 
-proper_text : (l : Language) (names : NetworkNames) (t : Tables) → AreNamed names t
-    → IsProper l (description_named names t)
-    → AreText names
-proper_text l names t named is =
+abbrev ProcessesAreText : NetworkNames → Type 0
+ProcessesAreText names = (k : ℕ) → IsUtf8 (name_at (process_names names) k)
+
+-- the channels and the instances of a network
+items_text : (l : Language) (names : NetworkNames) (t : Tables) → AreNamed names t
+    → AllByRecursion (IsProperItem l) (network_named names t).items → ProcessesAreText names → AreText names
+items_text l names t named is processes =
     let items =
     all_parts (IsProperItem l) (paired channel_named names.channels t.channels)
-    (paired (instance_named names) names.instances t.instances) is.network.items in
+    (paired (instance_named names) names.instances t.instances) is in
     record {
-      processes =
-          named_are l (IsProperProcess l) (λ p. p.name) process_named (λ p parts proper. proper.name) names.processes
-          t.programs named.processes is.processes;
+      processes = processes;
       instances =
           λ k. subst (λ (xs : List Name). IsUtf8 (name_at xs k)) (map-id names.instances)
           (named_are l (IsProperItem l) (λ x. x) (instance_named names) (λ x i proper. proper.name) names.instances
@@ -89,8 +94,31 @@ proper_text l names t named is =
           items.0 k);
     }
 
-pub names_are_text : BlocksAreTheTree → LimitsAreInRange → ReadDescriptionsAreProper → NamesAreText
-names_are_text flat limits are_proper d (text, s) =
+-- the names of proper processes
+processes_text : (l : Language) (ps : List Process) → AllByRecursion (IsProperProcess l) ps → (k : ℕ)
+    → IsUtf8 (name_at (map (λ p. p.name) ps) k)
+processes_text l [] all k = no_name
+processes_text l (p ∷ ps) all zero = name_is_text l p.name all.0.name
+processes_text l (p ∷ ps) all (suc k) = processes_text l ps all.1 k
+
+named_text : (l : Language) (d : Description) (n : Named) → resolve d ≡ Ok n → IsProper l d → AreText (names_in n)
+named_text l d n h is =
+    let shared = went (shared_of d.tables) _ n h in
+    let p = went (programs_of shared.value d.processes) _ n shared.rest in
+    let w = went (wiring p.value.names d.network.items) _ n p.rest in
+    let made : Named = named_with shared.value (settings_of d.network) p.value w.value in
+    let same : made ≡ n = ok_is made n w.rest in
+    let back = names_back shared.value d.processes p.value p.first in
+    let items = items_back l (names_in made) p.value.names d.network.items w.value back refl w.first in
+    let there : (k : ℕ) → IsUtf8 (name_at (process_names (names_in made)) k) =
+    λ k. subst (λ (xs : List Name). IsUtf8 (name_at xs k))
+    (sym (back ∙ names_kept shared.value d.processes p.value p.first)) (processes_text l d.processes is.processes k) in
+    let named : AreNamed (names_in made) made.tables =
+    subst (λ (m : Named). AreNamed (names_in m) m.tables) (sym same) (are_named n (resolved_each d n h)) in
+    subst (λ (m : Named). AreText (names_in m)) same
+    (items_text l (names_in made) made.tables named (items.proper is.network.items) there)
+
+pub names_are_text : ReadDescriptionsAreProper → NamesAreText
+names_are_text are_proper d (text, s) =
     subst (λ (e : Document). AreText e.names) s.is
-    (proper_text d.language _ s.named.tables (are_named s.named (resolved_each s.tree s.named s.resolved))
-    (proper text d s are_proper (spelled_kept flat limits text d s)))
+    (named_text d.language s.tree s.named s.resolved (are_proper d.language text s.tokens s.tree s.read s.spelled))

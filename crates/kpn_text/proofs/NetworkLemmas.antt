@@ -14,25 +14,20 @@ use Rattle.kpn_text_tokens.specs.declared.tokens.Mark.TheVariants as mark
 use Rattle.kpn_text_tokens.specs.declared.tokens.Token.{Token}
 use Rattle.kpn_text_tokens.specs.declared.tokens.Token.TheVariants as token
 use Rattle.kpn_text_tokens.specs.Rules.{IsName}
-use Rattle.kpn_text_tokens.specs.Spelling.{has_keyword, keyword_bytes, keyword_of}
+use Rattle.kpn_text_tokens.specs.Lexing.{piece_of}
+use Rattle.kpn_text_tokens.specs.Spelling.{has_keyword, keyword_bytes, keyword_of, mark_at}
 use Rattle.kpn_text_tokens.specs.Opening.{language_of}
 use Rattle.kpn_text_tokens.proofs.Openings.{network_told, process_told, two_told}
 use Rattle.kpn_text_grammar.specs.Words.{growth_word, policy_word}
-use Rattle.kpn_text_grammar.specs.Syntax.{Name, Literal, plain, negated, Instance, Item, channel, source, sink, instance, Process, Network, Description}
-use Rattle.kpn_text_grammar.specs.Spelling.{spell_literal, spell_names, spell_values, spell_call, spell_item, spell_limit, spell_policy, spell_growth, spell_network, spell_process, spell_language, spell_description}
+use Rattle.kpn_text_grammar.specs.Syntax.{Name, Literal, Instance, Item, channel, source, sink, instance, Table, Process, Network, Description}
+use Rattle.kpn_text_grammar.specs.Spelling.{spell_literal, spell_table, spell_names, spell_values, spell_call, spell_item, spell_limit, spell_policy, spell_growth, spell_network, spell_process, spell_language, spell_description}
 use Rattle.kpn_text.specs.CanonicalLaws.{EndsWord}
-use Rattle.kpn_text.specs.Proper.{AreNames, IsProperLiteral, IsProperInstance, IsProperItem, IsProperLimit, IsProperNetwork, IsProperProcess, IsProper}
-use Rattle.kpn_text.specs.Text.{literal_text, list_text, outs_text, values_text, call_text, item_text, limit_text, policy_text, growth_text, network_text, process_text, all_text, language_text, description_text}
+use Rattle.kpn_text.specs.Proper.{AreNames, IsProperLiteral, IsProperInstance, IsProperItem, IsProperLimit, IsProperNetwork, IsProperTable, IsProperProcess, IsProper}
+use Rattle.kpn_text.specs.Text.{literal_text, list_text, outs_text, values_text, call_text, item_text, limit_text, policy_text, growth_text, network_text, table_text, process_text, all_text, language_text, description_text}
 use Rattle.kpn_text.proofs.TokenLemmas.{IsReadAs, nothing_read, token_read, name_read, number_read, mark_read, keyword_read, space_read, indent_read}
 use Rattle.kpn_text.proofs.StatementLemmas.{end_read, open_read, close_read}
 use Rattle.kpn_text.proofs.ListLemmas.{all_read, list_read, names_read}
-use Rattle.kpn_text.proofs.ProcessLemmas.{process_read}
-
-literal_read : {l : Language} (v : Literal) (more : List ℕ) (tokens : List Token) → IsProperLiteral v → EndsWord more
-    → IsReadAs l more tokens → IsReadAs l (literal_text v more) (spell_literal v tokens)
-literal_read (plain n) more tokens is ends h = number_read n more tokens is ends h
-literal_read (negated n) more tokens is ends h =
-    mark_read mark.Minus (decimal n ++ more) _ refl tt (number_read n more tokens is ends h)
+use Rattle.kpn_text.proofs.ProcessLemmas.{literal_read, table_read, process_read}
 
 outs_read : {l : Language} (xs : List Name) (more : List ℕ) (tokens : List Token) → AreNames l xs → EndsWord more
     → IsReadAs l more tokens → IsReadAs l (outs_text xs more) (spell_names xs tokens)
@@ -178,17 +173,26 @@ pub description_read : (l : Language) (d : Description) → IsProper l d
     → IsReadAs l (description_text l d) (spell_description l d)
 description_read l d is =
     language_read l _ _
+    (all_read table_text spell_table (IsProperTable l) table_read d.tables _ _ is.tables
     (all_read (process_text l) (spell_process l) (IsProperProcess l) process_read d.processes _ _ is.processes
-    (network_read d.network [] [] is.network (nothing_read l)))
+    (network_read d.network [] [] is.network (nothing_read l))))
 
--- a text of language 1 begins with one of two words
-words_told : (ps : List Process) (n : Network)
-    → language_of (all_text (process_text language.One) ps (network_text n [])) ≡ language.One
-words_told [] n = network_told _
-words_told (p ∷ ps) n = process_told _
+table_told : (rest : List ℕ) → language_of (codes "table " ++ rest) ≡ language.One
+unfolding language_of piece_of keyword_of mark_at
+table_told rest = refl
+
+-- a text of language 1 begins with another word
+words_told : (ts : List Table) (ps : List Process) (n : Network)
+    → language_of (all_text table_text ts (all_text (process_text language.One) ps (network_text n [])))
+    ≡ language.One
+words_told [] [] n = network_told _
+words_told [] (p ∷ ps) n = process_told _
+words_told (t ∷ ts) ps n = table_told _
 
 -- a printed description tells its language
 pub description_told : (l : Language) (d : Description) → language_of (description_text l d) ≡ l
-description_told language.One d = words_told d.processes d.network
+description_told language.One d = words_told d.tables d.processes d.network
 description_told language.Two d =
-    two_told (codes "\n" ++ all_text (process_text language.Two) d.processes (network_text d.network []))
+    two_told
+    (codes "\n"
+    ++ all_text table_text d.tables (all_text (process_text language.Two) d.processes (network_text d.network [])))

@@ -7,7 +7,7 @@ use Rattle.std.proofs.lemmas.List.{drop_more}
 use Rattle.kpn_limits.specs.declared.TheConstants.{MAX_CAPACITY}
 use Rattle.kpn_text_tokens.specs.declared.tokens.Language.{Language}
 use Rattle.kpn_text.specs.Named.{number_named, literal_named, limit_named}
-use Rattle.kpn_text.specs.Text.{all_text, further_text, indented, names_text, outs_text, term_text, literal_text}
+use Rattle.kpn_text.specs.Text.{all_text, further_text, indented, list_text, names_text, outs_text, term_text, literal_text, values_text}
 use Rattle.kpn_text.specs.Writing.{Writes}
 
 -- one text and then another
@@ -66,6 +66,12 @@ pub some_outs : {A : Type 0} (name : A → List ℕ) (xs : List A) → false ≡
     → codes " " ++ names_text (map name xs) more ≡ outs_text (map name xs) more
 some_outs name [] some more = absurd cc
 some_outs name (x ∷ xs) some more = refl
+
+-- some values, behind a semicolon
+pub some_values : (vs : List ℤ) → false ≡ (length vs == 0) → (more : List ℕ)
+    → codes "; " ++ list_text literal_text (map literal_named vs) more ≡ values_text (map literal_named vs) more
+some_values [] some more = absurd cc
+some_values (v ∷ vs) some more = refl
 
 -- an item more of a list that is joined by commas
 pub joined_more : {A B : Type 0} (f : A → B) (text : B → List ℕ → List ℕ) (xs : List A) (i : ℕ) (d : A)

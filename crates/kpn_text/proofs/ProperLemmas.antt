@@ -13,13 +13,13 @@ use Rattle.kpn_text_tokens.specs.declared.tokens.Token.{Token}
 use Rattle.kpn_text_tokens.specs.declared.tokens.Token.TheVariants as token
 use Rattle.kpn_text_tokens.specs.Laws.{HasSpelling, tokens_of}
 use Rattle.kpn_text_tokens.specs.Rules.{IsName}
-use Rattle.kpn_text_tokens.specs.Spelling.{has_mark}
+use Rattle.kpn_text_tokens.specs.Spelling.{has_keyword, has_mark}
 use Rattle.kpn_text_grammar.specs.Operators.{operator_mark}
 use Rattle.kpn_text_tokens.proofs.WithoutPlaces.{read_spelled}
 use Rattle.kpn_text_grammar.proofs.CanonicalLaws.{description_rules}
-use Rattle.kpn_text_grammar.specs.Syntax.{Name, Term, numeral, variable, minus, negation, complement, binary, conditional, Statement, assign, receive, send, choice, loop, Statements, no_statements, statement, Process, Literal, plain, negated, Item, channel, source, sink, instance, Network, Description}
-use Rattle.kpn_text_grammar.specs.Spelling.{spell_term, SpellsTight, as_number, as_name, as_minus, as_negation, as_complement, in_parentheses, as_conditional, as_binary, SpellsTerm, SpellsStatement, as_assignment, as_read, as_write, as_if, as_while, SpellsStatements, nothing, one_more, SpellsElse, left_out, behind_else, SpellsSecond, with_braces, as_branch, SpellsProcess, SpellsAll, IsDescription, spell_all, spell_further, spell_list, spell_name, spell_names, spell_part, spell_later_part, spell_parts, spell_literal, spell_values, spell_item, spell_limit, spell_policy, spell_growth, spell_network, spell_language}
-use Rattle.kpn_text.specs.Proper.{IsProperTerm, IsProperStatement, AreProper, AreNames, IsProperProcess, IsProperLiteral, IsProperItem, IsProperLimit, IsProperNetwork, IsProper}
+use Rattle.kpn_text_grammar.specs.Syntax.{Name, Term, numeral, variable, element, minus, negation, complement, binary, conditional, Statement, assign, store, receive, send, choice, loop, Statements, no_statements, statement, Table, Declaration, array, table, Process, Literal, plain, negated, Item, channel, source, sink, instance, Network, Description}
+use Rattle.kpn_text_grammar.specs.Spelling.{spell_term, SpellsTight, as_number, as_name, as_element, as_minus, as_negation, as_complement, in_parentheses, as_conditional, as_binary, SpellsTerm, SpellsStatement, as_assignment, as_store, as_read, as_write, as_if, as_while, SpellsStatements, nothing, one_more, SpellsElse, left_out, behind_else, SpellsSecond, with_braces, as_branch, SpellsProcess, SpellsAll, IsDescription, spell_all, spell_further, spell_list, spell_name, spell_names, spell_table, spell_declaration, spell_part, spell_later_part, spell_parts, spell_literal, spell_values, spell_item, spell_limit, spell_policy, spell_growth, spell_network, spell_language}
+use Rattle.kpn_text.specs.Proper.{IsProperTerm, IsProperStatement, AreProper, AreNames, IsProperTable, IsProperDeclaration, IsProperProcess, IsProperLiteral, IsProperItem, IsProperLimit, IsProperNetwork, IsProper}
 
 -- each of the tokens can be spelled
 abbrev AreSpelled : Language → List Token → Type 0
@@ -39,10 +39,23 @@ is_name l x h = h.1.0
 has_this : (l : Language) (m : Mark) → HasSpelling l (token.Mark m) → has_mark l m ≡ true
 has_this l m h = h.1.0
 
+has_word : (l : Language) (k : Keyword) → HasSpelling l (token.Keyword k) → has_keyword l k ≡ true
+has_word l k h = h.1.0
+
 term_is : (l : Language) (e : Term) (more : List Token) → AreSpelled l (spell_term e more)
     → And l (IsProperTerm l e) more
 term_is l (numeral n) more h = record { is = number_small l n h.0; rest = h.1 }
 term_is l (variable x) more h = record { is = is_name l x h.0; rest = h.1 }
+term_is l (element x e) more h =
+    let inner = term_is l e _ h.1.1 in
+    record {
+      is = (
+        is_name l x h.0,
+        record { left = has_this l mark.LeftBracket h.1.0; right = has_this l mark.RightBracket inner.rest.0 },
+        inner.is,
+      );
+      rest = inner.rest.1;
+    }
 term_is l (minus e) more h =
     let inner = term_is l e more h.1 in
     record { is = inner.is; rest = inner.rest }
@@ -76,6 +89,19 @@ tight_is : {depth n : ℕ} (e : Term) {tokens more : List Token} → SpellsTight
     → AreSpelled language.Two tokens → And language.Two (IsProperTerm language.Two e) more
 tight_is (numeral n) as_number h = record { is = number_small language.Two n h.0; rest = h.1 }
 tight_is (variable x) as_name h = record { is = is_name language.Two x h.0; rest = h.1 }
+tight_is (element x e) (as_element s) h =
+    let inner = tight_is e s h.1.1 in
+    record {
+      is = (
+        is_name language.Two x h.0,
+        record {
+          left = has_this language.Two mark.LeftBracket h.1.0;
+          right = has_this language.Two mark.RightBracket inner.rest.0;
+        },
+        inner.is,
+      );
+      rest = inner.rest.1;
+    }
 tight_is (minus e) (as_minus s) h = tight_is e s h.1
 tight_is (negation e) (as_negation s) h = tight_is e s h.1
 tight_is (complement e) (as_complement s) h =
@@ -115,6 +141,18 @@ mutual
   statement_is l (assign x e) (as_assignment s) h =
       let value = whole_is l e _ _ s h.1.1 in
       record { is = (is_name l x h.0, value.is); rest = value.rest.1 }
+  statement_is l (store x i e) (as_store at_e s t) h =
+      let index = whole_is l i _ _ s h.1.1 in
+      let value = whole_is l e _ _ t index.rest.1.1 in
+      record {
+        is = (
+          is_name l x h.0,
+          record { left = has_this l mark.LeftBracket h.1.0; right = has_this l mark.RightBracket index.rest.0 },
+          index.is,
+          value.is,
+        );
+        rest = value.rest.1;
+      }
   statement_is l (receive i x) as_read h = record { is = (is_name l i h.1.0, is_name l x h.1.1.0); rest = h.1.1.1.1 }
   statement_is l (send o e) (as_write s) h =
       let value = whole_is l e _ _ s h.1.1 in
@@ -186,6 +224,38 @@ names_are : (l : Language) (xs : List Name) (more : List Token) → AreSpelled l
     → And l (AreNames l xs) more
 names_are l = list_are l spell_name (IsName l) (name_is l)
 
+-- ---- tables and arrays
+
+literal_is : (l : Language) (v : Literal) (more : List Token) → AreSpelled l (spell_literal v more)
+    → And l (IsProperLiteral v) more
+literal_is l (plain n) more h = record { is = number_small l n h.0; rest = h.1 }
+literal_is l (negated n) more h = record { is = number_small l n h.1.0; rest = h.1.1 }
+
+table_is : (l : Language) (t : Table) (more : List Token) → AreSpelled l (spell_table t more)
+    → And l (IsProperTable l t) more
+table_is l t more h =
+    let values = list_are l spell_literal IsProperLiteral (literal_is l) t.values _ h.1.1.1 in
+    record {
+      is = record { word = has_word l keyword.Table h.0; name = is_name l t.name h.1.0; values = values.is };
+      rest = values.rest.1;
+    }
+
+declaration_is : (l : Language) (d : Declaration) (more : List Token) → AreSpelled l (spell_declaration d more)
+    → And l (IsProperDeclaration l d) more
+declaration_is l (array x n) more h =
+    record {
+      is = (
+        has_word l keyword.Array h.0,
+        is_name l x h.1.0,
+        record { left = has_this l mark.LeftBracket h.1.1.0; right = has_this l mark.RightBracket h.1.1.1.1.0 },
+        number_small l n h.1.1.1.0,
+      );
+      rest = h.1.1.1.1.1.1;
+    }
+declaration_is l (table t) more h =
+    let inner = table_is l t more h in
+    record { is = inner.is; rest = inner.rest }
+
 -- ---- processes
 
 part_is : (l : Language) (word : Keyword) (xs : List Name) (more : List Token) → AreSpelled l (spell_part word xs more)
@@ -224,7 +294,9 @@ process_is : (l : Language) (p : Process) (tokens more : List Token) → SpellsP
 process_is l p tokens more s spelled =
     let h = subst (λ ts. AreSpelled l ts) s.head spelled in
     let parts = parts_are l p.ins p.outs p.pars _ h.1.1.1 in
-    let body = statements_are l p.body s.body parts.rest.1.1 in
+    let declared = all_are l spell_declaration (IsProperDeclaration l) (declaration_is l) p.declarations _
+    parts.rest.1.1 in
+    let body = statements_are l p.body s.body declared.rest in
     record {
       is =
           record {
@@ -232,6 +304,7 @@ process_is l p tokens more s spelled =
             ins = parts.is.ins;
             outs = parts.is.outs;
             pars = parts.is.pars;
+            declarations = declared.is;
             body = body.is;
           };
       rest = body.rest.1;
@@ -247,11 +320,6 @@ processes_are l (p ∷ ps) tokens more s h =
     record { is = (first.is, others.is); rest = others.rest }
 
 -- ---- networks
-
-literal_is : (l : Language) (v : Literal) (more : List Token) → AreSpelled l (spell_literal v more)
-    → And l (IsProperLiteral v) more
-literal_is l (plain n) more h = record { is = number_small l n h.0; rest = h.1 }
-literal_is l (negated n) more h = record { is = number_small l n h.1.0; rest = h.1.1 }
 
 values_are : (l : Language) (vs : List Literal) (more : List Token) → AreSpelled l (spell_values vs more)
     → And l (AllByRecursion IsProperLiteral vs) more
@@ -312,6 +380,7 @@ pub description_is : (l : Language) (text : List ℕ) (tokens : List Token) (d :
 description_is l text tokens d read s =
     let rules = description_rules l tokens d s in
     let spelled = subst (λ ts. AreSpelled l ts) rules.opening (read_spelled l text tokens read) in
-    let processes = processes_are l d.processes _ _ rules.processes (language_is l _ spelled) in
+    let tables = all_are l spell_table (IsProperTable l) (table_is l) d.tables _ (language_is l _ spelled) in
+    let processes = processes_are l d.processes _ _ rules.processes tables.rest in
     let network = network_is l d.network [] processes.rest in
-    record { processes = processes.is; network = network.is }
+    record { tables = tables.is; processes = processes.is; network = network.is }

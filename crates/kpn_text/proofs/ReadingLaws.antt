@@ -34,7 +34,7 @@ use Rattle.kpn_text.specs.Phases.{Cause, in_tokens, in_grammar, in_names, phase,
 use Rattle.kpn_text_tokens.specs.Results.{and_then}
 use Rattle.kpn_text_names.proofs.Chains.{ok_is}
 use Rattle.kpn_text_names.proofs.Counts.{are_named, resolved_each}
-use Rattle.kpn_text.proofs.Parameters.{Counts, resolved_has}
+use Rattle.kpn_text.proofs.Parameters.{AreCounted, resolved_has}
 
 -- ---- tokens
 
@@ -191,14 +191,14 @@ programs_by : (i : ℕ) (p : Parts) (ps : List Parts) (fault : Option ProgramFau
 programs_by i p ps None is e = (is, e)
 programs_by i p ps (Some fault) is e = absurd cc
 
-programs_are : (i : ℕ) (ps : List Parts) → programs_cause i ps ≡ None → All Counts ps
+programs_are : (i : ℕ) (ps : List Parts) → programs_cause i ps ≡ None → All AreCounted ps
     → All IsProgram ps
 programs_are i [] e all = All-nil IsProgram
 programs_are i (p ∷ ps) e all =
+    let first = All-head AreCounted p ps all in
     let h = programs_by i p ps (lang.first_fault p) refl e in
-    let counts = All-head Counts p ps all in
-    All-cons IsProgram p ps (record { sound = h.0; counted = counts.counted; apart = λ _. counts.plain })
-    (programs_are (suc i) ps h.1 (All-tail Counts p ps all))
+    All-cons IsProgram p ps (record { sound = h.0; counted = first.counted; apart = first.apart })
+    (programs_are (suc i) ps h.1 (All-tail AreCounted p ps all))
 
 tables_by : (a b : Option Cause) → or_else a b ≡ None → (a ≡ None) × (b ≡ None)
 tables_by None b e = (refl, e)
@@ -208,7 +208,7 @@ network_by : (f : Option NetFault) → network_cause f ≡ None → f ≡ None
 network_by None e = refl
 network_by (Some f) e = absurd cc
 
-tables_keep : (t : Tables) → tables_cause t ≡ None → All Counts t.programs → IsNetwork t
+tables_keep : (t : Tables) → tables_cause t ≡ None → All AreCounted t.programs → IsNetwork t
 tables_keep t e all =
     let h = tables_by (programs_cause 0 t.programs) (network_cause (net.first_fault t)) e in
     record { programs = programs_are 0 t.programs h.0 all; sound = network_by (net.first_fault t) h.1 }

@@ -1,9 +1,10 @@
 -- The canonical text of a document that a text spells also spells it, if it is short enough.
-use Rattle.std.proofs.Common.{◌≡◌, ℕ, ◌<◌, ◌≤◌, Bool, true, false, cond, List, length, Some, None, Result, Ok, Err, refl, sym, ap, subst, ◌∙◌, arith}
-use Rattle.std.specs.Prelude.{nat_lt, IfOk}
+use Rattle.std.proofs.Common.{◌≡◌, ℕ, ◌<◌, ◌≤◌, Bool, true, false, cond, List, [], ◌∷◌, ◌++◌, length, map, Some, None, Result, Ok, Err, refl, sym, ap, subst, ◌∙◌, arith}
+use Rattle.std.specs.Prelude.{nat_lt, All, IfOk}
 use Rattle.std.specs.List.{AllByRecursion}
 use Rattle.std.proofs.lemmas.Bool.Decides.{nat_tests}
 use Rattle.kpn_limits.specs.declared.TheConstants.{MAX_CAPACITY, MAX_TEXT_BYTES}
+use Rattle.kpn_lang.specs.Parts.{IsProgram}
 use Rattle.kpn_net.specs.declared.tables.Growth.{Growth}
 use Rattle.kpn_net.specs.declared.tables.Growth.TheVariants as growth
 use Rattle.kpn_net.specs.declared.tables.Policy.{Policy}
@@ -14,24 +15,29 @@ use Rattle.kpn_text_tokens.specs.declared.tokens.Language.{Language}
 use Rattle.kpn_text_tokens.specs.Laws.{tokens_of}
 use Rattle.kpn_text_tokens.specs.Opening.{language_of}
 use Rattle.kpn_text_grammar.specs.Laws.{CanonicalSpells}
-use Rattle.kpn_text_grammar.specs.Syntax.{Description}
-use Rattle.kpn_text_grammar.specs.Spelling.{spell_description, ProcessIsWithin, IsDescription}
+use Rattle.kpn_text_grammar.specs.Syntax.{Table, Declaration, array, table, Process, Description}
+use Rattle.kpn_text_grammar.specs.Spelling.{spell_description, TableIsWithin, DeclarationIsWithin, ProcessIsWithin, IsWithin, IsDescription}
 use Rattle.kpn_text_tokens.specs.Results.{and_then}
 use Rattle.kpn_text_names.specs.Laws.{BlocksAreTheTree}
 use Rattle.kpn_text_names.specs.Network.{growth_of, limit_of, policy_of, Settings, settings_of, Wiring, wiring}
 use Rattle.kpn_text_names.specs.Named.{Programs, programs_of, Named, named_with, resolve}
+use Rattle.kpn_text_names.specs.Shared.{shared_of}
+use Rattle.kpn_text_names.specs.declared.tables.Shared.{Shared}
 use Rattle.kpn_text_names.specs.declared.network_names.NetworkNames.{NetworkNames}
 use Rattle.kpn_text.specs.CanonicalLaws.{DescriptionIsRead, LanguageIsTold, ReadDescriptionsAreProper}
 use Rattle.kpn_text.specs.Named.{growth_named, limit_named, policy_named, description_named}
-use Rattle.kpn_text.specs.Proper.{IsProperProcess, IsProperLimit, IsProperItem, IsProper}
+use Rattle.kpn_text.specs.Proper.{IsProperTable, IsProperDeclaration, IsProperProcess, IsProperLimit, IsProperItem, IsProper}
 use Rattle.kpn_text.specs.Text.{description_text}
 use Rattle.kpn_text_names.specs.NetworkNames.{names_in}
 use Rattle.kpn_text.specs.Document.{Document, canonical_text}
 use Rattle.kpn_text.specs.Spells.{Spells, IsSpelled}
 use Rattle.kpn_text.specs.Again.{PrintedTextSpells}
 use Rattle.kpn_text_names.proofs.Chains.{ok_is, went, then_ok}
-use Rattle.kpn_text.proofs.NamedProcesses.{processes_back}
-use Rattle.kpn_text.proofs.NamedItems.{items_back}
+use Rattle.kpn_text.proofs.KeptNames.{names_back}
+use Rattle.kpn_text.proofs.NamedItems.{items_back, literals_proper}
+use Rattle.kpn_text.proofs.NamedProcesses.{HaveFewCells, have_few, processes_back}
+use Rattle.kpn_text.proofs.SharedTables.{sorted_process, shared_again, shared_back, shared_filled, processes_again}
+use Rattle.kpn_text.proofs.SortedDeclarations.{plain_table, plain_count, arrays_of, tables_of, sorted}
 
 -- ---- the settings
 
@@ -81,24 +87,39 @@ settings_again s small =
 -- ---- what a description names, part by part
 
 record Resolved (d : Description) (n : Named) : Type 0 where
+  shared : Shared
   p : Programs
   w : Wiring
-  has_processes : programs_of d.processes ≡ Ok p
+  has_tables : shared_of d.tables ≡ Ok shared
+  has_processes : programs_of shared d.processes ≡ Ok p
   has_items : wiring p.names d.network.items ≡ Ok w
-  is : named_with (settings_of d.network) p w ≡ n
+  is : named_with shared (settings_of d.network) p w ≡ n
 
 resolved : (d : Description) (n : Named) → resolve d ≡ Ok n → Resolved d n
 resolved d n h =
-    let p = went _ _ n h in
-    let w = went _ _ n p.rest in
-    record { p = p.value; w = w.value; has_processes = p.first; has_items = w.first; is = ok_is _ n w.rest }
+    let s = went (shared_of d.tables) _ n h in
+    let p = went (programs_of s.value d.processes) _ n s.rest in
+    let w = went (wiring p.value.names d.network.items) _ n p.rest in
+    record {
+      shared = s.value;
+      p = p.value;
+      w = w.value;
+      has_tables = s.first;
+      has_processes = p.first;
+      has_items = w.first;
+      is = ok_is _ n w.rest;
+    }
 
-resolves : (d : Description) (p : Programs) (w : Wiring) → programs_of d.processes ≡ Ok p
-    → wiring p.names d.network.items ≡ Ok w → resolve d ≡ Ok (named_with (settings_of d.network) p w)
-resolves d p w hp hw =
-    then_ok (programs_of d.processes)
-    (λ q. and_then (wiring q.names d.network.items) (λ v. Ok (named_with (settings_of d.network) q v))) p hp
-    ∙ then_ok (wiring p.names d.network.items) (λ v. Ok (named_with (settings_of d.network) p v)) w hw
+resolves : (d : Description) (s : Shared) (p : Programs) (w : Wiring) → shared_of d.tables ≡ Ok s
+    → programs_of s d.processes ≡ Ok p → wiring p.names d.network.items ≡ Ok w
+    → resolve d ≡ Ok (named_with s (settings_of d.network) p w)
+resolves d s p w hs hp hw =
+    then_ok (shared_of d.tables)
+    (λ u. and_then (programs_of u d.processes)
+    (λ q. and_then (wiring q.names d.network.items) (λ v. Ok (named_with u (settings_of d.network) q v)))) s hs
+    ∙ then_ok (programs_of s d.processes)
+    (λ q. and_then (wiring q.names d.network.items) (λ v. Ok (named_with s (settings_of d.network) q v))) p hp
+    ∙ then_ok (wiring p.names d.network.items) (λ v. Ok (named_with s (settings_of d.network) p v)) w hw
 
 -- ---- the description that a document is printed as
 
@@ -107,35 +128,101 @@ printed n = description_named (names_in n) n.tables
 
 -- what it keeps of a description that names the document
 pub record Kept (l : Language) (d : Description) (n : Named) : Type 0 where
-  pub processes : d.processes ≡ (printed n).processes
+  pub tables : map plain_table d.tables ≡ (printed n).tables
+  pub processes : map sorted_process d.processes ≡ (printed n).processes
   pub limit : IsProperLimit (printed n).network.limit
   pub items : AllByRecursion (IsProperItem l) d.network.items
       → AllByRecursion (IsProperItem l) (printed n).network.items
   pub again : resolve (printed n) ≡ Ok n
 
-kept_by : BlocksAreTheTree → (l : Language) (d : Description) (s : Settings) (p : Programs) (w : Wiring)
-    → s.limit ≤ MAX_CAPACITY → programs_of d.processes ≡ Ok p → wiring p.names d.network.items ≡ Ok w
-    → Kept l d (named_with s p w)
-kept_by flat l d s p w small hp hw =
-    let n : Named = named_with s p w in
-    let a = processes_back flat d.processes p hp in
-    let b = items_back l (names_in n) p.names d.network.items w a.names_back refl hw in
-    let read : programs_of (printed n).processes ≡ Ok p = ap (λ ps. programs_of ps) a.back ∙ hp in
+kept_by : BlocksAreTheTree → (l : Language) (d : Description) (s : Settings) (shared : Shared) (p : Programs)
+    (w : Wiring) → IsWithin d → HaveFewCells p.programs → s.limit ≤ MAX_CAPACITY → shared_of d.tables ≡ Ok shared
+    → programs_of shared d.processes ≡ Ok p → wiring p.names d.network.items ≡ Ok w
+    → Kept l d (named_with shared s p w)
+kept_by flat l d s shared p w within few small hs hp hw =
+    let n : Named = named_with shared s p w in
+    let tables : (printed n).tables ≡ map plain_table d.tables = shared_back d.tables shared hs in
+    let filled = shared_filled d.tables shared within.tables hs in
+    let processes : (printed n).processes ≡ map sorted_process d.processes =
+    processes_back flat shared filled d.processes p within.processes hp few in
+    let b =
+    items_back l (names_in n) p.names d.network.items w (names_back shared d.processes p hp) refl hw in
+    let has_tables : shared_of (printed n).tables ≡ Ok shared =
+    ap (λ ts. shared_of ts) tables ∙ shared_again d.tables ∙ hs in
+    let has_processes : programs_of shared (printed n).processes ≡ Ok p =
+    ap (λ ps. programs_of shared ps) processes ∙ processes_again shared d.processes ∙ hp in
     record {
-      processes = sym a.back;
+      tables = sym tables;
+      processes = sym processes;
       limit = limit_proper s.limit small;
       items = b.proper;
-      again = resolves (printed n) p w read b.again ∙ ap (λ q. Ok (named_with q p w)) (settings_again s small);
+      again = resolves (printed n) shared p w has_tables has_processes b.again
+          ∙ ap (λ q. Ok (named_with shared q p w)) (settings_again s small);
     }
 
-kept : BlocksAreTheTree → LimitsAreInRange → (l : Language) (d : Description) (n : Named) → resolve d ≡ Ok n
-    → IsNetwork n.tables → Kept l d n
-kept flat limits l d n h net =
+kept : BlocksAreTheTree → LimitsAreInRange → (l : Language) (d : Description) (n : Named) → IsWithin d
+    → resolve d ≡ Ok n → IsNetwork n.tables → Kept l d n
+kept flat limits l d n within h net =
     let r = resolved d n h in
     let limit : limit_of d.network.limit ≡ n.tables.limit = ap (λ (q : Named). q.tables.limit) r.is in
     let small : limit_of d.network.limit ≤ MAX_CAPACITY =
     subst (λ l. l ≤ MAX_CAPACITY) (sym limit) (limits n.tables net).1 in
-    subst (λ q. Kept l d q) r.is (kept_by flat l d (settings_of d.network) r.p r.w small r.has_processes r.has_items)
+    let few : HaveFewCells r.p.programs =
+    have_few r.p.programs (subst (λ (q : Named). All IsProgram q.tables.programs) (sym r.is) net.programs) in
+    subst (λ q. Kept l d q) r.is
+    (kept_by flat l d (settings_of d.network) r.shared r.p r.w within few small r.has_tables r.has_processes
+    r.has_items)
+
+-- ---- what is printed is proper and within the limits of the grammar, if what was read is
+
+all_mapped : {A B : Type 0} (f : A → B) (P : A → Type 0) (Q : B → Type 0) → ((x : A) → P x → Q (f x)) → (xs : List A)
+    → AllByRecursion P xs → AllByRecursion Q (map f xs)
+all_mapped f P Q step [] all = tt
+all_mapped f P Q step (x ∷ xs) all = (step x all.0, all_mapped f P Q step xs all.1)
+
+all_both : {A : Type 0} (P : A → Type 0) (xs ys : List A) → AllByRecursion P xs → AllByRecursion P ys
+    → AllByRecursion P (xs ++ ys)
+all_both P [] ys first second = second
+all_both P (x ∷ xs) ys first second = (first.0, all_both P xs ys first.1 second)
+
+-- what holds of declarations, and of a table with its values as they are printed, holds of them as they are printed
+module _ (P : Declaration → Type 0) (plain : (t : Table) → P (table t) → P (table (plain_table t))) where
+  arrays_keep : (ds : List Declaration) → AllByRecursion P ds → AllByRecursion P (arrays_of ds)
+  arrays_keep [] all = tt
+  arrays_keep (array x n ∷ ds) all = (all.0, arrays_keep ds all.1)
+  arrays_keep (table t ∷ ds) all = arrays_keep ds all.1
+
+  tables_keep : (ds : List Declaration) → AllByRecursion P ds → AllByRecursion P (tables_of ds)
+  tables_keep [] all = tt
+  tables_keep (array x n ∷ ds) all = tables_keep ds all.1
+  tables_keep (table t ∷ ds) all = (plain t all.0, tables_keep ds all.1)
+
+  sorted_keep : (ds : List Declaration) → AllByRecursion P ds → AllByRecursion P (sorted ds)
+  sorted_keep ds all = all_both P (arrays_of ds) (tables_of ds) (arrays_keep ds all) (tables_keep ds all)
+
+plain_proper : (l : Language) (t : Table) → IsProperTable l t → IsProperTable l (plain_table t)
+plain_proper l t h = record { word = h.word; name = h.name; values = literals_proper t.values h.values }
+
+plain_within : (t : Table) → TableIsWithin t → TableIsWithin (plain_table t)
+plain_within t h =
+    let some : 0 < length t.values = h in
+    omega (arith, some, plain_count t.values)
+
+sorted_proper : (l : Language) (p : Process) → IsProperProcess l p → IsProperProcess l (sorted_process p)
+sorted_proper l p h = record {
+  name = h.name;
+  ins = h.ins;
+  outs = h.outs;
+  pars = h.pars;
+  declarations = sorted_keep (IsProperDeclaration l) (plain_proper l) p.declarations h.declarations;
+  body = h.body;
+}
+
+sorted_within : (p : Process) → ProcessIsWithin p → ProcessIsWithin (sorted_process p)
+sorted_within p h = record {
+  declarations = sorted_keep DeclarationIsWithin plain_within p.declarations h.declarations;
+  body = h.body;
+}
 
 -- ---- the law
 
@@ -146,20 +233,35 @@ proper text d s read k =
     let l : Language = d.language in
     let was : IsProper l s.tree = read l text s.tokens s.tree s.read s.spelled in
     record {
-      processes = subst (λ ps. AllByRecursion (IsProperProcess l) ps) k.processes was.processes;
+      tables =
+          subst (λ ts. AllByRecursion (IsProperTable l) ts) k.tables
+          (all_mapped plain_table (IsProperTable l) (IsProperTable l) (plain_proper l) s.tree.tables was.tables);
+      processes =
+          subst (λ ps. AllByRecursion (IsProperProcess l) ps) k.processes
+          (all_mapped sorted_process (IsProperProcess l) (IsProperProcess l) (sorted_proper l) s.tree.processes
+          was.processes);
       network = record { limit = k.limit; items = k.items was.network.items };
     }
 
--- each of its processes is within the limits of the grammar
+-- its tables and processes are within the limits of the grammar
 printed_fits : CanonicalSpells → (text : List ℕ) (d : Document) (s : Spells text d) → Kept d.language s.tree s.named
     → IsDescription d.language (spell_description d.language (printed s.named)) (printed s.named)
 printed_fits spells text d s k =
-    spells d.language (printed s.named) (subst (λ ps. AllByRecursion ProcessIsWithin ps) k.processes s.spelled.within)
+    let was : IsWithin s.tree = s.spelled.within in
+    spells d.language (printed s.named)
+    (record {
+      tables =
+          subst (λ ts. AllByRecursion TableIsWithin ts) k.tables
+          (all_mapped plain_table TableIsWithin TableIsWithin plain_within s.tree.tables was.tables);
+      processes =
+          subst (λ ps. AllByRecursion ProcessIsWithin ps) k.processes
+          (all_mapped sorted_process ProcessIsWithin ProcessIsWithin sorted_within s.tree.processes was.processes);
+    })
 
 pub spelled_kept : BlocksAreTheTree → LimitsAreInRange → (text : List ℕ) (d : Document) (s : Spells text d)
     → Kept d.language s.tree s.named
 spelled_kept flat limits text d s =
-    kept flat limits d.language s.tree s.named s.resolved
+    kept flat limits d.language s.tree s.named s.spelled.within s.resolved
     (subst (λ (e : Document). IsNetwork e.tables) (sym s.is) s.keeps)
 
 pub printed_spells : BlocksAreTheTree → LimitsAreInRange → CanonicalSpells → DescriptionIsRead → LanguageIsTold

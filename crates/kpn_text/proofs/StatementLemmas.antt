@@ -6,7 +6,7 @@ use Rattle.kpn_text_tokens.specs.declared.tokens.Language.TheVariants as languag
 use Rattle.kpn_text_tokens.specs.declared.tokens.Mark.TheVariants as mark
 use Rattle.kpn_text_tokens.specs.declared.tokens.Token.{Token}
 use Rattle.kpn_text_tokens.specs.declared.tokens.Token.TheVariants as token
-use Rattle.kpn_text_grammar.specs.Syntax.{Term, Statement, assign, receive, send, choice, loop, Statements, no_statements, statement}
+use Rattle.kpn_text_grammar.specs.Syntax.{Term, Statement, assign, store, receive, send, choice, loop, Statements, no_statements, statement}
 use Rattle.kpn_text_grammar.specs.Spelling.{spell_expression, spell_else, spell_statement, spell_statements}
 use Rattle.kpn_text.specs.Proper.{IsProperTerm, IsProperStatement, AreProper}
 use Rattle.kpn_text.specs.Text.{indented, whole_text, otherwise_text, statement_text, statements_text, unindented_text}
@@ -71,6 +71,8 @@ else_read language.Two level (statement (choice e a b) (statement s ss)) inside 
     braces_read level inside spell more tokens inner h
 else_read language.Two level (statement (assign x e) ss) inside branch spell more tokens inner first h =
     braces_read level inside spell more tokens inner h
+else_read language.Two level (statement (store x i e) ss) inside branch spell more tokens inner first h =
+    braces_read level inside spell more tokens inner h
 else_read language.Two level (statement (receive i x) ss) inside branch spell more tokens inner first h =
     braces_read level inside spell more tokens inner h
 else_read language.Two level (statement (send o e) ss) inside branch spell more tokens inner first h =
@@ -88,6 +90,15 @@ mutual
       space_read _ _
       (mark_read mark.Assign (codes " " ++ whole_text l e (codes ";\n" ++ more)) _ refl refl (space_read _ _ value)) in
       name_read x _ _ is.0 refl sign
+  statement_read {l} level (store x i e) more tokens is h =
+      let value = last_term_read e more tokens is.3 h in
+      let sign =
+      space_read _ _
+      (mark_read mark.Assign (codes " " ++ whole_text l e (codes ";\n" ++ more)) _ refl refl (space_read _ _ value)) in
+      let shut =
+      mark_read mark.RightBracket (codes " = " ++ whole_text l e (codes ";\n" ++ more)) _ is.1.right tt sign in
+      let index = whole_read i (codes "] = " ++ whole_text l e (codes ";\n" ++ more)) _ is.2 refl shut in
+      name_read x _ _ is.0 refl (mark_read mark.LeftBracket _ _ is.1.left tt index)
   statement_read level (receive i x) more tokens is h =
       let target = name_read x (codes ";\n" ++ more) _ is.1 refl (end_read more tokens h) in
       let port = name_read i (codes " " ++ (x ++ (codes ";\n" ++ more))) _ is.0 refl (space_read _ _ target) in

@@ -24,7 +24,9 @@ use Rattle.kpn_text_names.specs.declared.process.ProgramParts.{ProgramParts}
 use Rattle.kpn_text_names.specs.View.{named_seen, program_seen}
 use Rattle.kpn_text_names.specs.declared.network_names.NetworkNames.{NetworkNames}
 use Rattle.kpn_text_names.specs.declared.network_names.ProcessNames.{ProcessNames}
-use Rattle.kpn_text_names.specs.NetworkNames.{names_in, process_names_in, paired}
+use Rattle.kpn_text_names.specs.declared.network_names.NamedTable.{NamedTable}
+use Rattle.kpn_text_names.specs.declared.tables.Shared.{Shared}
+use Rattle.kpn_text_names.specs.NetworkNames.{named_table, names_in, process_names_in, paired}
 use Rattle.kpn_text.specs.Fault.{net_fault}
 use Rattle.kpn_text.specs.Making.{TellsCause, program_told}
 
@@ -82,6 +84,15 @@ pairs_next f g own new xs ys i x y p is at h e =
           ∙ append_assoc own (f x (g y) ∷ []) (paired f (drop (i + 1) xs) (map g (drop (i + 1) ys))) ∙ whole;
     }
 
+-- the same with the item that stands there
+pub pairs_next_at : {A B Y C : Type 0} (f : A → B → C) (g : Y → B) (own new : List C) (xs : List A) (ys : List Y)
+    (i : ℕ) (x : A) (d : Y) → Pairs f g own xs ys i → slice_get xs i ≡ Some x → i < length ys
+    → new ≡ own ++ f x (g (get_or ys i d)) ∷ [] → Pairs f g new xs ys (i + 1)
+pairs_next_at f g own new xs ys i x d p is h e =
+    let there : slice_get ys i ≡ Some (get_or ys i d) = slice_get-get_or ys i d h in
+    pairs_next f g own new xs ys i x (get_or ys i d) p is
+    (sym (get_or_from_slice_get ys i (get_or ys i d) (get_or ys i d) there)) h e
+
 pub pairs_end : {A B Y C : Type 0} (f : A → B → C) (g : Y → B) (own : List C) (xs : List A) (ys : List Y) (i : ℕ)
     → Pairs f g own xs ys i → length ys ≤ i → own ≡ paired f xs (map g ys)
 pairs_end f g own xs ys i p h =
@@ -94,6 +105,11 @@ pub pairs_break : {A B Y C : Type 0} (f : A → B → C) (g : Y → B) (own : Li
 pairs_break f g own xs ys i p e =
     sym (append-nil own) ∙ ap (λ l. own ++ l) (sym (ap (λ l. paired f l (map g (drop i ys))) (drop_from_none xs i e)))
     ∙ p.is
+
+-- a list seen as it is
+pub same_list : {A : Type 0} (xs : List A) → map (λ x. x) xs ≡ xs
+same_list [] = refl
+same_list (x ∷ xs) = ap (λ l. x ∷ l) (same_list xs)
 
 -- ---- programs made one after the other
 
@@ -194,22 +210,25 @@ network_then t fault told e f h =
 
 -- ---- the names of a description
 
-map_twice : (ps : List ProgramParts) → map (λ p. (program_seen p).names) ps ≡ map (λ q. q.names) (map program_seen ps)
-map_twice [] = refl
-map_twice (p ∷ ps) = ap (λ l. (program_seen p).names ∷ l) (map_twice ps)
+map_twice : (shared : Shared) (ps : List ProgramParts)
+    → map (λ p. p.scope) ps ≡ map (λ q. q.names) (map (program_seen shared) ps)
+map_twice shared [] = refl
+map_twice shared (p ∷ ps) = ap (λ l. p.scope ∷ l) (map_twice shared ps)
 
-pub names_are : (n : Named) (processes : List ProcessNames) (instances channels : List (List ℕ))
-    (slice : List ProgramParts) → slice ≡ n.programs.items
-    → processes ≡ paired process_names_in n.processes (map (λ p. (program_seen p).names) slice)
+pub names_are : (n : Named) (tables : List NamedTable) (processes : List ProcessNames)
+    (instances channels : List (List ℕ)) (slice : List ProgramParts) → slice ≡ n.programs.items
+    → tables ≡ paired named_table n.shared.names n.shared.values
+    → processes ≡ paired process_names_in n.processes (map (λ p. p.scope) slice)
     → instances ≡ n.instance_names → channels ≡ n.channel_names
-    → ◌≡◌ {A = NetworkNames} (record { processes = processes; instances = instances; channels = channels })
+    → ◌≡◌ {A = NetworkNames}
+    (record { tables = tables; processes = processes; instances = instances; channels = channels })
     (names_in (named_seen n))
-names_are n processes instances channels slice s e f g =
+names_are n tables processes instances channels slice s t e f g =
     let whole : processes
-    ≡ paired process_names_in n.processes (map (λ q. q.names) (map program_seen n.programs.items)) =
-    e ∙ ap (λ l. paired process_names_in n.processes (map (λ p. (program_seen p).names) l)) s
-    ∙ ap (paired process_names_in n.processes) (map_twice n.programs.items) in
-    λ i. record { processes = whole i; instances = f i; channels = g i }
+    ≡ paired process_names_in n.processes (map (λ q. q.names) (map (program_seen n.shared) n.programs.items)) =
+    e ∙ ap (λ l. paired process_names_in n.processes (map (λ p. p.scope) l)) s
+    ∙ ap (paired process_names_in n.processes) (map_twice n.shared n.programs.items) in
+    λ i. record { tables = t i; processes = whole i; instances = f i; channels = g i }
 
 -- ---- what a network answers
 

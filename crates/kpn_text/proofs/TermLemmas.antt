@@ -17,11 +17,11 @@ use Rattle.kpn_text_tokens.specs.Spelling.{has_mark, mark_bytes}
 use Rattle.kpn_text_tokens.proofs.WithoutPlaces.{decimal_spelled}
 use Rattle.kpn_lang.specs.declared.syntax.Op.{Op}
 use Rattle.kpn_lang.specs.declared.syntax.Op.TheVariants as operator
-use Rattle.kpn_text_grammar.specs.Syntax.{Term, numeral, variable, minus, negation, complement, binary, conditional}
+use Rattle.kpn_text_grammar.specs.Syntax.{Name, Term, numeral, variable, element, minus, negation, complement, binary, conditional}
 use Rattle.kpn_text_grammar.specs.Operators.{operator_mark, tightness, left_side, right_side, LOOSEST, OPERAND}
 use Rattle.kpn_text_grammar.specs.Spelling.{spell_term, spell_tight, spell_expression}
 use Rattle.kpn_text.specs.CanonicalLaws.{EndsWord}
-use Rattle.kpn_text.specs.Proper.{IsProperTerm}
+use Rattle.kpn_text.specs.Proper.{HasBrackets, IsProperTerm}
 use Rattle.kpn_text.specs.Text.{is_free, open_text, close_text, term_text, whole_text}
 use Rattle.kpn_text.proofs.TokenLemmas.{IsReadAs, name_read, number_read, mark_read, space_read}
 
@@ -92,6 +92,7 @@ term_no_equals : (l : Language) (n : ℕ) (e : Term) (more : List ℕ) → IsPro
     → starts_with nat_eq (term_text l n e more) (codes "=") ≡ false
 term_no_equals l n (numeral k) more is = number_no_equals l k more is
 term_no_equals l n (variable x) more is = name_no_equals l x more is
+term_no_equals l n (element x e) more is = name_no_equals l x _ is.0
 term_no_equals l n (minus e) more is = refl
 term_no_equals l n (negation e) more is = refl
 term_no_equals l n (complement e) more is = refl
@@ -115,6 +116,15 @@ negation_read : {l : Language} (n : ℕ) (e : Term) (spell : List Token → List
     → IsRead l (λ more. codes "!" ++ term_text l n e more) (λ tokens. token.Mark mark.Not ∷ spell tokens)
 negation_read {l} n e spell is inner more tokens ends h =
     mark_read mark.Not (term_text l n e more) _ refl (term_no_equals l n e more is) (inner more tokens ends h)
+
+element_read : {l : Language} (x : Name) (text : List ℕ → List ℕ) (spell : List Token → List Token) → IsName l x
+    → HasBrackets l → IsRead l text spell
+    → IsRead l (λ more. x ++ (codes "[" ++ text (codes "]" ++ more)))
+    (λ tokens. token.Name x ∷ token.Mark mark.LeftBracket ∷ spell (token.Mark mark.RightBracket ∷ tokens))
+element_read x text spell name has inner more tokens ends h =
+    let shut = mark_read mark.RightBracket more tokens has.right tt h in
+    name_read x _ _ name refl
+    (mark_read mark.LeftBracket (text (codes "]" ++ more)) _ has.left tt (inner _ _ refl shut))
 
 sides_read : {l : Language} (op : Op) (left right : List ℕ → List ℕ) (first second : List Token → List Token)
     → has_mark l (operator_mark op) ≡ true → IsRead l left first → IsRead l right second
@@ -160,6 +170,8 @@ term_read : (n : ℕ) (e : Term) → IsProperTerm language.One e
     → IsRead language.One (λ more. term_text language.One n e more) (λ tokens. spell_term e tokens)
 term_read n (numeral k) is more tokens ends h = number_read k more tokens is ends h
 term_read n (variable x) is more tokens ends h = name_read x more tokens is ends h
+term_read n (element x e) is more tokens ends h =
+    element_read x _ (λ tokens. spell_term e tokens) is.0 is.1 (term_read LOOSEST e is.2) more tokens ends h
 term_read n (minus e) is more tokens ends h =
     mark_read mark.Minus (term_text language.One OPERAND e more) _ refl tt (term_read OPERAND e is more tokens ends h)
 term_read n (negation e) is more tokens ends h =
@@ -181,6 +193,8 @@ tight_read : (n : ℕ) (e : Term) → IsProperTerm language.Two e
     → IsRead language.Two (λ more. term_text language.Two n e more) (λ tokens. spell_tight n e tokens)
 tight_read n (numeral k) is more tokens ends h = number_read k more tokens is ends h
 tight_read n (variable x) is more tokens ends h = name_read x more tokens is ends h
+tight_read n (element x e) is more tokens ends h =
+    element_read x _ (λ tokens. spell_tight LOOSEST e tokens) is.0 is.1 (tight_read LOOSEST e is.2) more tokens ends h
 tight_read n (minus e) is more tokens ends h =
     mark_read mark.Minus (term_text language.Two OPERAND e more) _ refl tt (tight_read OPERAND e is more tokens ends h)
 tight_read n (negation e) is more tokens ends h =

@@ -1,5 +1,5 @@
 -- The description that the tables of a network stand for, with a name in place of each number.
-use Rattle.std.specs.Prelude.{ℕ, suc, ℤ, pos, negsuc, nat_lt, if◌then◌else◌, List, ◌++◌, map, take, Option, Some, None}
+use Rattle.std.specs.Prelude.{ℕ, suc, ℤ, pos, negsuc, nat_eq, nat_lt, if◌then◌else◌, List, [], ◌∷◌, ◌++◌, drop, map, take, Option, Some, None}
 use Rattle.kpn_lang.specs.Parts.{Parts}
 use Rattle.kpn_limits.specs.declared.TheConstants.{MAX_CAPACITY}
 use Rattle.kpn_lang.specs.Syntax as lang
@@ -12,7 +12,9 @@ use Rattle.kpn_net.specs.declared.tables.Policy.{Policy}
 use Rattle.kpn_net.specs.declared.tables.Policy.TheVariants as policy
 use Rattle.kpn_net.specs.declared.tables.Instance as net
 use Rattle.kpn_net.specs.Tables.{Tables}
-use Rattle.kpn_text_grammar.specs.Syntax.{Name, Term, numeral, variable, minus, negation, complement, binary, conditional, assign, receive, send, choice, loop, Statements, no_statements, statement, Process, Literal, plain, negated, Instance, Item, channel, source, sink, instance, Network, Description}
+use Rattle.kpn_text_grammar.specs.Syntax.{Name, Term, numeral, variable, element, minus, negation, complement, binary, conditional, assign, store, receive, send, choice, loop, Statements, no_statements, statement, Literal, plain, negated, Table, Declaration, array, table, Process, Instance, Item, channel, source, sink, instance, Network, Description}
+use Rattle.kpn_text_names.specs.declared.network_names.NamedRow.{NamedRow}
+use Rattle.kpn_text_names.specs.declared.network_names.NamedTable.{NamedTable}
 use Rattle.kpn_text_names.specs.declared.network_names.NetworkNames.{NetworkNames}
 use Rattle.kpn_text_names.specs.declared.network_names.ProcessNames.{ProcessNames}
 use Rattle.kpn_text_names.specs.Names.{name_at}
@@ -23,33 +25,60 @@ abbrev pub number_named : ℤ → Term
 number_named (pos n) = numeral n
 number_named (negsuc n) = minus (numeral (suc n))
 
--- an expression over these variables; no text names a cell yet
-abbrev pub term_named : (vars : List Name) → lang.Term → Term
-term_named vars (lang.Num z) = number_named z
-term_named vars (lang.Var k) = variable (name_at vars k)
-term_named vars (lang.Neg e) = minus (term_named vars e)
-term_named vars (lang.Not e) = negation (term_named vars e)
-term_named vars (lang.BitNot e) = complement (term_named vars e)
-term_named vars (lang.Bin o a b) = binary o (term_named vars a) (term_named vars b)
-term_named vars (lang.Choice e a b) = conditional (term_named vars e) (term_named vars a) (term_named vars b)
-term_named vars (lang.Cell base size e) = term_named vars e
+-- the name of the row that begins at a place, of these rows, or else another name
+abbrev pub row_or : List NamedRow → ℕ → Name → Name
+row_or [] base x = x
+row_or (r ∷ rs) base x = if nat_eq r.base base then r.name else row_or rs base x
 
--- statements over these ports and variables
+-- the name of the array or the table that begins at a place
+abbrev pub row_name : ProcessNames → ℕ → Name
+row_name names base = row_or names.arrays base (row_or names.tables base [])
+
+-- an expression over these variables, arrays and tables
+abbrev pub term_named : ProcessNames → lang.Term → Term
+term_named names (lang.Num z) = number_named z
+term_named names (lang.Var k) = variable (name_at names.vars k)
+term_named names (lang.Cell base size e) = element (row_name names base) (term_named names e)
+term_named names (lang.Neg e) = minus (term_named names e)
+term_named names (lang.Not e) = negation (term_named names e)
+term_named names (lang.BitNot e) = complement (term_named names e)
+term_named names (lang.Bin o a b) = binary o (term_named names a) (term_named names b)
+term_named names (lang.Choice e a b) = conditional (term_named names e) (term_named names a) (term_named names b)
+
+-- statements over these ports, variables, arrays and tables
 abbrev pub statements_named : ProcessNames → Tree → Statements
 statements_named names End = no_statements
 statements_named names (Assign x e rest) =
-    statement (assign (name_at names.vars x) (term_named names.vars e)) (statements_named names rest)
+    statement (assign (name_at names.vars x) (term_named names e)) (statements_named names rest)
+statements_named names (Set base size i e rest) =
+    statement (store (row_name names base) (term_named names i) (term_named names e)) (statements_named names rest)
 statements_named names (Read i x rest) =
     statement (receive (name_at names.ins i) (name_at names.vars x)) (statements_named names rest)
 statements_named names (Write o e rest) =
-    statement (send (name_at names.outs o) (term_named names.vars e)) (statements_named names rest)
+    statement (send (name_at names.outs o) (term_named names e)) (statements_named names rest)
 statements_named names (If e a b rest) =
-    statement (choice (term_named names.vars e) (statements_named names a) (statements_named names b))
+    statement (choice (term_named names e) (statements_named names a) (statements_named names b))
     (statements_named names rest)
 statements_named names (While e a rest) =
-    statement (loop (term_named names.vars e) (statements_named names a)) (statements_named names rest)
-statements_named names (Set base size i e rest) =
-    statement (assign (name_at names.vars base) (term_named names.vars e)) (statements_named names rest)
+    statement (loop (term_named names e) (statements_named names a)) (statements_named names rest)
+
+abbrev pub literal_named : ℤ → Literal
+literal_named (pos n) = plain n
+literal_named (negsuc n) = negated (suc n)
+
+abbrev pub array_named : NamedRow → Declaration
+array_named r = array r.name r.size
+
+-- the tables of a process, of which these are the values one behind another
+abbrev pub tables_named : List NamedRow → List ℤ → List Declaration
+tables_named [] values = []
+tables_named (r ∷ rs) values =
+    table (record { name = r.name; values = map literal_named (take r.size values) })
+    ∷ tables_named rs (drop r.size values)
+
+-- the arrays of a process, and then its tables
+abbrev pub declarations_named : ProcessNames → List ℤ → List Declaration
+declarations_named names values = map array_named names.arrays ++ tables_named (take names.own names.tables) values
 
 -- a process: the first of its variables are its parameters
 abbrev pub process_named : ProcessNames → Parts → Process
@@ -58,12 +87,9 @@ process_named names parts = record {
   ins = names.ins;
   outs = names.outs;
   pars = take parts.pars names.vars;
+  declarations = declarations_named names parts.tables;
   body = statements_named names (tree_of parts.blocks 0);
 }
-
-abbrev pub literal_named : ℤ → Literal
-literal_named (pos n) = plain n
-literal_named (negsuc n) = negated (suc n)
 
 abbrev pub channel_named : Name → ChannelSpec → Item
 channel_named x (Inner cap) = channel x cap
@@ -106,9 +132,14 @@ network_named names t = record {
   items = paired channel_named names.channels t.channels ++ paired (instance_named names) names.instances t.instances;
 }
 
--- the processes in order, and the network
+-- a table before the processes
+abbrev pub table_named : NamedTable → Table
+table_named t = record { name = t.name; values = map literal_named t.values }
+
+-- the shared tables and the processes in order, and the network
 abbrev pub description_named : NetworkNames → Tables → Description
 description_named names t = record {
+  tables = map table_named names.tables;
   processes = paired process_named names.processes t.programs;
   network = network_named names t;
 }

@@ -3,16 +3,23 @@
 use Rattle.std.specs.Prelude.{◌≡◌, ℕ, ◌<◌, ◌^◌, true, List, Option, Some, None}
 use Rattle.std.specs.List.{AllByRecursion}
 use Rattle.kpn_text_tokens.specs.declared.tokens.Language.{Language}
+use Rattle.kpn_text_tokens.specs.declared.tokens.Keyword.TheVariants as keyword
 use Rattle.kpn_text_tokens.specs.declared.tokens.Mark.TheVariants as mark
-use Rattle.kpn_text_tokens.specs.Spelling.{has_mark}
+use Rattle.kpn_text_tokens.specs.Spelling.{has_keyword, has_mark}
 use Rattle.kpn_text_tokens.specs.Rules.{IsName}
 use Rattle.kpn_text_grammar.specs.Operators.{operator_mark}
-use Rattle.kpn_text_grammar.specs.Syntax.{Name, Term, numeral, variable, minus, negation, complement, binary, conditional, Statement, assign, receive, send, choice, loop, Statements, no_statements, statement, Process, Literal, plain, negated, Instance, Item, channel, source, sink, instance, Network, Description}
+use Rattle.kpn_text_grammar.specs.Syntax.{Name, Term, numeral, variable, element, minus, negation, complement, binary, conditional, Statement, assign, store, receive, send, choice, loop, Statements, no_statements, statement, Literal, plain, negated, Table, Declaration, array, table, Process, Instance, Item, channel, source, sink, instance, Network, Description}
+
+-- the language has `[` and `]`
+pub record HasBrackets (l : Language) : Type 0 where
+  pub left : has_mark l mark.LeftBracket ≡ true
+  pub right : has_mark l mark.RightBracket ≡ true
 
 -- each name is a name, each number is below 2 ^ 63, and the language has each operator
 abbrev pub IsProperTerm : Language → Term → Type 0
 IsProperTerm l (numeral n) = n < 2 ^ 63
 IsProperTerm l (variable x) = IsName l x
+IsProperTerm l (element x e) = IsName l x × HasBrackets l × IsProperTerm l e
 IsProperTerm l (minus e) = IsProperTerm l e
 IsProperTerm l (negation e) = IsProperTerm l e
 IsProperTerm l (complement e) = (has_mark l mark.BitNot ≡ true) × IsProperTerm l e
@@ -25,6 +32,7 @@ abbrev mutual
   -- the same of a statement
   pub IsProperStatement : Language → Statement → Type 0
   IsProperStatement l (assign x e) = IsName l x × IsProperTerm l e
+  IsProperStatement l (store x i e) = IsName l x × HasBrackets l × IsProperTerm l i × IsProperTerm l e
   IsProperStatement l (receive i x) = IsName l i × IsName l x
   IsProperStatement l (send o e) = IsName l o × IsProperTerm l e
   IsProperStatement l (choice e a b) = IsProperTerm l e × AreProper l a × AreProper l b
@@ -39,17 +47,28 @@ abbrev mutual
 abbrev pub AreNames : Language → List Name → Type 0
 AreNames l = AllByRecursion (IsName l)
 
+abbrev pub IsProperLiteral : Literal → Type 0
+IsProperLiteral (plain n) = n < 2 ^ 63
+IsProperLiteral (negated n) = n < 2 ^ 63
+
+-- and of a table, of an array
+pub record IsProperTable (l : Language) (t : Table) : Type 0 where
+  pub word : has_keyword l keyword.Table ≡ true
+  pub name : IsName l t.name
+  pub values : AllByRecursion IsProperLiteral t.values
+
+abbrev pub IsProperDeclaration : Language → Declaration → Type 0
+IsProperDeclaration l (array x n) = (has_keyword l keyword.Array ≡ true) × IsName l x × HasBrackets l × (n < 2 ^ 63)
+IsProperDeclaration l (table t) = IsProperTable l t
+
 -- and of a process
 pub record IsProperProcess (l : Language) (p : Process) : Type 0 where
   pub name : IsName l p.name
   pub ins : AreNames l p.ins
   pub outs : AreNames l p.outs
   pub pars : AreNames l p.pars
+  pub declarations : AllByRecursion (IsProperDeclaration l) p.declarations
   pub body : AreProper l p.body
-
-abbrev pub IsProperLiteral : Literal → Type 0
-IsProperLiteral (plain n) = n < 2 ^ 63
-IsProperLiteral (negated n) = n < 2 ^ 63
 
 pub record IsProperInstance (l : Language) (i : Instance) : Type 0 where
   pub name : IsName l i.name
@@ -74,5 +93,6 @@ pub record IsProperNetwork (l : Language) (n : Network) : Type 0 where
 
 -- In a description each name is a name of the language, it has each operator, and each number is below 2 ^ 63.
 pub record IsProper (l : Language) (d : Description) : Type 0 where
+  pub tables : AllByRecursion (IsProperTable l) d.tables
   pub processes : AllByRecursion (IsProperProcess l) d.processes
   pub network : IsProperNetwork l d.network

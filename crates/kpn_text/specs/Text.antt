@@ -10,7 +10,7 @@ use Rattle.kpn_text_tokens.specs.declared.tokens.Keyword.TheVariants as keyword
 use Rattle.kpn_text_tokens.specs.declared.tokens.Language.{Language}
 use Rattle.kpn_text_tokens.specs.declared.tokens.Language.TheVariants as language
 use Rattle.kpn_text_tokens.specs.Spelling.{keyword_bytes, mark_bytes}
-use Rattle.kpn_text_grammar.specs.Syntax.{Name, Term, numeral, variable, minus, negation, complement, binary, conditional, Statement, assign, receive, send, choice, loop, Statements, no_statements, statement, Process, Literal, plain, negated, Instance, Item, channel, source, sink, instance, Network, Description}
+use Rattle.kpn_text_grammar.specs.Syntax.{Name, Term, numeral, variable, element, minus, negation, complement, binary, conditional, Statement, assign, store, receive, send, choice, loop, Statements, no_statements, statement, Literal, plain, negated, Table, Declaration, array, table, Process, Instance, Item, channel, source, sink, instance, Network, Description}
 use Rattle.kpn_text_grammar.specs.Operators.{operator_mark, tightness, left_side, right_side, LOOSEST, OPERAND}
 use Rattle.kpn_text_grammar.specs.Words.{growth_word, policy_word}
 
@@ -36,10 +36,11 @@ abbrev pub close_text : Bool → List ℕ → List ℕ
 close_text true more = more
 close_text false more = codes ")" ++ more
 
--- where an expression has to bind as tight as this: a number, a name, -e, !e, ~e, a op b, (a op b), (e ? a : b)
+-- where an expression has to bind as tight as this: a number, a name, x[e], -e, !e, ~e, a op b, (a op b), (e ? a : b)
 abbrev pub term_text : Language → ℕ → Term → List ℕ → List ℕ
 term_text l n (numeral k) more = decimal k ++ more
 term_text l n (variable x) more = x ++ more
+term_text l n (element x e) more = x ++ (codes "[" ++ term_text l LOOSEST e (codes "]" ++ more))
 term_text l n (minus e) more = codes "-" ++ term_text l OPERAND e more
 term_text l n (negation e) more = codes "!" ++ term_text l OPERAND e more
 term_text l n (complement e) more = codes "~" ++ term_text l OPERAND e more
@@ -72,6 +73,8 @@ abbrev mutual
   -- a statement from its first word on, up to the end of its last line
   pub statement_text : Language → (level : ℕ) → Statement → List ℕ → List ℕ
   statement_text l level (assign x e) more = x ++ (codes " = " ++ whole_text l e (codes ";\n" ++ more))
+  statement_text l level (store x i e) more =
+      x ++ (codes "[" ++ whole_text l i (codes "] = " ++ whole_text l e (codes ";\n" ++ more)))
   statement_text l level (receive i x) more = codes "read " ++ (i ++ (codes " " ++ (x ++ (codes ";\n" ++ more))))
   statement_text l level (send o e) more =
       codes "write " ++ (o ++ (codes " " ++ whole_text l e (codes ";\n" ++ more)))
@@ -124,6 +127,22 @@ name_text x more = x ++ more
 abbrev pub names_text : List Name → List ℕ → List ℕ
 names_text = list_text name_text
 
+-- ---- tables and arrays
+
+-- 3, -3
+abbrev pub literal_text : Literal → List ℕ → List ℕ
+literal_text (plain n) more = decimal n ++ more
+literal_text (negated n) more = codes "-" ++ (decimal n ++ more)
+
+-- table t = 3, -3;  up to the end of its line
+abbrev pub table_text : Table → List ℕ → List ℕ
+table_text t more = codes "table " ++ (t.name ++ (codes " = " ++ list_text literal_text t.values (codes ";\n" ++ more)))
+
+-- array a[3];  table t = 3, -3;  on a line of its own, one level in
+abbrev pub declaration_text : Declaration → List ℕ → List ℕ
+declaration_text (array x n) more = codes "  array " ++ (x ++ (codes "[" ++ (decimal n ++ (codes "];\n" ++ more))))
+declaration_text (table t) more = codes "  " ++ table_text t more
+
 -- ---- processes
 
 -- a part of a head behind some bytes; nothing if it has no names
@@ -139,20 +158,17 @@ parts_text (x ∷ xs) outs pars more =
 parts_text [] (x ∷ xs) pars more = part_text [] keyword.Out (x ∷ xs) (part_text (codes "; ") keyword.Par pars more)
 parts_text [] [] pars more = part_text [] keyword.Par pars more
 
--- process p(..) {  its body, one level in, and  }
+-- process p(..) {  its arrays, its tables and its body, one level in, and  }
 abbrev pub process_text : Language → Process → List ℕ → List ℕ
 process_text l p more =
     codes "process "
     ++ (p.name
     ++ (codes "("
-    ++ parts_text p.ins p.outs p.pars (codes ") {\n" ++ statements_text l 1 p.body (codes "}\n" ++ more))))
+    ++ parts_text p.ins p.outs p.pars
+    (codes ") {\n"
+    ++ all_text declaration_text p.declarations (statements_text l 1 p.body (codes "}\n" ++ more)))))
 
 -- ---- networks
-
--- 3, -3
-abbrev pub literal_text : Literal → List ℕ → List ℕ
-literal_text (plain n) more = decimal n ++ more
-literal_text (negated n) more = codes "-" ++ (decimal n ++ more)
 
 -- the out channels of an instance, behind a space; nothing if there are none
 abbrev pub outs_text : List Name → List ℕ → List ℕ
@@ -207,6 +223,7 @@ abbrev pub language_text : Language → List ℕ → List ℕ
 language_text language.One more = more
 language_text language.Two more = codes "language 2;\n" ++ more
 
--- the line of the language, the processes and then the network
+-- the line of the language, the shared tables, the processes and then the network
 abbrev pub description_text : Language → Description → List ℕ
-description_text l d = language_text l (all_text (process_text l) d.processes (network_text d.network []))
+description_text l d =
+    language_text l (all_text table_text d.tables (all_text (process_text l) d.processes (network_text d.network [])))

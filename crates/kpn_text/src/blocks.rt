@@ -14,7 +14,7 @@ ghost use Rattle.kpn_text.specs.Writing.{Writes};
 ghost use Rattle.kpn_text.specs.Seconds.{IsWritten};
 
 use crate::expressions::expression;
-use crate::pieces::{bytes, indent, name};
+use crate::pieces::{bytes, indent, name, row};
 use kpn_lang::{BlockId, Expr, Program, Stmt};
 use kpn_text_grammar::LOOSEST;
 use kpn_text_names::ProcessNames;
@@ -80,10 +80,15 @@ impl Body<'_> {
     {
         indent(out, indents)?;
         match statement {
-            // no text names a cell yet
-            Stmt::Assign(variable, value) | Stmt::Set(variable, _, _, value) => {
+            Stmt::Assign(variable, value) => {
                 name(out, self.names.vars.as_slice(), *variable)?;
                 bytes(out, b" = ")?;
+                self.value(out, value)
+            }
+            Stmt::Set(base, _, index, value) => {
+                row(out, self.names, *base)?;
+                bytes(out, b"[")?;
+                self.index(out, index)?;
                 self.value(out, value)
             }
             Stmt::Read(port, variable) => {
@@ -171,20 +176,25 @@ impl Body<'_> {
         }
     }
 
+    /// The index of a statement, up to the sign behind it.
+    fn index(&self, out: &mut Vec<u8>, index: &Expr) -> Result<(), AllocError>
+        ensures { OnOk result (Writes out.old.items out.new.items
+            (λ more.
+            whole_text self.now.language (term_named self.now.names.now (term_of index.now))
+            (codes "] = " ++ more))) }
+    {
+        expression(out, self.language, LOOSEST, self.names, index)?;
+        bytes(out, b"] = ")
+    }
+
     /// The value of a statement, up to the end of its line.
     fn value(&self, out: &mut Vec<u8>, value: &Expr) -> Result<(), AllocError>
         ensures { OnOk result (Writes out.old.items out.new.items
             (λ more.
-            whole_text self.now.language (term_named self.now.names.now.vars (term_of value.now))
+            whole_text self.now.language (term_named self.now.names.now (term_of value.now))
             (codes ";\n" ++ more))) }
     {
-        expression(
-            out,
-            self.language,
-            LOOSEST,
-            self.names.vars.as_slice(),
-            value,
-        )?;
+        expression(out, self.language, LOOSEST, self.names, value)?;
         bytes(out, b";\n")
     }
 
@@ -192,16 +202,10 @@ impl Body<'_> {
     fn test(&self, out: &mut Vec<u8>, test: &Expr) -> Result<(), AllocError>
         ensures { OnOk result (Writes out.old.items out.new.items
             (λ more.
-            whole_text self.now.language (term_named self.now.names.now.vars (term_of test.now))
+            whole_text self.now.language (term_named self.now.names.now (term_of test.now))
             (codes " {\n" ++ more))) }
     {
-        expression(
-            out,
-            self.language,
-            LOOSEST,
-            self.names.vars.as_slice(),
-            test,
-        )?;
+        expression(out, self.language, LOOSEST, self.names, test)?;
         bytes(out, b" {\n")
     }
 }

@@ -7,58 +7,63 @@ ghost use Rattle.kpn_text.specs.Text.{close_text, open_text, term_text};
 ghost use Rattle.kpn_text.specs.Text as spec;
 ghost use Rattle.kpn_text.specs.Writing.{Writes};
 
-use crate::pieces::{bytes, name, number};
-use kpn_lang::{Expr, Op, Sequence};
+use crate::pieces::{bytes, name, number, row};
+use kpn_lang::{Expr, Op};
 use kpn_text_grammar::{LOOSEST, OPERAND, left_side, mark_of, right_side, tightness};
+use kpn_text_names::ProcessNames;
 use kpn_text_tokens::Language;
 use std::alloc::AllocError;
 
-/// An expression over variables of these names, where one has to bind as tight as `tight`: `-e`, `!e`, `~e`, `e op e`,
-/// `(e op e)`, `(e ? e : e)`.
+/// An expression over variables, arrays and tables of these names, where one has to bind as tight as `tight`: `x[e]`,
+/// `-e`, `!e`, `~e`, `e op e`, `(e op e)`, `(e ? e : e)`.
 pub(crate) fn expression(
     out: &mut Vec<u8>,
     language: Language,
     tight: usize,
-    vars: &[Sequence<u8>],
+    names: &ProcessNames,
     expr: &Expr,
 ) -> Result<(), AllocError>
     ensures { OnOk result (Writes out.old.items out.new.items
-        (term_text language tight (term_named vars.now (term_of expr.now)))) }
+        (term_text language tight (term_named names.now (term_of expr.now)))) }
 {
     match expr {
         Expr::Num(value) => number(out, value),
-        Expr::Var(variable) => name(out, vars, *variable),
+        Expr::Var(variable) => name(out, names.vars.as_slice(), *variable),
+        Expr::Cell(base, _, index) => {
+            row(out, names, *base)?;
+            bytes(out, b"[")?;
+            expression(out, language, LOOSEST, names, index)?;
+            bytes(out, b"]")
+        }
         Expr::Neg(operand) => {
             bytes(out, b"-")?;
-            expression(out, language, OPERAND, vars, operand)
+            expression(out, language, OPERAND, names, operand)
         }
         Expr::Not(operand) => {
             bytes(out, b"!")?;
-            expression(out, language, OPERAND, vars, operand)
+            expression(out, language, OPERAND, names, operand)
         }
         Expr::BitNot(operand) => {
             bytes(out, b"~")?;
-            expression(out, language, OPERAND, vars, operand)
+            expression(out, language, OPERAND, names, operand)
         }
         Expr::Bin(op, left, right) => {
             let free = is_free(language, tight, *op);
             open_unless(out, free)?;
-            expression(out, language, left_side(*op), vars, left)?;
+            expression(out, language, left_side(*op), names, left)?;
             bytes(out, b" ")?;
             bytes(out, mark_of(*op).spelling())?;
             bytes(out, b" ")?;
-            expression(out, language, right_side(*op), vars, right)?;
+            expression(out, language, right_side(*op), names, right)?;
             close_unless(out, free)
         }
-        // no text names a cell yet
-        Expr::Cell(_base, _size, index) => expression(out, language, tight, vars, index),
         Expr::Choice(test, first, second) => {
             bytes(out, b"(")?;
-            expression(out, language, LOOSEST, vars, test)?;
+            expression(out, language, LOOSEST, names, test)?;
             bytes(out, b" ? ")?;
-            expression(out, language, LOOSEST, vars, first)?;
+            expression(out, language, LOOSEST, names, first)?;
             bytes(out, b" : ")?;
-            expression(out, language, LOOSEST, vars, second)?;
+            expression(out, language, LOOSEST, names, second)?;
             bytes(out, b")")
         }
     }

@@ -42,7 +42,5 @@ pub fn names_stand_once()
 pub(crate) fn names_are_text()
     ensures { NamesAreText }
 {
-    blocks_are_the_tree();
-    capacities_are_in_range();
     read_descriptions_are_proper();
 }

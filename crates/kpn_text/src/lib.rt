@@ -20,6 +20,7 @@ mod pieces;
 mod printing;
 mod processes;
 mod reading;
+mod rows;
 
 pub use document::Document;
 pub use fault::TextFault;

@@ -9,8 +9,9 @@ ghost use Rattle.kpn_text.specs.Named.{call_named, channel_named, description_na
 ghost use Rattle.kpn_text.specs.Text.{all_text, call_text, description_text, growth_text, item_text, language_text, limit_text, name_text, names_text, network_text, outs_text, policy_text, process_text, values_text};
 ghost use Rattle.kpn_text.specs.Writing.{Writes};
 
-use crate::pieces::{bytes, name, number};
+use crate::pieces::{bytes, name};
 use crate::processes::process;
+use crate::rows::shared_tables;
 use itoa::Buffer;
 use kpn_lang::Sequence;
 use kpn_limits::MAX_CAPACITY;
@@ -35,6 +36,7 @@ pub fn canonical_text(
 {
     let mut out = Vec::new(alloc);
     opening(&mut out, language)?;
+    shared_tables(&mut out, names.tables.as_slice())?;
     processes(&mut out, language, network, names.processes.as_slice())?;
     items(&mut out, network, names)?;
     Ok(out)
@@ -304,16 +306,11 @@ fn values(out: &mut Vec<u8>, values: &[i64]) -> Result<(), AllocError>
     ensures { OnOk result
         (Writes out.old.items out.new.items (values_text (map literal_named values.now))) }
 {
-    let Some((first, others)) = values.split_first() else {
+    if values.is_empty() {
         return Ok(());
-    };
-    bytes(out, b"; ")?;
-    number(out, first)?;
-    for value in others {
-        bytes(out, b", ")?;
-        number(out, value)?;
     }
-    Ok(())
+    bytes(out, b"; ")?;
+    crate::pieces::values(out, values)
 }
 
 /// A capacity or a limit without leading zeros.

@@ -1,15 +1,16 @@
 //! The pieces of which a text is printed. Each goes behind the bytes so far. If memory runs out, the contracts leave
 //! open how much was put by then.
 
-ghost use Rattle.std.specs.Prelude.{ℕ, ◌++◌, OnOk};
+ghost use Rattle.std.specs.Prelude.{◌≡◌, ℕ, ◌++◌, map, OnOk};
 ghost use Rattle.kpn_text_names.specs.Names.{name_at};
 ghost use Rattle.kpn_text_tokens.specs.declared.tokens.Language.{Language};
-ghost use Rattle.kpn_text.specs.Named.{literal_named, number_named};
-ghost use Rattle.kpn_text.specs.Text.{indented, literal_text, name_text, names_text, term_text};
+ghost use Rattle.kpn_text.specs.Named.{literal_named, number_named, row_name, row_or};
+ghost use Rattle.kpn_text.specs.Text.{indented, list_text, literal_text, name_text, names_text, term_text};
 ghost use Rattle.kpn_text.specs.Writing.{Writes};
 
 use itoa::Buffer;
 use kpn_lang::Sequence;
+use kpn_text_names::{NamedRow, ProcessNames};
 use std::alloc::AllocError;
 
 /// These bytes.
@@ -44,6 +45,44 @@ pub(crate) fn name(
         Some(name) => bytes(out, name.as_slice()),
         None => Ok(()),
     }
+}
+
+/// The name of the row that begins at a place, of these rows, or else another name.
+fn row_or<'a>(rows: &'a [NamedRow], base: usize, other: &'a [u8]) -> &'a [u8]
+    ensures { result.now ≡ row_or rows.now base other.now }
+{
+    for row in rows {
+        if row.base == base {
+            return row.name.as_slice();
+        }
+    }
+    other
+}
+
+/// The name of the array or the table that begins at a place.
+pub(crate) fn row(out: &mut Vec<u8>, names: &ProcessNames, base: usize) -> Result<(), AllocError>
+    ensures { OnOk result
+        (Writes out.old.items out.new.items (name_text (row_name names.now base))) }
+{
+    let table = row_or(names.tables.as_slice(), base, b"");
+    bytes(out, row_or(names.arrays.as_slice(), base, table))
+}
+
+/// Values joined by commas.
+pub(crate) fn values(out: &mut Vec<u8>, values: &[i64]) -> Result<(), AllocError>
+    ensures { OnOk result
+        (Writes out.old.items out.new.items
+        (list_text literal_text (map literal_named values.now))) }
+{
+    let Some((first, others)) = values.split_first() else {
+        return Ok(());
+    };
+    number(out, first)?;
+    for value in others {
+        bytes(out, b", ")?;
+        number(out, value)?;
+    }
+    Ok(())
 }
 
 /// Names joined by commas.

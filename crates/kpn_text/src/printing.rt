@@ -11,8 +11,8 @@ use crate::networks::canonical_text;
 use std::alloc::{AllocError, Global};
 
 /// The canonical text of a document, in its language. It has two spaces for each level, one statement or item on each
-/// line, and a line feed after each line. It has no comments, no leading zeros, and no more words than it needs. If it is
-/// no longer than a description may be, it is read as the same document.
+/// line, and a line feed after each line. It has no comments, no leading zeros, and no more words than it needs. If it
+/// is no longer than a description may be, it is read as the same document.
 pub fn print_network(alloc: Global, document: &Document) -> Result<Vec<u8>, AllocError>
     ensures canonical { IfOk result (λ text. text.items ≡ spec.canonical_text document.now) }
     ensures again { IfOk result (λ text.

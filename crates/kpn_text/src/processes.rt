@@ -1,4 +1,4 @@
-//! Processes: a head on the first line, the body, and the brace that closes it.
+//! Processes: a head on the first line, the arrays and tables, the body, and the brace that closes it.
 
 ghost use Rattle.std.specs.Prelude.{◌≡◌, ◌++◌, [], OnOk, codes, take, if◌then◌else◌};
 ghost use Rattle.kpn_text.specs.Named.{process_named};
@@ -7,6 +7,7 @@ ghost use Rattle.kpn_text.specs.Writing.{Writes};
 
 use crate::blocks::Body;
 use crate::pieces::{bytes, names};
+use crate::rows::declarations;
 use kpn_lang::{Program, Sequence};
 use kpn_text_names::ProcessNames;
 use kpn_text_tokens::{Keyword, Language};
@@ -25,6 +26,7 @@ pub(crate) fn process(
 {
     program.known();
     head(out, names, program.pars())?;
+    declarations(out, names, program.tables())?;
     let body = Body {
         language,
         names,

@@ -8,8 +8,8 @@ use Rattle.kpn_text_tokens.specs.declared.tokens.Token.{Token}
 use Rattle.kpn_text_tokens.specs.declared.tokens.Token.TheVariants as token
 use Rattle.kpn_text_tokens.specs.declared.tokens.Mark.TheVariants as mark_
 use Rattle.kpn_text_tokens.specs.declared.tokens.Keyword.TheVariants as keyword_
-use Rattle.kpn_text_grammar.specs.Syntax.{Statement, assign, receive, send, choice, loop, Statements, no_statements, statement, Process, Description}
-use Rattle.kpn_text_grammar.specs.Spelling.{spell_term, spell_statement, spell_statements, spell_else, spell_all, spell_parts, spell_process, spell_network, spell_description, SpellsAll, SpellsStatement, as_assignment, as_read, as_write, as_if, as_while, SpellsStatements, nothing, one_more, SpellsElse, left_out, behind_else, SpellsSecond, with_braces, as_branch, SpellsProcess, SpellsByRules, SpellsDescription, IsDescription, begins_else, deepest_term, deepest_term_of_all, ProcessIsWithin}
+use Rattle.kpn_text_grammar.specs.Syntax.{Statement, assign, store, receive, send, choice, loop, Statements, no_statements, statement, Process, Description}
+use Rattle.kpn_text_grammar.specs.Spelling.{spell_term, spell_statement, spell_statements, spell_else, spell_all, spell_expression, spell_head, spell_table, spell_process, spell_network, spell_description, SpellsAll, SpellsStatement, as_assignment, as_store, as_read, as_write, as_if, as_while, SpellsStatements, nothing, one_more, SpellsElse, left_out, behind_else, SpellsSecond, with_braces, as_branch, SpellsProcess, SpellsByRules, SpellsDescription, IsDescription, begins_else, deepest_term, deepest_term_of_all, ProcessIsWithin, IsWithin}
 use Rattle.kpn_text_grammar.proofs.WholeLaws.{canonical_expression}
 
 -- ---- the canonical spelling follows the rules
@@ -18,6 +18,7 @@ no_else : (l : Language) (ss : Statements) (more : List Token) → begins_else m
     → begins_else (spell_statements l ss more) ≡ false
 no_else l no_statements more ends = ends
 no_else l (statement (assign x e) ss) more ends = refl
+no_else l (statement (store x i e) ss) more ends = refl
 no_else l (statement (receive i x) ss) more ends = refl
 no_else l (statement (send o e) ss) more ends = refl
 no_else l (statement (choice e a b) ss) more ends = refl
@@ -40,6 +41,11 @@ mutual
       → begins_else more ≡ false → SpellsStatement l s (spell_statement l s more) more
   canonical_statement l (assign x e) more level ends =
       as_assignment {x = x} {e = e} {more = more} (canonical_expression l e (token.Mark mark_.Semicolon ∷ more) level)
+  canonical_statement l (store x i e) more level ends =
+      let at_e = spell_expression l e (token.Mark mark_.Semicolon ∷ more) in
+      as_store {x = x} {i = i} {e = e} {more = more} at_e
+      (canonical_expression l i (token.Mark mark_.RightBracket ∷ token.Mark mark_.Assign ∷ at_e) (omega (arith, level)))
+      (canonical_expression l e (token.Mark mark_.Semicolon ∷ more) (omega (arith, level)))
   canonical_statement l (receive i x) more level ends = as_read
   canonical_statement l (send o e) more level ends =
       as_write {o = o} {e = e} {more = more} (canonical_expression l e (token.Mark mark_.Semicolon ∷ more) level)
@@ -69,7 +75,7 @@ canonical_process : (l : Language) (p : Process) (more : List Token) → Process
 canonical_process l p more within = record {
   inside = spell_statements l p.body (token.Mark mark_.RightBrace ∷ more);
   head = refl;
-  body = canonical_statements l p.body (token.Mark mark_.RightBrace ∷ more) within.terms refl;
+  body = canonical_statements l p.body (token.Mark mark_.RightBrace ∷ more) within.body.terms refl;
 }
 
 canonical_processes : (l : Language) (ps : List Process) (more : List Token) → AllByRecursion ProcessIsWithin ps
@@ -81,20 +87,20 @@ canonical_processes l (p ∷ ps) more within = (
   canonical_processes l ps more within.1,
 )
 
-canonical_rules : (l : Language) (d : Description) → AllByRecursion ProcessIsWithin d.processes
+canonical_rules : (l : Language) (d : Description) → IsWithin d
     → SpellsByRules l d (spell_description l d)
 canonical_rules l d within = record {
   inside = spell_all (spell_process l) d.processes (spell_network d.network []);
   opening = refl;
-  processes = canonical_processes l d.processes (spell_network d.network []) within;
+  processes = canonical_processes l d.processes (spell_network d.network []) within.processes;
 }
 
-canonical_by : (l : Language) (d : Description) → AllByRecursion ProcessIsWithin d.processes
+canonical_by : (l : Language) (d : Description) → IsWithin d
     → SpellsDescription l d (spell_description l d)
 canonical_by language.One d within = refl
 canonical_by language.Two d within = canonical_rules language.Two d within
 
-pub canonical_description : (l : Language) (d : Description) → AllByRecursion ProcessIsWithin d.processes
+pub canonical_description : (l : Language) (d : Description) → IsWithin d
     → IsDescription l (spell_description l d) d
 canonical_description l d within = record { spelled = canonical_by l d within; within = within }
 
@@ -105,6 +111,9 @@ mutual
       → tokens ≡ spell_statement language.One s more
   one_statement (as_assignment {x = x} h) =
       ap (λ (ts : List Token). token.Name x ∷ token.Mark mark_.Assign ∷ ts) h
+  one_statement (as_store {x = x} {i = i} at_e hi he) =
+      ap (λ (ts : List Token). token.Name x ∷ token.Mark mark_.LeftBracket ∷ ts) (hi
+      ∙ ap (λ (ts : List Token). spell_term i (token.Mark mark_.RightBracket ∷ token.Mark mark_.Assign ∷ ts)) he)
   one_statement as_read = refl
   one_statement (as_write {o = o} h) = ap (λ (ts : List Token). token.Keyword keyword_.Write ∷ token.Name o ∷ ts) h
   one_statement (as_if {e = e} {a = a} he ha hb) =
@@ -133,9 +142,7 @@ mutual
 one_process : (p : Process) (tokens more : List Token) → SpellsProcess language.One p tokens more
     → tokens ≡ spell_process language.One p more
 one_process p tokens more h =
-    h.head ∙ ap (λ (ts : List Token). token.Keyword keyword_.Process ∷ token.Name p.name ∷ token.Mark mark_.LeftParen
-    ∷ spell_parts p.ins p.outs p.pars (token.Mark mark_.RightParen ∷ token.Mark mark_.LeftBrace ∷ ts))
-    (one_statements h.body)
+    h.head ∙ ap (spell_head p) (one_statements h.body)
 
 one_processes : (ps : List Process) (tokens more : List Token)
     → SpellsAll (SpellsProcess language.One) ps tokens more
@@ -148,11 +155,13 @@ one_processes (p ∷ ps) tokens more (others, first, rest) =
 
 pub by_rules : (l : Language) (tokens : List Token) (d : Description) → SpellsByRules l d tokens
     → SpellsDescription l d tokens
-by_rules language.One tokens d h = h.opening ∙ one_processes d.processes h.inside (spell_network d.network []) h.processes
+by_rules language.One tokens d h =
+    h.opening ∙ ap (λ (ts : List Token). spell_all spell_table d.tables ts)
+    (one_processes d.processes h.inside (spell_network d.network []) h.processes)
 by_rules language.Two tokens d h = h
 
 rules_by : (l : Language) (tokens : List Token) (d : Description) → SpellsDescription l d tokens
-    → AllByRecursion ProcessIsWithin d.processes → SpellsByRules l d tokens
+    → IsWithin d → SpellsByRules l d tokens
 rules_by language.One tokens d h within =
     subst (λ (ts : List Token). SpellsByRules language.One d ts) (sym h) (canonical_rules language.One d within)
 rules_by language.Two tokens d h within = h

@@ -9,13 +9,14 @@ use Rattle.kpn_text_tokens.specs.declared.tokens.Token.{Token}
 use Rattle.kpn_text_tokens.specs.declared.tokens.Keyword.TheVariants as keyword_
 use Rattle.kpn_text_grammar.specs.declared.parser.Scope.{Scope}
 use Rattle.kpn_text_grammar.specs.Syntax.{Process, Description}
-use Rattle.kpn_text_grammar.specs.Spelling.{kinds, SpellsAll, SpellsProcess, spell_language, spell_network, ProcessIsWithin, IsDescription}
+use Rattle.kpn_text_grammar.specs.Spelling.{kinds, SpellsAll, SpellsProcess, spell_all, spell_table, spell_language, spell_network, ProcessIsWithin, IsWithin, IsDescription}
 use Rattle.kpn_text_tokens.specs.Results.{and_then}
 use Rattle.kpn_text_grammar.specs.TokenTests.{is_keyword}
-use Rattle.kpn_text_grammar.specs.Reading.{keyword, language_at, mark, numbered_process, opening, processes, network, at_end, contents, description, two}
+use Rattle.kpn_text_grammar.specs.Reading.{keyword, language_at, mark, numbered_process, opening, shared_tables, processes, network, at_end, contents, description, two}
 use Rattle.kpn_text_grammar.proofs.Steps.{bind_ok, keyword_again, keyword_takes, mark_again, mark_takes, moved, ok_is, two_again, two_takes}
 use Rattle.kpn_text_grammar.proofs.CanonicalLaws.{by_rules, description_rules}
 use Rattle.kpn_text_grammar.proofs.ManyLaws.{TakesSpelled, begins, all_taken, all_again}
+use Rattle.kpn_text_grammar.proofs.DeclarationLaws.{shared_tables_takes, shared_tables_again}
 use Rattle.kpn_text_grammar.proofs.HeadLaws.{process_shape, process_laws}
 use Rattle.kpn_text_grammar.proofs.NetworkLaws.{network_takes, network_again}
 
@@ -47,23 +48,30 @@ processes_again s ls ps more within ends h = all_again (is_keyword keyword_.Proc
 
 -- what is read behind the language
 record TakesContents (l : Language) (tokens : List Token) (d : Description) : Type 0 where
-  spelled : SpellsAll (SpellsProcess l) d.processes tokens (spell_network d.network [])
-  within : AllByRecursion ProcessIsWithin d.processes
+  inside : List Token
+  tables : tokens ≡ spell_all spell_table d.tables inside
+  spelled : SpellsAll (SpellsProcess l) d.processes inside (spell_network d.network [])
+  within : IsWithin d
 
 contents_takes : (s : Scope) (ls : List Lexeme) (d : Description) → contents s ls ≡ Ok d
     → TakesContents s.language (kinds ls) d
 unfolding contents
 contents_takes s ls d h =
-    let p = bind_ok _ _ _ h in
+    let t = bind_ok _ _ _ h in
+    let p = bind_ok _ _ _ t.2 in
     let n = bind_ok _ _ _ p.2 in
     let e = bind_ok _ _ _ n.2 in
-    let ps = processes_takes s ls p.0.0 p.0.1 p.1 in
+    let ts = shared_tables_takes s ls t.0.0 t.0.1 t.1 in
+    let ps = processes_takes s t.0.1 p.0.0 p.0.1 p.1 in
     let net = network_takes s p.0.1 n.0.0 n.0.1 n.1 in
     let ends = at_end_takes n.0.1 e.0 e.1 in
-    moved (TakesContents s.language (kinds ls)) (record { processes = p.0.0; network = n.0.0 }) d e.2 (record {
-      spelled = subst (λ (ts : List Token). SpellsAll (SpellsProcess s.language) p.0.0 (kinds ls) ts)
+    moved (TakesContents s.language (kinds ls)) (record { tables = t.0.0; processes = p.0.0; network = n.0.0 }) d e.2
+    (record {
+      inside = kinds t.0.1;
+      tables = ts.spelled;
+      spelled = subst (λ (us : List Token). SpellsAll (SpellsProcess s.language) p.0.0 (kinds t.0.1) us)
           (net ∙ ap (spell_network n.0.0) ends) ps.spelled;
-      within = ps.within;
+      within = record { tables = ts.within; processes = ps.within };
     })
 
 opening_takes : (s : Scope) (ls rest : List Lexeme) → opening s ls ≡ Ok rest
@@ -93,14 +101,25 @@ description_takes s ls d h =
     let parts = contents_takes s b.0 d b.2 in
     record {
       spelled = by_rules s.language (kinds ls) d
-          (record { inside = kinds b.0; opening = begun; processes = parts.spelled });
+          (record {
+            inside = parts.inside;
+            opening = begun ∙ ap (spell_language s.language) parts.tables;
+            processes = parts.spelled;
+          });
       within = parts.within;
     }
 
-contents_at : (s : Scope) (d : Description) (ls a b : List Lexeme) → processes s ls ≡ Ok (d.processes, a)
-    → network s a ≡ Ok (d.network, b) → at_end b ≡ Ok tt → contents s ls ≡ Ok d
+contents_at : (s : Scope) (d : Description) (ls a b c : List Lexeme) → shared_tables s ls ≡ Ok (d.tables, a)
+    → processes s a ≡ Ok (d.processes, b) → network s b ≡ Ok (d.network, c) → at_end c ≡ Ok tt → contents s ls ≡ Ok d
 unfolding contents and_then
-contents_at s d ls a b p n e = rw (p, n, e) refl
+contents_at s d ls a b c t p n e = rw (t, p, n, e) refl
+
+-- a process or the network begins with its word
+no_table : (l : Language) (ps : List Process) (tokens : List Token) (d : Description)
+    → SpellsAll (SpellsProcess l) ps tokens (spell_network d.network [])
+    → begins (is_keyword keyword_.Table) tokens ≡ false
+no_table l [] tokens d h = ap (begins (is_keyword keyword_.Table)) h
+no_table l (p ∷ ps) tokens d (others, first, rest) = ap (begins (is_keyword keyword_.Table)) first.head
 
 opening_at : (s : Scope) (ls a b rest : List Lexeme) → keyword s keyword_.Language ls ≡ Ok a → two s a ≡ Ok b
     → mark s mark_.Semicolon b ≡ Ok rest → opening s ls ≡ Ok rest
@@ -127,12 +146,14 @@ pub description_again : (s : Scope) (ls : List Lexeme) (d : Description) → IsD
     → description s ls ≡ Ok d
 description_again s ls d is =
     let rules = description_rules s.language (kinds ls) d is in
-    let b = language_again s s.language ls rules.inside rules.opening in
-    let p = processes_again s b.0 d.processes (spell_network d.network []) is.within refl
+    let b = language_again s s.language ls (spell_all spell_table d.tables rules.inside) rules.opening in
+    let t = shared_tables_again s b.0 d.tables rules.inside is.within.tables
+    (no_table s.language d.processes rules.inside d rules.processes) b.2 in
+    let p = processes_again s t.0 d.processes (spell_network d.network []) is.within.processes refl
     (subst (λ (ts : List Token). SpellsAll (SpellsProcess s.language) d.processes ts (spell_network d.network []))
-    (sym b.2) rules.processes) in
+    (sym t.2) rules.processes) in
     let n = network_again s d.network p.0 [] p.2 in
-    description_at s d ls b.0 b.1 (contents_at s d b.0 p.0 n.0 p.1 n.1 (at_end_again n.0 n.2))
+    description_at s d ls b.0 b.1 (contents_at s d b.0 t.0 p.0 n.0 t.1 p.1 n.1 (at_end_again n.0 n.2))
 
 -- ---- tokens spell one description of a language at most
 

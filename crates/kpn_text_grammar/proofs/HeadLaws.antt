@@ -1,7 +1,6 @@
 -- Lists of names, the head of a process and the process: what is read is spelled so, and what is spelled so is read.
 use Rattle.std.proofs.Common.{◌≡◌, ◌⊎◌, inl, inr, ℕ, ◌+◌, ◌<◌, ◌≤◌, Bool, true, false, List, [], ◌∷◌, length, Ok, refl, sym, ap, ◌∙◌, arith}
 use Rattle.std.specs.List.{AllByRecursion}
-use Rattle.kpn_limits.specs.declared.TheConstants.{MAX_LEVELS}
 use Rattle.kpn_text_tokens.specs.declared.tokens.Language.{Language}
 use Rattle.kpn_text_tokens.specs.declared.tokens.Lexeme.{Lexeme}
 use Rattle.kpn_text_tokens.specs.declared.tokens.Token.{Token}
@@ -11,14 +10,15 @@ use Rattle.kpn_text_tokens.specs.declared.tokens.Keyword.{Keyword}
 use Rattle.kpn_text_tokens.specs.declared.tokens.Keyword.TheVariants as keyword_
 use Rattle.kpn_text_grammar.specs.declared.fault.GrammarFault.TheVariants as fault
 use Rattle.kpn_text_grammar.specs.declared.parser.Scope.{Scope}
-use Rattle.kpn_text_grammar.specs.Syntax.{Name, Statements, Process}
-use Rattle.kpn_text_grammar.specs.Spelling.{kinds, spell_all, spell_further, spell_name, spell_names, spell_part, spell_later_part, spell_parts, SpellsProcess, ProcessIsWithin}
+use Rattle.kpn_text_grammar.specs.Syntax.{Name, Statements, Declaration, Process}
+use Rattle.kpn_text_grammar.specs.Spelling.{kinds, spell_all, spell_further, spell_name, spell_names, spell_part, spell_later_part, spell_parts, spell_declaration, spell_head, SpellsProcess, ProcessIsWithin}
 use Rattle.kpn_text_tokens.specs.Results.{and_then}
 use Rattle.kpn_text_grammar.specs.TokenTests.{is_mark, is_keyword, is_name}
-use Rattle.kpn_text_grammar.specs.Reading.{Read, next, first_is, mark, keyword, name, further, names, optional_names, block, HeadParts, after_outs, outs_or_pars, after_ins, parts_behind, parts, process, numbered_process}
+use Rattle.kpn_text_grammar.specs.Reading.{Read, next, first_is, mark, keyword, name, further, names, optional_names, declarations, body_behind, HeadParts, after_outs, outs_or_pars, after_ins, parts_behind, parts, process, numbered_process}
 use Rattle.kpn_text_grammar.proofs.Steps.{bind_ok, by_test, moved, no_value, kind_of, kinds_of, front, next_takes, next_again, mark_takes, mark_again, keyword_takes, keyword_again, name_takes, name_again}
 use Rattle.kpn_text_grammar.proofs.ManyLaws.{Reads, TakesSome, TakesSpelled, ReadsSpelled, AreBegun, begins, first_begins, is_comma, further_shortens, separated_takes, separated_again, spelled_shortens}
-use Rattle.kpn_text_grammar.proofs.StatementLaws.{statements_longer, block_laws}
+use Rattle.kpn_text_grammar.proofs.StatementLaws.{statements_longer, statements_take, statements_again, no_declaration}
+use Rattle.kpn_text_grammar.proofs.DeclarationLaws.{declarations_takes, declarations_again, declarations_no_less}
 
 -- ---- names
 
@@ -443,14 +443,14 @@ parts_again s (x ∷ xs) outs pars ls more h =
 
 -- ---- processes
 
-process_head : (p : Process) (ls a b c d e : List Lexeme) (inside : List Token)
+process_head : (p : Process) (ls a b c d e f : List Lexeme) (inside : List Token)
     → kinds ls ≡ token.Keyword keyword_.Process ∷ kinds a → kinds a ≡ token.Name p.name ∷ kinds b
     → kinds b ≡ token.Mark mark_.LeftParen ∷ kinds c
     → kinds c ≡ spell_parts p.ins p.outs p.pars (kinds d) → kinds d ≡ token.Mark mark_.RightParen ∷ kinds e
-    → kinds e ≡ token.Mark mark_.LeftBrace ∷ inside
-    → kinds ls ≡ token.Keyword keyword_.Process ∷ token.Name p.name ∷ token.Mark mark_.LeftParen
-    ∷ spell_parts p.ins p.outs p.pars (token.Mark mark_.RightParen ∷ token.Mark mark_.LeftBrace ∷ inside)
-process_head p ls a b c d e inside word named opens head shuts body = rw (word, named, opens, head, shuts, body) refl
+    → kinds e ≡ token.Mark mark_.LeftBrace ∷ kinds f → kinds f ≡ spell_all spell_declaration p.declarations inside
+    → kinds ls ≡ spell_head p inside
+process_head p ls a b c d e f inside word named opens head shuts brace declared =
+    rw (word, named, opens, head, shuts, brace, declared) refl
 
 process_takes : (s : Scope) (ls : List Lexeme) (p : Process) (rest : List Lexeme) → process s ls ≡ Ok (p, rest)
     → TakesSpelled (SpellsProcess s.language) ProcessIsWithin ls p rest
@@ -461,50 +461,71 @@ process_takes s ls p rest h =
     let m = bind_ok _ _ _ x.2 in
     let q = bind_ok _ _ _ m.2 in
     let c = bind_ok _ _ _ q.2 in
-    let b = bind_ok _ _ _ c.2 in
-    let body = (block_laws s MAX_LEVELS).takes c.0 b.0.0 b.0.1 b.1 in
+    let o = bind_ok _ _ _ c.2 in
+    let ds = bind_ok _ _ _ o.2 in
+    let b = bind_ok _ _ _ ds.2 in
+    let declared = declarations_takes s o.0 ds.0.0 ds.0.1 ds.1 in
+    let body = statements_take s ds.0.1 b.0.0 b.0.1 b.1 in
     let found : Process = record {
       name = x.0.0;
       ins = q.0.0.ins;
       outs = q.0.0.outs;
       pars = q.0.0.pars;
-      body =
-          b.0.0;
+      declarations = ds.0.0;
+      body = b.0.0;
     } in
     moved (λ (y : Process × List Lexeme). TakesSpelled (SpellsProcess s.language) ProcessIsWithin ls y.0 y.1)
     (found, b.0.1) (p, rest) b.2 (record {
       spelled = record {
-        inside = body.inside;
-        head = process_head found ls w.0 x.0.1 m.0 q.0.1 c.0 body.inside
+        inside = kinds ds.0.1;
+        head = process_head found ls w.0 x.0.1 m.0 q.0.1 c.0 o.0 (kinds ds.0.1)
             (keyword_takes s keyword_.Process ls w.0 w.1) (name_takes s w.0 x.0.0 x.0.1 x.1)
             (mark_takes s mark_.LeftParen x.0.1 m.0 m.1) (parts_takes s m.0 q.0.0 q.0.1 q.1)
-            (mark_takes s mark_.RightParen q.0.1 c.0 c.1) body.head;
+            (mark_takes s mark_.RightParen q.0.1 c.0 c.1) (mark_takes s mark_.LeftBrace c.0 o.0 o.1) declared.spelled;
         body = body.spelled;
       };
-      within = body.within;
+      within = record { declarations = declared.within; body = body.within };
     })
 
-process_at : (s : Scope) (x : Name) (ins outs pars : List Name) (body : Statements) (ls a b c d e rest : List Lexeme)
+process_at : (s : Scope) (x : Name) (ins outs pars : List Name) (ds : List Declaration) (body : Statements)
+    (ls a b c d e f g rest : List Lexeme)
     → keyword s keyword_.Process ls ≡ Ok a → name s a ≡ Ok (x, b) → mark s mark_.LeftParen b ≡ Ok c
     → parts s c ≡ Ok (of_parts ins outs pars, d) → mark s mark_.RightParen d ≡ Ok e
-    → block s MAX_LEVELS e ≡ Ok (body, rest)
-    → process s ls ≡ Ok (record { name = x; ins = ins; outs = outs; pars = pars; body = body }, rest)
+    → mark s mark_.LeftBrace e ≡ Ok f → declarations s f ≡ Ok (ds, g) → body_behind s g ≡ Ok (body, rest)
+    → process s ls ≡ Ok (
+      record {
+        name = x;
+        ins = ins;
+        outs = outs;
+        pars = pars;
+        declarations = ds;
+        body = body;
+      },
+      rest,
+    )
 unfolding process and_then
-process_at s x ins outs pars body ls a b c d e rest w n o p m k = rw (w, n, o, p, m, k) refl
+process_at s x ins outs pars ds body ls a b c d e f g rest w n o p m i j k = rw (w, n, o, p, m, i, j, k) refl
 
 process_again : (s : Scope) (ls : List Lexeme) (p : Process) (more : List Token) → ProcessIsWithin p
     → SpellsProcess s.language p (kinds ls) more
     → (rest : List Lexeme) × (process s ls ≡ Ok (p, rest)) × (kinds rest ≡ more)
 process_again s ls p more within h =
-    let body = token.Mark mark_.LeftBrace ∷ h.inside in
+    let declared = spell_all spell_declaration p.declarations h.inside in
+    let body = token.Mark mark_.LeftBrace ∷ declared in
     let head = spell_parts p.ins p.outs p.pars (close body) in
     let w = keyword_again s keyword_.Process ls (token.Name p.name ∷ token.Mark mark_.LeftParen ∷ head) h.head in
     let n = name_again s w.0 p.name (token.Mark mark_.LeftParen ∷ head) w.2 in
     let o = mark_again s mark_.LeftParen n.0 head n.2 in
     let q = parts_again s p.ins p.outs p.pars o.0 body o.2 in
     let c = mark_again s mark_.RightParen q.0 body q.2 in
-    let k = (block_laws s MAX_LEVELS).again c.0 p.body h.inside more within c.2 h.body in
-    (k.0, process_at s p.name p.ins p.outs p.pars p.body ls w.0 n.0 o.0 q.0 c.0 k.0 w.1 n.1 o.1 q.1 c.1 k.1, k.2)
+    let i = mark_again s mark_.LeftBrace c.0 declared c.2 in
+    let j = declarations_again s i.0 p.declarations h.inside within.declarations (no_declaration h.body) i.2 in
+    let k = statements_again s j.0 p.body h.inside more within.body j.2 h.body in (
+      k.0,
+      process_at s p.name p.ins p.outs p.pars p.declarations p.body ls w.0 n.0 o.0 q.0 c.0 i.0 j.0 k.0 w.1 n.1 o.1 q.1 c.1
+          i.1 j.1 k.1,
+      k.2,
+    )
 
 pub process_laws : (s : Scope) (i : ℕ)
     → ReadsSpelled (SpellsProcess s.language) ProcessIsWithin (numbered_process s i)
@@ -557,7 +578,9 @@ process_longer p tokens more h =
     omega (
       arith,
       ap length h.head,
-      parts_no_less p.ins p.outs p.pars (close (token.Mark mark_.LeftBrace ∷ h.inside)),
+      parts_no_less p.ins p.outs p.pars
+          (close (token.Mark mark_.LeftBrace ∷ spell_all spell_declaration p.declarations h.inside)),
+      declarations_no_less p.declarations h.inside,
       statements_longer h.body,
     )
 

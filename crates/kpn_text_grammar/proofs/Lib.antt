@@ -1,5 +1,6 @@
 pub mod BlockSteps
 pub mod CanonicalLaws
+pub mod DeclarationLaws
 pub mod DescriptionLaws
 pub mod HeadLaws
 pub mod ListSteps
@@ -11,5 +12,6 @@ pub mod TermLaws
 pub mod TightAgain
 pub mod TightLaws
 pub mod TightSteps
+pub mod ValueLaws
 pub mod Rounds
 pub mod WholeLaws

@@ -5,7 +5,7 @@ use Rattle.kpn_text_tokens.specs.declared.tokens.Keyword.TheVariants as keyword_
 use Rattle.kpn_text_grammar.specs.declared.fault.GrammarFault.{GrammarFault}
 use Rattle.kpn_text_grammar.specs.declared.parser.Scope.{Scope}
 use Rattle.kpn_text_grammar.specs.TokenTests.{is_keyword}
-use Rattle.kpn_text_grammar.specs.Reading.{Read, Fails, many, further, goes_on, item, items, numbered_process, processes}
+use Rattle.kpn_text_grammar.specs.Reading.{Read, Fails, many, further, goes_on, item, items, declares, declaration, declarations, shared_table, shared_tables, numbered_process, processes}
 
 pub further_any : {A : Type 0} (s : Scope) (one : List Lexeme → Read A) (i : ℕ) (ls : List Lexeme)
     → further s one i ls ≡ further s one 0 ls
@@ -29,6 +29,34 @@ item_fails s i ls e h = h
 pub all_items : (s : Scope) (ls : List Lexeme) → items s ls ≡ many goes_on (item s) 0 (length ls) ls
 unfolding items
 all_items s ls = refl
+
+pub declaration_any : (s : Scope) (i : ℕ) (ls : List Lexeme) → declaration s i ls ≡ declaration s 0 ls
+unfolding declaration
+declaration_any s i ls = refl
+
+pub declaration_fails : (s : Scope) (i : ℕ) (ls : List Lexeme) (e : GrammarFault) → Fails e (declaration s 0 ls)
+    → Fails e (declaration s i ls)
+unfolding declaration
+declaration_fails s i ls e h = h
+
+pub all_declarations : (s : Scope) (ls : List Lexeme)
+    → declarations s ls ≡ many declares (declaration s) 0 (length ls) ls
+unfolding declarations
+all_declarations s ls = refl
+
+pub shared_any : (s : Scope) (i : ℕ) (ls : List Lexeme) → shared_table s i ls ≡ shared_table s 0 ls
+unfolding shared_table
+shared_any s i ls = refl
+
+pub shared_fails : (s : Scope) (i : ℕ) (ls : List Lexeme) (e : GrammarFault) → Fails e (shared_table s 0 ls)
+    → Fails e (shared_table s i ls)
+unfolding shared_table
+shared_fails s i ls e h = h
+
+pub all_shared : (s : Scope) (ls : List Lexeme)
+    → shared_tables s ls ≡ many (is_keyword keyword_.Table) (shared_table s) 0 (length ls) ls
+unfolding shared_tables
+all_shared s ls = refl
 
 pub all_processes : (s : Scope) (ls : List Lexeme) → processes s ls ≡ many (is_keyword keyword_.Process)
     (numbered_process s) 0 (length ls) ls

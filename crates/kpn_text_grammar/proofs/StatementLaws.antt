@@ -1,6 +1,6 @@
 -- What is read as a statement or a block is spelled so and nests no deeper than it may, and what is spelled so is read
 -- again.
-use Rattle.std.proofs.Common.{◌≡◌, ℕ, zero, suc, ◌<◌, ◌≤◌, Bool, true, false, not, ◌&&◌, List, [], ◌∷◌, length, Ok, Err, refl, sym, ap, subst, ◌∙◌, arith}
+use Rattle.std.proofs.Common.{◌≡◌, ℕ, zero, suc, ◌-◌, ◌<◌, ◌≤◌, Bool, true, false, not, ◌&&◌, List, [], ◌∷◌, length, Ok, Err, refl, sym, ap, subst, ◌∙◌, arith}
 use Rattle.std.specs.List.{AllByRecursion}
 use Rattle.std.proofs.lemmas.Bool.{and_from, and_parts}
 use Rattle.kpn_limits.specs.declared.TheConstants.{MAX_LEVELS}
@@ -13,13 +13,14 @@ use Rattle.kpn_text_tokens.specs.declared.tokens.Mark.TheVariants as mark_
 use Rattle.kpn_text_tokens.specs.declared.tokens.Keyword.TheVariants as keyword_
 use Rattle.kpn_text_grammar.specs.declared.fault.GrammarFault.TheVariants as fault
 use Rattle.kpn_text_grammar.specs.declared.parser.Scope.{Scope}
-use Rattle.kpn_text_grammar.specs.Syntax.{Term, Statement, assign, receive, send, choice, loop, Statements, no_statements, statement, statements_of}
-use Rattle.kpn_text_grammar.specs.Spelling.{kinds, SpellsTerm, SpellsAll, SpellsStatement, as_assignment, as_read, as_write, as_if, as_while, SpellsStatements, nothing, one_more, SpellsElse, left_out, behind_else, SpellsSecond, with_braces, as_branch, begins_else, inner_levels, deepest_term, BlockIsWithin}
+use Rattle.kpn_text_grammar.specs.Syntax.{Term, Statement, assign, store, receive, send, choice, loop, Statements, no_statements, statement, statements_of}
+use Rattle.kpn_text_grammar.specs.Spelling.{kinds, SpellsTerm, SpellsAll, SpellsStatement, as_assignment, as_store, as_read, as_write, as_if, as_while, SpellsStatements, nothing, one_more, SpellsElse, left_out, behind_else, SpellsSecond, with_braces, as_branch, begins_else, inner_levels, deepest_term, BlockIsWithin}
 use Rattle.kpn_text_tokens.specs.Results.{and_then}
 use Rattle.kpn_text_grammar.specs.TokenTests.{is_keyword}
-use Rattle.kpn_text_grammar.specs.Reading.{Read, next, first_is, mark, keyword, name, is_second, whole, many, assignment_behind, receive_behind, send_behind, else_behind, choice_behind, loop_behind, statement_behind, one_statement, goes_on, statements_at, block_behind, opened, too_deep, is_branch, branch, block, second_block}
-use Rattle.kpn_text_grammar.proofs.Steps.{bind_ok, by_test, first_kind, is_keyword_same, moved, ok_is, no_value, kind_of, kinds_of, next_takes, next_again, mark_takes, mark_again, keyword_takes, keyword_again, name_takes, name_again}
-use Rattle.kpn_text_grammar.proofs.TightLaws.{at_brace, at_semicolon}
+use Rattle.kpn_text_grammar.specs.Reading.{Read, next, first_is, mark, keyword, name, is_second, whole, many, assignment_behind, store_behind, target_behind, receive_behind, send_behind, else_behind, choice_behind, loop_behind, statement_behind, one_statement, declares, goes_on, statements_at, block_behind, opened, too_deep, is_branch, branch, block, second_block, body_behind}
+use Rattle.kpn_text_grammar.proofs.Steps.{bind_ok, by_test, first_kind, is_mark_same, is_keyword_same, moved, ok_is, no_value, kind_of, kinds_of, next_takes, next_again, mark_takes, mark_again, keyword_takes, keyword_again, name_takes, name_again}
+use Rattle.kpn_text_grammar.proofs.TermLaws.{is_index}
+use Rattle.kpn_text_grammar.proofs.TightLaws.{at_brace, at_bracket, at_semicolon}
 use Rattle.kpn_text_grammar.proofs.WholeLaws.{whole_takes, whole_again, whole_longer}
 use Rattle.kpn_text_grammar.proofs.ManyLaws.{TakesSpelled, ReadsSpelled, AreBegun, begins, spelled_shortens, all_taken, all_again}
 
@@ -33,7 +34,7 @@ abbrev list_of : Statements → List Statement
 list_of no_statements = []
 list_of (statement s ss) = s ∷ list_of ss
 
--- what was read as a statement, as a block, as what stands behind `else`, and as that with its `else`
+-- what was read as a statement, as a block, as a block behind its opening brace, as what stands behind `else`, and as that with its `else`
 pub record TakesStatement (l : Language) (d : ℕ) (tokens : List Token) (st : Statement) (rest : List Lexeme)
     : Type 0 where
   pub spelled : SpellsStatement l st tokens (kinds rest)
@@ -43,6 +44,10 @@ pub record TakesBlock (l : Language) (d : ℕ) (tokens : List Token) (b : Statem
   pub inside : List Token
   pub head : tokens ≡ token.Mark mark_.LeftBrace ∷ inside
   pub spelled : SpellsStatements l b inside (token.Mark mark_.RightBrace ∷ kinds rest)
+  pub within : BlockIsWithin d b
+
+pub record TakesBody (l : Language) (d : ℕ) (tokens : List Token) (b : Statements) (rest : List Lexeme) : Type 0 where
+  pub spelled : SpellsStatements l b tokens (token.Mark mark_.RightBrace ∷ kinds rest)
   pub within : BlockIsWithin d b
 
 pub record TakesSecond (l : Language) (d : ℕ) (tokens : List Token) (b : Statements) (rest : List Lexeme) : Type 0 where
@@ -78,6 +83,12 @@ mutual
       → length more < length tokens
   statement_longer {l} (as_assignment {e = e} {tokens = ts} {more = more} h) =
       omega (arith, whole_longer l e ts (token.Mark mark_.Semicolon ∷ more) h)
+  statement_longer {l} (as_store {i = i} {e = e} {at_i = at_i} {more = more} at_e hi he) =
+      omega (
+        arith,
+        whole_longer l i at_i (token.Mark mark_.RightBracket ∷ token.Mark mark_.Assign ∷ at_e) hi,
+        whole_longer l e at_e (token.Mark mark_.Semicolon ∷ more) he,
+      )
   statement_longer as_read = omega arith
   statement_longer {l} (as_write {e = e} {tokens = ts} {more = more} h) =
       omega (arith, whole_longer l e ts (token.Mark mark_.Semicolon ∷ more) h)
@@ -109,10 +120,22 @@ mutual
 statement_starts : {l : Language} {st : Statement} {tokens more : List Token} → SpellsStatement l st tokens more
     → begins goes_on tokens ≡ true
 statement_starts (as_assignment h) = refl
+statement_starts (as_store at_e hi he) = refl
 statement_starts as_read = refl
 statement_starts (as_write h) = refl
 statement_starts (as_if he ha hb) = refl
 statement_starts (as_while he hb) = refl
+
+-- nor do they begin as arrays and tables do
+pub no_declaration : {l : Language} {b : Statements} {tokens more : List Token}
+    → SpellsStatements l b tokens (token.Mark mark_.RightBrace ∷ more) → begins declares tokens ≡ false
+no_declaration nothing = refl
+no_declaration (one_more (as_assignment h) hs) = refl
+no_declaration (one_more (as_store at_e hi he) hs) = refl
+no_declaration (one_more as_read hs) = refl
+no_declaration (one_more (as_write h) hs) = refl
+no_declaration (one_more (as_if he ha hb) hs) = refl
+no_declaration (one_more (as_while he hb) hs) = refl
 
 pub statement_shape : (l : Language) → AreBegun goes_on (SpellsStatement l)
 statement_shape l = record {
@@ -204,6 +227,39 @@ module _ (s : Scope) (d : ℕ) (inner second : List Lexeme → Read Statements) 
             (term_to e.0.0 (kinds a.0) (kinds e.0.1) (token.Mark mark_.Semicolon ∷ kinds m.0) value.spelled close));
         within = record { blocks = omega arith; terms = value.level };
       })
+
+  store_takes : (x : List ℕ) (ls : List Lexeme) (st : Statement) (rest : List Lexeme)
+      → store_behind s x ls ≡ Ok (st, rest) → TakesStatement s.language d (token.Name x ∷ kinds ls) st rest
+  unfolding store_behind
+  store_takes x ls st rest h =
+      let o = bind_ok _ _ _ h in
+      let i = bind_ok _ _ _ o.2 in
+      let c = bind_ok _ _ _ i.2 in
+      let a = bind_ok _ _ _ c.2 in
+      let e = bind_ok _ _ _ a.2 in
+      let m = bind_ok _ _ _ e.2 in
+      let opens = mark_takes s mark_.LeftBracket ls o.0 o.1 in
+      let index = whole_takes s o.0 i.0.0 i.0.1 i.1 in
+      let shuts = mark_takes s mark_.RightBracket i.0.1 c.0 c.1 in
+      let sign = mark_takes s mark_.Assign c.0 a.0 a.1 in
+      let value = whole_takes s a.0 e.0.0 e.0.1 e.1 in
+      let close = mark_takes s mark_.Semicolon e.0.1 m.0 m.1 in
+      let behind = shuts ∙ ap (λ (ts : List Token). token.Mark mark_.RightBracket ∷ ts) sign in
+      same _ (store x i.0.0 e.0.0) st m.0 rest m.2 (record {
+        spelled = subst (λ (ts : List Token). SpellsStatement s.language (store x i.0.0 e.0.0) (token.Name x ∷ ts)
+            (kinds m.0)) (sym opens) (as_store {x = x} {i = i.0.0} {e = e.0.0} {at_i = kinds o.0}
+            {more = kinds m.0} (kinds a.0) (term_to i.0.0 (kinds o.0) (kinds i.0.1)
+            (token.Mark mark_.RightBracket ∷ token.Mark mark_.Assign ∷ kinds a.0) index.spelled behind)
+            (term_to e.0.0 (kinds a.0) (kinds e.0.1) (token.Mark mark_.Semicolon ∷ kinds m.0) value.spelled close));
+        within = record { blocks = omega arith; terms = omega (arith, index.level, value.level) };
+      })
+
+  target_takes : (x : List ℕ) (ls : List Lexeme) (st : Statement) (rest : List Lexeme)
+      → target_behind s x ls ≡ Ok (st, rest) → TakesStatement s.language d (token.Name x ∷ kinds ls) st rest
+  unfolding target_behind
+  target_takes x ls st rest h =
+      by_test (first_is is_index ls) (store_behind s x ls) (assignment_behind s x ls) (Ok (st, rest)) h
+      (λ _ k. store_takes x ls st rest k) (λ _ k. assignment_takes x ls st rest k)
 
   receive_takes : (ls : List Lexeme) (st : Statement) (rest : List Lexeme) → receive_behind s ls ≡ Ok (st, rest)
       → TakesStatement s.language d (token.Keyword keyword_.Read ∷ kinds ls) st rest
@@ -321,7 +377,7 @@ module _ (s : Scope) (d : ℕ) (inner second : List Lexeme → Read Statements) 
       → statement_behind s inner second t start ls ≡ Ok (st, rest)
       → TakesStatement s.language d (t ∷ kinds ls) st rest
   unfolding statement_behind
-  behind_takes (token.Name x) start ls st rest h = assignment_takes x ls st rest h
+  behind_takes (token.Name x) start ls st rest h = target_takes x ls st rest h
   behind_takes (token.Keyword keyword_.Read) start ls st rest h = receive_takes ls st rest h
   behind_takes (token.Keyword keyword_.Write) start ls st rest h = send_takes ls st rest h
   behind_takes (token.Keyword keyword_.If) start ls st rest h =
@@ -351,10 +407,18 @@ module _ (s : Scope) (d : ℕ) (inner second : List Lexeme → Read Statements) 
   first_at i l rest r o = rw (next_again s l rest) o
 
   assign_at : (t : Token) (start : ℕ) (x : List ℕ) (e : Term) (a b c rest : List Lexeme) → t ≡ token.Name x
-      → mark s mark_.Assign a ≡ Ok b → whole s b ≡ Ok (e, c) → mark s mark_.Semicolon c ≡ Ok rest
-      → statement_behind s inner second t start a ≡ Ok (assign x e, rest)
-  unfolding statement_behind assignment_behind and_then
-  assign_at t start x e a b c rest k p q r = rw (k, p, q, r) refl
+      → first_is is_index a ≡ false → mark s mark_.Assign a ≡ Ok b → whole s b ≡ Ok (e, c)
+      → mark s mark_.Semicolon c ≡ Ok rest → statement_behind s inner second t start a ≡ Ok (assign x e, rest)
+  unfolding statement_behind target_behind assignment_behind and_then
+  assign_at t start x e a b c rest k none p q r = rw (k, none, p, q, r) refl
+
+  store_at : (t : Token) (start : ℕ) (x : List ℕ) (i e : Term) (a b c f g after rest : List Lexeme)
+      → t ≡ token.Name x → first_is is_index a ≡ true → mark s mark_.LeftBracket a ≡ Ok b → whole s b ≡ Ok (i, c)
+      → mark s mark_.RightBracket c ≡ Ok f → mark s mark_.Assign f ≡ Ok g → whole s g ≡ Ok (e, after)
+      → mark s mark_.Semicolon after ≡ Ok rest
+      → statement_behind s inner second t start a ≡ Ok (store x i e, rest)
+  unfolding statement_behind target_behind store_behind and_then
+  store_at t start x i e a b c f g after rest k there o p m n q r = rw (k, there, o, p, m, n, q, r) refl
 
   receive_at : (t : Token) (start : ℕ) (i x : List ℕ) (a b c rest : List Lexeme) → t ≡ token.Keyword keyword_.Read
       → name s a ≡ Ok (i, b) → name s b ≡ Ok (x, c) → mark s mark_.Semicolon c ≡ Ok rest
@@ -434,12 +498,32 @@ module _ (s : Scope) (d : ℕ) (inner second : List Lexeme → Read Statements) 
       (ls : List Lexeme) → StatementIsWithin d st → kinds (l ∷ ls) ≡ tokens
       → Again more (statement_behind s inner second l.token l.start ls) st
   behind_again (as_assignment {x = x} {e = e} {tokens = ts} {more = more} he) l ls within h =
-      let p = mark_again s mark_.Assign ls ts (kinds_of l ls (token.Name x) (token.Mark mark_.Assign ∷ ts) h) in
+      let behind = kinds_of l ls (token.Name x) (token.Mark mark_.Assign ∷ ts) h in
+      let none = first_kind is_index ls (token.Mark mark_.Assign) ts behind in
+      let p = mark_again s mark_.Assign ls ts behind in
       let q = whole_again s p.0 e ts (token.Mark mark_.Semicolon ∷ more) he within.terms (at_semicolon more) p.2 in
       let r = mark_again s mark_.Semicolon q.rest more q.after in (
         r.0,
         assign_at l.token l.start x e ls p.0 q.rest r.0
-            (kind_of l ls (token.Name x) (token.Mark mark_.Assign ∷ ts) h) p.1 q.reads r.1,
+            (kind_of l ls (token.Name x) (token.Mark mark_.Assign ∷ ts) h) none p.1 q.reads r.1,
+        r.2,
+      )
+  behind_again (as_store {x = x} {i = i} {e = e} {at_i = at_i} {more = more} at_e hi he) l ls within h =
+      let inside = token.Mark mark_.LeftBracket ∷ at_i in
+      let close = token.Mark mark_.Semicolon ∷ more in
+      let behind = kinds_of l ls (token.Name x) inside h in
+      let there = first_kind is_index ls (token.Mark mark_.LeftBracket) at_i behind
+      ∙ is_mark_same mark_.LeftBracket in
+      let o = mark_again s mark_.LeftBracket ls at_i behind in
+      let p = whole_again s o.0 i at_i (token.Mark mark_.RightBracket ∷ token.Mark mark_.Assign ∷ at_e) hi
+      (omega (arith, within.terms)) (at_bracket (token.Mark mark_.Assign ∷ at_e)) o.2 in
+      let m = mark_again s mark_.RightBracket p.rest (token.Mark mark_.Assign ∷ at_e) p.after in
+      let n = mark_again s mark_.Assign m.0 at_e m.2 in
+      let q = whole_again s n.0 e at_e close he (omega (arith, within.terms)) (at_semicolon more) n.2 in
+      let r = mark_again s mark_.Semicolon q.rest more q.after in (
+        r.0,
+        store_at l.token l.start x i e ls o.0 p.rest m.0 n.0 q.rest r.0 (kind_of l ls (token.Name x) inside h) there o.1
+            p.reads m.1 n.1 q.reads r.1,
         r.2,
       )
   behind_again (as_read {i = i} {x = x} {more = more}) l ls within h =
@@ -500,27 +584,31 @@ module _ (s : Scope) (d : ℕ) (inner second : List Lexeme → Read Statements) 
   unfolding block_behind statements_at and_then
   block_at ls found a rest p q = rw (p, q) refl
 
-  inside_takes : (ls : List Lexeme) (b : Statements) (rest : List Lexeme)
-      → block_behind s inner second ls ≡ Ok (b, rest)
-      → TakesBlock s.language (suc d) (token.Mark mark_.LeftBrace ∷ kinds ls) b rest
+  pub body_takes : (ls : List Lexeme) (b : Statements) (rest : List Lexeme)
+      → block_behind s inner second ls ≡ Ok (b, rest) → TakesBody s.language (suc d) (kinds ls) b rest
   unfolding block_behind statements_at
-  inside_takes ls b rest h =
+  body_takes ls b rest h =
       let f = bind_ok _ _ _ h in
       let m = bind_ok _ _ _ f.2 in
       let found = all_taken goes_on (SpellsStatement s.language) (StatementIsWithin d) (one_statement s inner second)
       (statement_shape s.language) statement_laws 0 (length ls) ls f.0.0 f.0.1 f.1 in
       let close = mark_takes s mark_.RightBrace f.0.1 m.0 m.1 in
-      moved (λ (p : Statements × List Lexeme). TakesBlock s.language (suc d) (token.Mark mark_.LeftBrace ∷ kinds ls) p.0
-      p.1) (statements_of f.0.0, m.0) (b, rest) m.2
+      moved (λ (p : Statements × List Lexeme). TakesBody s.language (suc d) (kinds ls) p.0 p.1)
+      (statements_of f.0.0, m.0) (b, rest) m.2
       (record {
-        inside = kinds ls;
-        head = refl;
         spelled = subst (λ (ts : List Token). SpellsStatements s.language (statements_of f.0.0) (kinds ls) ts) close
             (all_spelled s.language f.0.0 (kinds ls) (kinds f.0.1) found.spelled);
         within = all_are_within d f.0.0 found.within;
       })
 
-  inside_again : (ls : List Lexeme) (b : Statements) (more : List Token) → BlockIsWithin (suc d) b
+  inside_takes : (ls : List Lexeme) (b : Statements) (rest : List Lexeme)
+      → block_behind s inner second ls ≡ Ok (b, rest)
+      → TakesBlock s.language (suc d) (token.Mark mark_.LeftBrace ∷ kinds ls) b rest
+  inside_takes ls b rest h =
+      let t = body_takes ls b rest h in
+      record { inside = kinds ls; head = refl; spelled = t.spelled; within = t.within }
+
+  pub inside_again : (ls : List Lexeme) (b : Statements) (more : List Token) → BlockIsWithin (suc d) b
       → SpellsStatements s.language b (kinds ls) (token.Mark mark_.RightBrace ∷ more)
       → Again more (block_behind s inner second ls) b
   inside_again ls b more within h =
@@ -686,9 +774,24 @@ both_laws s (suc d) =
       };
     }
 
--- a block of at most so many levels
-pub block_laws : (s : Scope) (d : ℕ) → ReadsBlocks s.language d (block s d)
-block_laws s d = (both_laws s d).blocks
+-- the statements of a body and its closing brace
+pub statements_take : (s : Scope) (ls : List Lexeme) (b : Statements) (rest : List Lexeme)
+    → body_behind s ls ≡ Ok (b, rest) → TakesBody s.language MAX_LEVELS (kinds ls) b rest
+unfolding body_behind
+statements_take s ls b rest h =
+    let laws = both_laws s (MAX_LEVELS - 1) in
+    body_takes s (MAX_LEVELS - 1) (block s (MAX_LEVELS - 1)) (second_block s (MAX_LEVELS - 1)) laws.blocks laws.seconds
+    ls b rest h
+
+pub statements_again : (s : Scope) (ls : List Lexeme) (b : Statements) (tokens more : List Token)
+    → BlockIsWithin MAX_LEVELS b → kinds ls ≡ tokens
+    → SpellsStatements s.language b tokens (token.Mark mark_.RightBrace ∷ more) → Again more (body_behind s ls) b
+unfolding body_behind
+statements_again s ls b tokens more within h spelled =
+    let laws = both_laws s (MAX_LEVELS - 1) in
+    inside_again s (MAX_LEVELS - 1) (block s (MAX_LEVELS - 1)) (second_block s (MAX_LEVELS - 1)) laws.blocks laws.seconds
+    ls b more within (subst (λ (ts : List Token). SpellsStatements s.language b ts (token.Mark mark_.RightBrace ∷ more))
+    (sym h) spelled)
 
 -- ---- as the code counts
 

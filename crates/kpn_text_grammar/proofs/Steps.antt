@@ -232,7 +232,7 @@ operator_back op.BitXor = refl
 operator_back op.Shl = refl
 operator_back op.Shr = refl
 
-found_is : {A : Type 0} (found : Option A) (start : ℕ) (ls : List Lexeme) (x : A) (rest : List Lexeme)
+pub found_is : {A : Type 0} (found : Option A) (start : ℕ) (ls : List Lexeme) (x : A) (rest : List Lexeme)
     → or_fault_at start ls found ≡ Ok (x, rest) → (found ≡ Some x) × (ls ≡ rest)
 found_is {A} (Some y) start ls x rest h = (
   ap (λ (q : A × List Lexeme). Some q.0) (ok_is (y, ls) (x, rest) h),

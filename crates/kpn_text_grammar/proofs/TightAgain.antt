@@ -1,6 +1,6 @@
 -- What follows the rules of expressions of language 2 is read, whatever stands behind it: to read it is to go on behind
 -- it. And the canonical spelling follows the rules.
-use Rattle.std.proofs.Common.{◌≡◌, ℕ, zero, suc, ◌+◌, ◌<◌, ◌≤◌, true, false, nat_le, cond, List, ◌∷◌, length, Ok, Err, refl, sym, subst, ◌∙◌, arith}
+use Rattle.std.proofs.Common.{◌≡◌, ℕ, zero, suc, ◌+◌, ◌<◌, ◌≤◌, true, false, nat_le, cond, List, ◌∷◌, length, Ok, Err, refl, sym, ap, subst, ◌∙◌, arith}
 use Rattle.std.proofs.lemmas.Bool.{cond_both, leb-true, le-leb, lt-leb}
 use Rattle.kpn_text_tokens.specs.declared.tokens.Lexeme.{Lexeme}
 use Rattle.kpn_text_tokens.specs.declared.tokens.Token.{Token}
@@ -9,15 +9,16 @@ use Rattle.kpn_text_tokens.specs.declared.tokens.Mark.TheVariants as mark_
 use Rattle.kpn_text_grammar.specs.declared.fault.GrammarFault.TheVariants as fault
 use Rattle.kpn_text_grammar.specs.declared.parser.Scope.{Scope}
 use Rattle.kpn_lang.specs.declared.syntax.Op.{Op}
-use Rattle.kpn_text_grammar.specs.Syntax.{Name, Term, numeral, variable, minus, negation, complement, binary, conditional}
+use Rattle.kpn_text_grammar.specs.Syntax.{Name, Term, numeral, variable, element, minus, negation, complement, binary, conditional}
 use Rattle.kpn_text_grammar.specs.Operators.{operator_mark, tightness, left_side, right_side, LOOSEST, OPERAND}
-use Rattle.kpn_text_grammar.specs.Spelling.{kinds, term_level, spell_tight, SpellsTight, as_number, as_name, as_minus, as_negation, as_complement, in_parentheses, as_conditional, as_binary}
+use Rattle.kpn_text_grammar.specs.Spelling.{kinds, term_level, spell_tight, SpellsTight, as_number, as_name, as_element, as_minus, as_negation, as_complement, in_parentheses, as_conditional, as_binary}
 use Rattle.kpn_text_tokens.specs.Results.{and_then}
 use Rattle.kpn_text_grammar.specs.TokenTests.{is_mark}
-use Rattle.kpn_text_grammar.specs.Reading.{Read, mark, operator, first_is, goes_further, sides_behind, conditional_behind, inside_behind, tight_operand, tight_over, tight}
+use Rattle.kpn_text_grammar.specs.Reading.{Read, mark, operator, first_is, goes_further, sides_behind, element_behind, behind_name, conditional_behind, inside_behind, tight_operand, tight_over, tight}
 use Rattle.kpn_text_grammar.proofs.Steps.{Front, first_kind, front, is_mark_same, next_again, mark_again, operator_again}
-use Rattle.kpn_text_grammar.proofs.TermLaws.{some_level}
-use Rattle.kpn_text_grammar.proofs.TightLaws.{right_below, left_below, left_is_tight, right_is_tighter, is_tight, first_tightness, at_close, at_question, at_colon, operator_first, any_first, stops_first, goes_of}
+use Rattle.kpn_text_grammar.proofs.ManyLaws.{begins, first_begins}
+use Rattle.kpn_text_grammar.proofs.TermLaws.{is_index, some_level}
+use Rattle.kpn_text_grammar.proofs.TightLaws.{right_below, left_below, left_is_tight, right_is_tighter, is_tight, first_tightness, at_bracket, at_close, at_question, at_colon, operator_first, no_index, looser_first, stops_first, goes_of}
 
 -- ---- operators behind a left side
 
@@ -126,10 +127,17 @@ module _ (s : Scope) (depth d : ℕ) where
   unfolding tight_operand
   number_at t start k ls e = rw e refl
 
-  name_at : (t : Token) (start : ℕ) (x : Name) (ls : List Lexeme) → t ≡ token.Name x
+  name_at : (t : Token) (start : ℕ) (x : Name) (ls : List Lexeme) → t ≡ token.Name x → first_is is_index ls ≡ false
       → tight_operand s (tight s depth) d t start ls ≡ Ok (variable x, ls)
-  unfolding tight_operand
-  name_at t start x ls e = rw e refl
+  unfolding tight_operand behind_name
+  name_at t start x ls e none = rw (e, none) refl
+
+  element_at : (t : Token) (start : ℕ) (x : Name) (ls : List Lexeme) (e : Term) (inside after rest : List Lexeme)
+      → t ≡ token.Name x → first_is is_index ls ≡ true → mark s mark_.LeftBracket ls ≡ Ok inside
+      → tight s depth d LOOSEST inside ≡ Ok (e, after) → mark s mark_.RightBracket after ≡ Ok rest
+      → tight_operand s (tight s depth) d t start ls ≡ Ok (element x e, rest)
+  unfolding tight_operand behind_name element_behind and_then
+  element_at t start x ls e inside after rest k there o i m = rw (k, there, o, i, m) refl
 
   minus_at : (t : Token) (start : ℕ) (ls : List Lexeme) (e : Term) (rest : List Lexeme) → t ≡ token.Mark mark_.Minus
       → tight s depth d OPERAND ls ≡ Ok (e, rest)
@@ -191,13 +199,30 @@ reads_on (as_number {depth} {n = k} {k = value} {more}) s d n ls small tight_eno
     (number_at s depth d f.lexeme.token f.lexeme.start value f.rest f.kind) f.after
 reads_on (as_name {depth} {n = k} {x} {more}) s d n ls small tight_enough level ends h =
     let f = front ls (token.Name x) more h in
+    let none = first_begins is_index f.rest ∙ ap (begins is_index) f.after
+    ∙ no_index more (omega (arith, small, ends)) in
     operand_on s depth d n k ls _ _ more f (variable x) f.rest small
-    (name_at s depth d f.lexeme.token f.lexeme.start x f.rest f.kind) f.after
+    (name_at s depth d f.lexeme.token f.lexeme.start x f.rest f.kind none) f.after
+reads_on (as_element {depth} {n = k} {x} {e} {tokens} {more} he) s zero n ls small tight_enough level ends h =
+    absurd (some_level e (omega (arith, level)))
+reads_on (as_element {depth} {n = k} {x} {e} {tokens} {more} he) s (suc d) n ls small tight_enough level ends h =
+    let f = front ls (token.Name x) (token.Mark mark_.LeftBracket ∷ tokens) h in
+    let there = first_kind is_index f.rest (token.Mark mark_.LeftBracket) tokens f.after
+    ∙ is_mark_same mark_.LeftBracket in
+    let o = mark_again s mark_.LeftBracket f.rest tokens f.after in
+    let ended = at_bracket more in
+    let r = stopped s depth d LOOSEST LOOSEST e (token.Mark mark_.RightBracket ∷ more) o.0
+    (reads_on he s d LOOSEST o.0 (omega arith) (omega arith) (omega (arith, level)) (omega (arith, ended)) o.2)
+    (omega (arith, ended)) in
+    let m = mark_again s mark_.RightBracket r.rest more r.after in
+    operand_on s depth (suc d) n k ls _ _ more f (element x e) m.0 small
+    (element_at s depth (suc d) f.lexeme.token f.lexeme.start x f.rest e o.0 r.rest m.0 f.kind there o.1 r.reads m.1) m.2
 reads_on (as_minus {depth} {n = k} {e} {tokens} {more} he) s zero n ls small tight_enough level ends h =
     absurd (some_level e (omega (arith, level)))
 reads_on (as_minus {depth} {n = k} {e} {tokens} {more} he) s (suc d) n ls small tight_enough level ends h =
     let f = front ls (token.Mark mark_.Minus) tokens h in
-    let any : first_tightness more < OPERAND = any_first more in
+    let any : first_tightness more < OPERAND =
+    looser_first more (omega (arith, small, ends)) in
     let r = stopped s depth d OPERAND OPERAND e more f.rest (reads_on he s d OPERAND f.rest (omega arith) (omega arith)
     (omega (arith, level)) (omega (arith, any)) f.after) any in
     operand_on s depth (suc d) n k ls _ _ more f (minus e) r.rest small
@@ -206,7 +231,8 @@ reads_on (as_negation {depth} {n = k} {e} {tokens} {more} he) s zero n ls small 
     absurd (some_level e (omega (arith, level)))
 reads_on (as_negation {depth} {n = k} {e} {tokens} {more} he) s (suc d) n ls small tight_enough level ends h =
     let f = front ls (token.Mark mark_.Not) tokens h in
-    let any : first_tightness more < OPERAND = any_first more in
+    let any : first_tightness more < OPERAND =
+    looser_first more (omega (arith, small, ends)) in
     let r = stopped s depth d OPERAND OPERAND e more f.rest (reads_on he s d OPERAND f.rest (omega arith) (omega arith)
     (omega (arith, level)) (omega (arith, any)) f.after) any in
     operand_on s depth (suc d) n k ls _ _ more f (negation e) r.rest small
@@ -215,7 +241,8 @@ reads_on (as_complement {depth} {n = k} {e} {tokens} {more} he) s zero n ls smal
     absurd (some_level e (omega (arith, level)))
 reads_on (as_complement {depth} {n = k} {e} {tokens} {more} he) s (suc d) n ls small tight_enough level ends h =
     let f = front ls (token.Mark mark_.BitNot) tokens h in
-    let any : first_tightness more < OPERAND = any_first more in
+    let any : first_tightness more < OPERAND =
+    looser_first more (omega (arith, small, ends)) in
     let r = stopped s depth d OPERAND OPERAND e more f.rest (reads_on he s d OPERAND f.rest (omega arith) (omega arith)
     (omega (arith, level)) (omega (arith, any)) f.after) any in
     operand_on s depth (suc d) n k ls _ _ more f (complement e) r.rest small
@@ -297,6 +324,8 @@ pub canonical_tight : (e : Term) (depth n : ℕ) (more : List Token) → term_le
 canonical_tight e zero n more level = absurd (some_level e level)
 canonical_tight (numeral k) (suc depth) n more level = as_number
 canonical_tight (variable x) (suc depth) n more level = as_name
+canonical_tight (element x e) (suc depth) n more level =
+    as_element (canonical_tight e depth LOOSEST _ (omega (arith, level)))
 canonical_tight (minus e) (suc depth) n more level =
     as_minus (canonical_tight e depth OPERAND more (omega (arith, level)))
 canonical_tight (negation e) (suc depth) n more level =
@@ -320,6 +349,7 @@ pub tight_longer : {depth n : ℕ} {e : Term} {tokens more : List Token} → Spe
     → length more < length tokens
 tight_longer as_number = omega arith
 tight_longer as_name = omega arith
+tight_longer (as_element h) = omega (arith, tight_longer h)
 tight_longer (as_minus h) = omega (arith, tight_longer h)
 tight_longer (as_negation h) = omega (arith, tight_longer h)
 tight_longer (as_complement h) = omega (arith, tight_longer h)

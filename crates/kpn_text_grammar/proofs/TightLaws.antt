@@ -1,6 +1,6 @@
 -- What is read as an expression of language 2 follows the rules and has no more levels than it may, and what follows
 -- them is read again.
-use Rattle.std.proofs.Common.{◌≡◌, ℕ, zero, suc, ◌<◌, ◌≤◌, true, false, ◌&&◌, nat_le, List, [], ◌∷◌, Option, Some, None, Ok, Err, refl, sym, ap, subst, ◌∙◌, arith}
+use Rattle.std.proofs.Common.{◌≡◌, ℕ, zero, suc, ◌<◌, ◌≤◌, Bool, true, false, cond, ◌&&◌, nat_le, List, [], ◌∷◌, Option, Some, None, Ok, Err, refl, sym, ap, subst, ◌∙◌, arith}
 use Rattle.std.proofs.lemmas.Bool.{and_from, and_parts, leb-false, leb-true, le-leb, lt-leb}
 use Rattle.kpn_text_tokens.specs.declared.tokens.Lexeme.{Lexeme}
 use Rattle.kpn_text_tokens.specs.declared.tokens.Token.{Token}
@@ -10,13 +10,15 @@ use Rattle.kpn_text_grammar.specs.declared.fault.GrammarFault.TheVariants as fau
 use Rattle.kpn_text_grammar.specs.declared.parser.Scope.{Scope}
 use Rattle.kpn_lang.specs.declared.syntax.Op.{Op}
 use Rattle.kpn_lang.specs.declared.syntax.Op.TheVariants as op
-use Rattle.kpn_text_grammar.specs.Syntax.{Term, numeral, variable, minus, negation, complement, binary, conditional}
+use Rattle.kpn_text_grammar.specs.Syntax.{Name, Term, numeral, variable, element, minus, negation, complement, binary, conditional}
 use Rattle.kpn_text_grammar.specs.Operators.{operator_mark, operator_of, tightness, left_side, right_side, LOOSEST, OPERAND}
-use Rattle.kpn_text_grammar.specs.Spelling.{kinds, term_level, SpellsTight, as_number, as_name, as_minus, as_negation, as_complement, in_parentheses, as_conditional, as_binary}
+use Rattle.kpn_text_grammar.specs.Spelling.{kinds, term_level, SpellsTight, as_number, as_name, as_element, as_minus, as_negation, as_complement, in_parentheses, as_conditional, as_binary}
 use Rattle.kpn_text_tokens.specs.Results.{and_then}
 use Rattle.kpn_text_grammar.specs.TokenTests.{is_mark}
-use Rattle.kpn_text_grammar.specs.Reading.{Read, next, mark, operator, token_operator, level_fault, first_is, operator_fits, goes_further, unless_full, sides_behind, conditional_behind, inside_behind, tight_operand, tight_over, tight}
+use Rattle.kpn_text_grammar.specs.Reading.{Read, next, mark, operator, token_operator, level_fault, first_is, operator_fits, goes_further, unless_full, sides_behind, element_behind, behind_name, conditional_behind, inside_behind, tight_operand, tight_over, tight}
 use Rattle.kpn_text_grammar.proofs.Steps.{bind_ok, by_test, first_kind, moved, no_value, next_takes, mark_takes, operator_back, operator_takes}
+use Rattle.kpn_text_grammar.proofs.ManyLaws.{begins}
+use Rattle.kpn_text_grammar.proofs.TermLaws.{is_index, no_bracket}
 
 -- ---- the table of operators
 
@@ -51,17 +53,26 @@ abbrev tightness_if : Option Op → ℕ
 tightness_if None = 0
 tightness_if (Some o) = tightness o
 
+-- the same where `[` is one that binds tighter than an operand
+abbrev tightness_with : Bool → Option Op → ℕ
+tightness_with bracket found = cond bracket (suc OPERAND) (tightness_if found)
+
 abbrev pub first_tightness : List Token → ℕ
 first_tightness [] = 0
-first_tightness (t ∷ ts) = tightness_if (token_operator t)
+first_tightness (t ∷ ts) = tightness_with (is_index t) (token_operator t)
 
 pub operator_first : (o : Op) (more : List Token) → first_tightness (token.Mark (operator_mark o) ∷ more) ≡ tightness o
-operator_first o more = ap tightness_if (operator_back o)
+operator_first o more = ap (λ (b : Bool). tightness_with b (operator_of (operator_mark o))) (no_bracket o)
+    ∙ ap tightness_if (operator_back o)
 
 -- no operator is at these marks
 pub at_close : (more : List Token) → first_tightness (token.Mark mark_.RightParen ∷ more) ≡ 0
 unfolding operator_of
 at_close more = refl
+
+pub at_bracket : (more : List Token) → first_tightness (token.Mark mark_.RightBracket ∷ more) ≡ 0
+unfolding operator_of
+at_bracket more = refl
 
 pub at_question : (more : List Token) → first_tightness (token.Mark mark_.Question ∷ more) ≡ 0
 unfolding operator_of
@@ -83,9 +94,27 @@ below_operand_if : (found : Option Op) → tightness_if found < OPERAND
 below_operand_if None = omega arith
 below_operand_if (Some o) = below_operand o
 
-pub any_first : (more : List Token) → first_tightness more < OPERAND
-any_first [] = omega arith
-any_first (t ∷ ts) = below_operand_if (token_operator t)
+no_bracket_if : (b : Bool) (found : Option Op) → tightness_with b found ≤ OPERAND → b ≡ false
+no_bracket_if true found h = absurd (omega (arith, h))
+no_bracket_if false found h = refl
+
+-- what does not bind tighter than an operand is no `[`, and binds looser
+pub no_index : (more : List Token) → first_tightness more ≤ OPERAND → begins is_index more ≡ false
+no_index [] h = refl
+no_index (t ∷ ts) h = no_bracket_if (is_index t) (token_operator t) h
+
+looser_if : (b : Bool) (found : Option Op) → tightness_with b found ≤ OPERAND → tightness_with b found < OPERAND
+looser_if true found h = absurd (omega (arith, h))
+looser_if false found h = below_operand_if found
+
+pub looser_first : (more : List Token) → first_tightness more ≤ OPERAND → first_tightness more < OPERAND
+looser_first [] h = omega arith
+looser_first (t ∷ ts) h = looser_if (is_index t) (token_operator t) h
+
+-- an operator binds no tighter than this says
+operator_below : (b : Bool) (found : Option Op) → tightness_if found ≤ tightness_with b found
+operator_below true found = omega (arith, below_operand_if found)
+operator_below false found = omega arith
 
 too_loose : (n bound : ℕ) (found : Option Op) → tightness_if found < n → operator_fits n bound found ≡ false
 too_loose n bound None h = refl
@@ -96,7 +125,9 @@ too_loose n bound (Some o) h =
 pub stops_first : (n bound : ℕ) (ls : List Lexeme) → first_tightness (kinds ls) < n
     → first_is (goes_further n bound) ls ≡ false
 stops_first n bound [] h = refl
-stops_first n bound (l ∷ ls) h = too_loose n bound (token_operator l.token) h
+stops_first n bound (l ∷ ls) h =
+    too_loose n bound (token_operator l.token)
+    (omega (arith, h, operator_below (is_index l.token) (token_operator l.token)))
 
 mark_fits : (n bound : ℕ) (o : Op)
     → goes_further n bound (token.Mark (operator_mark o)) ≡ (nat_le n (tightness o) && nat_le (left_side o) bound)
@@ -252,14 +283,41 @@ module _ (s : Scope) (depth : ℕ) (laws : Deep s depth) where
         level = first.level;
       }))
 
+  element_takes : (d : ℕ) (x : Name) (ls : List Lexeme) (e : Term) (rest : List Lexeme)
+      → element_behind s (tight s depth d LOOSEST) x ls ≡ Ok (e, rest)
+      → TakesBound (suc depth) (suc d) OPERAND (token.Name x ∷ kinds ls) e rest
+  unfolding element_behind
+  element_takes d x ls e rest h =
+      let o = bind_ok _ _ _ h in
+      let a = bind_ok _ _ _ o.2 in
+      let m = bind_ok _ _ _ a.2 in
+      let opens = mark_takes s mark_.LeftBracket ls o.0 o.1 in
+      let index = laws d LOOSEST o.0 a.0.0 a.0.1 (omega arith) a.1 in
+      let shuts = mark_takes s mark_.RightBracket a.0.1 m.0 m.1 in
+      same (suc d) _ (element x a.0.0) e m.0 rest m.2 (record {
+        spelled = λ n _. subst (λ (ts : List Token). SpellsTight (suc depth) n (element x a.0.0) (token.Name x ∷ ts)
+            (kinds m.0)) (sym opens)
+            (as_element (subst (λ (ts : List Token). SpellsTight depth LOOSEST a.0.0 (kinds o.0) ts) shuts
+            index.spelled));
+        level = omega (arith, index.level);
+      })
+
+  behind_name_takes : (d : ℕ) (x : Name) (ls : List Lexeme) (e : Term) (rest : List Lexeme)
+      → behind_name s (tight s depth d LOOSEST) x ls ≡ Ok (e, rest)
+      → TakesBound (suc depth) (suc d) OPERAND (token.Name x ∷ kinds ls) e rest
+  unfolding behind_name
+  behind_name_takes d x ls e rest h =
+      by_test (first_is is_index ls) (element_behind s (tight s depth d LOOSEST) x ls) (Ok (variable x, ls))
+      (Ok (e, rest)) h (λ _ k. element_takes d x ls e rest k)
+      (λ _ k. same (suc d) _ (variable x) e ls rest k (record { spelled = λ n _. as_name; level = omega arith }))
+
   operand_takes : (d : ℕ) (t : Token) (start : ℕ) (ls : List Lexeme) (e : Term) (rest : List Lexeme)
       → tight_operand s (tight s depth) d t start ls ≡ Ok (e, rest)
       → TakesBound (suc depth) (suc d) OPERAND (t ∷ kinds ls) e rest
   unfolding tight_operand
   operand_takes d (token.Number k) start ls e rest h = same (suc d) _ (numeral k) e ls rest h
       (record { spelled = λ n _. as_number; level = omega arith })
-  operand_takes d (token.Name x) start ls e rest h = same (suc d) _ (variable x) e ls rest h
-      (record { spelled = λ n _. as_name; level = omega arith })
+  operand_takes d (token.Name x) start ls e rest h = behind_name_takes d x ls e rest h
   operand_takes d (token.Mark mark_.Minus) start ls e rest h =
       let a = bind_ok (tight s depth d OPERAND ls) _ (e, rest) h in
       let t = laws d OPERAND ls a.0.0 a.0.1 (omega arith) a.1 in

@@ -9,12 +9,12 @@ use Rattle.kpn_text_tokens.specs.declared.tokens.Token.TheVariants as token
 use Rattle.kpn_text_tokens.specs.declared.tokens.Mark.TheVariants as mark_
 use Rattle.kpn_text_grammar.specs.declared.parser.Scope.{Scope}
 use Rattle.kpn_text_grammar.specs.Operators.{operator_mark, LOOSEST}
-use Rattle.kpn_text_grammar.specs.Syntax.{Term, numeral, variable, minus, negation, complement, binary, conditional}
+use Rattle.kpn_text_grammar.specs.Syntax.{Term, numeral, variable, element, minus, negation, complement, binary, conditional}
 use Rattle.kpn_text_grammar.specs.Spelling.{kinds, spell_term, spell_expression, term_level, SpellsTerm}
 use Rattle.kpn_text_grammar.specs.Reading.{expression, is_second, tight, whole}
 use Rattle.kpn_text_grammar.proofs.TermLaws.{expression_laws}
 use Rattle.kpn_text_grammar.proofs.TightAgain.{IsRead, canonical_tight, tight_again, tight_longer}
-use Rattle.kpn_text_grammar.proofs.TightLaws.{first_tightness, tight_takes}
+use Rattle.kpn_text_grammar.proofs.TightLaws.{first_tightness, no_index, tight_takes}
 
 -- what was read as an expression of a statement
 pub record TakesWhole (l : Language) (tokens : List Token) (e : Term) (more : List Token) : Type 0 where
@@ -40,7 +40,7 @@ again_by : (s : Scope) (l : Language) (ls : List Lexeme) (e : Term) (more : List
     → SpellsTerm l e (kinds ls) more → term_level e ≤ MAX_LEVELS → first_tightness more ≡ 0
     → IsRead more (cond (is_second l) (tight s MAX_LEVELS MAX_LEVELS LOOSEST ls) (expression s MAX_LEVELS ls)) e
 again_by s language.One ls e more spelled level ends =
-    let r = (expression_laws s MAX_LEVELS).again ls e more level spelled in
+    let r = (expression_laws s MAX_LEVELS).again ls e more level (no_index more (omega (arith, ends))) spelled in
     record { rest = r.0; reads = r.1; after = r.2 }
 again_by s language.Two ls e more spelled level ends =
     tight_again s MAX_LEVELS MAX_LEVELS e (kinds ls) more ls spelled level ends refl
@@ -65,6 +65,7 @@ canonical_expression language.Two e more level = canonical_tight e MAX_LEVELS LO
 term_longer : (e : Term) (more : List Token) → length more < length (spell_term e more)
 term_longer (numeral n) more = omega arith
 term_longer (variable x) more = omega arith
+term_longer (element x e) more = omega (arith, term_longer e (token.Mark mark_.RightBracket ∷ more))
 term_longer (minus e) more = omega (arith, term_longer e more)
 term_longer (negation e) more = omega (arith, term_longer e more)
 term_longer (complement e) more = omega (arith, term_longer e more)

@@ -1,13 +1,12 @@
 -- The laws of reading, on which the layers above depend: reading returns what is spelled, and that is one thing. What
 -- is printed is spelled.
 use Rattle.std.specs.Prelude.{◌≡◌, ◌↔◌, List, Ok}
-use Rattle.std.specs.List.{AllByRecursion}
 use Rattle.kpn_text_tokens.specs.declared.tokens.Language.{Language}
 use Rattle.kpn_text_tokens.specs.declared.tokens.Lexeme.{Lexeme}
 use Rattle.kpn_text_tokens.specs.declared.tokens.Token.{Token}
 use Rattle.kpn_text_grammar.specs.declared.parser.Scope.{Scope}
 use Rattle.kpn_text_grammar.specs.Syntax.{Description}
-use Rattle.kpn_text_grammar.specs.Spelling.{kinds, spell_description, ProcessIsWithin, IsDescription}
+use Rattle.kpn_text_grammar.specs.Spelling.{kinds, spell_description, IsWithin, IsDescription}
 use Rattle.kpn_text_grammar.specs.Reading.{description}
 
 -- Tokens are read as a description if and only if they spell it within the limits, wherever they are in the text.
@@ -24,5 +23,4 @@ SpelledOnce =
 -- The canonical spelling of a description within the limits spells it.
 abbrev pub CanonicalSpells : Type 0
 CanonicalSpells =
-    (l : Language) (d : Description) → AllByRecursion ProcessIsWithin d.processes
-    → IsDescription l (spell_description l d) d
+    (l : Language) (d : Description) → IsWithin d → IsDescription l (spell_description l d) d

@@ -1,7 +1,7 @@
 -- What reading returns: the tree at the front of the tokens and the tokens after it, or the first fault. A token that
 -- may not be there is a fault at its first byte. If the text ends too early, the fault is at its length. A token that
 -- may be there and opens a level too many is a fault of its process.
-use Rattle.std.specs.Prelude.{◌≡◌, ℕ, zero, suc, ◌+◌, Bool, true, false, not, ◌&&◌, nat_le, if◌then◌else◌, List, [], ◌∷◌, length, Option, Some, None, Result, Ok, Err}
+use Rattle.std.specs.Prelude.{◌≡◌, ℕ, zero, suc, ◌+◌, ◌-◌, ◌==◌, Bool, true, false, not, ◌&&◌, nat_le, if◌then◌else◌, List, [], ◌∷◌, length, Option, Some, None, Result, Ok, Err}
 use Rattle.kpn_limits.specs.declared.TheConstants.{MAX_LEVELS}
 use Rattle.kpn_lang.specs.declared.syntax.Op.{Op}
 use Rattle.kpn_text_tokens.specs.declared.tokens.Language.{Language}
@@ -23,7 +23,7 @@ use Rattle.kpn_net.specs.declared.tables.Policy.{Policy}
 use Rattle.kpn_text_grammar.specs.Operators.{operator_of, tightness, left_side, right_side, LOOSEST, OPERAND}
 use Rattle.kpn_text_grammar.specs.Spelling.{term_level}
 use Rattle.kpn_text_grammar.specs.Words.{growth_spelled, policy_spelled}
-use Rattle.kpn_text_grammar.specs.Syntax.{Name, Term, numeral, variable, minus, negation, complement, binary, conditional, Statement, assign, receive, send, choice, loop, Statements, no_statements, statement, statements_of, Process, Literal, plain, negated, Instance, Item, channel, source, sink, instance, Network, Description}
+use Rattle.kpn_text_grammar.specs.Syntax.{Name, Term, numeral, variable, element, minus, negation, complement, binary, conditional, Statement, assign, store, receive, send, choice, loop, Statements, no_statements, statement, statements_of, Literal, plain, negated, Table, Declaration, array, table, Process, Instance, Item, channel, source, sink, instance, Network, Description}
 
 -- what was read and the tokens after it, or the first fault
 abbrev pub Read : Type 0 → Type 0
@@ -139,6 +139,21 @@ names s ls = separated s (name s) ls
 unfoldable pub optional_names : Scope → List Lexeme → Read (List Name)
 optional_names s ls = if first_is is_name ls then names s ls else Ok ([], ls)
 
+-- ---- a name or an element, by a parser of the index
+
+-- behind the name of an array or a table
+unfoldable pub element_behind : Scope → (List Lexeme → Read Term) → Name → List Lexeme → Read Term
+element_behind s inner x ls = do
+  inside ← mark s mark_.LeftBracket ls
+  e ← inner inside
+  rest ← mark s mark_.RightBracket e.1
+  Ok (element x e.0, rest)
+
+-- behind a name
+unfoldable pub behind_name : Scope → (List Lexeme → Read Term) → Name → List Lexeme → Read Term
+behind_name s inner x ls =
+    if first_is (is_mark mark_.LeftBracket) ls then element_behind s inner x ls else Ok (variable x, ls)
+
 -- ---- expressions of language 1, by a parser of those one level deeper
 
 abbrev pub begins_expression : Token → Bool
@@ -186,7 +201,7 @@ group s inner ls = inner ls >>= λ first. group_behind s inner first.0 first.1
 -- behind its first token, which begins at this byte
 unfoldable pub operand : Scope → (List Lexeme → Read Term) → Token → ℕ → List Lexeme → Read Term
 operand s inner (token.Number n) start rest = Ok (numeral n, rest)
-operand s inner (token.Name x) start rest = Ok (variable x, rest)
+operand s inner (token.Name x) start rest = behind_name s inner x rest
 operand s inner (token.Mark mark_.Minus) start rest = inner rest >>= λ e. Ok (minus e.0, e.1)
 operand s inner (token.Mark mark_.Not) start rest = inner rest >>= λ e. Ok (negation e.0, e.1)
 operand s inner (token.Mark mark_.BitNot) start rest = inner rest >>= λ e. Ok (complement e.0, e.1)
@@ -233,11 +248,11 @@ inside_behind s levels inner deeper ls =
     else (mark s mark_.RightParen first.1 >>= λ rest. Ok (first.0, rest))
 
 -- An operand of at most one level more than these, from its first token on, which begins at this byte. `inner` parses
--- what stands behind a sign or `(`, by its levels and by how tight it has to bind.
+-- what stands behind a sign, `(` or `[`, by its levels and by how tight it has to bind.
 unfoldable pub tight_operand : Scope → (inner : ℕ → ℕ → List Lexeme → Read Term) → (levels : ℕ) → Token → ℕ
     → List Lexeme → Read Term
 tight_operand s inner levels (token.Number k) start rest = Ok (numeral k, rest)
-tight_operand s inner levels (token.Name x) start rest = Ok (variable x, rest)
+tight_operand s inner levels (token.Name x) start rest = behind_name s (inner levels LOOSEST) x rest
 tight_operand s inner levels (token.Mark mark_.Minus) start rest =
     inner levels OPERAND rest >>= λ e. Ok (minus e.0, e.1)
 tight_operand s inner levels (token.Mark mark_.Not) start rest =
@@ -256,7 +271,7 @@ tight_over s inner (suc levels) n ls = do
   left ← tight_operand s inner levels x.0.token x.0.start x.1
   sides_behind s (tight_over s inner levels) (suc levels) n (suc levels) OPERAND left.0 left.1
 
--- The same. At most so many operands, signs and `(` stand in each other.
+-- The same. At most so many operands, signs, `(` and `[` stand in each other.
 unfoldable pub tight : Scope → (depth levels n : ℕ) → List Lexeme → Read Term
 tight s zero levels n ls = next s ls >>= λ x. Err (level_fault s x.0)
 tight s (suc depth) levels n ls = tight_over s (tight s depth) levels n ls
@@ -273,13 +288,29 @@ whole s ls =
 
 -- ---- statements, by a parser of the blocks one level deeper
 
--- behind the name of the target
+-- behind the name of a variable
 unfoldable pub assignment_behind : Scope → Name → List Lexeme → Read Statement
 assignment_behind s x ls = do
   after ← mark s mark_.Assign ls
   e ← whole s after
   rest ← mark s mark_.Semicolon e.1
   Ok (assign x e.0, rest)
+
+-- behind the name of an array
+unfoldable pub store_behind : Scope → Name → List Lexeme → Read Statement
+store_behind s x ls = do
+  inside ← mark s mark_.LeftBracket ls
+  i ← whole s inside
+  after ← mark s mark_.RightBracket i.1
+  item ← mark s mark_.Assign after
+  e ← whole s item
+  rest ← mark s mark_.Semicolon e.1
+  Ok (store x i.0 e.0, rest)
+
+-- behind the name of what is set
+unfoldable pub target_behind : Scope → Name → List Lexeme → Read Statement
+target_behind s x ls =
+    if first_is (is_mark mark_.LeftBracket) ls then store_behind s x ls else assignment_behind s x ls
 
 -- behind `read`
 unfoldable pub receive_behind : Scope → List Lexeme → Read Statement
@@ -322,7 +353,7 @@ loop_behind s inner ls = do
 -- behind its first token, which begins at this byte
 unfoldable pub statement_behind : Scope → (inner second : List Lexeme → Read Statements) → Token → ℕ → List Lexeme
     → Read Statement
-statement_behind s inner second (token.Name x) start rest = assignment_behind s x rest
+statement_behind s inner second (token.Name x) start rest = target_behind s x rest
 statement_behind s inner second (token.Keyword keyword_.Read) start rest = receive_behind s rest
 statement_behind s inner second (token.Keyword keyword_.Write) start rest = send_behind s rest
 statement_behind s inner second (token.Keyword keyword_.If) start rest = choice_behind s inner second rest
@@ -381,6 +412,75 @@ unfoldable mutual
       then branch s (block s d) (second_block s d) ls
       else opened s (block s d) (second_block s d) ls
 
+-- ---- tables and arrays
+
+-- a number or a number behind a minus, from its first token on, which begins at this byte
+unfoldable pub literal_behind : Scope → Token → ℕ → List Lexeme → Read Literal
+literal_behind s (token.Number n) start rest = Ok (plain n, rest)
+literal_behind s (token.Mark mark_.Minus) start rest = number s rest >>= λ n. Ok (negated n.0, n.1)
+literal_behind s _ start rest = Err (fault.Grammar start)
+
+unfoldable pub literal : Scope → List Lexeme → Read Literal
+literal s ls = next s ls >>= λ x. literal_behind s x.0.token x.0.start x.1
+
+-- values, with commas between them
+unfoldable pub values : Scope → List Lexeme → Read (List Literal)
+values s ls = separated s (literal s) ls
+
+-- the size of an array, which is a number above 0
+abbrev pub token_size : Token → Option ℕ
+token_size (token.Number n) = if n == 0 then None else Some n
+token_size _ = None
+
+unfoldable pub size : Scope → List Lexeme → Read ℕ
+size s ls = do
+  x ← next s ls
+  or_fault_at x.0.start x.1 (token_size x.0.token)
+
+-- behind `array`
+unfoldable pub array_behind : Scope → List Lexeme → Read Declaration
+array_behind s ls = do
+  x ← name s ls
+  inside ← mark s mark_.LeftBracket x.1
+  n ← size s inside
+  after ← mark s mark_.RightBracket n.1
+  rest ← mark s mark_.Semicolon after
+  Ok (array x.0 n.0, rest)
+
+-- behind `table`
+unfoldable pub table_behind : Scope → List Lexeme → Read Table
+table_behind s ls = do
+  x ← name s ls
+  inside ← mark s mark_.Assign x.1
+  vs ← values s inside
+  rest ← mark s mark_.Semicolon vs.1
+  Ok (record { name = x.0; values = vs.0 }, rest)
+
+-- behind its first token, which begins at this byte
+unfoldable pub declaration_behind : Scope → Token → ℕ → List Lexeme → Read Declaration
+declaration_behind s (token.Keyword keyword_.Array) start rest = array_behind s rest
+declaration_behind s (token.Keyword keyword_.Table) start rest = table_behind s rest >>= λ t. Ok (table t.0, t.1)
+declaration_behind s _ start rest = Err (fault.Grammar start)
+
+unfoldable pub declaration : Scope → ℕ → List Lexeme → Read Declaration
+declaration s i ls = next s ls >>= λ x. declaration_behind s x.0.token x.0.start x.1
+
+abbrev pub declares : Token → Bool
+declares (token.Keyword keyword_.Array) = true
+declares (token.Keyword keyword_.Table) = true
+declares _ = false
+
+-- the arrays and tables of a process
+unfoldable pub declarations : Scope → List Lexeme → Read (List Declaration)
+declarations s ls = many declares (declaration s) 0 (length ls) ls
+
+unfoldable pub shared_table : Scope → ℕ → List Lexeme → Read Table
+shared_table s i ls = keyword s keyword_.Table ls >>= table_behind s
+
+-- the tables in front of the processes
+unfoldable pub shared_tables : Scope → List Lexeme → Read (List Table)
+shared_tables s ls = many (is_keyword keyword_.Table) (shared_table s) 0 (length ls) ls
+
 -- ---- processes
 
 -- the ports and parameters of a process
@@ -430,6 +530,10 @@ parts s ls =
     then Ok (record { ins = []; outs = []; pars = [] }, ls)
     else (next s ls >>= λ x. parts_behind s x.0.token x.0.start x.1)
 
+-- the statements of a body and its closing brace
+unfoldable pub body_behind : Scope → List Lexeme → Read Statements
+body_behind s ls = block_behind s (block s (MAX_LEVELS - 1)) (second_block s (MAX_LEVELS - 1)) ls
+
 -- a process
 unfoldable pub process : Scope → List Lexeme → Read Process
 process s ls = do
@@ -438,8 +542,20 @@ process s ls = do
   inside ← mark s mark_.LeftParen x.1
   p ← parts s inside
   after ← mark s mark_.RightParen p.1
-  body ← block s MAX_LEVELS after
-  Ok (record { name = x.0; ins = p.0.ins; outs = p.0.outs; pars = p.0.pars; body = body.0 }, body.1)
+  opened ← mark s mark_.LeftBrace after
+  ds ← declarations s opened
+  body ← body_behind s ds.1
+  Ok (
+    record {
+      name = x.0;
+      ins = p.0.ins;
+      outs = p.0.outs;
+      pars = p.0.pars;
+      declarations = ds.0;
+      body = body.0;
+    },
+    body.1,
+  )
 
 -- the process of a number
 unfoldable pub numbered_process : Scope → ℕ → List Lexeme → Read Process
@@ -480,20 +596,7 @@ source_behind s ls = do
   rest ← mark s mark_.Semicolon x.1
   Ok (source x.0, rest)
 
--- a number or a number behind a minus, from its first token on, which begins at this byte
-unfoldable pub literal_behind : Scope → Token → ℕ → List Lexeme → Read Literal
-literal_behind s (token.Number n) start rest = Ok (plain n, rest)
-literal_behind s (token.Mark mark_.Minus) start rest = number s rest >>= λ n. Ok (negated n.0, n.1)
-literal_behind s _ start rest = Err (fault.Grammar start)
-
-unfoldable pub literal : Scope → List Lexeme → Read Literal
-literal s ls = next s ls >>= λ x. literal_behind s x.0.token x.0.start x.1
-
--- values, with commas between them
-unfoldable pub values : Scope → List Lexeme → Read (List Literal)
-values s ls = separated s (literal s) ls
-
--- the same behind a semicolon, or none if no semicolon is at the front
+-- values behind a semicolon, or none if no semicolon is at the front
 unfoldable pub optional_values : Scope → List Lexeme → Read (List Literal)
 optional_values s ls =
     if first_is (is_mark mark_.Semicolon) ls
@@ -596,13 +699,14 @@ unfoldable pub language_at : Scope → Language → List Lexeme → Result (List
 language_at s language.One ls = Ok ls
 language_at s language.Two ls = opening s ls
 
--- the processes, the network and nothing after it
+-- the shared tables, the processes, the network and nothing after it
 unfoldable pub contents : Scope → List Lexeme → Result Description GrammarFault
 contents s ls = do
-  ps ← processes s ls
+  ts ← shared_tables s ls
+  ps ← processes s ts.1
   n ← network s ps.1
   nothing ← at_end n.1
-  Ok (record { processes = ps.0; network = n.0 })
+  Ok (record { tables = ts.0; processes = ps.0; network = n.0 })
 
 -- the same behind the language
 unfoldable pub description : Scope → List Lexeme → Result Description GrammarFault

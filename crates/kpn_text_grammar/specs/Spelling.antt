@@ -1,7 +1,7 @@
 -- How a tree is spelled, token by token, how deep it nests, and what it is for tokens to be a description. Each
 -- spelling has behind it the tokens that follow. In language 1 a tree has one spelling. In language 2 it has many, by
 -- the rules of the grammar, and the canonical one of them has no parentheses and no `else` that can be left out.
-use Rattle.std.specs.Prelude.{◌≡◌, ◌≤◌, ℕ, suc, max, Bool, false, nat_le, if◌then◌else◌, List, [], ◌∷◌, map, Option, Some, None}
+use Rattle.std.specs.Prelude.{◌≡◌, ◌<◌, ◌≤◌, ℕ, suc, max, Bool, false, nat_le, if◌then◌else◌, List, [], ◌∷◌, length, map, Option, Some, None}
 use Rattle.std.specs.List.{AllByRecursion}
 use Rattle.kpn_limits.specs.declared.TheConstants.{MAX_LEVELS}
 use Rattle.kpn_text_tokens.specs.declared.tokens.Language.{Language}
@@ -18,7 +18,7 @@ use Rattle.kpn_net.specs.declared.tables.Policy.{Policy}
 use Rattle.kpn_text_grammar.specs.Operators.{operator_mark, tightness, left_side, right_side, LOOSEST, OPERAND}
 use Rattle.kpn_text_grammar.specs.TokenTests.{is_keyword}
 use Rattle.kpn_text_grammar.specs.Words.{growth_word, policy_word}
-use Rattle.kpn_text_grammar.specs.Syntax.{Name, Term, numeral, variable, minus, negation, complement, binary, conditional, Statement, assign, receive, send, choice, loop, Statements, no_statements, statement, Process, Literal, plain, negated, Instance, Item, channel, source, sink, instance, Network, Description}
+use Rattle.kpn_text_grammar.specs.Syntax.{Name, Term, numeral, variable, element, minus, negation, complement, binary, conditional, Statement, assign, store, receive, send, choice, loop, Statements, no_statements, statement, Literal, plain, negated, Table, Declaration, array, table, Process, Instance, Item, channel, source, sink, instance, Network, Description}
 
 -- the tokens of a text without their places
 abbrev pub kinds : List Lexeme → List Token
@@ -26,10 +26,12 @@ kinds ls = map (λ l. l.token) ls
 
 -- ---- expressions
 
--- in language 1: a number, a name, -e, !e, ~e, (a op b), (c ? a : b)
+-- in language 1: a number, a name, x[e], -e, !e, ~e, (a op b), (c ? a : b)
 abbrev pub spell_term : Term → List Token → List Token
 spell_term (numeral n) more = token.Number n ∷ more
 spell_term (variable x) more = token.Name x ∷ more
+spell_term (element x e) more =
+    token.Name x ∷ token.Mark mark.LeftBracket ∷ spell_term e (token.Mark mark.RightBracket ∷ more)
 spell_term (minus e) more = token.Mark mark.Minus ∷ spell_term e more
 spell_term (negation e) more = token.Mark mark.Not ∷ spell_term e more
 spell_term (complement e) more = token.Mark mark.BitNot ∷ spell_term e more
@@ -45,6 +47,8 @@ spell_term (conditional c a b) more =
 abbrev pub spell_tight : ℕ → Term → List Token → List Token
 spell_tight n (numeral k) more = token.Number k ∷ more
 spell_tight n (variable x) more = token.Name x ∷ more
+spell_tight n (element x e) more =
+    token.Name x ∷ token.Mark mark.LeftBracket ∷ spell_tight LOOSEST e (token.Mark mark.RightBracket ∷ more)
 spell_tight n (minus e) more = token.Mark mark.Minus ∷ spell_tight OPERAND e more
 spell_tight n (negation e) more = token.Mark mark.Not ∷ spell_tight OPERAND e more
 spell_tight n (complement e) more = token.Mark mark.BitNot ∷ spell_tight OPERAND e more
@@ -63,11 +67,14 @@ spell_expression language.One e more = spell_term e more
 spell_expression language.Two e more = spell_tight LOOSEST e more
 
 -- The rules of expressions in language 2, a rule for each form: tokens up to those that follow spell a term that binds
--- as tight as this, or tighter. `depth` is how many operands, signs and `(` may stand in each other.
+-- as tight as this, or tighter. `depth` is how many operands, signs, `(` and `[` may stand in each other.
 pub data SpellsTight : (depth n : ℕ) → Term → List Token → List Token → Type 0 where
   as_number : {depth n k : ℕ} {more : List Token} → SpellsTight (suc depth) n (numeral k) (token.Number k ∷ more) more
   as_name : {depth n : ℕ} {x : Name} {more : List Token}
       → SpellsTight (suc depth) n (variable x) (token.Name x ∷ more) more
+  as_element : {depth n : ℕ} {x : Name} {e : Term} {tokens more : List Token}
+      → SpellsTight depth LOOSEST e tokens (token.Mark mark.RightBracket ∷ more)
+      → SpellsTight (suc depth) n (element x e) (token.Name x ∷ token.Mark mark.LeftBracket ∷ tokens) more
   as_minus : {depth n : ℕ} {e : Term} {tokens more : List Token} → SpellsTight depth OPERAND e tokens more
       → SpellsTight (suc depth) n (minus e) (token.Mark mark.Minus ∷ tokens) more
   as_negation : {depth n : ℕ} {e : Term} {tokens more : List Token} → SpellsTight depth OPERAND e tokens more
@@ -92,10 +99,11 @@ abbrev pub SpellsTerm : Language → Term → List Token → List Token → Type
 SpellsTerm language.One e tokens more = tokens ≡ spell_term e more
 SpellsTerm language.Two e tokens more = SpellsTight MAX_LEVELS LOOSEST e tokens more
 
--- a number or a name has one level, and a sign, an operator or a choice one more than its deepest part
+-- a number or a name has one level, and an index, a sign, an operator or a choice one more than its deepest part
 abbrev pub term_level : Term → ℕ
 term_level (numeral n) = 1
 term_level (variable x) = 1
+term_level (element x e) = suc (term_level e)
 term_level (minus e) = suc (term_level e)
 term_level (negation e) = suc (term_level e)
 term_level (complement e) = suc (term_level e)
@@ -113,10 +121,13 @@ spell_else l b inside more =
     token.Keyword keyword.Else ∷ token.Mark mark.LeftBrace ∷ inside (token.Mark mark.RightBrace ∷ more)
 
 abbrev mutual
-  -- x = e;  read i x;  write o e;  if e { .. } else { .. }  while e { .. }
+  -- x = e;  x[i] = e;  read i x;  write o e;  if e { .. } else { .. }  while e { .. }
   pub spell_statement : Language → Statement → List Token → List Token
   spell_statement l (assign x e) more = token.Name x ∷ token.Mark mark.Assign
       ∷ spell_expression l e (token.Mark mark.Semicolon ∷ more)
+  spell_statement l (store x i e) more = token.Name x ∷ token.Mark mark.LeftBracket
+      ∷ spell_expression l i (token.Mark mark.RightBracket ∷ token.Mark mark.Assign
+      ∷ spell_expression l e (token.Mark mark.Semicolon ∷ more))
   spell_statement l (receive i x) more =
       token.Keyword keyword.Read ∷ token.Name i ∷ token.Name x ∷ token.Mark mark.Semicolon ∷ more
   spell_statement l (send o e) more =
@@ -133,10 +144,6 @@ abbrev mutual
   spell_statements l no_statements more = more
   spell_statements l (statement s ss) more = spell_statement l s (spell_statements l ss more)
 
--- the statements between braces
-abbrev pub spell_block : Language → Statements → List Token → List Token
-spell_block l b more = token.Mark mark.LeftBrace ∷ spell_statements l b (token.Mark mark.RightBrace ∷ more)
-
 -- `else` is the first of the tokens
 abbrev pub begins_else : List Token → Bool
 begins_else [] = false
@@ -148,6 +155,10 @@ mutual
     as_assignment : {x : Name} {e : Term} {tokens more : List Token}
         → SpellsTerm l e tokens (token.Mark mark.Semicolon ∷ more)
         → SpellsStatement l (assign x e) (token.Name x ∷ token.Mark mark.Assign ∷ tokens) more
+    as_store : {x : Name} {i e : Term} {at_i more : List Token} (at_e : List Token)
+        → SpellsTerm l i at_i (token.Mark mark.RightBracket ∷ token.Mark mark.Assign ∷ at_e)
+        → SpellsTerm l e at_e (token.Mark mark.Semicolon ∷ more)
+        → SpellsStatement l (store x i e) (token.Name x ∷ token.Mark mark.LeftBracket ∷ at_i) more
     as_read : {i x : Name} {more : List Token}
         → SpellsStatement l (receive i x)
         (token.Keyword keyword.Read ∷ token.Name i ∷ token.Name x ∷ token.Mark mark.Semicolon ∷ more) more
@@ -190,6 +201,7 @@ abbrev mutual
   -- how many levels of blocks are inside a statement
   pub inner_levels : Statement → ℕ
   inner_levels (assign x e) = 0
+  inner_levels (store x i e) = 0
   inner_levels (receive i x) = 0
   inner_levels (send o e) = 0
   inner_levels (choice e a b) = suc (max (levels_within a) (levels_within b))
@@ -208,6 +220,7 @@ abbrev mutual
   -- the most levels of an expression in a statement
   pub deepest_term : Statement → ℕ
   deepest_term (assign x e) = term_level e
+  deepest_term (store x i e) = max (term_level i) (term_level e)
   deepest_term (receive i x) = 0
   deepest_term (send o e) = term_level e
   deepest_term (choice e a b) = max (term_level e) (max (deepest_term_of_all a) (deepest_term_of_all b))
@@ -254,6 +267,33 @@ spell_name x more = token.Name x ∷ more
 abbrev pub spell_names : List Name → List Token → List Token
 spell_names = spell_list spell_name
 
+-- ---- tables and arrays
+
+-- 3, -3
+abbrev pub spell_literal : Literal → List Token → List Token
+spell_literal (plain n) more = token.Number n ∷ more
+spell_literal (negated n) more = token.Mark mark.Minus ∷ token.Number n ∷ more
+
+-- table t = 3, -3;
+abbrev pub spell_table : Table → List Token → List Token
+spell_table t more = token.Keyword keyword.Table ∷ token.Name t.name ∷ token.Mark mark.Assign
+    ∷ spell_list spell_literal t.values (token.Mark mark.Semicolon ∷ more)
+
+-- array a[3];  table t = 3, -3;
+abbrev pub spell_declaration : Declaration → List Token → List Token
+spell_declaration (array x n) more =
+    token.Keyword keyword.Array ∷ token.Name x ∷ token.Mark mark.LeftBracket ∷ token.Number n
+    ∷ token.Mark mark.RightBracket ∷ token.Mark mark.Semicolon ∷ more
+spell_declaration (table t) more = spell_table t more
+
+-- a table has a value, an array a cell
+abbrev pub TableIsWithin : Table → Type 0
+TableIsWithin t = 0 < length t.values
+
+abbrev pub DeclarationIsWithin : Declaration → Type 0
+DeclarationIsWithin (array x n) = 0 < n
+DeclarationIsWithin (table t) = TableIsWithin t
+
 -- ---- processes
 
 -- a part of a head; nothing if it has no names
@@ -273,25 +313,24 @@ spell_parts (x ∷ xs) outs pars more = spell_part keyword.In (x ∷ xs)
 spell_parts [] (x ∷ xs) pars more = spell_part keyword.Out (x ∷ xs) (spell_later_part keyword.Par pars more)
 spell_parts [] [] pars more = spell_part keyword.Par pars more
 
+-- process p(..) { and its arrays and tables, in front of its statements
+abbrev pub spell_head : Process → List Token → List Token
+spell_head p more =
+    token.Keyword keyword.Process ∷ token.Name p.name ∷ token.Mark mark.LeftParen
+    ∷ spell_parts p.ins p.outs p.pars (token.Mark mark.RightParen ∷ token.Mark mark.LeftBrace
+    ∷ spell_all spell_declaration p.declarations more)
+
 -- process p(..) { .. }
 abbrev pub spell_process : Language → Process → List Token → List Token
-spell_process l p more =
-    token.Keyword keyword.Process ∷ token.Name p.name ∷ token.Mark mark.LeftParen
-    ∷ spell_parts p.ins p.outs p.pars (token.Mark mark.RightParen ∷ spell_block l p.body more)
+spell_process l p more = spell_head p (spell_statements l p.body (token.Mark mark.RightBrace ∷ more))
 
--- The tokens up to those that follow spell the process in a language: those of its head, and then of its body.
+-- The tokens up to those that follow spell the process in a language: those of its head, and then of its statements.
 pub record SpellsProcess (l : Language) (p : Process) (tokens more : List Token) : Type 0 where
   pub inside : List Token
-  pub head : tokens ≡ token.Keyword keyword.Process ∷ token.Name p.name ∷ token.Mark mark.LeftParen
-      ∷ spell_parts p.ins p.outs p.pars (token.Mark mark.RightParen ∷ token.Mark mark.LeftBrace ∷ inside)
+  pub head : tokens ≡ spell_head p inside
   pub body : SpellsStatements l p.body inside (token.Mark mark.RightBrace ∷ more)
 
 -- ---- networks
-
--- 3, -3
-abbrev pub spell_literal : Literal → List Token → List Token
-spell_literal (plain n) more = token.Number n ∷ more
-spell_literal (negated n) more = token.Mark mark.Minus ∷ token.Number n ∷ more
 
 -- the values of an instance, behind its second semicolon; nothing if there are none
 abbrev pub spell_values : List Literal → List Token → List Token
@@ -358,14 +397,15 @@ spell_language language.One more = more
 spell_language language.Two more =
     token.Keyword keyword.Language ∷ token.Number 2 ∷ token.Mark mark.Semicolon ∷ more
 
--- the language, the processes and the network, and nothing after it
+-- the language, the shared tables, the processes and the network, and nothing after it
 abbrev pub spell_description : Language → Description → List Token
-spell_description l d = spell_language l (spell_all (spell_process l) d.processes (spell_network d.network []))
+spell_description l d = spell_language l (spell_all spell_table d.tables
+    (spell_all (spell_process l) d.processes (spell_network d.network [])))
 
 -- the tokens spell the same by the rules
 pub record SpellsByRules (l : Language) (d : Description) (tokens : List Token) : Type 0 where
   pub inside : List Token
-  pub opening : tokens ≡ spell_language l inside
+  pub opening : tokens ≡ spell_language l (spell_all spell_table d.tables inside)
   pub processes : SpellsAll (SpellsProcess l) d.processes inside (spell_network d.network [])
 
 -- the tokens spell the description in a language
@@ -373,11 +413,18 @@ abbrev pub SpellsDescription : Language → Description → List Token → Type 
 SpellsDescription language.One d tokens = tokens ≡ spell_description language.One d
 SpellsDescription language.Two d tokens = SpellsByRules language.Two d tokens
 
--- the blocks of a process nest at most 32 levels, its body among them, and its expressions at most 32
-abbrev pub ProcessIsWithin : Process → Type 0
-ProcessIsWithin p = BlockIsWithin MAX_LEVELS p.body
+-- its arrays and tables are within the limits, its blocks nest at most 32 levels, its body among them, and its
+-- expressions at most 32
+pub record ProcessIsWithin (p : Process) : Type 0 where
+  pub declarations : AllByRecursion DeclarationIsWithin p.declarations
+  pub body : BlockIsWithin MAX_LEVELS p.body
+
+-- a description within the limits of the grammar
+pub record IsWithin (d : Description) : Type 0 where
+  pub tables : AllByRecursion TableIsWithin d.tables
+  pub processes : AllByRecursion ProcessIsWithin d.processes
 
 -- The tokens are those of the description in a language, and it is within the limits of the grammar.
 pub record IsDescription (l : Language) (tokens : List Token) (d : Description) : Type 0 where
   pub spelled : SpellsDescription l d tokens
-  pub within : AllByRecursion ProcessIsWithin d.processes
+  pub within : IsWithin d

@@ -13,6 +13,7 @@ Name = List ℕ
 pub data Term : Type 0 where
   numeral : ℕ → Term
   variable : Name → Term
+  element : Name → Term → Term
   minus : Term → Term
   negation : Term → Term
   complement : Term → Term
@@ -20,9 +21,10 @@ pub data Term : Type 0 where
   conditional : Term → Term → Term → Term
 
 mutual
-  -- a statement: x = e;  read i x;  write o e;  if e { .. } else { .. }  while e { .. }
+  -- a statement: x = e;  x[i] = e;  read i x;  write o e;  if e { .. } else { .. }  while e { .. }
   pub data Statement : Type 0 where
     assign : Name → Term → Statement
+    store : Name → Term → Term → Statement
     receive : Name → Name → Statement
     send : Name → Term → Statement
     choice : Term → Statements → Statements → Statement
@@ -38,14 +40,6 @@ abbrev pub statements_of : List Statement → Statements
 statements_of [] = no_statements
 statements_of (s ∷ ss) = statement s (statements_of ss)
 
--- a process: its name, its in ports, out ports and parameters, and its body
-pub record Process : Type 0 where
-  pub name : Name
-  pub ins : List Name
-  pub outs : List Name
-  pub pars : List Name
-  pub body : Statements
-
 -- a value as it is written: a number, or a number behind a minus; so 0 and -0 are two spellings of one value
 pub data Literal : Type 0 where
   plain : ℕ → Literal
@@ -55,6 +49,25 @@ pub data Literal : Type 0 where
 abbrev pub literal_value : Literal → ℤ
 literal_value (plain n) = pos n
 literal_value (negated n) = neg_ℤ (pos n)
+
+-- a table: its name and its values
+pub record Table : Type 0 where
+  pub name : Name
+  pub values : List Literal
+
+-- what stands at the head of the body of a process: an array with its size, a table
+pub data Declaration : Type 0 where
+  array : Name → ℕ → Declaration
+  table : Table → Declaration
+
+-- a process: its name, its in ports, out ports and parameters, its arrays and tables in order, and its body
+pub record Process : Type 0 where
+  pub name : Name
+  pub ins : List Name
+  pub outs : List Name
+  pub pars : List Name
+  pub declarations : List Declaration
+  pub body : Statements
 
 -- an instance: its name and that of its program, the channels at its in ports and at its out ports, and the values of
 -- its parameters
@@ -79,7 +92,8 @@ pub record Network : Type 0 where
   pub growth : Option Growth
   pub items : List Item
 
--- a description: its processes in order, and its network
+-- a description: the tables that its processes share and its processes, each in order, and its network
 pub record Description : Type 0 where
+  pub tables : List Table
   pub processes : List Process
   pub network : Network

@@ -3,6 +3,8 @@ use Rattle.std.specs.Prelude.{◌≡◌, ◌≤◌, ℕ, List, map, drop, Result
 use Rattle.kpn_text_tokens.specs.declared.tokens.Lexeme.{Lexeme}
 use Rattle.kpn_text_grammar.specs.declared.parser.Source.{Source}
 use Rattle.kpn_text_grammar.specs.declared.precedence.Tree.{Tree}
+use Rattle.kpn_text_grammar.specs.declared.tree.Declaration.{Declaration as DeclarationCode}
+use Rattle.kpn_text_grammar.specs.declared.tree.Declaration.TheVariants as declaration
 use Rattle.kpn_text_grammar.specs.declared.tree.Description.{Description as DescriptionCode}
 use Rattle.kpn_text_grammar.specs.declared.tree.Expression.{Expression, fold-Expression}
 use Rattle.kpn_text_grammar.specs.declared.tree.Expression.TheOpen.{Expression-F}
@@ -17,11 +19,12 @@ use Rattle.kpn_text_grammar.specs.declared.tree.HeadParts.{HeadParts as HeadPart
 use Rattle.kpn_text_grammar.specs.declared.tree.Process.{Process as ProcessCode}
 use Rattle.kpn_text_grammar.specs.declared.tree.Statement.{Statement as StatementCode, fold-Statement}
 use Rattle.kpn_text_grammar.specs.declared.tree.Statement.TheOpen.{Statement-F}
+use Rattle.kpn_text_grammar.specs.declared.tree.Table.{Table as TableCode}
 use Rattle.kpn_text_grammar.specs.declared.fault.GrammarFault.{GrammarFault}
 use Rattle.kpn_text_grammar.specs.declared.parser.Scope.{Scope}
 use Rattle.kpn_text_grammar.specs.Reading.{HeadParts, Read, Gives}
 use Rattle.kpn_text_grammar.specs.Spelling.{term_level}
-use Rattle.kpn_text_grammar.specs.Syntax.{Name, Term, numeral, variable, minus, negation, complement, binary, conditional, Statement, assign, receive, send, choice, loop, Statements, statements_of, Process, Literal, plain, negated, Instance, Item, channel, source, sink, instance, Network, Description}
+use Rattle.kpn_text_grammar.specs.Syntax.{Name, Term, numeral, variable, element, minus, negation, complement, binary, conditional, Statement, assign, store, receive, send, choice, loop, Statements, statements_of, Literal, plain, negated, Table, Declaration, array, table, Process, Instance, Item, channel, source, sink, instance, Network, Description}
 
 -- names as written
 abbrev pub names_seen : List Identifier → List Name
@@ -31,6 +34,7 @@ names_seen xs = map (λ x. x.bytes.now) xs
 abbrev pub term_step : Expression-F Term → Term
 term_step (Expression-F.Number n) = numeral n
 term_step (Expression-F.Name x) = variable x.bytes.now
+term_step (Expression-F.Element x e) = element x.bytes.now e.value
 term_step (Expression-F.Negative e) = minus e.value
 term_step (Expression-F.Not e) = negation e.value
 term_step (Expression-F.BitNot e) = complement e.value
@@ -49,6 +53,7 @@ pub record HasLevels (most : ℕ) (tree : Tree) : Type 0 where
 -- one level, with each statement inside already seen
 abbrev pub statement_step : Statement-F Statement → Statement
 statement_step (Statement-F.Assign x e) = assign x.bytes.now (term e)
+statement_step (Statement-F.Store x i e) = store x.bytes.now (term i) (term e)
 statement_step (Statement-F.Read i x) = receive i.bytes.now x.bytes.now
 statement_step (Statement-F.Write o e) = send o.bytes.now (term e)
 statement_step (Statement-F.If e a b) = choice (term e) (statements_of a.items) (statements_of b.items)
@@ -65,19 +70,6 @@ statements_seen ss = map statement_seen ss
 abbrev pub block_seen : List StatementCode → Statements
 block_seen ss = statements_of (statements_seen ss)
 
--- the process that the code's process stands for
-abbrev pub process_seen : ProcessCode → Process
-process_seen p = record {
-  name = p.name.bytes.now;
-  ins = names_seen p.parts.ins.items;
-  outs = names_seen p.parts.outs.items;
-  pars = names_seen p.parts.pars.items;
-  body = block_seen p.body.items;
-}
-
-abbrev pub processes_seen : List ProcessCode → List Process
-processes_seen ps = map process_seen ps
-
 -- a value as written
 abbrev pub literal_seen : LiteralCode → Literal
 literal_seen (literal.Plain n) = plain n
@@ -85,6 +77,34 @@ literal_seen (literal.Negated n) = negated n
 
 abbrev pub values_seen : List LiteralCode → List Literal
 values_seen vs = map literal_seen vs
+
+-- a table, an array or a table
+abbrev pub table_seen : TableCode → Table
+table_seen t = record { name = t.name.bytes.now; values = values_seen t.values.items }
+
+abbrev pub tables_seen : List TableCode → List Table
+tables_seen ts = map table_seen ts
+
+abbrev pub declaration_seen : DeclarationCode → Declaration
+declaration_seen (declaration.Array x n) = array x.bytes.now n
+declaration_seen (declaration.Table t) = table (table_seen t)
+
+abbrev pub declarations_seen : List DeclarationCode → List Declaration
+declarations_seen ds = map declaration_seen ds
+
+-- the process that the code's process stands for
+abbrev pub process_seen : ProcessCode → Process
+process_seen p = record {
+  name = p.name.bytes.now;
+  ins = names_seen p.parts.ins.items;
+  outs = names_seen p.parts.outs.items;
+  pars = names_seen p.parts.pars.items;
+  declarations = declarations_seen p.declarations.items;
+  body = block_seen p.body.items;
+}
+
+abbrev pub processes_seen : List ProcessCode → List Process
+processes_seen ps = map process_seen ps
 
 -- the instance, the item, the network and the description that the code's stand for
 abbrev pub instance_seen : InstanceCode → Instance
@@ -109,7 +129,11 @@ abbrev pub network_seen : NetworkCode → Network
 network_seen n = record { limit = n.limit; policy = n.policy; growth = n.growth; items = items_seen n.items.items }
 
 abbrev pub document : DescriptionCode → Description
-document d = record { processes = processes_seen d.processes.items; network = network_seen d.network }
+document d = record {
+  tables = tables_seen d.tables.items;
+  processes = processes_seen d.processes.items;
+  network = network_seen d.network;
+}
 
 -- ---- scaffolding: what the parsers return; all of them but `description` are private
 

@@ -6,9 +6,12 @@ ghost use Rattle.kpn_text_grammar.specs.Reading as spec;
 ghost use Rattle.kpn_text_grammar.specs.View.{Parses, statement_seen, statements_seen, block_seen, tokens_from};
 
 use crate::fault::GrammarFault;
-use crate::parser::{Read, Source, at_keyword, goes_on, is_second, keyword, mark, name, next};
+use crate::parser::{
+    Read, Source, at_keyword, at_mark, goes_on, is_second, keyword, mark, name, next,
+};
 use crate::precedence::whole;
 use crate::tree::{Block, Identifier, Statement};
+use kpn_limits::MAX_LEVELS;
 use kpn_text_tokens::{Keyword, Mark, Token};
 use std::alloc::Global;
 
@@ -40,6 +43,14 @@ fn block_behind<'a>(alloc: Global, source: Source<'a>, depth: usize, at: usize) 
     let (found, at) = statements(alloc, source, depth, at)?;
     let at = mark(source, Mark::RightBrace, at)?;
     Ok((found, at))
+}
+
+/// The statements of the body of a process and its closing brace.
+#[tactic(auto, unfolding(crate::specs::Reading::body_behind))]
+pub(crate) fn body<'a>(alloc: Global, source: Source<'a>, at: usize) -> Read<Block<'a>>
+    ensures { Parses (λ found. block_seen found.items) spec.body_behind source.entry at result }
+{
+    block_behind(alloc, source, MAX_LEVELS - 1, at)
 }
 
 /// The statements up to the closing brace.
@@ -74,7 +85,7 @@ fn one_statement<'a>(
     match &first.token {
         Token::Name(name) => {
             let target = Identifier::new(name, first.start);
-            assignment(alloc, source, target, at)
+            set_statement(alloc, source, target, at)
         }
         Token::Keyword(Keyword::Read) => read_statement(source, at),
         Token::Keyword(Keyword::Write) => write_statement(alloc, source, at),
@@ -82,6 +93,44 @@ fn one_statement<'a>(
         Token::Keyword(Keyword::While) => while_statement(alloc, source, depth, at),
         _ => Err(GrammarFault::Grammar(first.start)),
     }
+}
+
+/// A statement that sets a variable, or an element of an array if `[` is behind its name.
+#[tactic(auto, unfolding(crate::specs::Reading::target_behind))]
+fn set_statement<'a>(
+    alloc: Global,
+    source: Source<'a>,
+    target: Identifier<'a>,
+    at: usize,
+) -> Read<Statement<'a>>
+    ensures { Parses statement_seen
+        (λ s. spec.target_behind s target.entry.bytes.now) source.entry at result }
+{
+    if at_mark(source, Mark::LeftBracket, at) {
+        store(alloc, source, target, at)
+    } else {
+        assignment(alloc, source, target, at)
+    }
+}
+
+/// A statement that sets an element, behind the name of the array.
+#[tactic(auto, unfolding(crate::specs::Reading::store_behind, kpn_text_tokens::specs::Results::and_then))]
+fn store<'a>(
+    alloc: Global,
+    source: Source<'a>,
+    array: Identifier<'a>,
+    at: usize,
+) -> Read<Statement<'a>>
+    ensures { Parses statement_seen
+        (λ s. spec.store_behind s array.entry.bytes.now) source.entry at result }
+{
+    let at = mark(source, Mark::LeftBracket, at)?;
+    let (index, at) = whole(alloc, source, at)?;
+    let at = mark(source, Mark::RightBracket, at)?;
+    let at = mark(source, Mark::Assign, at)?;
+    let (value, at) = whole(alloc, source, at)?;
+    let at = mark(source, Mark::Semicolon, at)?;
+    Ok((Statement::Store(array, index, value), at))
 }
 
 /// An assignment behind its target.

@@ -1,5 +1,5 @@
-//! Expressions of language 1. A number or a name is an expression of level 1, and each sign and each pair of
-//! parentheses adds a level.
+//! Expressions of language 1. A number or a name is an expression of level 1, and each sign, each pair of parentheses
+//! and each index adds a level.
 
 ghost use Rattle.std.specs.Prelude.{◌≡◌};
 ghost use Rattle.kpn_text_grammar.specs.Reading as spec;
@@ -65,7 +65,10 @@ fn operand<'a>(
 {
     match &first.token {
         Token::Number(number) => Ok((Expression::Number(*number), at)),
-        Token::Name(name) => Ok((Expression::Name(Identifier::new(name, first.start)), at)),
+        Token::Name(name) => {
+            let name = Identifier::new(name, first.start);
+            behind_name(alloc, source, depth, name, at)
+        }
         Token::Mark(Mark::Minus) => {
             let (inner, after) = expression(alloc, source, depth, at)?;
             Ok((Expression::Negative(Box::new(alloc, inner)?), after))
@@ -81,6 +84,47 @@ fn operand<'a>(
         Token::Mark(Mark::LeftParen) => group(alloc, source, depth, at),
         _ => Err(GrammarFault::Grammar(first.start)),
     }
+}
+
+/// A name, or an element of an array or a table if `[` is behind its name.
+#[cycle(expression)]
+#[tactic(auto, unfolding(crate::specs::Reading::behind_name))]
+fn behind_name<'a>(
+    alloc: Global,
+    source: Source<'a>,
+    depth: usize,
+    name: Identifier<'a>,
+    at: usize,
+) -> Read<Expression<'a>>
+    ensures { Parses term
+        (λ s. spec.behind_name s (spec.expression s depth) name.entry.bytes.now)
+        source.entry at result }
+{
+    if at_mark(source, Mark::LeftBracket, at) {
+        element(alloc, source, depth, name, at)
+    } else {
+        Ok((Expression::Name(name), at))
+    }
+}
+
+/// An element, behind the name of the array or the table.
+#[cycle(expression)]
+#[tactic(auto, unfolding(crate::specs::Reading::element_behind, kpn_text_tokens::specs::Results::and_then))]
+fn element<'a>(
+    alloc: Global,
+    source: Source<'a>,
+    depth: usize,
+    name: Identifier<'a>,
+    at: usize,
+) -> Read<Expression<'a>>
+    ensures { Parses term
+        (λ s. spec.element_behind s (spec.expression s depth) name.entry.bytes.now)
+        source.entry at result }
+{
+    let at = mark(source, Mark::LeftBracket, at)?;
+    let (index, at) = expression(alloc, source, depth, at)?;
+    let at = mark(source, Mark::RightBracket, at)?;
+    Ok((Expression::Element(name, Box::new(alloc, index)?), at))
 }
 
 /// What stands between parentheses, behind the opening one: an expression, and then an operator or `?` tells which

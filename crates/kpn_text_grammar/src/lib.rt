@@ -5,6 +5,7 @@
 #![tactic(auto)]
 
 mod blocks;
+mod declarations;
 mod expressions;
 mod fault;
 mod laws;
@@ -22,8 +23,8 @@ pub use fault::GrammarFault;
 pub use laws::{canonical_spells, read_where_spelled, spelled_once};
 pub use operators::{LOOSEST, OPERAND, left_side, mark_of, right_side, tightness};
 pub use tree::{
-    Block, Description, Expression, HeadParts, Identifier, Instance, Item, Literal, Names, Network,
-    Process, Statement,
+    Block, Declaration, Description, Expression, HeadParts, Identifier, Instance, Item, Literal,
+    Names, Network, Process, Statement, Table,
 };
 pub use whole::description;
 pub use words::{growth_word, policy_word};

@@ -1,4 +1,4 @@
-//! Lists with commas between their elements: names, and the values of an instance.
+//! Lists with commas between their elements: names, and the values of a table or of an instance.
 
 ghost use Rattle.std.specs.Prelude.{◌≡◌};
 ghost use Rattle.kpn_text_grammar.specs.Reading as spec;
@@ -76,7 +76,7 @@ fn further_literal(source: Source<'_>, at: usize) -> Read<Literal>
 
 /// One value or more.
 #[tactic(auto, unfolding(crate::specs::Reading::values, crate::specs::Reading::separated, kpn_text_tokens::specs::Results::and_then))]
-fn values(alloc: Global, source: Source<'_>, at: usize) -> Read<Vec<Literal>>
+pub(crate) fn values(alloc: Global, source: Source<'_>, at: usize) -> Read<Vec<Literal>>
     ensures { Parses (λ found. values_seen found.items) spec.values source.entry at result }
 {
     let (first, after) = literal(source, at)?;

@@ -100,6 +100,19 @@ pub(crate) fn at_name(source: Source<'_>, at: usize) -> bool
     }
 }
 
+/// Whether an array or a table is declared at a place.
+pub(crate) fn declares(source: Source<'_>, at: usize) -> bool
+    ensures { result ≡ spec.first_is spec.declares (tokens_from source.entry at) }
+{
+    match source.tokens.get(at) {
+        Some(first) => matches!(
+            &first.token,
+            Token::Keyword(Keyword::Array | Keyword::Table)
+        ),
+        None => false,
+    }
+}
+
 /// Whether a token other than a closing brace is at a place.
 pub(crate) fn goes_on(source: Source<'_>, at: usize) -> bool
     ensures { result ≡ spec.first_is spec.goes_on (tokens_from source.entry at) }
@@ -161,6 +174,33 @@ pub(crate) fn number(source: Source<'_>, at: usize) -> Read<Number>
     match &first.token {
         Token::Number(number) => Ok((*number, after)),
         _ => Err(GrammarFault::Grammar(first.start)),
+    }
+}
+
+fn size_of_token(token: &Token<'_>) -> Option<Number>
+    ensures { result ≡ spec.token_size token.now }
+{
+    match token {
+        Token::Number(number) => {
+            if number.value() == 0 {
+                None
+            } else {
+                Some(*number)
+            }
+        }
+        _ => None,
+    }
+}
+
+/// The size of an array: a number above 0.
+#[tactic(auto, unfolding(crate::specs::Reading::size, kpn_text_tokens::specs::Results::and_then))]
+pub(crate) fn size(source: Source<'_>, at: usize) -> Read<Number>
+    ensures { Parses (λ n. n) spec.size source.entry at result }
+{
+    let (first, after) = next(source, at)?;
+    match size_of_token(&first.token) {
+        Some(size) => Ok((size, after)),
+        None => Err(GrammarFault::Grammar(first.start)),
     }
 }
 

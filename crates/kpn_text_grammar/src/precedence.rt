@@ -1,5 +1,5 @@
-//! Expressions of language 2, in which operators bind by precedence. A number or a name has level 1, and a sign, an
-//! operator or a choice one more than its deepest part.
+//! Expressions of language 2, in which operators bind by precedence. A number or a name has level 1, and an index, a
+//! sign, an operator or a choice one more than its deepest part.
 
 ghost use Rattle.std.specs.Prelude.{◌≡◌, ◌<◌, ◌-◌, IfOk};
 ghost use Rattle.kpn_text_grammar.specs.Reading as spec;
@@ -15,8 +15,8 @@ use kpn_limits::MAX_LEVELS;
 use kpn_text_tokens::{Lexeme, Mark, Token};
 use std::alloc::Global;
 
-/// What is left for an expression: how many levels it may have, and how many operands, signs and `(` may stand in each
-/// other.
+/// What is left for an expression: how many levels it may have, and how many operands, signs, `(` and `[` may stand in
+/// each other.
 #[derive(Clone, Copy)]
 pub(crate) struct Room {
     pub levels: usize,
@@ -101,8 +101,7 @@ fn tight_operand<'a>(
         }
         Token::Name(name) => {
             let name = Identifier::new(name, first.start);
-            let root = Box::new(alloc, Expression::Name(name))?;
-            Ok((Tree { root, levels: 1 }, at))
+            behind_name(alloc, source, room, name, at)
         }
         Token::Mark(Mark::Minus) => {
             let (Tree { root, levels }, after) = behind_sign(alloc, source, room, at)?;
@@ -125,6 +124,62 @@ fn tight_operand<'a>(
         Token::Mark(Mark::LeftParen) => parentheses(alloc, source, room, at),
         _ => Err(GrammarFault::Grammar(first.start)),
     }
+}
+
+/// A name, or an element of an array or a table if `[` is behind its name.
+#[cycle(tight)]
+#[tactic(auto, unfolding(crate::specs::Reading::behind_name))]
+fn behind_name<'a>(
+    alloc: Global,
+    source: Source<'a>,
+    room: Room,
+    name: Identifier<'a>,
+    at: usize,
+) -> Read<Tree<'a>>
+    requires levels { 0 < room.levels }
+    requires depth { 0 < room.depth }
+    ensures read { Parses (λ tree. term tree.root.value)
+        (λ s. spec.behind_name s
+        (spec.tight s (room.depth - 1) (room.levels - 1) LOOSEST) name.entry.bytes.now)
+        source.entry at result }
+    ensures levels { IfOk result (λ found. HasLevels room.levels found.0) }
+{
+    if at_mark(source, Mark::LeftBracket, at) {
+        return element(alloc, source, room, name, at);
+    }
+    let root = Box::new(alloc, Expression::Name(name))?;
+    Ok((Tree { root, levels: 1 }, at))
+}
+
+/// An element, behind the name of the array or the table.
+#[cycle(tight)]
+#[tactic(auto, unfolding(crate::specs::Reading::element_behind, kpn_text_tokens::specs::Results::and_then))]
+fn element<'a>(
+    alloc: Global,
+    source: Source<'a>,
+    room: Room,
+    name: Identifier<'a>,
+    at: usize,
+) -> Read<Tree<'a>>
+    requires levels { 0 < room.levels }
+    requires depth { 0 < room.depth }
+    ensures read { Parses (λ tree. term tree.root.value)
+        (λ s. spec.element_behind s
+        (spec.tight s (room.depth - 1) (room.levels - 1) LOOSEST) name.entry.bytes.now)
+        source.entry at result }
+    ensures levels { IfOk result (λ found. HasLevels room.levels found.0) }
+{
+    let inside = Room {
+        levels: room.levels - 1,
+        depth: room.depth - 1,
+    };
+    let at = mark(source, Mark::LeftBracket, at)?;
+    let (index, at) = tight(alloc, source, inside, LOOSEST, at)?;
+    let at = mark(source, Mark::RightBracket, at)?;
+    let Tree { root, levels } = index;
+    let root = Box::new(alloc, Expression::Element(name, root))?;
+    let levels = levels + 1;
+    Ok((Tree { root, levels }, at))
 }
 
 /// The operand of a sign.

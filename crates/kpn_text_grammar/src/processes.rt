@@ -4,12 +4,12 @@ ghost use Rattle.std.specs.Prelude.{◌≡◌};
 ghost use Rattle.kpn_text_grammar.specs.Reading as spec;
 ghost use Rattle.kpn_text_grammar.specs.View.{Parses, names_seen, parts_seen, process_seen, processes_seen};
 
-use crate::blocks::block;
+use crate::blocks::body;
+use crate::declarations::declarations;
 use crate::fault::GrammarFault;
 use crate::lists::names;
 use crate::parser::{Read, Scope, Source, at_keyword, at_mark, keyword, mark, name, next};
 use crate::tree::{HeadParts, Names, Process};
-use kpn_limits::MAX_LEVELS;
 use kpn_text_tokens::{Keyword, Lexeme, Mark, Token};
 use std::alloc::Global;
 
@@ -131,8 +131,16 @@ fn process<'a>(alloc: Global, source: Source<'a>, at: usize) -> Read<Process<'a>
     let at = mark(source, Mark::LeftParen, at)?;
     let (parts, at) = parts(alloc, source, at)?;
     let at = mark(source, Mark::RightParen, at)?;
-    let (body, at) = block(alloc, source, MAX_LEVELS, at)?;
-    Ok((Process { name, parts, body }, at))
+    let at = mark(source, Mark::LeftBrace, at)?;
+    let (declarations, at) = declarations(alloc, source, at)?;
+    let (body, at) = body(alloc, source, at)?;
+    let process = Process {
+        name,
+        parts,
+        declarations,
+        body,
+    };
+    Ok((process, at))
 }
 
 /// The process with a number.

@@ -32,6 +32,8 @@ impl<'a> Identifier<'a> {
 pub enum Expression<'a> {
     Number(Number),
     Name(Identifier<'a>),
+    /// `array[index]`
+    Element(Identifier<'a>, Box<Expression<'a>>),
     /// `-e`
     Negative(Box<Expression<'a>>),
     /// `!e`
@@ -49,6 +51,8 @@ pub enum Expression<'a> {
 pub enum Statement<'a> {
     /// `target = value;`
     Assign(Identifier<'a>, Expression<'a>),
+    /// `array[index] = value;`
+    Store(Identifier<'a>, Expression<'a>, Expression<'a>),
     /// `read port variable;`
     Read(Identifier<'a>, Identifier<'a>),
     /// `write port value;`
@@ -73,20 +77,37 @@ pub struct HeadParts<'a> {
     pub pars: Names<'a>,
 }
 
-/// A process: `process name(in ins; out outs; par pars) { body }`.
-#[derive(Drop)]
-pub struct Process<'a> {
-    pub name: Identifier<'a>,
-    pub parts: HeadParts<'a>,
-    pub body: Block<'a>,
-}
-
-/// The value of a parameter as written.
+/// A value as written.
 #[derive(Clone, Copy)]
 pub enum Literal {
     Plain(Number),
     /// A number behind a minus.
     Negated(Number),
+}
+
+/// A table: `table name = values;`.
+#[derive(Drop)]
+pub struct Table<'a> {
+    pub name: Identifier<'a>,
+    pub values: Vec<Literal>,
+}
+
+/// What stands at the head of the body of a process.
+#[derive(Drop)]
+pub enum Declaration<'a> {
+    /// `array name[size];`
+    Array(Identifier<'a>, Number),
+    Table(Table<'a>),
+}
+
+/// A process: `process name(in ins; out outs; par pars) { declarations body }`.
+#[derive(Drop)]
+pub struct Process<'a> {
+    pub name: Identifier<'a>,
+    pub parts: HeadParts<'a>,
+    /// Its arrays and tables, in order.
+    pub declarations: Vec<Declaration<'a>>,
+    pub body: Block<'a>,
 }
 
 /// An instance of a process: `name = program(ins; outs; values);`.
@@ -122,9 +143,10 @@ pub struct Network<'a> {
     pub items: Vec<Item<'a>>,
 }
 
-/// A description: its processes, numbered from 0 in order, and its network.
+/// A description: the tables that its processes share, its processes, numbered from 0 in order, and its network.
 #[derive(Drop)]
 pub struct Description<'a> {
+    pub tables: Vec<Table<'a>>,
     pub processes: Vec<Process<'a>>,
     pub network: Network<'a>,
 }

@@ -1,4 +1,4 @@
-//! The whole of a description: its language, its processes, its network, and nothing after it.
+//! The whole of a description: its language, its shared tables, its processes, its network, and nothing after it.
 
 ghost use Rattle.std.specs.Prelude.{◌≡◌, IfOk};
 ghost use Rattle.kpn_text_grammar.specs.Syntax.{Description as Document};
@@ -7,6 +7,7 @@ ghost use Rattle.kpn_text_tokens.specs.Results.{OkOr};
 ghost use Rattle.kpn_text_grammar.specs.Reading as spec;
 ghost use Rattle.kpn_text_grammar.specs.View.{Passes, document, tokens_from};
 
+use crate::declarations::shared_tables;
 use crate::fault::GrammarFault;
 use crate::networks::network;
 use crate::parser::{Scope, Source, keyword, mark, two};
@@ -47,7 +48,7 @@ fn language_at(source: Source<'_>, language: Language, at: usize) -> Result<usiz
     }
 }
 
-/// The processes, the network, and nothing after it.
+/// The shared tables, the processes, the network, and nothing after it.
 #[tactic(auto, unfolding(crate::specs::Reading::contents, kpn_text_tokens::specs::Results::and_then))]
 fn contents<'a>(
     alloc: Global,
@@ -57,10 +58,16 @@ fn contents<'a>(
     ensures { spec.Gives document result
         (spec.contents source.entry.scope (tokens_from source.entry at)) }
 {
+    let (tables, at) = shared_tables(alloc, source, at)?;
     let (processes, at) = processes(alloc, source, at)?;
     let (network, at) = network(alloc, source, at)?;
     at_end(source, at)?;
-    Ok(Description { processes, network })
+    let description = Description {
+        tables,
+        processes,
+        network,
+    };
+    Ok(description)
 }
 
 /// The same behind the language.

@@ -1,5 +1,5 @@
 -- There are as many names as processes, instances and channels.
-use Rattle.std.proofs.Common.{◌≡◌, suc, ◌+◌, List, [], ◌∷◌, ◌++◌, length, map, Ok, refl, sym, ap, subst, ◌∙◌, length-append, arith}
+use Rattle.std.proofs.Common.{◌≡◌, suc, List, [], ◌∷◌, ◌++◌, length, map, Ok, refl, sym, ap, subst, ◌∙◌, length-append, arith}
 use Rattle.std.proofs.lemmas.List.{length-map}
 use Rattle.kpn_net.specs.declared.tables.ChannelSpec.{ChannelSpec}
 use Rattle.kpn_net.specs.declared.tables.ChannelSpec.TheVariants.{Inner, Source, Sink}
@@ -7,6 +7,8 @@ use Rattle.kpn_text_grammar.specs.Syntax as grammar
 use Rattle.kpn_text_grammar.specs.Syntax.{Name, Process, Item, channel, source, sink, instance, Description}
 use Rattle.kpn_text_names.specs.Fault.{each}
 use Rattle.kpn_text_tokens.specs.Results.{and_then}
+use Rattle.kpn_text_names.specs.declared.tables.Shared.{Shared}
+use Rattle.kpn_text_names.specs.Shared.{shared_of}
 use Rattle.kpn_text_names.specs.Names.{declared}
 use Rattle.kpn_text_names.specs.Network.{settings_of, Wiring, within_32_bits, with_channel, with_instance, with_item, instance_of, all_channels, wiring}
 use Rattle.kpn_text_names.specs.Named.{NamedProgram, Programs, program_of, with_process, programs_of, Named, named_with, EachIsNamed, resolve}
@@ -32,14 +34,14 @@ both_longer table names things thing x e p = let q = one_longer table names x e 
 abbrev pub ProgramsMatch : Programs → Type 0
 ProgramsMatch s = length s.names ≡ length s.programs
 
-one_process : (s t : Programs) (p : Process) → with_process s p ≡ Ok t → ProgramsMatch s → ProgramsMatch t
-one_process s t p e match =
+one_process : (shared : Shared) (s t : Programs) (p : Process) → with_process shared s p ≡ Ok t → ProgramsMatch s → ProgramsMatch t
+one_process shared s t p e match =
     let b =
     went (declared s.names p.name)
-    (λ names. and_then (program_of p) (λ made. Ok (record { names = names; programs = s.programs ++ made ∷ [] })))
+    (λ names. and_then (program_of shared p) (λ made. Ok (record { names = names; programs = s.programs ++ made ∷ [] })))
     t e in
     let d =
-    went (program_of p) (λ made. Ok (record { names = b.value; programs = s.programs ++ made ∷ [] })) t b.rest in
+    went (program_of shared p) (λ made. Ok (record { names = b.value; programs = s.programs ++ made ∷ [] })) t b.rest in
     let is : ◌≡◌ {A = Programs} (record { names = b.value; programs = s.programs ++ d.value ∷ [] }) t =
     ok_is (record { names = b.value; programs = s.programs ++ d.value ∷ [] }) t d.rest in
     subst ProgramsMatch is (both_longer s.names b.value s.programs d.value p.name b.first match)
@@ -92,9 +94,9 @@ one_item programs channels w v (instance i) e match = one_instance programs chan
 
 -- ---- the whole
 
-pub programs_match : (processes : List Process) (p : Programs) → programs_of processes ≡ Ok p → ProgramsMatch p
-programs_match processes p e =
-    keeps with_process ProgramsMatch one_process processes (record { names = []; programs = [] }) p e refl
+pub programs_match : (shared : Shared) (processes : List Process) (p : Programs) → programs_of shared processes ≡ Ok p → ProgramsMatch p
+programs_match shared processes p e =
+    keeps (with_process shared) ProgramsMatch (one_process shared) processes (record { names = []; programs = [] }) p e refl
 
 pub wiring_matches : (programs : List Name) (items : List Item) (w : Wiring) → wiring programs items ≡ Ok w
     → WiringMatches w
@@ -116,14 +118,14 @@ each_named p n is scopes processes i c = record {
 
 pub resolved_each : (d : Description) (n : Named) → resolve d ≡ Ok n → EachIsNamed n
 resolved_each d n e =
-    let named : Programs → Wiring → Named = named_with (settings_of d.network) in
-    let p = went (programs_of d.processes)
-    (λ p. and_then (wiring p.names d.network.items) (λ w. Ok (named p w))) n e in
-    let w = went (wiring p.value.names d.network.items) (λ w. Ok (named p.value w)) n p.rest in
+    let shared = went (shared_of d.tables) _ n e in
+    let p = went (programs_of shared.value d.processes) _ n shared.rest in
+    let w = went (wiring p.value.names d.network.items) _ n p.rest in
     let match = wiring_matches p.value.names d.network.items w.value w.first in
-    subst EachIsNamed (ok_is (named p.value w.value) n w.rest)
-    (each_named p.value.programs (named p.value w.value) refl refl
-    (programs_match d.processes p.value p.first) match.instances match.channels)
+    let made : Named = named_with shared.value (settings_of d.network) p.value w.value in
+    subst EachIsNamed (ok_is made n w.rest)
+    (each_named p.value.programs made refl refl (programs_match shared.value d.processes p.value p.first)
+    match.instances match.channels)
 
 -- ---- the names by number
 

@@ -12,14 +12,14 @@ use Rattle.kpn_text_tokens.specs.Results.{and_then}
 use Rattle.kpn_text_names.proofs.Chains.{then_ok}
 use Rattle.kpn_text_names.proofs.Steps.{fails_first}
 use Rattle.kpn_text_names.specs.Names.{has}
-use Rattle.kpn_text_names.specs.Scope.{are_new, are_distinct, head}
-use Rattle.kpn_text_names.specs.Writer.{is_taken, with_part, declared_in}
+use Rattle.kpn_text_names.specs.Scope.{are_new, scope_with, head, is_taken}
+use Rattle.kpn_text_names.specs.Writer.{with_part, declared_in}
 
 -- the three parts in turn
-abbrev head_by_parts : (ins outs pars : List Name) → Result Scope NameError
-head_by_parts ins outs pars =
-    and_then (each (declared_in In) (record { ins = []; outs = []; vars = [] }) ins)
-    (λ s. and_then (each (declared_in Out) s outs) (λ t. each (declared_in Parameter) t pars))
+abbrev head_by_parts : (shared ins outs pars : List Name) → Result Scope NameError
+head_by_parts shared ins outs pars =
+    and_then (each (declared_in shared In) (scope_with [] [] []) ins)
+    (λ s. and_then (each (declared_in shared Out) s outs) (λ t. each (declared_in shared Parameter) t pars))
 
 -- ---- names one after the other
 
@@ -42,29 +42,29 @@ if_taken b s = cond b (Err double) (Ok s)
 
 -- ---- a part of the head: `at` says where the names go, and `before` what comes before them
 
-module _ (part : Part) (before : List Name) (at : List Name → Scope)
-    (taken : (names : List Name) (x : Name) → is_taken (at names) x ≡ has (before ++ names) x)
+module _ (shared : List Name) (part : Part) (before : List Name) (at : List Name → Scope)
+    (taken : (names : List Name) (x : Name) → is_taken shared (at names) x ≡ has (before ++ names) x)
     (put : (names : List Name) (x : Name) → with_part part (at names) x ≡ at (names ++ x ∷ [])) where
   name_then : (names xs : List Name) (x : Name) (b : Bool)
-      → each (declared_in part) (at (names ++ x ∷ [])) xs
+      → each (declared_in shared part) (at (names ++ x ∷ [])) xs
       ≡ cond (are_new (before ++ (names ++ x ∷ [])) xs) (Ok (at ((names ++ x ∷ []) ++ xs))) (Err double)
-      → and_then (if_taken b (with_part part (at names) x)) (λ s. each (declared_in part) s xs)
+      → and_then (if_taken b (with_part part (at names) x)) (λ s. each (declared_in shared part) s xs)
       ≡ cond (not b && are_new ((before ++ names) ++ x ∷ []) xs) (Ok (at (names ++ x ∷ xs))) (Err double)
   unfolding and_then
   name_then names xs x true rest = refl
   name_then names xs x false rest =
-      ap (λ s. each (declared_in part) s xs) (put names x) ∙ rest
+      ap (λ s. each (declared_in shared part) s xs) (put names x) ∙ rest
       ∙ (λ i.
       cond (are_new (sym (append_assoc before names (x ∷ [])) i) xs) (Ok (at (append_assoc names (x ∷ []) xs i)))
       (Err double))
 
   part_is : (names xs : List Name)
-      → each (declared_in part) (at names) xs
+      → each (declared_in shared part) (at names) xs
       ≡ cond (are_new (before ++ names) xs) (Ok (at (names ++ xs))) (Err double)
   unfolding each
   part_is names [] = ap (λ l. Ok (at l)) (sym (append-nil names))
   part_is names (x ∷ xs) =
-      ap (λ b. and_then (if_taken b (with_part part (at names) x)) (λ s. each (declared_in part) s xs))
+      ap (λ b. and_then (if_taken b (with_part part (at names) x)) (λ s. each (declared_in shared part) s xs))
       (taken names x)
       ∙ name_then names xs x (has (before ++ names) x) (part_is (names ++ x ∷ []) xs)
 
@@ -74,32 +74,49 @@ or_false : (b : Bool) → (b || false) ≡ b
 or_false true = refl
 or_false false = refl
 
-ins_are : (ins : List Name)
-    → each (declared_in In) (record { ins = []; outs = []; vars = [] }) ins
-    ≡ cond (are_new [] ins) (Ok (record { ins = ins; outs = []; vars = [] })) (Err double)
-ins_are ins =
-    part_is In [] (λ names. record { ins = names; outs = []; vars = [] })
-    (λ names x. or_false (has names x || false) ∙ or_false (has names x)) (λ names x. refl) [] ins
+or_assoc : (a b c : Bool) → ((a || b) || c) ≡ (a || (b || c))
+or_assoc true b c = refl
+or_assoc false b c = refl
 
-outs_are : (ins outs : List Name)
-    → each (declared_in Out) (record { ins = ins; outs = []; vars = [] }) outs
-    ≡ cond (are_new ins outs) (Ok (record { ins = ins; outs = outs; vars = [] })) (Err double)
-outs_are ins outs =
-    part_is Out ins (λ names. record { ins = ins; outs = names; vars = [] })
-    (λ names x. or_false (has ins x || has names x) ∙ sym (list_any-append (bytes_eq x) ins names)) (λ names x. refl)
-    [] outs
-    ∙ ap (λ l. cond (are_new l outs) (Ok (record { ins = ins; outs = outs; vars = [] })) (Err double))
-    (append-nil ins)
+-- a name is taken by these, which are known before it
+has_both : (xs ys : List Name) (x : Name) → (has xs x || has ys x) ≡ has (xs ++ ys) x
+has_both xs ys x = sym (list_any-append (bytes_eq x) xs ys)
 
-pars_are : (ins outs pars : List Name)
-    → each (declared_in Parameter) (record { ins = ins; outs = outs; vars = [] }) pars
-    ≡ cond (are_new (ins ++ outs) pars) (Ok (record { ins = ins; outs = outs; vars = pars })) (Err double)
-pars_are ins outs pars =
-    part_is Parameter (ins ++ outs) (λ names. record { ins = ins; outs = outs; vars = names })
-    (λ names x. ap (λ b. b || has names x) (sym (list_any-append (bytes_eq x) ins outs))
-    ∙ sym (list_any-append (bytes_eq x) (ins ++ outs) names)) (λ names x. refl) [] pars
-    ∙ ap (λ l. cond (are_new l pars) (Ok (record { ins = ins; outs = outs; vars = pars })) (Err double))
-    (append-nil (ins ++ outs))
+taken_by : (shared ins outs vars : List Name) (x : Name)
+    → is_taken shared (scope_with ins outs vars) x ≡ has (((shared ++ ins) ++ outs) ++ vars) x
+taken_by shared ins outs vars x =
+    ap (λ b. b || ((has ins x || has outs x) || has vars x)) (or_false (has shared x))
+    ∙ sym (or_assoc (has shared x) (has ins x || has outs x) (has vars x))
+    ∙ ap (λ b. b || has vars x) (sym (or_assoc (has shared x) (has ins x) (has outs x)))
+    ∙ ap (λ b. (b || has outs x) || has vars x) (has_both shared ins x)
+    ∙ ap (λ b. b || has vars x) (has_both (shared ++ ins) outs x) ∙ has_both ((shared ++ ins) ++ outs) vars x
+
+ins_are : (shared ins : List Name)
+    → each (declared_in shared In) (scope_with [] [] []) ins
+    ≡ cond (are_new shared ins) (Ok (scope_with ins [] [])) (Err double)
+ins_are shared ins =
+    part_is shared In shared (λ names. scope_with names [] [])
+    (λ names x. taken_by shared names [] [] x
+    ∙ ap (λ l. has l x) (append-nil ((shared ++ names) ++ []) ∙ append-nil (shared ++ names))) (λ names x. refl) [] ins
+    ∙ ap (λ l. cond (are_new l ins) (Ok (scope_with ins [] [])) (Err double)) (append-nil shared)
+
+outs_are : (shared ins outs : List Name)
+    → each (declared_in shared Out) (scope_with ins [] []) outs
+    ≡ cond (are_new (shared ++ ins) outs) (Ok (scope_with ins outs [])) (Err double)
+outs_are shared ins outs =
+    part_is shared Out (shared ++ ins) (λ names. scope_with ins names [])
+    (λ names x. taken_by shared ins names [] x ∙ ap (λ l. has l x) (append-nil ((shared ++ ins) ++ names)))
+    (λ names x. refl) [] outs
+    ∙ ap (λ l. cond (are_new l outs) (Ok (scope_with ins outs [])) (Err double)) (append-nil (shared ++ ins))
+
+pars_are : (shared ins outs pars : List Name)
+    → each (declared_in shared Parameter) (scope_with ins outs []) pars
+    ≡ cond (are_new ((shared ++ ins) ++ outs) pars) (Ok (scope_with ins outs pars)) (Err double)
+pars_are shared ins outs pars =
+    part_is shared Parameter ((shared ++ ins) ++ outs) (λ names. scope_with ins outs names)
+    (λ names x. taken_by shared ins outs names x) (λ names x. refl) [] pars
+    ∙ ap (λ l. cond (are_new l pars) (Ok (scope_with ins outs pars)) (Err double))
+    (append-nil ((shared ++ ins) ++ outs))
 
 then_where : {A B : Type 0} (b : Bool) (s : A) (next : A → Result B NameError)
     → and_then (cond b (Ok s) (Err double)) next ≡ cond b (next s) (Err double)
@@ -112,59 +129,62 @@ all_three true true c r e = refl
 all_three true false c r e = refl
 all_three false b c r e = refl
 
-pub heads_are : (ins outs pars : List Name) → head_by_parts ins outs pars
-    ≡ cond (are_distinct (ins ++ outs ++ pars)) (Ok (record { ins = ins; outs = outs; vars = pars })) (Err double)
-heads_are ins outs pars =
-    let last : Scope → Result Scope NameError = λ s. each (declared_in Parameter) s pars in
-    let later : Scope → Result Scope NameError = λ s. and_then (each (declared_in Out) s outs) last in
-    ap (λ r. and_then r later) (ins_are ins)
-    ∙ then_where (are_new [] ins) (record { ins = ins; outs = []; vars = [] }) later
-    ∙ ap (λ r. cond (are_new [] ins) (and_then r last) (Err double)) (outs_are ins outs)
-    ∙ ap (λ r. cond (are_new [] ins) r (Err double))
-    (then_where (are_new ins outs) (record { ins = ins; outs = outs; vars = [] }) last)
-    ∙ ap (λ r. cond (are_new [] ins) (cond (are_new ins outs) r (Err double)) (Err double)) (pars_are ins outs pars)
-    ∙ all_three (are_new [] ins) (are_new ins outs) (are_new (ins ++ outs) pars)
-    (Ok (record { ins = ins; outs = outs; vars = pars })) (Err double)
-    ∙ ap (λ b. cond b (Ok (record { ins = ins; outs = outs; vars = pars })) (Err double))
+pub heads_are : (shared ins outs pars : List Name) → head_by_parts shared ins outs pars
+    ≡ cond (are_new shared (ins ++ outs ++ pars)) (Ok (scope_with ins outs pars)) (Err double)
+heads_are shared ins outs pars =
+    let last : Scope → Result Scope NameError = λ s. each (declared_in shared Parameter) s pars in
+    let later : Scope → Result Scope NameError = λ s. and_then (each (declared_in shared Out) s outs) last in
+    ap (λ r. and_then r later) (ins_are shared ins)
+    ∙ then_where (are_new shared ins) (scope_with ins [] []) later
+    ∙ ap (λ r. cond (are_new shared ins) (and_then r last) (Err double)) (outs_are shared ins outs)
+    ∙ ap (λ r. cond (are_new shared ins) r (Err double))
+    (then_where (are_new (shared ++ ins) outs) (scope_with ins outs []) last)
+    ∙ ap (λ r. cond (are_new shared ins) (cond (are_new (shared ++ ins) outs) r (Err double)) (Err double))
+    (pars_are shared ins outs pars)
+    ∙ all_three (are_new shared ins) (are_new (shared ++ ins) outs) (are_new ((shared ++ ins) ++ outs) pars)
+    (Ok (scope_with ins outs pars)) (Err double)
+    ∙ ap (λ b. cond b (Ok (scope_with ins outs pars)) (Err double))
     (sym
-    (are_new-append [] (ins ++ outs) pars
-    ∙ ap (λ b. b && are_new (ins ++ outs) pars) (are_new-append [] ins outs)))
+    (are_new-append shared (ins ++ outs) pars
+    ∙ ap (λ b. b && are_new (shared ++ (ins ++ outs)) pars) (are_new-append shared ins outs)
+    ∙ ap (λ l. (are_new shared ins && are_new (shared ++ ins) outs) && are_new l pars)
+    (sym (append_assoc shared ins outs))))
 
 -- ---- what the code knows after each part
 
 abbrev nothing : Scope
-nothing = record { ins = []; outs = []; vars = [] }
+nothing = scope_with [] [] []
 
-pub head_is : (p : Process) → head p ≡ head_by_parts p.ins p.outs p.pars
-head_is p = sym (heads_are p.ins p.outs p.pars)
+pub head_is : (shared : List Name) (p : Process) → head shared p ≡ head_by_parts shared p.ins p.outs p.pars
+head_is shared p = sym (heads_are shared p.ins p.outs p.pars)
 
-pub fails_at_ins : (e : NameFault) (p : Process) (s : Scope) (ins : List Name) → s ≡ nothing → ins ≡ p.ins
-    → Fails e (each (declared_in In) s ins) → Fails e (head p)
-fails_at_ins e p s ins start is h =
-    rw (head_is p, ← is, ← start)
-    (fails_first e (each (declared_in In) s ins)
-    (λ t. and_then (each (declared_in Out) t p.outs) (λ u. each (declared_in Parameter) u p.pars)) h)
+pub fails_at_ins : (shared : List Name) (e : NameFault) (p : Process) (s : Scope) (ins : List Name) → s ≡ nothing → ins ≡ p.ins
+    → Fails e (each (declared_in shared In) s ins) → Fails e (head shared p)
+fails_at_ins shared e p s ins start is h =
+    rw (head_is shared p, ← is, ← start)
+    (fails_first e (each (declared_in shared In) s ins)
+    (λ t. and_then (each (declared_in shared Out) t p.outs) (λ u. each (declared_in shared Parameter) u p.pars)) h)
 
-pub fails_at_outs : (e : NameFault) (p : Process) (s t : Scope) (ins outs : List Name) → s ≡ nothing → ins ≡ p.ins
+pub fails_at_outs : (shared : List Name) (e : NameFault) (p : Process) (s t : Scope) (ins outs : List Name) → s ≡ nothing → ins ≡ p.ins
     → outs ≡ p.outs
-    → each (declared_in In) s ins ≡ Ok t → Fails e (each (declared_in Out) t outs) → Fails e (head p)
-fails_at_outs e p s t ins outs start is os first h =
+    → each (declared_in shared In) s ins ≡ Ok t → Fails e (each (declared_in shared Out) t outs) → Fails e (head shared p)
+fails_at_outs shared e p s t ins outs start is os first h =
     rw (
-      head_is p,
+      head_is shared p,
       ← is,
       ← os,
       ← start,
-      then_ok (each (declared_in In) s ins)
-          (λ t. and_then (each (declared_in Out) t outs) (λ u. each (declared_in Parameter) u p.pars)) t first,
+      then_ok (each (declared_in shared In) s ins)
+          (λ t. and_then (each (declared_in shared Out) t outs) (λ u. each (declared_in shared Parameter) u p.pars)) t first,
     )
-    (fails_first e (each (declared_in Out) t outs) (λ u. each (declared_in Parameter) u p.pars) h)
+    (fails_first e (each (declared_in shared Out) t outs) (λ u. each (declared_in shared Parameter) u p.pars) h)
 
-pub made_of : (p : Process) (s t u : Scope) (ins outs pars : List Name) → s ≡ nothing → ins ≡ p.ins → outs ≡ p.outs
+pub made_of : (shared : List Name) (p : Process) (s t u : Scope) (ins outs pars : List Name) → s ≡ nothing → ins ≡ p.ins → outs ≡ p.outs
     → pars ≡ p.pars
-    → each (declared_in In) s ins ≡ Ok t → each (declared_in Out) t outs ≡ Ok u
-    → head p ≡ each (declared_in Parameter) u pars
-made_of p s t u ins outs pars start is os ps first second =
-    rw (head_is p, ← is, ← os, ← ps, ← start)
-    (then_ok (each (declared_in In) s ins)
-    (λ t. and_then (each (declared_in Out) t outs) (λ u. each (declared_in Parameter) u pars)) t first
-    ∙ then_ok (each (declared_in Out) t outs) (λ u. each (declared_in Parameter) u pars) u second)
+    → each (declared_in shared In) s ins ≡ Ok t → each (declared_in shared Out) t outs ≡ Ok u
+    → head shared p ≡ each (declared_in shared Parameter) u pars
+made_of shared p s t u ins outs pars start is os ps first second =
+    rw (head_is shared p, ← is, ← os, ← ps, ← start)
+    (then_ok (each (declared_in shared In) s ins)
+    (λ t. and_then (each (declared_in shared Out) t outs) (λ u. each (declared_in shared Parameter) u pars)) t first
+    ∙ then_ok (each (declared_in shared Out) t outs) (λ u. each (declared_in shared Parameter) u pars) u second)

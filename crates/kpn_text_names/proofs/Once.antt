@@ -1,10 +1,10 @@
 -- No name is twice in a table of names: each step adds a name that is new, or none.
-use Rattle.std.proofs.Common.{◌≡◌, ℕ, zero, suc, ◌<◌, Bool, true, false, cond, not, List, [], ◌∷◌, ◌++◌, length, map, Ok, refl, sym, ap, subst, ◌∙◌, append_assoc, append-nil, length-append, inl, inr, arith}
+use Rattle.std.proofs.Common.{◌≡◌, ℕ, zero, suc, ◌<◌, Bool, true, false, cond, not, ◌||◌, List, [], ◌∷◌, ◌++◌, length, map, Ok, refl, sym, ap, subst, ◌∙◌, append_assoc, append-nil, length-append, inl, inr, arith}
 use Rattle.std.specs.List.{All, position_or_len}
 use Rattle.std.specs.Str.{bytes_eq}
 use Rattle.std.specs.Cmp.Lexicographic.{bytes_decides}
 use Rattle.std.proofs.Math.Seq.{get_or-append_seam}
-use Rattle.std.proofs.lemmas.Bool.{cases_eq, false≢true, and_parts, lt-ltb}
+use Rattle.std.proofs.lemmas.Bool.{cases_eq, false≢true, and_from, and_parts, or_parts, lt-ltb}
 use Rattle.std.proofs.lemmas.List.{get_or_append_left, length-map}
 use Rattle.std.proofs.lemmas.List.Elements.{All-push}
 use Rattle.std.proofs.lemmas.List.Folds.{list_any_at, list_any-append}
@@ -13,15 +13,18 @@ use Rattle.kpn_lang.specs.Tree.{Tree}
 use Rattle.kpn_net.specs.declared.tables.ChannelSpec.{ChannelSpec}
 use Rattle.kpn_net.specs.declared.tables.ChannelSpec.TheVariants.{Inner, Source, Sink}
 use Rattle.kpn_text_grammar.specs.Syntax as grammar
-use Rattle.kpn_text_grammar.specs.Syntax.{Name, Statement, assign, receive, send, choice, loop, Statements, no_statements, statement, Process, Item, channel, source, sink, instance, Description}
+use Rattle.kpn_text_grammar.specs.Syntax.{Name, Statement, assign, store, receive, send, choice, loop, Statements, no_statements, statement, Declaration, Process, Item, channel, source, sink, instance, Description}
 use Rattle.kpn_text_names.specs.declared.scope.Scope.{Scope}
 use Rattle.kpn_text_tokens.specs.Results.{and_then}
 use Rattle.kpn_text_names.specs.Names.{name_at, has, declared, with_name}
-use Rattle.kpn_text_names.specs.Scope.{are_new, are_distinct, head, is_port, target}
+use Rattle.kpn_text_names.specs.declared.tables.Shared.{Shared}
+use Rattle.kpn_text_names.specs.Fault.{each}
+use Rattle.kpn_text_names.specs.Scope.{are_new, scope_with, head, is_port, is_row, is_taken, declared_name, with_declaration, declare, target}
+use Rattle.kpn_text_names.specs.Shared.{shared_of}
 use Rattle.kpn_text_names.specs.Body.{statement_in, tree_in}
 use Rattle.kpn_text_names.specs.Blocks.{Written, blocks_of, body_of}
 use Rattle.kpn_text_names.specs.Network.{Settings, settings_of, Wiring, within_32_bits, with_channel, with_instance, with_item, instance_of, all_channels, wiring}
-use Rattle.kpn_text_names.specs.Named.{NamedProgram, program_with, program_of, Programs, with_process, programs_of, Named, named_with, resolve}
+use Rattle.kpn_text_names.specs.Named.{NamedProgram, program_with, with_uses, program_of, Programs, with_process, programs_of, Named, named_with, resolve}
 use Rattle.kpn_text_names.specs.NetworkNames.{paired, process_names_in, names_in}
 use Rattle.kpn_text_names.specs.Once.{StandOnce, names_inside, EachStandsOnce}
 use Rattle.kpn_text_names.proofs.Chains.{ok_is, went}
@@ -95,11 +98,35 @@ new_apart before (x ∷ xs) e apart =
     subst Apart (append_assoc before (x ∷ []) xs)
     (new_apart (before ++ x ∷ []) xs parts.1 (one_more before x (is_false (has before x) parts.0) apart))
 
-head_apart : (p : Process) (s : Scope) → head p ≡ Ok s → ScopeApart s
-head_apart p s e =
-    let made : Scope = record { ins = p.ins; outs = p.outs; vars = p.pars } in
-    let given = if_so (are_distinct (p.ins ++ p.outs ++ p.pars)) made s e in
-    subst ScopeApart given.1 (new_apart [] (p.ins ++ p.outs ++ p.pars) given.0 none_apart)
+-- names that are new beside more are new beside fewer
+new_beside : (more before xs : List Name) → are_new (more ++ before) xs ≡ true → are_new before xs ≡ true
+new_beside more before [] e = refl
+new_beside more before (x ∷ xs) e =
+    let parts = and_parts (not (has (more ++ before) x)) (are_new ((more ++ before) ++ x ∷ []) xs) e in
+    let apart = or_parts (has more x) (has before x)
+    (sym (list_any-append (bytes_eq x) more before) ∙ is_false (has (more ++ before) x) parts.0) in
+    and_from (not (has before x)) (are_new (before ++ x ∷ []) xs) (ap not apart.1)
+    (new_beside more (before ++ x ∷ []) xs
+    (subst (λ (l : List Name). are_new l xs ≡ true) (append_assoc more before (x ∷ [])) parts.1))
+
+head_apart : (shared : List Name) (p : Process) (s : Scope) → head shared p ≡ Ok s → ScopeApart s
+head_apart shared p s e =
+    let made : Scope = scope_with p.ins p.outs p.pars in
+    let given = if_so (are_new shared (p.ins ++ p.outs ++ p.pars)) made s e in
+    let new = new_beside shared [] (p.ins ++ p.outs ++ p.pars)
+    (subst (λ (l : List Name). are_new l (p.ins ++ p.outs ++ p.pars) ≡ true) (sym (append-nil shared)) given.0) in
+    subst ScopeApart given.1 (new_apart [] (p.ins ++ p.outs ++ p.pars) new none_apart)
+
+-- an array or a table is no port and no variable
+same_names : (s : Scope) (d : Declaration) → known_in (with_declaration s d) ≡ known_in s
+same_names s (grammar.array x n) = refl
+same_names s (grammar.table t) = refl
+
+declare_apart : (shared : List Name) (s t : Scope) (d : Declaration) → declare shared s d ≡ Ok t → ScopeApart s
+    → ScopeApart t
+declare_apart shared s t d e apart =
+    let given = if_not (is_taken shared s (declared_name d)) (with_declaration s d) t e in
+    subst ScopeApart given.1 (subst Apart (sym (same_names s d)) apart)
 
 -- a variable, which is none of the ports
 with_name_apart : (ports vars : List Name) (x : Name) (b : Bool) → has vars x ≡ b → has ports x ≡ false
@@ -109,62 +136,72 @@ with_name_apart ports vars x false stands free apart =
     let new : has (ports ++ vars) x ≡ false = rw (list_any-append (bytes_eq x) ports vars, free) stands in
     subst Apart (append_assoc ports vars (x ∷ [])) (one_more (ports ++ vars) x new apart)
 
-target_apart : (s : Scope) (x : Name) (r : Scope × ℕ) → target s x ≡ Ok r → ScopeApart s → ScopeApart r.0
-target_apart s x r e apart =
+target_apart : (shared : List Name) (s : Scope) (x : Name) (r : Scope × ℕ) → target shared s x ≡ Ok r → ScopeApart s → ScopeApart r.0
+target_apart shared s x r e apart =
     let made : Scope × ℕ = (record s { vars = with_name s.vars x }, position_or_len (bytes_eq x) s.vars) in
-    let given = if_not (is_port s x) made r e in
-    let free : has (s.ins ++ s.outs) x ≡ false = list_any-append (bytes_eq x) s.ins s.outs ∙ given.0 in
+    let given = if_not (is_port s x || is_row shared s x) made r e in
+    let free : has (s.ins ++ s.outs) x ≡ false = list_any-append (bytes_eq x) s.ins s.outs
+    ∙ (or_parts (is_port s x) (is_row shared s x) given.0).0 in
     subst (λ q. ScopeApart q.0) given.1
     (with_name_apart (s.ins ++ s.outs) s.vars x (has s.vars x) refl free apart)
 
 mutual
   unfolding statement_in tree_in
 
-  statement_apart : (s : Scope) (x : Statement) (r : Scope × (Tree → Tree)) → statement_in s x ≡ Ok r
+  statement_apart : (shared : List Name) (s : Scope) (x : Statement) (r : Scope × (Tree → Tree)) → statement_in shared s x ≡ Ok r
       → ScopeApart s → ScopeApart r.0
-  statement_apart s (assign x e) r h apart =
+  statement_apart shared s (assign x e) r h apart =
       let t = went _ _ r h in
       let a = went _ _ r t.rest in
-      subst (λ q. ScopeApart q.0) (ok_is _ r a.rest) (target_apart s x t.value t.first apart)
-  statement_apart s (receive p x) r h apart =
+      subst (λ q. ScopeApart q.0) (ok_is _ r a.rest) (target_apart shared s x t.value t.first apart)
+  statement_apart shared s (store x i e) r h apart =
+      let row = went _ _ r h in
+      let a = went _ _ r row.rest in
+      let b = went _ _ r a.rest in
+      subst (λ q. ScopeApart q.0) (ok_is _ r b.rest) apart
+  statement_apart shared s (receive p x) r h apart =
       let port = went _ _ r h in
       let t = went _ _ r port.rest in
-      subst (λ q. ScopeApart q.0) (ok_is _ r t.rest) (target_apart s x t.value t.first apart)
-  statement_apart s (send o e) r h apart =
+      subst (λ q. ScopeApart q.0) (ok_is _ r t.rest) (target_apart shared s x t.value t.first apart)
+  statement_apart shared s (send o e) r h apart =
       let port = went _ _ r h in
       let a = went _ _ r port.rest in
       subst (λ q. ScopeApart q.0) (ok_is _ r a.rest) apart
-  statement_apart s (choice e b c) r h apart =
+  statement_apart shared s (choice e b c) r h apart =
       let a = went _ _ r h in
       let first = went _ _ r a.rest in
       let second = went _ _ r first.rest in
       subst (λ q. ScopeApart q.0) (ok_is _ r second.rest)
-      (tree_apart first.value.0 c second.value second.first (tree_apart s b first.value first.first apart))
-  statement_apart s (loop e b) r h apart =
+      (tree_apart shared first.value.0 c second.value second.first (tree_apart shared s b first.value first.first apart))
+  statement_apart shared s (loop e b) r h apart =
       let a = went _ _ r h in
       let body = went _ _ r a.rest in
-      subst (λ q. ScopeApart q.0) (ok_is _ r body.rest) (tree_apart s b body.value body.first apart)
+      subst (λ q. ScopeApart q.0) (ok_is _ r body.rest) (tree_apart shared s b body.value body.first apart)
 
-  tree_apart : (s : Scope) (b : Statements) (r : Scope × Tree) → tree_in s b ≡ Ok r → ScopeApart s → ScopeApart r.0
-  tree_apart s no_statements r h apart = subst (λ q. ScopeApart q.0) (ok_is _ r h) apart
-  tree_apart s (statement x xs) r h apart =
+  tree_apart : (shared : List Name) (s : Scope) (b : Statements) (r : Scope × Tree) → tree_in shared s b ≡ Ok r → ScopeApart s → ScopeApart r.0
+  tree_apart shared s no_statements r h apart = subst (λ q. ScopeApart q.0) (ok_is _ r h) apart
+  tree_apart shared s (statement x xs) r h apart =
       let first = went _ _ r h in
       let rest = went _ _ r first.rest in
       subst (λ q. ScopeApart q.0) (ok_is _ r rest.rest)
-      (tree_apart first.value.0 xs rest.value rest.first (statement_apart s x first.value first.first apart))
+      (tree_apart shared first.value.0 xs rest.value rest.first (statement_apart shared s x first.value first.first apart))
 
-body_apart : (s : Scope) (b : Statements) (w : Written) → body_of s b ≡ Ok w → ScopeApart s → ScopeApart w.scope
-body_apart s b w e apart =
+body_apart : (shared : List Name) (s : Scope) (b : Statements) (w : Written) → body_of shared s b ≡ Ok w → ScopeApart s
+    → ScopeApart w.scope
+body_apart shared s b w e apart =
     let made : Scope × Tree → Written = λ r. record { scope = r.0; blocks = blocks_of r.1 } in
-    let r = went (tree_in s b) (λ r. Ok (made r)) w e in
-    subst (λ v. ScopeApart v.scope) (ok_is (made r.value) w r.rest) (tree_apart s b r.value r.first apart)
+    let r = went (tree_in shared s b) (λ r. Ok (made r)) w e in
+    subst (λ v. ScopeApart v.scope) (ok_is (made r.value) w r.rest) (tree_apart shared s b r.value r.first apart)
 
-program_apart : (p : Process) (q : NamedProgram) → program_of p ≡ Ok q → ScopeApart q.names
-program_apart p q e =
-    let s = went (head p) (λ s. and_then (body_of s p.body) (λ body. Ok (program_with s body))) q e in
-    let body = went (body_of s.value p.body) (λ body. Ok (program_with s.value body)) q s.rest in
-    subst (λ made. ScopeApart made.names) (ok_is (program_with s.value body.value) q body.rest)
-    (body_apart s.value p.body body.value body.first (head_apart p s.value s.first))
+program_apart : (shared : Shared) (p : Process) (q : NamedProgram) → program_of shared p ≡ Ok q → ScopeApart q.names
+program_apart shared p q e =
+    let h = went (head shared.names p) _ q e in
+    let s = went (each (declare shared.names) h.value p.declarations) _ q h.rest in
+    let body = went (body_of shared.names (with_uses shared s.value p.body) p.body) _ q s.rest in
+    let declared : ScopeApart s.value = keeps (declare shared.names) ScopeApart (declare_apart shared.names) p.declarations
+    h.value s.value s.first (head_apart shared.names p h.value h.first) in
+    subst (λ made. ScopeApart made.names) (ok_is (program_with shared s.value body.value) q body.rest)
+    (body_apart shared.names (with_uses shared s.value p.body) p.body body.value body.first declared)
 
 -- ---- processes
 
@@ -172,21 +209,22 @@ record ProgramsApart (s : Programs) : Type 0 where
   names : Apart s.names
   inside : All (λ q. ScopeApart q.names) s.programs
 
-process_apart : (s t : Programs) (p : Process) → with_process s p ≡ Ok t → ProgramsApart s → ProgramsApart t
-process_apart s t p e apart =
+process_apart : (shared : Shared) (s t : Programs) (p : Process) → with_process shared s p ≡ Ok t → ProgramsApart s → ProgramsApart t
+process_apart shared s t p e apart =
     let made : List Name → NamedProgram → Programs =
     λ names made. record { names = names; programs = s.programs ++ made ∷ [] } in
-    let names = went (declared s.names p.name) (λ names. and_then (program_of p) (λ q. Ok (made names q))) t e in
-    let q = went (program_of p) (λ q. Ok (made names.value q)) t names.rest in
+    let names = went (declared s.names p.name) (λ names. and_then (program_of shared p) (λ q. Ok (made names q))) t e in
+    let q = went (program_of shared p) (λ q. Ok (made names.value q)) t names.rest in
     subst ProgramsApart (ok_is (made names.value q.value) t q.rest)
     (record {
       names = declared_apart s.names names.value p.name names.first apart.names;
-      inside = All-push (λ q. ScopeApart q.names) s.programs q.value apart.inside (program_apart p q.value q.first);
+      inside = All-push (λ q. ScopeApart q.names) s.programs q.value apart.inside (program_apart shared p q.value q.first);
     })
 
-programs_apart : (processes : List Process) (p : Programs) → programs_of processes ≡ Ok p → ProgramsApart p
-programs_apart processes p e =
-    keeps with_process ProgramsApart process_apart processes (record { names = []; programs = [] }) p e
+programs_apart : (shared : Shared) (processes : List Process) (p : Programs) → programs_of shared processes ≡ Ok p
+    → ProgramsApart p
+programs_apart shared processes p e =
+    keeps (with_process shared) ProgramsApart (process_apart shared) processes (record { names = []; programs = [] }) p e
     (record { names = none_apart; inside = λ k d here. absurd (omega arith) })
 
 -- ---- items
@@ -247,10 +285,10 @@ paired_inside (x ∷ xs) (p ∷ ps) apart zero d here = stand_once (known_in p.n
 paired_inside (x ∷ xs) (p ∷ ps) apart (suc k) d here =
     paired_inside xs ps (λ i e below. apart (suc i) e (omega arith)) k d (omega arith)
 
-named_once : (s : Settings) (p : Programs) (w : Wiring) → ProgramsApart p → WiringApart w
+named_once : (shared : Shared) (s : Settings) (p : Programs) (w : Wiring) → ProgramsApart p → WiringApart w
     → length p.names ≡ length p.programs
-    → EachStandsOnce (names_in (named_with s p w))
-named_once s p w programs wires match =
+    → EachStandsOnce (names_in (named_with shared s p w))
+named_once shared s p w programs wires match =
     let same : length p.names ≡ length (map (λ q. q.names) p.programs) =
     match ∙ sym (length-map p.programs (λ q. q.names)) in
     record {
@@ -262,10 +300,12 @@ named_once s p w programs wires match =
 
 pub names_stand_once : (d : Description) (n : Named) → resolve d ≡ Ok n → EachStandsOnce (names_in n)
 names_stand_once d n e =
-    let named : Programs → Wiring → Named = named_with (settings_of d.network) in
-    let p = went (programs_of d.processes)
-    (λ p. and_then (wiring p.names d.network.items) (λ w. Ok (named p w))) n e in
-    let w = went (wiring p.value.names d.network.items) (λ w. Ok (named p.value w)) n p.rest in
-    subst (λ m. EachStandsOnce (names_in m)) (ok_is (named p.value w.value) n w.rest)
-    (named_once (settings_of d.network) p.value w.value (programs_apart d.processes p.value p.first)
-    (wiring_apart p.value.names d.network.items w.value w.first) (programs_match d.processes p.value p.first))
+    let shared = went (shared_of d.tables) _ n e in
+    let p = went (programs_of shared.value d.processes) _ n shared.rest in
+    let w = went (wiring p.value.names d.network.items) _ n p.rest in
+    subst (λ m. EachStandsOnce (names_in m))
+    (ok_is (named_with shared.value (settings_of d.network) p.value w.value) n w.rest)
+    (named_once shared.value (settings_of d.network) p.value w.value
+    (programs_apart shared.value d.processes p.value p.first)
+    (wiring_apart p.value.names d.network.items w.value w.first)
+    (programs_match shared.value d.processes p.value p.first))

@@ -41,6 +41,8 @@ tree_at (Read i x rest) all n levels before after is at fits =
     ap (Read i x) (tree_at rest all n levels before after is at fits)
 tree_at (Write o e rest) all n levels before after is at fits =
     ap (Write o e) (tree_at rest all n levels before after is at fits)
+tree_at (Set base size i e rest) all n levels before after is at fits =
+    ap (Set base size i e) (tree_at rest all n levels before after is at fits)
 tree_at (If e a b rest) all n zero before after is at fits = absurd (omega arith)
 tree_at (If e a b rest) all n (suc levels) before after is at fits =
     let m : ℕ = n + suc (blocks_in a) in
@@ -89,8 +91,6 @@ tree_at (While e a rest) all n (suc levels) before after is at fits =
     let tree_rest : tree_over (tree_to all (suc levels)) (own m rest) ≡ rest =
     tree_at rest all m (suc levels) (before ++ first) after all_third (length_behind before a n at) (omega arith) in
     λ i. While e (tree_a i) (tree_rest i)
-tree_at (Set base size i e rest) all n levels before after is at fits =
-    ap (Set base size i e) (tree_at rest all n levels before after is at fits)
 
 pub blocks_are_the_tree : (t : Tree) → tree_of (blocks_of t) 0 ≡ t
 blocks_are_the_tree t =

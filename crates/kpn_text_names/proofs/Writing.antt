@@ -4,12 +4,13 @@ use Rattle.std.proofs.Common.{◌≡◌, ℕ, suc, ◌+◌, List, [], ◌∷◌,
 use Rattle.std.proofs.Math.Seq.{set-append_seam}
 use Rattle.kpn_lang.specs.Syntax as lang
 use Rattle.kpn_lang.specs.Tree.{Tree, End, Assign, Read, Write, If, While, Set}
-use Rattle.kpn_text_grammar.specs.Syntax.{Statement, assign, receive, send, choice, loop, Statements, no_statements, statement}
+use Rattle.kpn_text_grammar.specs.Syntax.{Name, Statement, assign, store, receive, send, choice, loop, Statements, no_statements, statement}
 use Rattle.kpn_text_names.specs.declared.scope.Scope.{Scope}
 use Rattle.kpn_text_names.specs.declared.fault.NameFault.{NameFault}
 use Rattle.kpn_text_names.specs.declared.fault.NameFault.TheVariants as fault
 use Rattle.kpn_text_names.specs.Fault.{NameError, Fails}
 use Rattle.kpn_text_tokens.specs.Results.{and_then}
+use Rattle.kpn_text_names.specs.Rows.{row_at}
 use Rattle.kpn_text_names.specs.Body.{statement_in, tree_in}
 use Rattle.kpn_text_names.specs.Blocks.{blocks_in, own, inner, blocks_of, Written, body_of}
 use Rattle.kpn_text_names.proofs.Chains.{ok_is, ok_then, bind_assoc, same_after}
@@ -40,6 +41,7 @@ length-inner n End = refl
 length-inner n (Assign x e rest) = length-inner n rest
 length-inner n (Read i x rest) = length-inner n rest
 length-inner n (Write o e rest) = length-inner n rest
+length-inner n (Set base size i e rest) = length-inner n rest
 length-inner n (If e a b rest) =
     let m : ℕ = n + suc (blocks_in a) in
     let p : length (inner (suc n) a) ≡ blocks_in a = length-inner (suc n) a in
@@ -52,7 +54,6 @@ length-inner n (While e a rest) =
     let r : length (inner (n + suc (blocks_in a)) rest) ≡ blocks_in rest =
     length-inner (n + suc (blocks_in a)) rest in
     simp length-append (omega (arith, p, r))
-length-inner n (Set base size i e rest) = length-inner n rest
 
 -- ---- the law
 
@@ -68,20 +69,20 @@ with_block w r = (
   length w.blocks,
 )
 
-abbrev Law : Statements → Type 0
-Law b =
+abbrev Law : List Name → Statements → Type 0
+Law shared b =
     (w : Written) (done : List lang.Statement)
-    → statements_at w done b ≡ and_then (tree_in w.scope b) (λ r. Ok (with_tree w done r))
+    → statements_at shared w done b ≡ and_then (tree_in shared w.scope b) (λ r. Ok (with_tree w done r))
 
-after : (w v : Written) (done : List lang.Statement) (s : lang.Statement) (front : Tree → Tree) (ss : Statements)
-    → Law ss
+after : (shared : List Name) (w v : Written) (done : List lang.Statement) (s : lang.Statement) (front : Tree → Tree) (ss : Statements)
+    → Law shared ss
     → ((t : Tree) → v.blocks ++ inner (length v.blocks) t ≡ w.blocks ++ inner (length w.blocks) (front t))
     → ((t : Tree) → s ∷ own (length v.blocks) t ≡ own (length w.blocks) (front t))
-    → statements_at v (done ++ s ∷ []) ss
-    ≡ and_then (tree_in v.scope ss) (λ r. Ok (with_tree w done (r.0, front r.1)))
-after w v done s front ss law blocks statements =
+    → statements_at shared v (done ++ s ∷ []) ss
+    ≡ and_then (tree_in shared v.scope ss) (λ r. Ok (with_tree w done (r.0, front r.1)))
+after shared w v done s front ss law blocks statements =
     law v (done ++ s ∷ [])
-    ∙ same_after (tree_in v.scope ss) (λ r. Ok (with_tree v (done ++ s ∷ []) r))
+    ∙ same_after (tree_in shared v.scope ss) (λ r. Ok (with_tree v (done ++ s ∷ []) r))
     (λ r. Ok (with_tree w done (r.0, front r.1)))
     (λ r. λ i.
     Ok (
@@ -115,14 +116,14 @@ closed_is w r n e =
       blocks = put_there w.blocks (inner (suc (length w.blocks)) r.1) (own (suc (length w.blocks)) r.1) i;
     })
 
-block_then : {B : Type 0} (w : Written) (b : Statements) (next : Written × ℕ → Result B NameError) → Law b
-    → and_then (statements_at (opened w) [] b) (λ r. next (closed r.0 (length w.blocks) r.1, length w.blocks))
-    ≡ and_then (tree_in w.scope b) (λ r. next (with_block w r))
-block_then w b next law =
+block_then : {B : Type 0} (shared : List Name) (w : Written) (b : Statements) (next : Written × ℕ → Result B NameError) → Law shared b
+    → and_then (statements_at shared (opened w) [] b) (λ r. next (closed r.0 (length w.blocks) r.1, length w.blocks))
+    ≡ and_then (tree_in shared w.scope b) (λ r. next (with_block w r))
+block_then shared w b next law =
     ap (λ r. and_then r (λ r. next (closed r.0 (length w.blocks) r.1, length w.blocks))) (law (opened w) [])
-    ∙ bind_assoc (tree_in w.scope b) (λ r. Ok (with_tree (opened w) [] r))
+    ∙ bind_assoc (tree_in shared w.scope b) (λ r. Ok (with_tree (opened w) [] r))
     (λ r. next (closed r.0 (length w.blocks) r.1, length w.blocks))
-    ∙ same_after (tree_in w.scope b)
+    ∙ same_after (tree_in shared w.scope b)
     (λ r. and_then (Ok (with_tree (opened w) [] r)) (λ r. next (closed r.0 (length w.blocks) r.1, length w.blocks)))
     (λ r. next (with_block w r))
     (λ r. ok_then (with_tree (opened w) [] r) (λ r. next (closed r.0 (length w.blocks) r.1, length w.blocks))
@@ -166,75 +167,86 @@ two_numbers w f g e t = rw (two_lengths w f g, length-with_block w f) refl
 mutual
   unfolding statements_at statement_at tree_in statement_in
 
-  first : (s : Statement) (ss : Statements) → Law ss → Law (statement s ss)
-  first (assign x e) ss law w done =
+  first : (shared : List Name) (s : Statement) (ss : Statements) → Law shared ss → Law shared (statement s ss)
+  first shared (assign x e) ss law w done =
       simp (bind_assoc, ok_then)
       (same_after _ _ _
       (λ t.
       same_after _ _ _
       (λ a.
-      after w (with_scope w t.0) done (lang.Assign t.1 a) (Assign t.1 a) ss law (λ _. refl)
+      after shared w (with_scope w t.0) done (lang.Assign t.1 a) (Assign t.1 a) ss law (λ _. refl)
       (λ _. refl))))
-  first (receive i x) ss law w done =
+  first shared (store x i e) ss law w done =
+      simp (bind_assoc, ok_then)
+      (same_after _ _ _
+      (λ k.
+      let row = row_at w.scope.arrays.rows k in
+      same_after _ _ _
+      (λ a.
+      same_after _ _ _
+      (λ b.
+      after shared w w done (lang.Set row.base row.size a b) (Set row.base row.size a b) ss law (λ _. refl)
+      (λ _. refl)))))
+  first shared (receive i x) ss law w done =
       simp (bind_assoc, ok_then)
       (same_after _ _ _
       (λ port.
       same_after _ _ _
       (λ t.
-      after w (with_scope w t.0) done (lang.Read port t.1) (Read port t.1) ss law (λ _. refl)
+      after shared w (with_scope w t.0) done (lang.Read port t.1) (Read port t.1) ss law (λ _. refl)
       (λ _. refl))))
-  first (send o e) ss law w done =
+  first shared (send o e) ss law w done =
       simp (bind_assoc, ok_then)
       (same_after _ _ _
       (λ port.
       same_after _ _ _
-      (λ a. after w w done (lang.Write port a) (Write port a) ss law (λ _. refl) (λ _. refl))))
-  first (choice e b c) ss law w done =
+      (λ a. after shared w w done (lang.Write port a) (Write port a) ss law (λ _. refl) (λ _. refl))))
+  first shared (choice e b c) ss law w done =
       simp (bind_assoc, ok_then) (same_after _ _ _ (λ a.
-      block_then w b
+      block_then shared w b
       (λ x.
-      and_then (statements_at (opened x.0) [] c)
+      and_then (statements_at shared (opened x.0) [] c)
       (λ r.
-      statements_at (closed r.0 (length x.0.blocks) r.1)
-      (done ++ lang.If a x.1 (length x.0.blocks) ∷ []) ss)) (all b)
+      statements_at shared (closed r.0 (length x.0.blocks) r.1)
+      (done ++ lang.If a x.1 (length x.0.blocks) ∷ []) ss)) (all shared b)
       ∙ same_after _ _ _
       (λ f.
-      block_then (with_block w f).0 c (λ y. statements_at y.0 (done ++ lang.If a (length w.blocks) y.1 ∷ []) ss)
-      (all c)
+      block_then shared (with_block w f).0 c (λ y. statements_at shared y.0 (done ++ lang.If a (length w.blocks) y.1 ∷ []) ss)
+      (all shared c)
       ∙ same_after _ _ _
       (λ g.
-      after w (with_block (with_block w f).0 g).0 done
+      after shared w (with_block (with_block w f).0 g).0 done
       (lang.If a (length w.blocks) (length (with_block w f).0.blocks)) (If a f.1 g.1) ss law
       (two_blocks w f g a) (two_numbers w f g a)))))
-  first (loop e b) ss law w done =
+  first shared (loop e b) ss law w done =
       simp (bind_assoc, ok_then) (same_after _ _ _ (λ a.
-      block_then w b (λ x. statements_at x.0 (done ++ lang.While a x.1 ∷ []) ss) (all b)
+      block_then shared w b (λ x. statements_at shared x.0 (done ++ lang.While a x.1 ∷ []) ss) (all shared b)
       ∙ same_after _ _ _
       (λ f.
-      after w (with_block w f).0 done (lang.While a (length w.blocks)) (While a f.1) ss law (one_block w f a)
+      after shared w (with_block w f).0 done (lang.While a (length w.blocks)) (While a f.1) ss law (one_block w f a)
       (one_number w f a))))
 
-  all : (ss : Statements) → Law ss
-  all no_statements w done =
+  all : (shared : List Name) (ss : Statements) → Law shared ss
+  all shared no_statements w done =
       rw ok_then (λ i. Ok (record { scope = w.scope; blocks = sym (append-nil w.blocks) i }, sym (append-nil done) i))
-  all (statement s ss) w done = first s ss (all ss) w done
+  all shared (statement s ss) w done = first shared s ss (all shared ss) w done
 
 -- ---- a body, which is block 0
 
-pub body_law : (s : Scope) (b : Statements)
-    → block_at (record { scope = s; blocks = [] }) b ≡ and_then (body_of s b) (λ w. Ok (w, 0))
-body_law s b =
-    block_then (record { scope = s; blocks = [] }) b (λ x. Ok x) (all b)
-    ∙ sym (bind_assoc (tree_in s b) (λ r. Ok (record { scope = r.0; blocks = blocks_of r.1 })) (λ w. Ok (w, 0))
-    ∙ same_after (tree_in s b) (λ r. and_then (Ok (record { scope = r.0; blocks = blocks_of r.1 })) (λ w. Ok (w, 0)))
+pub body_law : (shared : List Name) (s : Scope) (b : Statements)
+    → block_at shared (record { scope = s; blocks = [] }) b ≡ and_then (body_of shared s b) (λ w. Ok (w, 0))
+body_law shared s b =
+    block_then shared (record { scope = s; blocks = [] }) b (λ x. Ok x) (all shared b)
+    ∙ sym (bind_assoc (tree_in shared s b) (λ r. Ok (record { scope = r.0; blocks = blocks_of r.1 })) (λ w. Ok (w, 0))
+    ∙ same_after (tree_in shared s b) (λ r. and_then (Ok (record { scope = r.0; blocks = blocks_of r.1 })) (λ w. Ok (w, 0)))
     (λ r. Ok (record { scope = r.0; blocks = blocks_of r.1 }, 0))
     (λ r. ok_then (record { scope = r.0; blocks = blocks_of r.1 }) (λ w. Ok (w, 0))))
 
 -- what is written of a body
-pub body_written : (s : Scope) (b : Statements) (v : Written) (n : ℕ)
-    → block_at (record { scope = s; blocks = [] }) b ≡ Ok (v, n) → body_of s b ≡ Ok v
-body_written s b v n e = first_part (body_of s b) v 0 n (sym (body_law s b) ∙ e)
+pub body_written : (shared : List Name) (s : Scope) (b : Statements) (v : Written) (n : ℕ)
+    → block_at shared (record { scope = s; blocks = [] }) b ≡ Ok (v, n) → body_of shared s b ≡ Ok v
+body_written shared s b v n e = first_part (body_of shared s b) v 0 n (sym (body_law shared s b) ∙ e)
 
-pub body_fails : (s : Scope) (b : Statements) (e : NameFault)
-    → Fails e (block_at (record { scope = s; blocks = [] }) b) → Fails e (body_of s b)
-body_fails s b e h = fails_back e (body_of s b) 0 (subst (λ r. Fails e r) (body_law s b) h)
+pub body_fails : (shared : List Name) (s : Scope) (b : Statements) (e : NameFault)
+    → Fails e (block_at shared (record { scope = s; blocks = [] }) b) → Fails e (body_of shared s b)
+body_fails shared s b e h = fails_back e (body_of shared s b) 0 (subst (λ r. Fails e r) (body_law shared s b) h)

@@ -3,10 +3,10 @@
 use Rattle.std.specs.Prelude.{ℕ, suc, ◌+◌, List, [], ◌∷◌, ◌++◌, Result, Ok}
 use Rattle.kpn_lang.specs.Syntax as lang
 use Rattle.kpn_lang.specs.Tree.{Tree, End, Assign, Read, Write, If, While, Set}
-use Rattle.kpn_text_grammar.specs.Syntax.{Statements}
+use Rattle.kpn_text_grammar.specs.Syntax.{Name, Statements}
 use Rattle.kpn_text_names.specs.declared.scope.Scope.{Scope}
 use Rattle.kpn_text_names.specs.Fault.{NameError}
-use Rattle.kpn_text_tokens.specs.Results.{◌>>=◌, and_then}
+use Rattle.kpn_text_tokens.specs.Results.{◌>>=◌}
 use Rattle.kpn_text_names.specs.Body.{tree_in}
 
 -- how many blocks are inside, at any depth
@@ -53,6 +53,6 @@ pub record Written : Type 0 where
   pub scope : Scope
   pub blocks : List (List lang.Statement)
 
--- a body, if these names are known before it
-abbrev pub body_of : Scope → Statements → Result Written NameError
-body_of s b = tree_in s b >>= λ r. Ok (record { scope = r.0; blocks = blocks_of r.1 })
+-- a body, if these names are known before it, and these are the shared tables
+abbrev pub body_of : (shared : List Name) → Scope → Statements → Result Written NameError
+body_of shared s b = tree_in shared s b >>= λ r. Ok (record { scope = r.0; blocks = blocks_of r.1 })

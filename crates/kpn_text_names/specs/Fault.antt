@@ -1,6 +1,6 @@
 -- What is wrong with a name, and chains of steps: the first step that finds something wrong decides.
 use Rattle.std.specs.Prelude.{◌≡◌, List, [], ◌∷◌, Result, Ok, Err}
-use Rattle.kpn_text_tokens.specs.Results.{and_then, ◌>>=◌}
+use Rattle.kpn_text_tokens.specs.Results.{◌>>=◌}
 use Rattle.kpn_text_names.specs.declared.fault.NameFault.{NameFault}
 use Rattle.kpn_text_names.specs.declared.fault.NameFault.TheVariants as fault
 

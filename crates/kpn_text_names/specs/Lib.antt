@@ -1,6 +1,8 @@
 pub mod Fault
 pub mod Names
+pub mod Rows
 pub mod Scope
+pub mod Shared
 pub mod Body
 pub mod Blocks
 pub mod Network

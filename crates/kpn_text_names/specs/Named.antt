@@ -1,24 +1,39 @@
 -- What a description names: the tables of a network, and the names of their parts by number.
-use Rattle.std.specs.Prelude.{◌≡◌, List, [], ◌∷◌, ◌++◌, length, map, Result, Ok}
+use Rattle.std.specs.Prelude.{◌≡◌, ℕ, ◌+◌, ◌-◌, ℤ, List, [], ◌∷◌, ◌++◌, length, map, Result, Ok}
+use Rattle.std.specs.List.{flat_map}
+use Rattle.kpn_limits.specs.declared.TheConstants.{MAX_VARIABLES}
+use Rattle.kpn_lang.specs.View.{vars_with}
 use Rattle.kpn_lang.specs.Parts.{Parts}
 use Rattle.kpn_net.specs.Tables.{Tables}
-use Rattle.kpn_text_grammar.specs.Syntax.{Name, Process, Description}
+use Rattle.kpn_text_grammar.specs.Syntax.{Name, Statements, Process, Description}
 use Rattle.kpn_text_names.specs.declared.scope.Scope.{Scope}
 use Rattle.kpn_text_names.specs.Fault.{NameError, each}
-use Rattle.kpn_text_tokens.specs.Results.{◌>>=◌, and_then}
+use Rattle.kpn_text_tokens.specs.Results.{◌>>=◌}
 use Rattle.kpn_text_names.specs.Names.{declared}
-use Rattle.kpn_text_names.specs.Scope.{head}
+use Rattle.kpn_text_names.specs.declared.tables.Shared.{Shared}
+use Rattle.kpn_text_names.specs.Scope.{head, declare}
+use Rattle.kpn_text_names.specs.Shared.{shared_of, values_at, used_in}
 use Rattle.kpn_text_names.specs.Blocks.{Written, body_of}
 use Rattle.kpn_text_names.specs.Network.{Wiring, Settings, settings_of, wiring}
 
--- the parts of a program, and the names of its ports and variables
+-- the parts of a program, and the names of its ports and variables, arrays and tables
 pub record NamedProgram : Type 0 where
   pub names : Scope
   pub parts : Parts
 
--- the program of a head and a body
-abbrev pub program_with : Scope → Written → NamedProgram
-program_with s body =
+-- how many cells the arrays have
+abbrev pub free_of : Scope → ℕ
+free_of s = s.arrays.end - MAX_VARIABLES
+
+-- the values of the tables: those of the process, and those of the shared ones that it names
+abbrev pub values_of : Shared → Scope → List ℤ
+values_of shared s = s.tables.values ++ flat_map (values_at shared) s.tables.used
+
+-- the program of a head and a body, if these are the shared tables
+abbrev pub program_with : Shared → Scope → Written → NamedProgram
+program_with shared s body =
+    let free : ℕ = free_of body.scope in
+    let values : List ℤ = values_of shared body.scope in
     record {
       names = body.scope;
       parts =
@@ -26,46 +41,52 @@ program_with s body =
             ins = length body.scope.ins;
             outs = length body.scope.outs;
             pars = length s.vars;
-            vars = length body.scope.vars;
-            free = 0;
-            tables = [];
+            vars = vars_with (length body.scope.vars) (free + length values);
+            free = free;
+            tables = values;
             blocks = body.blocks;
           };
     }
 
--- a process: its head, and its body with the locals that it makes
-abbrev pub program_of : Process → Result NamedProgram NameError
-program_of p = do
-  s ← head p
-  body ← body_of s p.body
-  Ok (program_with s body)
+-- with the shared tables that a body names
+abbrev pub with_uses : Shared → Scope → Statements → Scope
+with_uses shared s b = record s { tables = used_in shared s.tables b }
+
+-- a process: its head, its arrays and tables, and its body with the locals that it makes
+abbrev pub program_of : Shared → Process → Result NamedProgram NameError
+program_of shared p = do
+  h ← head shared.names p
+  s ← each (declare shared.names) h p.declarations
+  body ← body_of shared.names (with_uses shared s p.body) p.body
+  Ok (program_with shared s body)
 
 -- the processes so far, with their names
 pub record Programs : Type 0 where
   pub names : List Name
   pub programs : List NamedProgram
 
-abbrev pub with_process : Programs → Process → Result Programs NameError
-with_process so_far p = do
+abbrev pub with_process : Shared → Programs → Process → Result Programs NameError
+with_process shared so_far p = do
   names ← declared so_far.names p.name
-  made ← program_of p
+  made ← program_of shared p
   Ok (record { names = names; programs = so_far.programs ++ made ∷ [] })
 
 -- the processes in the order of the text
-abbrev pub programs_of : List Process → Result Programs NameError
-programs_of processes = each with_process (record { names = []; programs = [] }) processes
+abbrev pub programs_of : Shared → List Process → Result Programs NameError
+programs_of shared processes = each (with_process shared) (record { names = []; programs = [] }) processes
 
--- a description with numbers for names: tables, and the names by number
+-- a description with numbers for names: the tables of a network, the shared tables, and the names by number
 pub record Named : Type 0 where
   pub tables : Tables
+  pub shared : Shared
   pub processes : List Name
   pub scopes : List Scope
   pub instances : List Name
   pub channels : List Name
 
 -- what the tables of the processes and of the network come to, under these settings
-abbrev pub named_with : Settings → Programs → Wiring → Named
-named_with s p w = record {
+abbrev pub named_with : Shared → Settings → Programs → Wiring → Named
+named_with shared s p w = record {
   tables =
       record {
         programs = map (λ q. q.parts) p.programs;
@@ -75,6 +96,7 @@ named_with s p w = record {
         policy = s.policy;
         growth = s.growth;
       };
+  shared = shared;
   processes = p.names;
   scopes = map (λ q. q.names) p.programs;
   instances = w.instance_names;
@@ -84,9 +106,10 @@ named_with s p w = record {
 -- what the description names, or what is first wrong with a name in the order of the text
 abbrev pub resolve : Description → Result Named NameError
 resolve d = do
-  p ← programs_of d.processes
+  shared ← shared_of d.tables
+  p ← programs_of shared d.processes
   w ← wiring p.names d.network.items
-  Ok (named_with (settings_of d.network) p w)
+  Ok (named_with shared (settings_of d.network) p w)
 
 -- there are as many names as processes, instances and channels
 pub record EachIsNamed (n : Named) : Type 0 where

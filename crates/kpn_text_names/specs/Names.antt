@@ -4,7 +4,7 @@ use Rattle.std.specs.List.{list_any}
 use Rattle.std.specs.Str.{bytes_eq}
 use Rattle.kpn_text_grammar.specs.Syntax.{Name}
 use Rattle.kpn_text_names.specs.Fault.{NameError, unknown, double, each}
-use Rattle.kpn_text_tokens.specs.Results.{◌>>=◌, and_then}
+use Rattle.kpn_text_tokens.specs.Results.{◌>>=◌}
 
 -- the name with a number; no bytes if there is none
 abbrev pub name_at : List Name → ℕ → Name

@@ -12,7 +12,7 @@ use Rattle.kpn_net.specs.declared.tables.Instance.{Instance}
 use Rattle.kpn_text_grammar.specs.Syntax as grammar
 use Rattle.kpn_text_grammar.specs.Syntax.{Name, Item, channel, source, sink, instance, literal_value}
 use Rattle.kpn_text_names.specs.Fault.{NameError, each}
-use Rattle.kpn_text_tokens.specs.Results.{◌>>=◌, and_then}
+use Rattle.kpn_text_tokens.specs.Results.{◌>>=◌}
 use Rattle.kpn_text_names.specs.Names.{known, all_known, declared, with_name}
 
 -- a capacity, or a limit, as the tables have it: as far as 32 bits can hold it

@@ -1,10 +1,15 @@
 -- The names that a process knows.
-use Rattle.std.specs.Prelude.{ℕ, Bool, true, not, ◌&&◌, ◌||◌, if◌then◌else◌, List, [], ◌∷◌, ◌++◌, Result, Ok, Err}
+use Rattle.std.specs.Prelude.{ℕ, ◌+◌, ℤ, Bool, true, not, ◌&&◌, ◌||◌, if◌then◌else◌, List, [], ◌∷◌, ◌++◌, length, map, Option, Some, None, Result, Ok, Err}
 use Rattle.std.specs.List.{position_or_len}
 use Rattle.std.specs.Str.{bytes_eq}
-use Rattle.kpn_text_grammar.specs.Syntax.{Name, Process}
+use Rattle.kpn_limits.specs.declared.TheConstants.{MAX_VARIABLES}
+use Rattle.kpn_text_grammar.specs.Syntax.{Name, literal_value, Table, Declaration, array, table, Process}
+use Rattle.kpn_text_tokens.specs.Results.{◌>>=◌}
 use Rattle.kpn_text_names.specs.Fault.{NameError, double}
-use Rattle.kpn_text_names.specs.Names.{has, with_name}
+use Rattle.kpn_text_names.specs.Names.{has, known, number_of, with_name}
+use Rattle.kpn_text_names.specs.Rows.{rows_from, within_64_bits, with_row, row_at}
+use Rattle.kpn_text_names.specs.declared.rows.Row.{Row}
+use Rattle.kpn_text_names.specs.declared.tables.Tables.{Tables}
 use Rattle.kpn_text_names.specs.declared.scope.Scope.{Scope}
 
 -- each of these names is new beside those before it
@@ -12,21 +17,81 @@ abbrev pub are_new : (before : List Name) → List Name → Bool
 are_new before [] = true
 are_new before (x ∷ xs) = not (has before x) && are_new (before ++ x ∷ []) xs
 
-abbrev pub are_distinct : List Name → Bool
-are_distinct xs = are_new [] xs
+-- no tables yet
+abbrev pub no_tables : Tables
+no_tables = record { rows = rows_from 0; values = []; used = [] }
 
--- the names of the head of a process: its ports and parameters, which have distinct names. The parameters are the
--- first variables
-abbrev pub head : Process → Result Scope NameError
-head p =
-    if are_distinct (p.ins ++ p.outs ++ p.pars) then Ok (record { ins = p.ins; outs = p.outs; vars = p.pars })
-    else Err double
+-- These names and no arrays and tables. The cells of arrays have numbers from 64 on, and those of tables numbers behind
+-- them, so that the rows of tables have places from 0 on.
+abbrev pub scope_with : (ins outs vars : List Name) → Scope
+scope_with ins outs vars =
+    record { ins = ins; outs = outs; vars = vars; arrays = rows_from MAX_VARIABLES; tables = no_tables }
+
+-- the names of the head of a process: its ports and parameters, which are distinct and none of the shared tables. The
+-- parameters are the first variables
+abbrev pub head : (shared : List Name) → Process → Result Scope NameError
+head shared p =
+    if are_new shared (p.ins ++ p.outs ++ p.pars) then Ok (scope_with p.ins p.outs p.pars) else Err double
 
 abbrev pub is_port : Scope → Name → Bool
 is_port s x = has s.ins x || has s.outs x
 
--- a name that is set: no port, but a variable; a new name makes a new one. The names from there on, and its number
-abbrev pub target : Scope → Name → Result (Scope × ℕ) NameError
-target s x =
-    if is_port s x then Err double else
+-- an array or a table of the process, or a shared table, has this name
+abbrev pub is_row : (shared : List Name) → Scope → Name → Bool
+is_row shared s x = has shared x || (has s.arrays.names x || has s.tables.rows.names x)
+
+-- the name is not new
+abbrev pub is_taken : (shared : List Name) → Scope → Name → Bool
+is_taken shared s x = is_row shared s x || (is_port s x || has s.vars x)
+
+-- ---- arrays and tables
+
+abbrev pub table_values : Table → List ℤ
+table_values t = map literal_value t.values
+
+-- with a table more of the process, behind the others
+abbrev pub with_table : Tables → Table → Tables
+with_table ts t = record ts {
+  rows = with_row ts.rows t.name (length t.values);
+  values = ts.values ++ table_values t;
+}
+
+abbrev pub with_declaration : Scope → Declaration → Scope
+with_declaration s (array x n) = record s { arrays = with_row s.arrays x n }
+with_declaration s (table t) = record s { tables = with_table s.tables t }
+
+abbrev pub declared_name : Declaration → Name
+declared_name (array x n) = x
+declared_name (table t) = t.name
+
+-- an array or a table, whose name must be new
+abbrev pub declare : (shared : List Name) → Scope → Declaration → Result Scope NameError
+declare shared s d = if is_taken shared s (declared_name d) then Err double else Ok (with_declaration s d)
+
+-- ---- uses of names
+
+-- a name that is set: a variable and nothing else; a new name makes a new one. The names from there on, and its number
+abbrev pub target : (shared : List Name) → Scope → Name → Result (Scope × ℕ) NameError
+target shared s x =
+    if is_port s x || is_row shared s x then Err double else
     Ok (record s { vars = with_name s.vars x }, position_or_len (bytes_eq x) s.vars)
+
+-- the cells of an array
+abbrev pub array_row : Scope → Name → Result Row NameError
+array_row s x = known s.arrays.names x >>= λ k. Ok (row_at s.arrays.rows k)
+
+-- a row behind the arrays
+abbrev pub behind_arrays : Scope → Row → Row
+behind_arrays s r = record { base = within_64_bits (s.arrays.end + r.base); size = r.size }
+
+-- the cells of a table
+abbrev pub table_row : Scope → Name → Result Row NameError
+table_row s x = known s.tables.rows.names x >>= λ k. Ok (behind_arrays s (row_at s.tables.rows.rows k))
+
+-- the cells of an array or a table
+abbrev pub row_or : Scope → Name → Option ℕ → Result Row NameError
+row_or s x (Some k) = Ok (row_at s.arrays.rows k)
+row_or s x None = table_row s x
+
+abbrev pub row_of : Scope → Name → Result Row NameError
+row_of s x = row_or s x (number_of s.arrays.names x)

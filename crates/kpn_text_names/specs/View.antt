@@ -1,32 +1,38 @@
 -- What the code returns for a description: its programs with their names, and the tables of its network.
-use Rattle.std.specs.Prelude.{◌+◌, length, map}
-use Rattle.kpn_lang.specs.View.{blocks_of, parts_with}
+use Rattle.std.specs.Prelude.{ℕ, ◌+◌, ℤ, List, length, map}
+use Rattle.kpn_lang.specs.View.{blocks_of, parts_with_cells, vars_with}
 use Rattle.kpn_net.specs.View.{tables_with}
 use Rattle.kpn_text_names.specs.declared.writer.Writer.{Writer}
+use Rattle.kpn_text_names.specs.declared.tables.Shared.{Shared}
 use Rattle.kpn_text_names.specs.declared.process.ProgramParts.{ProgramParts}
 use Rattle.kpn_text_names.specs.declared.process.Processes.{Processes}
 use Rattle.kpn_text_names.specs.declared.network.Wiring.{Wiring as WiringCode}
 use Rattle.kpn_text_names.specs.declared.document.Named.{Named as NamedCode}
 use Rattle.kpn_text_names.specs.Blocks.{Written}
 use Rattle.kpn_text_names.specs.Network.{Wiring}
-use Rattle.kpn_text_names.specs.Named.{NamedProgram, Programs, Named}
+use Rattle.kpn_text_names.specs.Named.{NamedProgram, Programs, Named, free_of, values_of}
 
--- the parts are those that `Program::new` gets
-abbrev pub program_seen : ProgramParts → NamedProgram
-program_seen p =
+-- the parts are those that `Program::with_cells` gets, if these are the shared tables
+abbrev pub program_seen : Shared → ProgramParts → NamedProgram
+program_seen shared p =
+    let free : ℕ = free_of p.scope in
+    let values : List ℤ = values_of shared p.scope in
     record {
       names = p.scope;
-      parts = parts_with (length p.scope.ins) (length p.scope.outs) p.pars (p.pars + p.locals) p.blocks.items;
+      parts =
+          parts_with_cells (length p.scope.ins) (length p.scope.outs) p.pars
+          (vars_with (p.pars + p.locals) (free + length values)) free values p.blocks.items;
     }
 
 -- the tables are those that `Network::new` gets
 abbrev pub named_seen : NamedCode → Named
 named_seen n = record {
   tables =
-      tables_with (map (λ q. q.parts) (map program_seen n.programs.items)) n.instances.items n.channels.items n.limit
+      tables_with (map (λ q. q.parts) (map (program_seen n.shared) n.programs.items)) n.instances.items n.channels.items n.limit
       n.policy n.growth;
+  shared = n.shared;
   processes = n.processes;
-  scopes = map (λ q. q.names) (map program_seen n.programs.items);
+  scopes = map (λ q. q.names) (map (program_seen n.shared) n.programs.items);
   instances = n.instance_names;
   channels = n.channel_names;
 }
@@ -36,8 +42,8 @@ named_seen n = record {
 abbrev pub written : Writer → Written
 written w = record { scope = w.scope; blocks = blocks_of w.blocks.items }
 
-abbrev pub programs_seen : Processes → Programs
-programs_seen p = record { names = p.names; programs = map program_seen p.programs.items }
+abbrev pub programs_seen : Shared → Processes → Programs
+programs_seen shared p = record { names = p.names; programs = map (program_seen shared) p.programs.items }
 
 abbrev pub wiring_seen : WiringCode → Wiring
 wiring_seen w =

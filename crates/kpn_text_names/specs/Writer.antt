@@ -1,24 +1,20 @@
 -- The body of a process as the code writes it block by block: the names known so far, and the blocks so far. A block
 -- takes its number at its opening brace, and gets its statements at its closing brace. Scaffolding: only contracts of
 -- private calls cite it, and what resolve returns is in Named.
-use Rattle.std.specs.Prelude.{ℕ, Bool, ◌||◌, if◌then◌else◌, List, [], ◌∷◌, ◌++◌, length, slice_set, Result, Ok, Err}
+use Rattle.std.specs.Prelude.{ℕ, if◌then◌else◌, List, [], ◌∷◌, ◌++◌, length, slice_set, Result, Ok, Err}
 use Rattle.kpn_lang.specs.Syntax as lang
-use Rattle.kpn_text_grammar.specs.Syntax.{Name, Statement, assign, receive, send, choice, loop, Statements, no_statements, statement}
+use Rattle.kpn_text_grammar.specs.Syntax.{Name, Statement, assign, store, receive, send, choice, loop, Statements, no_statements, statement}
 use Rattle.kpn_text_names.specs.declared.scope.Scope.{Scope}
 use Rattle.kpn_text_names.specs.declared.scope.Part.{Part}
 use Rattle.kpn_text_names.specs.declared.scope.Part.TheVariants.{In, Out, Parameter}
 use Rattle.kpn_text_names.specs.Fault.{NameError, double}
-use Rattle.kpn_text_tokens.specs.Results.{◌>>=◌, and_then}
-use Rattle.kpn_text_names.specs.Names.{has, known}
-use Rattle.kpn_text_names.specs.Scope.{is_port, target}
+use Rattle.kpn_text_tokens.specs.Results.{◌>>=◌}
+use Rattle.kpn_text_names.specs.Names.{known}
+use Rattle.kpn_text_names.specs.Scope.{is_taken, target, array_row}
 use Rattle.kpn_text_names.specs.Body.{term_in}
 use Rattle.kpn_text_names.specs.Blocks.{Written}
 
 -- ---- the head of a process, name by name
-
--- a port or a variable has this name
-abbrev pub is_taken : Scope → Name → Bool
-is_taken s x = is_port s x || has s.vars x
 
 -- with one name more
 abbrev pub with_part : Part → Scope → Name → Scope
@@ -27,8 +23,8 @@ with_part Out s x = record s { outs = s.outs ++ x ∷ [] }
 with_part Parameter s x = record s { vars = s.vars ++ x ∷ [] }
 
 -- a name of this part of the head, which must be new
-abbrev pub declared_in : Part → Scope → Name → Result Scope NameError
-declared_in part s x = if is_taken s x then Err double else Ok (with_part part s x)
+abbrev pub declared_in : (shared : List Name) → Part → Scope → Name → Result Scope NameError
+declared_in shared part s x = if is_taken shared s x then Err double else Ok (with_part part s x)
 
 -- ---- the body
 
@@ -49,36 +45,41 @@ as_block w inside = inside >>= λ r. Ok (closed r.0 (length w.blocks) r.1, lengt
 
 unfoldable mutual
   -- a statement, with what is written behind it
-  pub statement_at : Written → Statement → Result (Written × lang.Statement) NameError
-  statement_at w (assign x e) = do
-    t ← target w.scope x
-    a ← term_in t.0.vars e
+  pub statement_at : (shared : List Name) → Written → Statement → Result (Written × lang.Statement) NameError
+  statement_at shared w (assign x e) = do
+    t ← target shared w.scope x
+    a ← term_in t.0 e
     Ok (with_scope w t.0, lang.Assign t.1 a)
-  statement_at w (receive i x) = do
+  statement_at shared w (store x i e) = do
+    row ← array_row w.scope x
+    a ← term_in w.scope i
+    b ← term_in w.scope e
+    Ok (w, lang.Set row.base row.size a b)
+  statement_at shared w (receive i x) = do
     port ← known w.scope.ins i
-    t ← target w.scope x
+    t ← target shared w.scope x
     Ok (with_scope w t.0, lang.Read port t.1)
-  statement_at w (send o e) = do
+  statement_at shared w (send o e) = do
     port ← known w.scope.outs o
-    a ← term_in w.scope.vars e
+    a ← term_in w.scope e
     Ok (w, lang.Write port a)
-  statement_at w (choice e b c) = do
-    a ← term_in w.scope.vars e
-    first ← as_block w (statements_at (opened w) [] b)
-    second ← as_block first.0 (statements_at (opened first.0) [] c)
+  statement_at shared w (choice e b c) = do
+    a ← term_in w.scope e
+    first ← as_block w (statements_at shared (opened w) [] b)
+    second ← as_block first.0 (statements_at shared (opened first.0) [] c)
     Ok (second.0, lang.If a first.1 second.1)
-  statement_at w (loop e b) = do
-    a ← term_in w.scope.vars e
-    body ← as_block w (statements_at (opened w) [] b)
+  statement_at shared w (loop e b) = do
+    a ← term_in w.scope e
+    body ← as_block w (statements_at shared (opened w) [] b)
     Ok (body.0, lang.While a body.1)
 
   -- several statements, after these
-  pub statements_at : Written → List lang.Statement → Statements → Result (Written × List lang.Statement) NameError
-  statements_at w done no_statements = Ok (w, done)
-  statements_at w done (statement s ss) = do
-    first ← statement_at w s
-    statements_at first.0 (done ++ first.1 ∷ []) ss
+  pub statements_at : (shared : List Name) → Written → List lang.Statement → Statements → Result (Written × List lang.Statement) NameError
+  statements_at shared w done no_statements = Ok (w, done)
+  statements_at shared w done (statement s ss) = do
+    first ← statement_at shared w s
+    statements_at shared first.0 (done ++ first.1 ∷ []) ss
 
 -- a block with the blocks inside it, and its number
-abbrev pub block_at : Written → Statements → Result (Written × ℕ) NameError
-block_at w b = as_block w (statements_at (opened w) [] b)
+abbrev pub block_at : (shared : List Name) → Written → Statements → Result (Written × ℕ) NameError
+block_at shared w b = as_block w (statements_at shared (opened w) [] b)

@@ -11,6 +11,7 @@ use crate::fault::NameFault;
 use crate::names::NameTable;
 use crate::network::{Wiring, within_32_bits};
 use crate::process::{Processes, ProgramParts};
+use crate::tables::Shared;
 use kpn_limits::MAX_CAPACITY;
 use kpn_net::{ChannelSpec, Growth, Instance, Policy};
 use kpn_text_grammar::Description;
@@ -22,6 +23,8 @@ use std::alloc::Global;
 /// things.
 #[derive(Drop)]
 pub struct Named<'a> {
+    /// The tables before the processes.
+    pub shared: Shared<'a>,
     /// The names of the processes.
     pub processes: NameTable<'a>,
     /// The parts of their programs.
@@ -86,7 +89,9 @@ pub fn resolve<'a>(alloc: Global, description: &Description<'a>) -> Result<Named
     ensures exact { Gives named_seen result (spec.resolve (document description.now)) }
     ensures each { IfOk result (λ n. spec.EachIsNamed (named_seen n)) }
 {
-    let Processes { names, programs } = Processes::read(alloc, description.processes.as_slice())?;
+    let shared = Shared::read(alloc, description.tables.as_slice())?;
+    let processes = Processes::read(alloc, &shared, description.processes.as_slice())?;
+    let Processes { names, programs } = processes;
     let wiring = Wiring::read(alloc, &names, description.network.items.as_slice())?;
     let Wiring {
         channel_names,
@@ -95,6 +100,7 @@ pub fn resolve<'a>(alloc: Global, description: &Description<'a>) -> Result<Named
         instances,
     } = wiring;
     Ok(Named {
+        shared,
         processes: names,
         programs,
         instance_names,

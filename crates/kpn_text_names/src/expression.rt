@@ -1,4 +1,4 @@
-//! Expressions over the variables of a process, by number.
+//! Expressions over the variables and cells of a process, by number.
 
 ghost use Rattle.kpn_lang.specs.Syntax.{term_of};
 ghost use Rattle.kpn_text_grammar.specs.View.{term};
@@ -6,46 +6,51 @@ ghost use Rattle.kpn_text_names.specs.Fault.{Gives};
 ghost use Rattle.kpn_text_names.specs.Body.{term_in};
 
 use crate::fault::NameFault;
-use crate::names::NameTable;
+use crate::scope::Scope;
 use kpn_lang::Expr;
 use kpn_text_grammar::Expression;
 use std::alloc::Global;
 
-/// The expression over these variables. It nests as deep as its tree.
+/// The expression, by the names of a process. It nests as deep as its tree.
 #[tactic(auto, unfolding(crate::specs::Body::term_in, kpn_text_tokens::specs::Results::and_then))]
 pub(crate) fn expr<'a>(
     alloc: Global,
-    vars: &NameTable<'a>,
+    scope: &Scope<'a>,
     expression: &Expression<'a>,
 ) -> Result<Expr, NameFault>
-    ensures { Gives term_of result (term_in vars.now (term expression.now)) }
+    ensures { Gives term_of result (term_in scope.now (term expression.now)) }
 {
     match expression {
         Expression::Number(number) => Ok(Expr::Num(number.value())),
-        Expression::Name(name) => Ok(Expr::Var(vars.known(name)?)),
+        Expression::Name(name) => Ok(Expr::Var(scope.vars.known(name)?)),
+        Expression::Element(name, index) => {
+            let row = scope.row(name)?;
+            let index = expr(alloc, scope, index)?;
+            Ok(Expr::Cell(row.base, row.size, Box::new(alloc, index)?))
+        }
         Expression::Negative(inner) => {
-            let operand = expr(alloc, vars, inner)?;
+            let operand = expr(alloc, scope, inner)?;
             Ok(Expr::Neg(Box::new(alloc, operand)?))
         }
         Expression::Not(inner) => {
-            let operand = expr(alloc, vars, inner)?;
+            let operand = expr(alloc, scope, inner)?;
             Ok(Expr::Not(Box::new(alloc, operand)?))
         }
         Expression::BitNot(inner) => {
-            let operand = expr(alloc, vars, inner)?;
+            let operand = expr(alloc, scope, inner)?;
             Ok(Expr::BitNot(Box::new(alloc, operand)?))
         }
         Expression::Binary(operator, left, right) => {
-            let left = expr(alloc, vars, left)?;
-            let right = expr(alloc, vars, right)?;
+            let left = expr(alloc, scope, left)?;
+            let right = expr(alloc, scope, right)?;
             let left = Box::new(alloc, left)?;
             let right = Box::new(alloc, right)?;
             Ok(Expr::Bin(*operator, left, right))
         }
         Expression::Choice(test, first, second) => {
-            let test = expr(alloc, vars, test)?;
-            let first = expr(alloc, vars, first)?;
-            let second = expr(alloc, vars, second)?;
+            let test = expr(alloc, scope, test)?;
+            let first = expr(alloc, scope, first)?;
+            let second = expr(alloc, scope, second)?;
             let test = Box::new(alloc, test)?;
             let first = Box::new(alloc, first)?;
             let second = Box::new(alloc, second)?;

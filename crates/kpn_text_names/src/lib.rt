@@ -13,13 +13,17 @@ mod names;
 mod network;
 mod network_names;
 mod process;
+mod rows;
 mod scope;
+mod tables;
 mod writer;
 
 pub use document::{Named, resolve};
 pub use fault::NameFault;
 pub use laws::{blocks_are_the_tree, names_stand_once};
 pub use names::NameTable;
-pub use network_names::{NetworkNames, ProcessNames};
+pub use network_names::{NamedRow, NamedTable, NetworkNames, ProcessNames};
 pub use process::ProgramParts;
+pub use rows::{Row, Rows};
 pub use scope::Scope;
+pub use tables::{Shared, Tables};

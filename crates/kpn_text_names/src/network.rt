@@ -28,7 +28,7 @@ pub(crate) fn within_32_bits(number: Number) -> u32
 }
 
 /// The whole number that a literal writes.
-fn value(literal: Literal) -> i64
+pub(crate) fn value(literal: Literal) -> i64
     ensures { result ≡ literal_value (literal_seen literal) }
 {
     match literal {
@@ -37,7 +37,7 @@ fn value(literal: Literal) -> i64
     }
 }
 
-fn values(alloc: Global, literals: &[Literal]) -> Result<Sequence<i64>, AllocError>
+pub(crate) fn values(alloc: Global, literals: &[Literal]) -> Result<Sequence<i64>, AllocError>
     ensures { IfOk result (λ xs. xs ≡ map literal_value (map literal_seen literals.now)) }
 {
     let mut values = Sequence::new(alloc);

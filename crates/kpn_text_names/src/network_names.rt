@@ -2,6 +2,23 @@
 
 use kpn_lang::Sequence;
 
+/// Cells in a row with a name: an array or a table.
+#[derive(Drop)]
+pub struct NamedRow {
+    pub name: Sequence<u8>,
+    /// The number of the first cell.
+    pub base: usize,
+    /// How many cells they are.
+    pub size: usize,
+}
+
+/// A table before the processes.
+#[derive(Drop)]
+pub struct NamedTable {
+    pub name: Sequence<u8>,
+    pub values: Sequence<i64>,
+}
+
 /// The names of a process, each table by number.
 #[derive(Drop)]
 pub struct ProcessNames {
@@ -12,10 +29,18 @@ pub struct ProcessNames {
     pub outs: Sequence<Sequence<u8>>,
     /// The variables: the parameters first, then the locals.
     pub vars: Sequence<Sequence<u8>>,
+    /// The arrays.
+    pub arrays: Sequence<NamedRow>,
+    /// The tables: those of the process first, then the shared ones that it names.
+    pub tables: Sequence<NamedRow>,
+    /// How many of the tables are those of the process.
+    pub own: usize,
 }
 
 /// The names of a network, each table by number.
 pub struct NetworkNames {
+    /// The tables before the processes.
+    pub tables: Sequence<NamedTable>,
     /// The processes, each with the names in it.
     pub processes: Sequence<ProcessNames>,
     pub instances: Sequence<Sequence<u8>>,
@@ -27,10 +52,12 @@ pub struct NetworkNames {
 impl Drop for NetworkNames {
     fn drop(self) {
         let NetworkNames {
+            tables,
             processes,
             instances,
             channels,
         } = self;
+        drop(tables);
         drop(processes);
         drop(instances);
         drop(channels);

@@ -9,16 +9,17 @@ ghost use Rattle.kpn_text_names.specs.View.{program_seen, programs_seen};
 use crate::fault::NameFault;
 use crate::names::NameTable;
 use crate::scope::Scope;
+use crate::tables::Shared;
 use crate::writer::Writer;
 use kpn_lang::Stmt;
 use kpn_text_grammar::Process;
 use std::alloc::Global;
 
-/// What a program is made of, as `kpn_lang::Program::new` takes it, and the names of its ports and
-/// variables.
+/// What a program is made of, as `kpn_lang::Program::with_cells` takes it, and the names in it. The values of its
+/// tables are in its scope, and those of shared tables are not copied.
 #[derive(Drop)]
 pub struct ProgramParts<'a> {
-    /// The names of the in ports, the out ports and the variables, each by number.
+    /// The names of the in ports, the out ports and the variables, each by number, and of the arrays and tables.
     pub scope: Scope<'a>,
     /// How many of the variables are parameters.
     pub pars: usize,
@@ -30,16 +31,23 @@ pub struct ProgramParts<'a> {
 
 /// The parts of a process.
 #[tactic(auto, unfolding(kpn_text_tokens::specs::Results::and_then))]
-fn program_parts<'a>(alloc: Global, process: &Process<'a>) -> Result<ProgramParts<'a>, NameFault>
-    ensures { Gives program_seen result (program_of (process_seen process.now)) }
+fn program_parts<'a>(
+    alloc: Global,
+    shared: &Shared<'a>,
+    process: &Process<'a>,
+) -> Result<ProgramParts<'a>, NameFault>
+    ensures { Gives (program_seen shared.now) result
+        (program_of shared.now (process_seen process.now)) }
 {
-    let scope = Scope::of_head(alloc, process)?;
+    let mut scope = Scope::of_head(alloc, &shared.names, process)?;
+    scope.declare_rows(&shared.names, process.declarations.as_slice())?;
     let pars = scope.vars.len();
+    scope.tables.add_all_uses(shared, process.body.as_slice())?;
     let mut writer = Writer {
         scope,
         blocks: Vec::new(alloc),
     };
-    writer.body(alloc, process.body.as_slice())?;
+    writer.body(alloc, &shared.names, process.body.as_slice())?;
     let Writer { scope, blocks } = writer;
     let locals = scope.vars.len() - pars;
     Ok(ProgramParts {
@@ -59,27 +67,38 @@ pub(crate) struct Processes<'a> {
 
 impl<'a> Processes<'a> {
     /// The processes in the order of the text.
-    pub(crate) fn read(alloc: Global, processes: &[Process<'a>]) -> Result<Processes<'a>, NameFault>
-        ensures { Gives programs_seen result (programs_of (map process_seen processes.now)) }
+    pub(crate) fn read(
+        alloc: Global,
+        shared: &Shared<'a>,
+        processes: &[Process<'a>],
+    ) -> Result<Processes<'a>, NameFault>
+        ensures { Gives (programs_seen shared.now) result
+            (programs_of shared.now (map process_seen processes.now)) }
     {
         let mut read = Processes {
             names: NameTable::new(alloc),
             programs: Vec::new(alloc),
         };
         for process in processes {
-            read.add(alloc, process)?;
+            read.add(alloc, shared, process)?;
         }
         Ok(read)
     }
 
     /// Adds a process, whose name must be new.
     #[tactic(auto, unfolding(kpn_text_tokens::specs::Results::and_then))]
-    fn add(&mut self, alloc: Global, process: &Process<'a>) -> Result<(), NameFault>
-        ensures { Gives (λ _. programs_seen self.new) result
-            (with_process (programs_seen self.old) (process_seen process.now)) }
+    fn add(
+        &mut self,
+        alloc: Global,
+        shared: &Shared<'a>,
+        process: &Process<'a>,
+    ) -> Result<(), NameFault>
+        ensures { Gives (λ _. programs_seen shared.now self.new) result
+            (with_process shared.now (programs_seen shared.now self.old)
+            (process_seen process.now)) }
     {
         self.names.declare(&process.name)?;
-        let program = program_parts(alloc, process)?;
+        let program = program_parts(alloc, shared, process)?;
         self.programs.push(program)?;
         Ok(())
     }

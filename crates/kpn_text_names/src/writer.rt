@@ -11,6 +11,7 @@ ghost use Rattle.kpn_text_names.specs.Writer as spec;
 
 use crate::expression::expr;
 use crate::fault::NameFault;
+use crate::names::NameTable;
 use crate::scope::Scope;
 use kpn_lang::{BlockId, Stmt};
 use kpn_text_grammar::Statement;
@@ -29,29 +30,35 @@ impl<'a> Writer<'a> {
     pub(crate) fn body(
         &mut self,
         alloc: Global,
+        shared: &NameTable<'a>,
         statements: &[Statement<'a>],
     ) -> Result<(), NameFault>
         requires { self.old.blocks.items ≡ [] }
         ensures written { Gives (λ _. written self.new) result
-            (body_of self.old.scope (block_seen statements.now)) }
+            (body_of shared.now self.old.scope (block_seen statements.now)) }
         ensures vars { OnOk result (length self.old.scope.vars ≤ length self.new.scope.vars) }
     {
-        self.block(alloc, statements)?;
+        self.block(alloc, shared, statements)?;
         Ok(())
     }
 
     /// Writes a block and the blocks inside it, and returns its number.
     #[cycle(block)]
     #[tactic(auto, unfolding(kpn_text_tokens::specs::Results::and_then))]
-    fn block(&mut self, alloc: Global, statements: &[Statement<'a>]) -> Result<BlockId, NameFault>
+    fn block(
+        &mut self,
+        alloc: Global,
+        shared: &NameTable<'a>,
+        statements: &[Statement<'a>],
+    ) -> Result<BlockId, NameFault>
         ensures written { Gives (λ n. (written self.new, n)) result
-            (spec.block_at (written self.old) (block_seen statements.now)) }
+            (spec.block_at shared.now (written self.old) (block_seen statements.now)) }
         ensures blocks { OnOk result (length self.old.blocks.items ≤ length self.new.blocks.items) }
         ensures vars { OnOk result (length self.old.scope.vars ≤ length self.new.scope.vars) }
     {
         let number = self.blocks.len();
         self.blocks.push(Vec::new(alloc))?;
-        let own = self.statements(alloc, statements)?;
+        let own = self.statements(alloc, shared, statements)?;
         self.blocks[number] = own;
         Ok(number)
     }
@@ -61,16 +68,17 @@ impl<'a> Writer<'a> {
     fn statements(
         &mut self,
         alloc: Global,
+        shared: &NameTable<'a>,
         statements: &[Statement<'a>],
     ) -> Result<Vec<Stmt>, NameFault>
         ensures written { Gives (λ own. (written self.new, statements_of own.items)) result
-            (spec.statements_at (written self.old) [] (block_seen statements.now)) }
+            (spec.statements_at shared.now (written self.old) [] (block_seen statements.now)) }
         ensures blocks { OnOk result (length self.old.blocks.items ≤ length self.new.blocks.items) }
         ensures vars { OnOk result (length self.old.scope.vars ≤ length self.new.scope.vars) }
     {
         let mut own = Vec::new(alloc);
         for statement in statements {
-            let stmt = self.statement(alloc, statement)?;
+            let stmt = self.statement(alloc, shared, statement)?;
             own.push(stmt)?;
         }
         Ok(own)
@@ -79,34 +87,45 @@ impl<'a> Writer<'a> {
     /// A statement. It writes the blocks inside it.
     #[cycle(block)]
     #[tactic(auto, unfolding(crate::specs::Writer::statement_at, kpn_text_tokens::specs::Results::and_then))]
-    fn statement(&mut self, alloc: Global, statement: &Statement<'a>) -> Result<Stmt, NameFault>
+    fn statement(
+        &mut self,
+        alloc: Global,
+        shared: &NameTable<'a>,
+        statement: &Statement<'a>,
+    ) -> Result<Stmt, NameFault>
         ensures written { Gives (λ s. (written self.new, statement_of s)) result
-            (spec.statement_at (written self.old) (statement_seen statement.now)) }
+            (spec.statement_at shared.now (written self.old) (statement_seen statement.now)) }
         ensures blocks { OnOk result (length self.old.blocks.items ≤ length self.new.blocks.items) }
         ensures vars { OnOk result (length self.old.scope.vars ≤ length self.new.scope.vars) }
     {
         match statement {
             Statement::Assign(name, value) => {
-                let variable = self.scope.target(name)?;
-                Ok(Stmt::Assign(variable, expr(alloc, &self.scope.vars, value)?))
+                let variable = self.scope.target(shared, name)?;
+                Ok(Stmt::Assign(variable, expr(alloc, &self.scope, value)?))
+            }
+            Statement::Store(name, index, value) => {
+                let row = self.scope.array_row(name)?;
+                let index = expr(alloc, &self.scope, index)?;
+                let value = expr(alloc, &self.scope, value)?;
+                Ok(Stmt::Set(row.base, row.size, index, value))
             }
             Statement::Read(port, name) => {
                 let port = self.scope.ins.known(port)?;
-                Ok(Stmt::Read(port, self.scope.target(name)?))
+                Ok(Stmt::Read(port, self.scope.target(shared, name)?))
             }
             Statement::Write(port, value) => {
                 let port = self.scope.outs.known(port)?;
-                Ok(Stmt::Write(port, expr(alloc, &self.scope.vars, value)?))
+                Ok(Stmt::Write(port, expr(alloc, &self.scope, value)?))
             }
             Statement::If(test, first, second) => {
-                let test = expr(alloc, &self.scope.vars, test)?;
-                let first = self.block(alloc, first.as_slice())?;
-                let second = self.block(alloc, second.as_slice())?;
+                let test = expr(alloc, &self.scope, test)?;
+                let first = self.block(alloc, shared, first.as_slice())?;
+                let second = self.block(alloc, shared, second.as_slice())?;
                 Ok(Stmt::If(test, first, second))
             }
             Statement::While(test, body) => {
-                let test = expr(alloc, &self.scope.vars, test)?;
-                Ok(Stmt::While(test, self.block(alloc, body.as_slice())?))
+                let test = expr(alloc, &self.scope, test)?;
+                Ok(Stmt::While(test, self.block(alloc, shared, body.as_slice())?))
             }
         }
     }

@@ -1,5 +1,5 @@
 -- The name is that of the process with the number.
-use Rattle.std.proofs.Common.{◌≡◌, List, ℕ, [], map, sym, ap, subst, ◌∙◌}
+use Rattle.std.proofs.Common.{List, ℕ, [], sym, ap, subst, ◌∙◌}
 use Rattle.std.specs.Str.{IsUtf8}
 use Rattle.std.proofs.lemmas.List.{get_or-map}
 use Rattle.kpn_text_names.specs.declared.network_names.ProcessNames.{ProcessNames}

@@ -1,8 +1,6 @@
--- By the printed description.
+-- By the description that was read.
 use Rattle.kpn_text.proofs.NamesAreText.{names_are_text}
 use Rattle.kpn_text.proofs.laws.names_are_text.Goals as goal
 
 pub returns : goal.returns
-returns c =
-    names_are_text c.blocks_are_the_tree.ensures c.capacities_are_in_range.ensures.limit
-    c.read_descriptions_are_proper.ensures
+returns c = names_are_text c.read_descriptions_are_proper.ensures

@@ -10,14 +10,16 @@ returns-in_err-network c =
     let p = err_from_is_err_and c.from_residual-in_err-network.result c.from_residual-in_err-network.ensures.1 in
     rw (p.1)
     (network_broken c.in_ok-programs.programs.items
-    (map (λ q. q.parts) (map program_seen c.args.named.programs.items)) c.args.named.instances.items
+    (map (λ q. q.parts) (map (program_seen c.args.named.shared) c.args.named.programs.items))
+    c.args.named.instances.items
     c.args.named.channels.items c.args.named.limit c.args.named.policy c.args.named.growth
     c.in_err-network.field-0.0 p.0 c.in_ok-programs.ensures.0 c.in_ok-programs.ensures.1
     c.in_err-network.ensures.refused c.in_err-network.ensures.made p.2)
 
 pub returns : goal.returns
 returns c =
-    network_made c.in_ok-programs.programs.items (map (λ q. q.parts) (map program_seen c.args.named.programs.items))
+    network_made c.in_ok-programs.programs.items
+    (map (λ q. q.parts) (map (program_seen c.args.named.shared) c.args.named.programs.items))
     c.args.named.instances.items c.args.named.channels.items c.args.named.limit c.args.named.policy c.args.named.growth
     c.in_ok-network.network c.in_ok-programs.ensures.0 c.in_ok-programs.ensures.1 c.in_ok-network.ensures.refused
     c.in_ok-network.ensures.made

@@ -7,6 +7,6 @@ use Rattle.kpn_text.proofs.network.programs.Given as goal
 
 abbrev pub invariant-loop-process : goal.invariant-loop-process
 invariant-loop-process l =
-    Made (map (λ p. p.parts) (map program_seen l.fn.processes.items)) l.programs.items
-    (map (λ p. p.parts) (map program_seen (into_iter_items l.process-iterator)))
+    Made (map (λ p. p.parts) (map (program_seen l.shared) l.fn.processes.items)) l.programs.items
+    (map (λ p. p.parts) (map (program_seen l.shared) (into_iter_items l.process-iterator)))
     × (into_iter_len l.process-iterator ≡ length (into_iter_items l.process-iterator))

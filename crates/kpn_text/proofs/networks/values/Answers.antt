@@ -1,11 +1,9 @@
--- One value more.
-use Rattle.std.proofs.Common.{pos}
-use Rattle.kpn_text.specs.Named.{literal_named}
-use Rattle.kpn_text.specs.Text.{literal_text}
-use Rattle.kpn_text.proofs.PrintingLemmas.{joined_more}
+-- There are some.
+use Rattle.std.proofs.Common.{arith}
+use Rattle.std.proofs.lemmas.Grind.{common_steps}
+use Rattle.kpn_text.proofs.PrintingLemmas.{same_prints, some_values}
 use Rattle.kpn_text.proofs.networks.values.Goals as goal
 
-pub loop-value-preserved : goal.loop-value-preserved
-loop-value-preserved c =
-    joined_more literal_named literal_text c.in-Some.others.now c.loop-value.value-index (pos 0)
-    c.loop-value-test.true _ _ _ _ c.loop-value.invariant c.in_ok-bytes-2.ensures c.in_ok-number-2.ensures.value
+pub returns : goal.returns
+returns c =
+    same_prints _ _ _ _ _ (some_values c.args.values.now c.if-is_empty.ensures) (grind (arith, common_steps))

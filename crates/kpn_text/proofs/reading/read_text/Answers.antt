@@ -1,5 +1,5 @@
 -- Phase by phase, in the language that the text tells.
-use Rattle.std.proofs.Common.{sym, subst}
+use Rattle.std.proofs.Common.{inl, sym, subst}
 use Rattle.std.proofs.lemmas.Result.{err_from_is_err_and}
 use Rattle.kpn_text_grammar.specs.View as grammar
 use Rattle.kpn_text_names.specs.View.{named_seen}
@@ -33,6 +33,11 @@ returns-in_err-named c =
     (names_refused c.args.text.now c.language_of-language.result told c.in_ok-tokens.tokens.items
     c.as_slice.result.now (grammar.document c.in_ok-tree.tree) c.in_err-named.field-0.0 p.0 c.in_ok-tokens.ensures
     c.as_slice.ensures.value c.in_ok-tree.ensures.exact c.in_err-named.ensures.exact p.2)
+
+pub returns-in_err-names : goal.returns-in_err-names
+returns-in_err-names c =
+    let p = err_from_is_err_and c.from_residual-in_err-names.result c.from_residual-in_err-names.ensures.1 in
+    rw (p.1) (inl p.2)
 
 pub returns-in_err-network : goal.returns-in_err-network
 returns-in_err-network c =

@@ -7,7 +7,7 @@ use Rattle.kpn_text_grammar.specs.Reading.{further, literal, values}
 use Rattle.kpn_text_grammar.specs.View.{tokens_from, literal_seen, values_seen}
 use Rattle.kpn_text_grammar.proofs.ListSteps.{further_any, further_fails}
 use Rattle.kpn_text_grammar.proofs.Rounds.{one_more, stops_here, fails_here, place_moves}
-use Rattle.kpn_text_grammar.proofs.NetworkLaws.{further_literal_shortens}
+use Rattle.kpn_text_grammar.proofs.ValueLaws.{further_literal_shortens}
 use Rattle.kpn_text_grammar.proofs.lists.values.Goals as goal
 
 pub returns-in_err-value : goal.returns-in_err-value

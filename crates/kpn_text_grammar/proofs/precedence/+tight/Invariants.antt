@@ -12,6 +12,12 @@ decreases-tight l = 4 * (l.room.levels + l.room.depth)
 abbrev pub decreases-tight_operand : goal.decreases-tight_operand
 decreases-tight_operand l = 4 * (l.room.levels + l.room.depth) - 1
 
+abbrev pub decreases-behind_name : goal.decreases-behind_name
+decreases-behind_name l = 4 * (l.room.levels + l.room.depth) - 2
+
+abbrev pub decreases-element : goal.decreases-element
+decreases-element l = 4 * (l.room.levels + l.room.depth) - 3
+
 abbrev pub decreases-behind_sign : goal.decreases-behind_sign
 decreases-behind_sign l = 4 * (l.room.levels + l.room.depth) - 2
 

@@ -7,5 +7,5 @@ use Rattle.kpn_text_names.proofs.scope.Scope.declare_all.Given as goal
 
 abbrev pub invariant-loop-name : goal.invariant-loop-name
 invariant-loop-name l =
-    each (declared_in l.part) l.self (names_seen (drop l.name-index l.names))
-    ≡ each (declared_in l.part) l.fn.self (names_seen l.names)
+    each (declared_in l.shared l.part) l.self (names_seen (drop l.name-index l.names))
+    ≡ each (declared_in l.shared l.part) l.fn.self (names_seen l.names)

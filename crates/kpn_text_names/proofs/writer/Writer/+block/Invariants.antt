@@ -9,9 +9,9 @@ use Rattle.kpn_text_names.proofs.writer.Writer.+block.Given as goal
 
 abbrev pub invariant-statements-loop-statement : goal.invariant-statements-loop-statement
 invariant-statements-loop-statement l = record {
-  remains : statements_at (written l.self) (statements_of l.own.items)
+  remains : statements_at l.shared (written l.self) (statements_of l.own.items)
       (block_seen (drop l.statement-index l.statements))
-      ≡ statements_at (written l.fn.self) [] (block_seen l.statements);
+      ≡ statements_at l.shared (written l.fn.self) [] (block_seen l.statements);
   blocks : length l.fn.self.blocks.items ≤ length l.self.blocks.items;
   vars : length l.fn.self.scope.vars ≤ length l.self.scope.vars;
 }

@@ -16,14 +16,14 @@ returns-in_err-block-clause-written c =
     let start : ◌≡◌ {A = Written} (written c.args.self.now) (record { scope = c.args.self.now.scope; blocks = [] }) =
     ap (λ items. record { scope = c.args.self.now.scope; blocks = blocks_of items }) c.requires in
     rw (p.1, p.2)
-    (body_fails c.args.self.now.scope (block_seen c.args.statements.now) c.in_err-block.field-0.0
-    (subst (λ (w : Written). Fails c.in_err-block.field-0.0 (block_at w (block_seen c.args.statements.now))) start
+    (body_fails c.args.shared.now c.args.self.now.scope (block_seen c.args.statements.now) c.in_err-block.field-0.0
+    (subst (λ (w : Written). Fails c.in_err-block.field-0.0 (block_at c.args.shared.now w (block_seen c.args.statements.now))) start
     c.in_err-block.ensures.written))
 
 pub returns-clause-written : goal.returns-clause-written
 returns-clause-written c =
     let start : ◌≡◌ {A = Written} (written c.args.self.now) (record { scope = c.args.self.now.scope; blocks = [] }) =
     ap (λ items. record { scope = c.args.self.now.scope; blocks = blocks_of items }) c.requires in
-    body_written c.args.self.now.scope (block_seen c.args.statements.now) (written c.block.new.self)
+    body_written c.args.shared.now c.args.self.now.scope (block_seen c.args.statements.now) (written c.block.new.self)
     c.in_ok-block.field-0
-    (ap (λ w. block_at w (block_seen c.args.statements.now)) (sym start) ∙ c.in_ok-block.ensures.written)
+    (ap (λ w. block_at c.args.shared.now w (block_seen c.args.statements.now)) (sym start) ∙ c.in_ok-block.ensures.written)

@@ -2,7 +2,7 @@
 use Rattle.std.proofs.Common.{◌≡◌, ◌++◌, List, ℕ, drop, map}
 use Rattle.kpn_text.specs.Named.{literal_named}
 use Rattle.kpn_text.specs.Text.{all_text, further_text, literal_text}
-use Rattle.kpn_text.proofs.networks.values.Given as goal
+use Rattle.kpn_text.proofs.pieces.values.Given as goal
 
 abbrev pub invariant-loop-value : goal.invariant-loop-value
 invariant-loop-value l =

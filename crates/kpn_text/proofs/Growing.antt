@@ -1,0 +1,92 @@
+-- A body only adds variables to the names of its process.
+use Rattle.std.proofs.Common.{◌≡◌, ℕ, ◌||◌, List, [], ◌++◌, Ok, refl, sym, ap, subst, ◌∙◌, append_assoc, append-nil}
+use Rattle.std.specs.List.{position_or_len}
+use Rattle.std.specs.Str.{bytes_eq}
+use Rattle.kpn_lang.specs.Tree.{Tree}
+use Rattle.kpn_text_grammar.specs.Syntax.{Name, Statement, assign, store, receive, send, choice, loop, Statements, no_statements, statement}
+use Rattle.kpn_text_names.specs.declared.scope.Scope.{Scope}
+use Rattle.kpn_text_names.specs.Names.{with_name}
+use Rattle.kpn_text_names.specs.Scope.{is_port, is_row, target}
+use Rattle.kpn_text_names.specs.Body.{statement_in, tree_in}
+use Rattle.kpn_text_names.proofs.Chains.{ok_is, went}
+use Rattle.kpn_text_names.proofs.KnownNames.{with_name_longer, if_not}
+
+-- a process knows more variables from here on
+pub record Grows (s t : Scope) : Type 0 where
+  pub ins : t.ins ≡ s.ins
+  pub outs : t.outs ≡ s.outs
+  pub arrays : t.arrays ≡ s.arrays
+  pub tables : t.tables ≡ s.tables
+  pub more : List Name
+  pub vars : t.vars ≡ s.vars ++ more
+
+pub grows_not : (s : Scope) → Grows s s
+grows_not s = record {
+  ins = refl;
+  outs = refl;
+  arrays = refl;
+  tables = refl;
+  more = [];
+  vars = sym (append-nil s.vars);
+}
+
+pub grows_on : (s t u : Scope) → Grows s t → Grows t u → Grows s u
+grows_on s t u g h = record {
+  ins = h.ins ∙ g.ins;
+  outs = h.outs ∙ g.outs;
+  arrays = h.arrays ∙ g.arrays;
+  tables = h.tables ∙ g.tables;
+  more = g.more ++ h.more;
+  vars = h.vars ∙ ap (λ l. l ++ h.more) g.vars ∙ append_assoc s.vars g.more h.more;
+}
+
+pub target_grows : (shared : List Name) (s : Scope) (x : Name) (r : Scope × ℕ) → target shared s x ≡ Ok r → Grows s r.0
+target_grows shared s x r h =
+    let longer = with_name_longer s.vars x in
+    let made : Scope × ℕ = (record s { vars = with_name s.vars x }, position_or_len (bytes_eq x) s.vars) in
+    subst (λ q. Grows s q.0) (if_not (is_port s x || is_row shared s x) made r h).1
+    (record { ins = refl; outs = refl; arrays = refl; tables = refl; more = longer.more; vars = longer.is })
+
+mutual
+  unfolding statement_in tree_in
+
+  statement_grows : (shared : List Name) (s : Scope) (x : Statement) (r : Scope × (Tree → Tree))
+      → statement_in shared s x ≡ Ok r → Grows s r.0
+  statement_grows shared s (assign x e) r h =
+      let t = went _ _ r h in
+      let a = went _ _ r t.rest in
+      subst (λ q. Grows s q.0) (ok_is _ r a.rest) (target_grows shared s x t.value t.first)
+  statement_grows shared s (store x i e) r h =
+      let row = went _ _ r h in
+      let a = went _ _ r row.rest in
+      let b = went _ _ r a.rest in
+      subst (λ q. Grows s q.0) (ok_is _ r b.rest) (grows_not s)
+  statement_grows shared s (receive p x) r h =
+      let port = went _ _ r h in
+      let t = went _ _ r port.rest in
+      subst (λ q. Grows s q.0) (ok_is _ r t.rest) (target_grows shared s x t.value t.first)
+  statement_grows shared s (send o e) r h =
+      let port = went _ _ r h in
+      let a = went _ _ r port.rest in
+      subst (λ q. Grows s q.0) (ok_is _ r a.rest) (grows_not s)
+  statement_grows shared s (choice e b c) r h =
+      let a = went _ _ r h in
+      let first = went _ _ r a.rest in
+      let second = went _ _ r first.rest in
+      subst (λ q. Grows s q.0) (ok_is _ r second.rest)
+      (grows_on s first.value.0 second.value.0 (block_grows shared s b first.value first.first)
+      (block_grows shared first.value.0 c second.value second.first))
+  statement_grows shared s (loop e b) r h =
+      let a = went _ _ r h in
+      let body = went _ _ r a.rest in
+      subst (λ q. Grows s q.0) (ok_is _ r body.rest) (block_grows shared s b body.value body.first)
+
+  pub block_grows : (shared : List Name) (s : Scope) (b : Statements) (r : Scope × Tree) → tree_in shared s b ≡ Ok r
+      → Grows s r.0
+  block_grows shared s no_statements r h = subst (λ q. Grows s q.0) (ok_is _ r h) (grows_not s)
+  block_grows shared s (statement x xs) r h =
+      let first = went _ _ r h in
+      let rest = went _ _ r first.rest in
+      subst (λ q. Grows s q.0) (ok_is _ r rest.rest)
+      (grows_on s first.value.0 rest.value.0 (statement_grows shared s x first.value first.first)
+      (block_grows shared first.value.0 xs rest.value rest.first))

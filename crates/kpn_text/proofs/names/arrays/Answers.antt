@@ -1,0 +1,25 @@
+-- The next name and the next of the others go together.
+use Rattle.std.proofs.Common.{◌++◌, ◌∷◌, [], sym, ap, ◌∙◌, arith}
+use Rattle.kpn_text_names.specs.NetworkNames.{named_row, paired}
+use Rattle.kpn_text.proofs.Tables.{pairs_break, pairs_end, pairs_next_at, same_list}
+use Rattle.kpn_text.proofs.names.arrays.Goals as goal
+use Rattle.kpn_text.proofs.names.arrays.Goals.{else-loop-number-test, then-loop-number-test+in_default}
+
+pub returns : goal.returns
+returns c =
+    elim c.loop-number-test.branch [
+      | else-loop-number-test w ↦ pairs_end named_row (λ r. r) c.loop-number.own c.args.names.now c.args.rows.now
+          c.loop-number.number
+          c.loop-number.invariant (omega arith) ∙ ap (paired named_row c.args.names.now) (same_list c.args.rows.now)
+      | then-loop-number-test+in_default w ↦ pairs_break named_row (λ r. r) c.loop-number.own c.args.names.now
+          c.args.rows.now
+          c.loop-number.number c.loop-number.invariant (sym w.in_default.ensures)
+          ∙ ap (paired named_row c.args.names.now) (same_list c.args.rows.now)
+    ]
+
+pub loop-number-preserved : goal.loop-number-preserved
+loop-number-preserved c =
+    pairs_next_at named_row (λ r. r) c.loop-number.own c.push.new.self c.args.names.now c.args.rows.now
+    c.loop-number.number
+    c.in-Some.name.now (record { base = 0; size = 0 }) c.loop-number.invariant (sym c.in-Some.ensures) (omega arith)
+    (c.in_ok-push.ensures.items ∙ ap (λ v. c.loop-number.own ++ v ∷ []) c.in_ok-array.ensures)

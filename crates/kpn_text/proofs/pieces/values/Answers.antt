@@ -1,0 +1,11 @@
+-- One value more.
+use Rattle.std.proofs.Common.{pos}
+use Rattle.kpn_text.specs.Named.{literal_named}
+use Rattle.kpn_text.specs.Text.{literal_text}
+use Rattle.kpn_text.proofs.PrintingLemmas.{joined_more}
+use Rattle.kpn_text.proofs.pieces.values.Goals as goal
+
+pub loop-value-preserved : goal.loop-value-preserved
+loop-value-preserved c =
+    joined_more literal_named literal_text c.in-Some.others.now c.loop-value.value-index (pos 0)
+    c.loop-value-test.true _ _ _ _ c.loop-value.invariant c.in_ok-bytes.ensures c.in_ok-number-2.ensures.value
