@@ -22,9 +22,11 @@ network_place ls = slice_index_or (starts_of spot.Outside ls) 0 0
 abbrev pub numbered_place : List Lexeme → Spot → (number : ℕ) → ℕ
 numbered_place ls s number = slice_index_or (starts_of s ls) number (network_place ls)
 
--- the table that a name at this spot was to be new in: a variable beside the ports
+-- the table that a name at this spot was to be new in: a variable, an array or a table beside the ports
 abbrev pub table_of : Spot → Spot
 table_of spot.Target = spot.Port
+table_of spot.Row = spot.Port
+table_of spot.Shared = spot.Port
 table_of other = other
 
 -- a name, and the one before it that is the same and of the same table

@@ -15,6 +15,10 @@ use Rattle.kpn_command_explain.specs.Names.{name_at}
 
 -- ---- from token to token
 
+abbrev pub behind_declared : Spot → Spot
+behind_declared spot.Outside = spot.Shared
+behind_declared other = spot.Row
+
 abbrev pub behind_keyword : Spot → Keyword → Spot
 behind_keyword s word.Process = spot.Process
 behind_keyword s word.Read = spot.InPort
@@ -29,6 +33,8 @@ behind_keyword s word.Grow = spot.Rest
 behind_keyword s word.If = spot.Variable
 behind_keyword s word.Else = spot.Variable
 behind_keyword s word.While = spot.Variable
+behind_keyword s word.Array = behind_declared s
+behind_keyword s word.Table = behind_declared s
 behind_keyword s other = s
 
 abbrev pub behind_name : Spot → Spot
@@ -42,6 +48,8 @@ behind_name other = other
 
 abbrev pub behind_semicolon : Spot → Spot
 behind_semicolon spot.Variable = spot.Target
+behind_semicolon spot.Row = spot.Target
+behind_semicolon spot.Shared = spot.Outside
 behind_semicolon spot.Rest = spot.Instance
 behind_semicolon spot.Reads = spot.Writes
 behind_semicolon spot.Writes = spot.Values
@@ -89,11 +97,19 @@ is_same spot.Reads spot.Reads = true
 is_same spot.Writes spot.Writes = true
 is_same spot.Values spot.Values = true
 is_same spot.Rest spot.Rest = true
+is_same spot.Row spot.Row = true
+is_same spot.Shared spot.Shared = true
 is_same s other = false
+
+-- arrays and tables are among the names of a process, as its ports are
+abbrev pub known_as : Spot → Spot
+known_as spot.Row = spot.Port
+known_as spot.Shared = spot.Port
+known_as other = other
 
 -- a name at a spot, or the word `network`, which counts as outside
 abbrev pub is_at : (wanted now : Spot) → Token → Bool
-is_at wanted now (token.Name name) = is_same wanted now
+is_at wanted now (token.Name name) = is_same wanted (known_as now)
 is_at wanted now (token.Keyword word.Network) = is_same wanted spot.Outside
 is_at wanted now other = false
 

@@ -6,7 +6,7 @@ use crate::excess::{network_excess, process_excess};
 use crate::lines::{back, front};
 use crate::names::name_at;
 use crate::sentences::Case;
-use crate::spots::{Spot, is_port, spot_at};
+use crate::spots::{Spot, is_indexed, is_port, row_of, spot_at, start_before};
 use crate::words::{assigns_next, begins_name};
 use kpn_lang::ProgramFault;
 use kpn_limits::MAX_TEXT_BYTES;
@@ -30,7 +30,7 @@ pub(crate) fn case_of<'a>(
         TextFault::Token(_) => Ok(Case::BadNumber),
         TextFault::Grammar(at) => grammar_case(alloc, text, at),
         TextFault::UnknownName(at) => Ok(unknown_case(text, tokens, at, places.second)),
-        TextFault::DoubleName(at) => Ok(double_case(spot_at(tokens, at))),
+        TextFault::DoubleName(at) => Ok(double_case(text, tokens, at)),
         TextFault::Program(process, ProgramFault::TooMany) => Ok(Case::LargeProgram(process_excess(
             alloc,
             text,
@@ -68,19 +68,50 @@ fn unknown_case(text: &[u8], tokens: &[Lexeme<'_>], at: usize, second: Option<us
         Spot::OutPort => Case::UnknownOutPort,
         Spot::Program => Case::UnknownProcess,
         Spot::Reads | Spot::Writes => Case::UnknownChannel,
-        _ if is_port(text, tokens, at) => Case::PortAsVariable,
-        _ if second.is_some() => Case::LateVariable,
-        _ => Case::UnknownVariable,
+        _ => variable_case(text, tokens, at, second),
     }
 }
 
-fn double_case(spot: Spot) -> Case {
-    match spot {
+// A name that is no variable, or, with an index, no array that may be set or no array or table at all.
+fn variable_case(text: &[u8], tokens: &[Lexeme<'_>], at: usize, second: Option<usize>) -> Case {
+    let is_indexed = is_indexed(tokens, at);
+    match row_of(text, tokens, at) {
+        Some(_) if is_indexed => Case::SetTable,
+        Some(row) if is_table(text, tokens, row) => Case::WholeTable,
+        Some(_) => Case::WholeArray,
+        None if is_indexed => Case::NoArray,
+        None if is_port(text, tokens, at) => Case::PortAsVariable,
+        None if second.is_some() => Case::LateVariable,
+        None => Case::UnknownVariable,
+    }
+}
+
+// Whether `table` stands before a name that is declared at this byte.
+fn is_table(text: &[u8], tokens: &[Lexeme<'_>], at: usize) -> bool {
+    name_at(text, start_before(tokens, at)) == b"table".as_slice()
+}
+
+fn double_case(text: &[u8], tokens: &[Lexeme<'_>], at: usize) -> Case {
+    match spot_at(tokens, at) {
         Spot::Process => Case::DoubleProcess,
-        Spot::Port => Case::DoublePort,
         Spot::Instance => Case::DoubleInstance,
         Spot::Channel => Case::DoubleChannel,
-        _ => Case::AssignedPort,
+        Spot::Port | Spot::Row | Spot::Shared => match row_of(text, tokens, at) {
+            Some(_) => Case::DoubleRow,
+            None => Case::DoublePort,
+        },
+        _ => target_case(text, tokens, at),
+    }
+}
+
+// What gets a value, and is no variable.
+fn target_case(text: &[u8], tokens: &[Lexeme<'_>], at: usize) -> Case {
+    let word = start_before(tokens, start_before(tokens, at));
+    match row_of(text, tokens, at) {
+        None => Case::AssignedPort,
+        Some(row) if is_table(text, tokens, row) => Case::SetTable,
+        Some(_) if name_at(text, word) == b"read".as_slice() => Case::ReadArray,
+        Some(_) => Case::SetArray,
     }
 }
 

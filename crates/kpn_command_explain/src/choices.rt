@@ -19,7 +19,8 @@ pub(crate) fn push_choices(
         push_word(alloc, told, front, b"one")?;
         push_word(alloc, told, front, b"double")?;
     }
-    if may_stand(alloc, front, b"0")? {
+    // The size of an array is no 0.
+    if may_stand(alloc, front, b"0")? || may_stand(alloc, front, b"1")? {
         told.extend_from_slice(b" NUMBER")?;
     }
     let language = language_of(front);

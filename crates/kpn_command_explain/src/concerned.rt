@@ -123,7 +123,7 @@ fn table_of(spot: Spot) -> Spot
     ensures { result ≡ spec.table_of spot }
 {
     match spot {
-        Spot::Target => Spot::Port,
+        Spot::Target | Spot::Row | Spot::Shared => Spot::Port,
         other => other,
     }
 }

@@ -26,9 +26,10 @@ pub fn nodes_of(alloc: Global, tokens: &[Lexeme<'_>], at: usize) -> Result<usize
     Ok(count)
 }
 
-// Whether a token in a process stands for a node.
+// Whether a token in a process stands for a node. None of an array or a table that is declared does.
 fn is_node(now: Spot, token: &Token<'_>) -> bool {
     match token {
+        _ if now == Spot::Row => false,
         Token::Name(_) => matches!(now, Spot::Target | Spot::OutPort | Spot::Variable),
         Token::Number(_) => true,
         Token::Mark(mark) => is_operator(*mark),

@@ -4,28 +4,30 @@ use crate::counts::{count_of, nodes_of};
 use crate::sentences::{Excess, Part};
 use crate::spots::Spot;
 use kpn_command_base::push_number;
-use kpn_limits::{MAX_CHANNELS, MAX_NODES, MAX_PORTS, MAX_PROCESSES, MAX_VARIABLES};
+use kpn_limits::{MAX_CELLS, MAX_CHANNELS, MAX_NODES, MAX_PORTS, MAX_PROCESSES, MAX_VARIABLES};
 use kpn_text_grammar::{GrammarFault, description};
-use kpn_text_names::{NameFault, resolve};
+use kpn_text_names::{NameFault, Scope, resolve};
 use kpn_text_tokens::{Lexeme, language_of};
 use std::alloc::{AllocError, Global};
 
-/// How many ports and variables a process has.
+/// How many ports, variables and cells a process has.
 #[derive(Clone, Copy)]
 struct Sizes {
     ins: usize,
     outs: usize,
     vars: usize,
+    cells: usize,
 }
 
 const NO_SIZES: Sizes = Sizes {
     ins: 0,
     outs: 0,
     vars: 0,
+    cells: 0,
 };
 
 /// Which limit the process with this number passes, if its name begins at this byte: that of variables, of in ports, of
-/// out ports, or else of nodes.
+/// out ports, of cells, or else of nodes.
 pub(crate) fn process_excess<'a>(
     alloc: Global,
     text: &[u8],
@@ -40,6 +42,8 @@ pub(crate) fn process_excess<'a>(
         excess(Part::InPorts, sizes.ins, MAX_PORTS)
     } else if sizes.outs > MAX_PORTS {
         excess(Part::OutPorts, sizes.outs, MAX_PORTS)
+    } else if sizes.cells > MAX_CELLS {
+        excess(Part::Cells, sizes.cells, MAX_CELLS)
     } else {
         excess(Part::Nodes, nodes_of(alloc, tokens, at)?, MAX_NODES)
     };
@@ -72,9 +76,17 @@ fn sizes_of<'a>(
             ins: parts.scope.ins.len(),
             outs: parts.scope.outs.len(),
             vars: parts.scope.vars.len(),
+            cells: cells_of(&parts.scope),
         }),
         None => Ok(NO_SIZES),
     }
+}
+
+// The cells of arrays stand behind the variables, and those of tables, its own and the shared ones that it names, have
+// places from 0 on.
+fn cells_of(scope: &Scope<'_>) -> usize {
+    let of_arrays = scope.arrays.end.saturating_sub(MAX_VARIABLES);
+    of_arrays.saturating_add(scope.tables.rows.end)
 }
 
 /// Which limit the network passes: that of processes, of instances, or else of channels.
@@ -97,6 +109,7 @@ pub(crate) fn push_excess(told: &mut Vec<u8>, excess: Excess) -> Result<(), Allo
         Part::Variables => b" variables, ",
         Part::InPorts => b" in ports, ",
         Part::OutPorts => b" out ports, ",
+        Part::Cells => b" cells, ",
         Part::Nodes => b" statements and operands, ",
         Part::Processes => b" processes, ",
         Part::Instances => b" instances, ",

@@ -12,6 +12,7 @@ use crate::lines::front;
 use crate::names::name_at;
 use crate::remedies::remedy;
 use crate::sentences::{Case, advice, is_named, other, said};
+use crate::spots::row_of;
 use kpn_command_base::Refusal;
 use kpn_text::TextFault;
 use kpn_text_tokens::{LexFault, Lexeme, language_of, lexemes};
@@ -61,7 +62,7 @@ fn rest_of<'a>(
     push_sentence(alloc, &mut told, text, places.first, case)?;
     push_bracket(alloc, &mut told, &Refusal::Description(fault))?;
     push_excerpt(&mut told, text, places.first)?;
-    if let Some(at) = places.second {
+    if let Some(at) = second_place(text, tokens, places, case) {
         push_where(&mut told, file, text, at)?;
         told.extend_from_slice(other(case))?;
         told.push(b'\n')?;
@@ -74,6 +75,15 @@ fn rest_of<'a>(
     told.extend_from_slice(help)?;
     told.push(b'\n')?;
     Ok(told)
+}
+
+// The second place that is shown: that of an array or a table is where it is declared.
+fn second_place(text: &[u8], tokens: &[Lexeme<'_>], places: Places, case: Case) -> Option<usize> {
+    match case {
+        Case::WholeArray | Case::WholeTable | Case::SetTable => row_of(text, tokens, places.first),
+        Case::NoArray => None,
+        _ => places.second,
+    }
 }
 
 // What is wrong: of the name at the place if it has one, with the limit that is passed, or with what may stand there.

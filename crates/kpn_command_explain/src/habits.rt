@@ -3,6 +3,7 @@
 use crate::choices::{is_taken, may_stand};
 use crate::lines::{back, front};
 use crate::names::name_at;
+use crate::second_habits::habit_of_two;
 use crate::sentences::Case;
 use crate::spots::{Spot, spot_at, start_before};
 use crate::stands::{Stand, stand_of};
@@ -81,8 +82,26 @@ pub(crate) enum Habit {
     Power,
     /// `**`
     Stars,
-    /// `[` behind a name, and what declares arrays and tables elsewhere.
+    /// `array` before a name, or `[` behind one, in language 1.
     Place,
+    /// `table` before a name, in language 1.
+    Table,
+    /// `[` behind something else than a name, in language 2.
+    Index,
+    /// `[` behind the variable of a `read`, in language 2.
+    ReadCell,
+    /// An array or a table behind a statement.
+    LateRow,
+    /// A table behind a process.
+    LateTable,
+    /// An array outside of a process.
+    Outside,
+    /// The size of an array is 0, or no number.
+    Size,
+    /// Values for an array.
+    Values,
+    /// Another way to declare an array or a table.
+    Declaration,
 }
 
 /// The way of writing at the first place of a fault of this kind.
@@ -116,12 +135,12 @@ pub(crate) fn habit_of(
     }
 }
 
-fn habit_if(is_one: bool, habit: Habit) -> Option<Habit> {
+pub(crate) fn habit_if(is_one: bool, habit: Habit) -> Option<Habit> {
     if is_one { Some(habit) } else { None }
 }
 
-// A token that may not stand there, with the one before it.
-fn habit_at(stand: Stand, last: &[u8], here: &[u8]) -> Option<Habit> {
+/// The way of writing in a text of language 1 at a token that may not stand there, with the one before it.
+pub(crate) fn habit_at(stand: Stand, last: &[u8], here: &[u8]) -> Option<Habit> {
     match stand {
         Stand::Assigning => assigning_habit(last, here),
         Stand::FirstSide => side_habit(last, here),
@@ -132,122 +151,61 @@ fn habit_at(stand: Stand, last: &[u8], here: &[u8]) -> Option<Habit> {
         Stand::BeforeElse => Some(else_habit(here)),
         Stand::BeforeCapacity if begins_comment(here) => Some(Habit::Comment),
         Stand::BeforeCapacity => Some(Habit::NoCapacity),
-        Stand::Elsewhere if begins_comment(here) => Some(Habit::Comment),
-        Stand::Elsewhere if is_word(here, b"language") => Some(Habit::Opening),
-        Stand::Elsewhere => habit_if(
-            is_word(last, b"else") && is_word(here, b"if"),
-            Habit::ElseIf,
-        ),
+        Stand::Declaring => None,
+        Stand::BehindRead | Stand::Elsewhere => elsewhere_habit(last, here),
     }
 }
 
-// The same in a text of language 2, which has shifts, operators on bits, choices and precedence, and whose `if` needs
-// no `else`. The token before, and the text before the place, end in the same byte.
-fn habit_of_two(
-    alloc: Global,
-    front: &[u8],
-    stand: Stand,
-    last: &[u8],
-    here: &[u8],
-) -> Result<Option<Habit>, AllocError> {
-    match stand {
-        Stand::Assigning => Ok(assigning_habit_of_two(last, here)),
-        Stand::FirstSide => side_habit_of_two(alloc, front, last, here),
-        Stand::Operand => Ok(operand_habit_of_two(last)),
-        Stand::Statement | Stand::BeforeElse => Ok(statement_habit_of_two(here)),
-        _ => Ok(habit_at(stand, last, here)),
-    }
-}
-
-// Behind the name of a variable that begins a statement.
-fn assigning_habit_of_two(last: &[u8], here: &[u8]) -> Option<Habit> {
-    if here.starts_with(b"[") {
-        Some(Habit::Place)
-    } else if begins_any(here, &[b"<<=", b">>=", b"&=", b"|=", b"^="]) {
-        Some(Habit::Changes)
-    } else if begins_shift(here) {
-        None
-    } else if is_else_if(last) {
+// At another place.
+fn elsewhere_habit(last: &[u8], here: &[u8]) -> Option<Habit> {
+    if begins_comment(here) {
+        Some(Habit::Comment)
+    } else if is_word(here, b"language") {
+        Some(Habit::Opening)
+    } else if is_word(last, b"else") && is_word(here, b"if") {
         Some(Habit::ElseIf)
     } else {
-        assigning_habit(last, here)
+        // At the front of the text no token stands before.
+        habit_if(
+            is_word(here, b"table") && last.len() == here.len(),
+            Habit::Table,
+        )
     }
 }
 
-// Behind an operand.
-fn side_habit_of_two(
-    alloc: Global,
-    front: &[u8],
-    last: &[u8],
-    here: &[u8],
-) -> Result<Option<Habit>, AllocError> {
-    if begins_any(here, &[b"<", b">", b"==", b"!="]) {
-        // Bits may stand beside bits, and not behind a comparison.
-        let is_mixed = may_stand(alloc, front, b"&")?;
-        Ok(Some(if is_mixed { Habit::Mixed } else { Habit::Chain }))
-    } else if begins_any(here, &[b"&", b"|", b"^"]) {
-        Ok(Some(Habit::Mixed))
-    } else if here.starts_with(b"?") {
-        Ok(Some(Habit::Choice))
-    } else if here.starts_with(b"[") {
-        Ok(Some(Habit::Place))
-    } else if begins_any(last, &[b"0x", b"0X", b"0b", b"0B"]) {
-        Ok(Some(Habit::Digits))
-    } else if assigns(here) {
-        Ok(Some(Habit::Compares))
-    } else {
-        Ok(word_habit(last, here))
-    }
-}
-
-// Where an operand is to begin.
-fn operand_habit_of_two(last: &[u8]) -> Option<Habit> {
-    if changes(last) {
-        Some(Habit::Changes)
-    } else if begins_comment(last) {
-        Some(Habit::Slashes)
-    } else if begins_shift(last) {
-        None
-    } else {
-        operand_habit(last)
-    }
-}
-
-// Where a statement is to begin.
-fn statement_habit_of_two(here: &[u8]) -> Option<Habit> {
-    if is_word(here, b"array") || is_word(here, b"table") {
+// `array` or `table`.
+fn row_habit(text: &[u8]) -> Option<Habit> {
+    if is_word(text, b"array") {
         Some(Habit::Place)
-    } else if begins_comment(here) {
-        Some(Habit::Comment)
     } else {
-        habit_if(changes(here), Habit::Changes)
+        habit_if(is_word(text, b"table"), Habit::Table)
     }
 }
 
-fn is_else_if(text: &[u8]) -> bool {
+pub(crate) fn is_else_if(text: &[u8]) -> bool {
     is_word(text, b"elif") || is_word(text, b"elsif") || is_word(text, b"elseif")
 }
 
-fn begins_shift(text: &[u8]) -> bool {
+pub(crate) fn begins_shift(text: &[u8]) -> bool {
     begins_any(text, &[b"<<", b">>"])
 }
 
-// Whether the first word of a text is this one.
-fn is_word(text: &[u8], word: &[u8]) -> bool {
+/// Whether the first word of a text is this one.
+pub(crate) fn is_word(text: &[u8], word: &[u8]) -> bool {
     name_at(text, 0) == word
 }
 
-// Whether a text begins with one of these marks.
-fn begins_any(text: &[u8], marks: &[&[u8]]) -> bool {
+/// Whether a text begins with one of these marks.
+pub(crate) fn begins_any(text: &[u8], marks: &[&[u8]]) -> bool {
     marks.iter().any(|mark| text.starts_with(*mark))
 }
 
-fn begins_comment(text: &[u8]) -> bool {
+pub(crate) fn begins_comment(text: &[u8]) -> bool {
     begins_any(text, &[b"//", b"/*"])
 }
 
-// `++`, `--`, or `=` behind an operator of sums and products.
-fn changes(text: &[u8]) -> bool {
+/// `++`, `--`, or `=` behind an operator of sums and products.
+pub(crate) fn changes(text: &[u8]) -> bool {
     begins_any(text, &[b"++", b"--", b"+=", b"-=", b"*=", b"/=", b"%="])
 }
 
@@ -260,8 +218,8 @@ fn is_operator(text: &[u8]) -> bool {
     )
 }
 
-// `=`, unless it is a part of `=>` or `=<`.
-fn assigns(text: &[u8]) -> bool {
+/// `=`, unless it is a part of `=>` or `=<`.
+pub(crate) fn assigns(text: &[u8]) -> bool {
     text.starts_with(b"=") && !begins_any(text, &[b"=>", b"=<"])
 }
 
@@ -273,8 +231,8 @@ fn shift(text: &[u8]) -> Option<Habit> {
     }
 }
 
-// Behind the name of a variable that begins a statement.
-fn assigning_habit(last: &[u8], here: &[u8]) -> Option<Habit> {
+/// Behind the name of a variable that begins a statement.
+pub(crate) fn assigning_habit(last: &[u8], here: &[u8]) -> Option<Habit> {
     let declares = is_word(last, b"let") || is_word(last, b"var") || is_word(last, b"int");
     if changes(here) {
         Some(Habit::Changes)
@@ -286,13 +244,15 @@ fn assigning_habit(last: &[u8], here: &[u8]) -> Option<Habit> {
         Some(Habit::Break)
     } else if declares && !name_at(here, 0).is_empty() {
         Some(Habit::Declares)
+    } else if row_habit(last).is_some() && !name_at(here, 0).is_empty() {
+        row_habit(last)
     } else {
         shift(here)
     }
 }
 
-// `and`, `or`, or an operand behind `not`.
-fn word_habit(last: &[u8], here: &[u8]) -> Option<Habit> {
+/// `and`, `or`, or an operand behind `not`.
+pub(crate) fn word_habit(last: &[u8], here: &[u8]) -> Option<Habit> {
     if is_word(here, b"and") {
         Some(Habit::And)
     } else if is_word(here, b"or") {
@@ -333,8 +293,8 @@ fn whole_habit(last: &[u8], here: &[u8]) -> Option<Habit> {
     }
 }
 
-// Where an operand is to begin.
-fn operand_habit(last: &[u8]) -> Option<Habit> {
+/// Where an operand is to begin.
+pub(crate) fn operand_habit(last: &[u8]) -> Option<Habit> {
     if last.starts_with(b"//") {
         Some(Habit::Slashes)
     } else if last.starts_with(b"<>") {

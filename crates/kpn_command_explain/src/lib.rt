@@ -20,6 +20,7 @@ mod loading;
 mod names;
 mod not_exact;
 mod remedies;
+mod second_habits;
 mod sentences;
 mod settings;
 mod spots;

@@ -1,6 +1,7 @@
 //! What helps where another language would write it so.
 
 use crate::habits::Habit;
+use crate::sentences::READ_CELL;
 use kpn_text_tokens::Language;
 
 /// What helps with a way of writing in a language.
@@ -72,7 +73,25 @@ const OPENING: &[u8] =
 const DECLARES: &[u8] = b"The first assignment makes a variable: `x = 0;`, with no word before it.";
 
 const PLACE: &[u8] =
-    b"There are no arrays: give each place a variable of its own, as in `a0 = x;`, or a channel.";
+    b"There are no arrays: give each place a variable, as in `a0 = x;`, or begin the text with `language 2;`.";
+
+const TABLE: &[u8] =
+    b"There are no tables: choose a value by `if` and `else`, or begin the text with `language 2;`.";
+
+const INDEX: &[u8] =
+    b"One index stands right behind the name of an array: `x[i * 9 + k]` in place of `x[i][k]`.";
+
+const LATE_ROW: &[u8] =
+    b"Move it to the front of the process: arrays and tables stand before all statements.";
+
+const OUTSIDE: &[u8] =
+    b"Move it to the front of a process: an array belongs to one, and only tables are shared.";
+
+const VALUES: &[u8] =
+    b"The cells of an array begin at 0: values stand in a table, as in `table x = 1, 2, 3;`.";
+
+const DECLARATION: &[u8] =
+    b"Write `array x[9];` for an array of 9 cells, and `table x = 1, 2, 3;` for a table.";
 
 fn usual(habit: Habit) -> &'static [u8] {
     match habit {
@@ -111,5 +130,15 @@ fn usual(habit: Habit) -> &'static [u8] {
         Habit::Power => b"There is no `^`: a power is a product, as in `((x * x) * x)`.",
         Habit::Stars => b"There is no `**`: a power is a product, as in `(x * x)`.",
         Habit::Place => PLACE,
+        Habit::Table => TABLE,
+        Habit::Index => INDEX,
+        Habit::ReadCell => READ_CELL,
+        Habit::LateRow => LATE_ROW,
+        Habit::LateTable =>
+            b"Move it to the front of the text: tables that are shared stand before all processes.",
+        Habit::Outside => OUTSIDE,
+        Habit::Size => b"Write a number of at least 1 as the size, as in `array x[9];`.",
+        Habit::Values => VALUES,
+        Habit::Declaration => DECLARATION,
     }
 }

@@ -6,6 +6,8 @@ pub(crate) enum Part {
     Variables,
     InPorts,
     OutPorts,
+    /// The cells of arrays and tables.
+    Cells,
     /// Statements, and the numbers, names and operators of expressions.
     Nodes,
     Processes,
@@ -44,6 +46,18 @@ pub(crate) enum Case {
     LateVariable,
     /// A port stands in place of a variable.
     PortAsVariable,
+    /// What has an index is no array and no table.
+    NoArray,
+    /// An array has no index.
+    WholeArray,
+    /// A table has no index.
+    WholeTable,
+    /// An array is set without an index.
+    SetArray,
+    /// An array stands in place of the variable of a `read`.
+    ReadArray,
+    /// A table is set.
+    SetTable,
     /// An in port is not known.
     UnknownInPort,
     /// An out port is not known.
@@ -56,6 +70,8 @@ pub(crate) enum Case {
     DoubleProcess,
     /// A port or a parameter has the name of another.
     DoublePort,
+    /// A name is that of an earlier array or table.
+    DoubleRow,
     /// A port is used as a variable.
     AssignedPort,
     /// An instance has the name of another.
@@ -90,6 +106,10 @@ pub(crate) enum Case {
     NoMemory,
 }
 
+/// What helps where an item is read into an array.
+pub(crate) const READ_CELL: &[u8] =
+    b"Read into a variable, and set a cell to it: `read PORT y; x[0] = y;`.";
+
 /// Whether the sentence begins with the name at the place.
 pub(crate) fn is_named(case: Case) -> bool {
     match case {
@@ -113,12 +133,17 @@ pub(crate) fn said(case: Case) -> &'static [u8] {
         Case::UnknownVariable => b" is used before anything is assigned to it",
         Case::LateVariable => b" is used here, and first gets a value further down",
         Case::PortAsVariable => b" is a port of this process, and no variable",
+        Case::NoArray => b" is no array and no table of this process",
+        Case::WholeArray | Case::SetArray | Case::ReadArray => b" is an array, and no variable",
+        Case::WholeTable => b" is a table, and no variable",
+        Case::SetTable => b" is a table, and its values never change",
         Case::UnknownInPort => b" is no in port of this process",
         Case::UnknownOutPort => b" is no out port of this process",
         Case::UnknownProcess => b" is no process of this text",
         Case::UnknownChannel => b" is no channel of this network",
         Case::DoubleProcess => b" is the name of an earlier process too",
         Case::DoublePort => b" is the name of an earlier port or parameter of this process too",
+        Case::DoubleRow => b" is the name of an earlier array or table too",
         Case::AssignedPort => b" is a port of this process, and no variable",
         Case::DoubleInstance => b" is the name of an earlier instance too",
         Case::DoubleChannel => b" is the name of an earlier channel too",
@@ -157,6 +182,12 @@ pub(crate) fn advice(case: Case) -> &'static [u8] {
         Case::LateVariable => b"Give it a value before this place, or make it a parameter.",
         Case::PortAsVariable =>
             b"Write a variable in its place. An item of an in port comes by `read PORT VARIABLE;`.",
+        Case::NoArray => b"Declare an array at the front of the process: `array x[9];`.",
+        Case::WholeArray => b"Write behind it which cell is meant, from 0 on: `x[0]` or `x[k]`.",
+        Case::WholeTable => b"Write behind it which value is meant, from 0 on: `x[0]` or `x[k]`.",
+        Case::SetArray => b"Set its cells one by one, as in `x[0] = 1;`.",
+        Case::ReadArray => READ_CELL,
+        Case::SetTable => b"Declare an array in its place, whose cells may be set: `array x[9];`.",
         Case::UnknownInPort =>
             b"Behind `read` stand an in port and a variable. Declare the port behind `in`.",
         Case::UnknownOutPort =>
@@ -166,9 +197,12 @@ pub(crate) fn advice(case: Case) -> &'static [u8] {
             b"Declare it by `channel`, `source` or `sink`, or correct the name.",
         Case::DoubleProcess => b"Give one of the two another name.",
         Case::DoublePort => b"Give one of the two another name.",
+        Case::DoubleRow => b"Give one of the two another name.",
         Case::AssignedPort => b"Choose another name for the variable.",
         Case::DoubleInstance => b"Give one of the two another name.",
         Case::DoubleChannel => b"Give one of the two another name.",
+        Case::LargeProgram(excess) if matches!(excess.part, Part::Cells) =>
+            b"At most 4096 cells: those of its arrays and tables, and of each shared table that it names.",
         Case::LargeProgram(_) =>
             b"At most 16 in ports, 16 out ports, 64 variables, 4096 statements and operands.",
         Case::DeepProgram =>
@@ -195,6 +229,8 @@ pub(crate) fn advice(case: Case) -> &'static [u8] {
 pub(crate) fn other(case: Case) -> &'static [u8] {
     match case {
         Case::LateVariable => b"it gets a value here",
+        Case::WholeArray | Case::WholeTable => b"it is declared here",
+        Case::SetArray | Case::ReadArray | Case::SetTable => b"it is declared here",
         Case::TwoWriters => b"the last instance that writes it",
         Case::TwoReaders => b"the last instance that reads it",
         _ => b"the same name stands here",

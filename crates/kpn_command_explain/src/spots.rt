@@ -37,6 +37,20 @@ pub enum Spot {
     Values,
     /// In the rest of an item or of a setting of the network.
     Rest,
+    /// An array or a table of a process that is declared, and the rest of its declaration.
+    Row,
+    /// A table before the processes that is declared, and its values.
+    Shared,
+}
+
+// Behind `array` or `table`.
+fn behind_declared(now: Spot) -> Spot
+    ensures { result ≡ spec.behind_declared now }
+{
+    match now {
+        Spot::Outside => Spot::Shared,
+        _ => Spot::Row,
+    }
 }
 
 fn behind_keyword(now: Spot, keyword: Keyword) -> Spot
@@ -50,6 +64,7 @@ fn behind_keyword(now: Spot, keyword: Keyword) -> Spot
         Keyword::Channel | Keyword::Source | Keyword::Sink => Spot::Channel,
         Keyword::Limit | Keyword::Policy | Keyword::Grow => Spot::Rest,
         Keyword::If | Keyword::Else | Keyword::While => Spot::Variable,
+        Keyword::Array | Keyword::Table => behind_declared(now),
         _ => now,
     }
 }
@@ -71,7 +86,8 @@ fn behind_semicolon(now: Spot) -> Spot
     ensures { result ≡ spec.behind_semicolon now }
 {
     match now {
-        Spot::Variable => Spot::Target,
+        Spot::Variable | Spot::Row => Spot::Target,
+        Spot::Shared => Spot::Outside,
         Spot::Rest => Spot::Instance,
         Spot::Reads => Spot::Writes,
         Spot::Writes => Spot::Values,
@@ -122,6 +138,16 @@ pub(crate) fn behind(now: Spot, token: &Token<'_>) -> Spot
     }
 }
 
+// Arrays and tables are among the names of a process, as its ports are.
+fn known_as(spot: Spot) -> Spot
+    ensures { result ≡ spec.known_as spot }
+{
+    match spot {
+        Spot::Row | Spot::Shared => Spot::Port,
+        other => other,
+    }
+}
+
 fn is_same(left: Spot, right: Spot) -> bool
     ensures { result ≡ spec.is_same left right }
 {
@@ -133,7 +159,7 @@ fn is_at(wanted: Spot, now: Spot, token: &Token<'_>) -> bool
     ensures { result ≡ spec.is_at wanted now token.now }
 {
     match token {
-        Token::Name(_) => is_same(wanted, now),
+        Token::Name(_) => is_same(wanted, known_as(now)),
         Token::Keyword(Keyword::Network) => is_same(wanted, Spot::Outside),
         _ => false,
     }
@@ -200,6 +226,44 @@ pub fn is_port(text: &[u8], tokens: &[Lexeme<'_>], at: usize) -> bool {
             _ => found,
         };
         now = behind(now, &lexeme.token);
+    }
+    false
+}
+
+/// Where the name at this byte is declared before it as an array or a table that the process of the byte knows.
+pub fn row_of(text: &[u8], tokens: &[Lexeme<'_>], at: usize) -> Option<usize> {
+    let name = name_at(text, at);
+    let mut now = Spot::Outside;
+    let mut shared = None;
+    let mut found = None;
+    for lexeme in tokens {
+        if lexeme.start == at {
+            return found;
+        }
+        let is_it = name_at(text, lexeme.start) == name;
+        match now {
+            // A process has arrays and tables of its own.
+            Spot::Process => found = shared,
+            Spot::Row if is_it => found = Some(lexeme.start),
+            Spot::Shared if is_it => {
+                shared = Some(lexeme.start);
+                found = shared;
+            }
+            _ => {}
+        }
+        now = behind(now, &lexeme.token);
+    }
+    None
+}
+
+/// Whether `[` stands behind the token that begins at this byte.
+pub fn is_indexed(tokens: &[Lexeme<'_>], at: usize) -> bool {
+    let mut is_behind = false;
+    for lexeme in tokens {
+        if is_behind {
+            return matches!(&lexeme.token, Token::Mark(Mark::LeftBracket));
+        }
+        is_behind = lexeme.start == at;
     }
     false
 }

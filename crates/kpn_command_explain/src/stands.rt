@@ -23,6 +23,10 @@ pub(crate) enum Stand {
     Whole,
     /// Behind the name of a channel or a sink: `cap` may stand there.
     BeforeCapacity,
+    /// Behind the variable of a `read`: `;` may stand there.
+    BehindRead,
+    /// Within the declaration of an array or a table.
+    Declaring,
     /// At another place.
     Elsewhere,
 }
@@ -38,6 +42,7 @@ pub(crate) fn stand_of(
     let front = front(text, at);
     match spot_at(tokens, at) {
         Spot::Target | Spot::Variable => stand_in_block(alloc, text, before, front),
+        Spot::Row | Spot::Shared => Ok(Stand::Declaring),
         _ if may_stand(alloc, front, b"cap")? => Ok(Stand::BeforeCapacity),
         _ => Ok(Stand::Elsewhere),
     }
@@ -62,6 +67,8 @@ fn stand_in_block(
         Ok(Stand::Statement)
     } else if ends_operand(alloc, text, before)? {
         Ok(Stand::Whole)
+    } else if may_stand(alloc, front, b";")? {
+        Ok(Stand::BehindRead)
     } else {
         Ok(Stand::Elsewhere)
     }

@@ -12,6 +12,11 @@ pub(crate) fn assigns_next(text: &[u8]) -> bool {
     behind_word(text).starts_with(b"=") || behind_word(text).starts_with(b" =")
 }
 
+/// Whether `[` stands behind the word.
+pub(crate) fn indexes_next(text: &[u8]) -> bool {
+    behind_word(text).starts_with(b"[")
+}
+
 fn begins_digit(text: &[u8]) -> bool {
     text.first().is_some_and(|byte| byte.is_ascii_digit())
 }

@@ -1,0 +1,146 @@
+//! Ways of writing that other languages have and language 2 has not.
+
+use crate::choices::may_stand;
+use crate::habits::{
+    Habit, assigning_habit, assigns, begins_any, begins_comment, begins_shift, changes, habit_at,
+    habit_if, is_else_if, is_word, operand_habit, word_habit,
+};
+use crate::stands::Stand;
+use crate::words::indexes_next;
+use std::alloc::{AllocError, Global};
+
+/// The way of writing in a text of language 2 at a token that may not stand there, with the one before it. That
+/// language has shifts, operators on bits, choices and precedence, and its `if` needs no `else`. The token before, and
+/// the text before the place, end in the same byte.
+pub(crate) fn habit_of_two(
+    alloc: Global,
+    front: &[u8],
+    stand: Stand,
+    last: &[u8],
+    here: &[u8],
+) -> Result<Option<Habit>, AllocError> {
+    match stand {
+        Stand::Assigning => Ok(assigning_habit_of_two(last, here)),
+        Stand::FirstSide => side_habit_of_two(alloc, front, last, here),
+        Stand::Operand => Ok(operand_habit_of_two(last, here)),
+        Stand::Statement | Stand::BeforeElse => Ok(statement_habit_of_two(here)),
+        Stand::Declaring => declaring_habit(alloc, front, last, here),
+        Stand::BehindRead if here.starts_with(b"[") => Ok(Some(Habit::ReadCell)),
+        Stand::Elsewhere => Ok(elsewhere_habit_of_two(last, here)),
+        _ => Ok(habit_at(stand, last, here)),
+    }
+}
+
+// Behind the name of a variable that begins a statement.
+fn assigning_habit_of_two(last: &[u8], here: &[u8]) -> Option<Habit> {
+    if here.starts_with(b"[") {
+        Some(Habit::Index)
+    } else if is_type(last) && indexes_next(here) {
+        Some(Habit::Declaration)
+    } else if begins_any(here, &[b"<<=", b">>=", b"&=", b"|=", b"^="]) {
+        Some(Habit::Changes)
+    } else if begins_shift(here) {
+        None
+    } else if is_else_if(last) {
+        Some(Habit::ElseIf)
+    } else {
+        assigning_habit(last, here)
+    }
+}
+
+// Behind an operand.
+fn side_habit_of_two(
+    alloc: Global,
+    front: &[u8],
+    last: &[u8],
+    here: &[u8],
+) -> Result<Option<Habit>, AllocError> {
+    if begins_any(here, &[b"<", b">", b"==", b"!="]) {
+        // Bits may stand beside bits, and not behind a comparison.
+        let is_mixed = may_stand(alloc, front, b"&")?;
+        Ok(Some(if is_mixed { Habit::Mixed } else { Habit::Chain }))
+    } else if begins_any(here, &[b"&", b"|", b"^"]) {
+        Ok(Some(Habit::Mixed))
+    } else if here.starts_with(b"?") {
+        Ok(Some(Habit::Choice))
+    } else if here.starts_with(b"[") {
+        Ok(Some(Habit::Index))
+    } else if begins_digits(last) {
+        Ok(Some(Habit::Digits))
+    } else if assigns(here) {
+        Ok(Some(Habit::Compares))
+    } else {
+        Ok(word_habit(last, here))
+    }
+}
+
+// Where an operand is to begin.
+fn operand_habit_of_two(last: &[u8], here: &[u8]) -> Option<Habit> {
+    if assigns(last) && begins_any(here, &[b"[", b"{"]) {
+        Some(Habit::Declaration)
+    } else if changes(last) {
+        Some(Habit::Changes)
+    } else if begins_comment(last) {
+        Some(Habit::Slashes)
+    } else if begins_shift(last) {
+        None
+    } else {
+        operand_habit(last)
+    }
+}
+
+// Where a statement is to begin.
+fn statement_habit_of_two(here: &[u8]) -> Option<Habit> {
+    if is_word(here, b"array") || is_word(here, b"table") {
+        Some(Habit::LateRow)
+    } else if begins_comment(here) {
+        Some(Habit::Comment)
+    } else {
+        habit_if(changes(here), Habit::Changes)
+    }
+}
+
+// Within the declaration of an array or a table.
+fn declaring_habit(
+    alloc: Global,
+    front: &[u8],
+    last: &[u8],
+    here: &[u8],
+) -> Result<Option<Habit>, AllocError> {
+    let is_size = last.starts_with(b"[") && may_stand(alloc, front, b"1")?;
+    let habit = if begins_comment(here) {
+        Habit::Comment
+    } else if begins_digits(last) || (is_size && begins_digits(here)) {
+        Habit::Digits
+    } else if is_size {
+        Habit::Size
+    } else if last.starts_with(b"]") && here.starts_with(b"=") {
+        Habit::Values
+    } else {
+        Habit::Declaration
+    };
+    Ok(Some(habit))
+}
+
+// At another place.
+fn elsewhere_habit_of_two(last: &[u8], here: &[u8]) -> Option<Habit> {
+    if is_word(here, b"table") {
+        Some(Habit::LateTable)
+    } else if is_word(here, b"array") {
+        Some(Habit::Outside)
+    } else if begins_digits(last) {
+        Some(Habit::Digits)
+    } else {
+        habit_at(Stand::Elsewhere, last, here)
+    }
+}
+
+// `0x` or `0b`, behind which other languages have digits.
+fn begins_digits(text: &[u8]) -> bool {
+    begins_any(text, &[b"0x", b"0X", b"0b", b"0B"])
+}
+
+// What stands before a variable that is declared elsewhere.
+fn is_type(text: &[u8]) -> bool {
+    is_word(text, b"let") || is_word(text, b"var") || is_word(text, b"int")
+}
