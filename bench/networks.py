@@ -173,7 +173,7 @@ def as_words(text):
     processes, (channels, instances, growing) = rounds.Parser(text).description()
     numbers = {name: str(number) for number, name in enumerate(channels)}
     lines = [' '.join(map(str, growing)), str(len(processes))]
-    lines += [Words(*process).text() for process in processes.values()]
+    lines += [Words(process.parts, process.body).text() for process in processes.values()]
     lines.append(str(len(channels)))
     lines += [f'{name} {kind} {capacity}' for name, (kind, capacity) in channels.items()]
     lines.append(str(len(instances)))
@@ -260,8 +260,8 @@ def as_go(text, wanted):
     processes, (channels, instances, _) = rounds.Parser(text).description()
     lines = ['package main', 'import ("bufio"; "fmt"; "os")',
              'func number(test bool) int64 { if test { return 1 }; return 0 }', 'var _ = number']
-    for name, (parts, body) in processes.items():
-        lines += go_process(name, parts, body)
+    for name, process in processes.items():
+        lines += go_process(name, process.parts, process.body)
     lines.append('func main() {')
     lines += [f'\tc_{name} := make(chan int64, {capacity})' for name, (_, capacity) in channels.items()]
     for program, ins, outs, values in instances.values():

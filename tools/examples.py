@@ -22,6 +22,7 @@ import pathlib
 import shutil
 import sys
 import tempfile
+from types import MappingProxyType
 
 import figures
 import histories
@@ -63,6 +64,8 @@ def expression(tree, language, least=1):
     if not isinstance(tree, tuple):
         return str(tree)
     mark, *parts = tree
+    if mark == '[]':
+        return f'{parts[0]}[{expression(parts[1], language)}]'
     if len(parts) == 1:
         return mark + expression(parts[0], language, rounds.OPERAND)
     if mark == '?':
@@ -83,6 +86,9 @@ def block(statements, indent, language):
                       indent + '}']
         elif word == 'assign':
             lines.append(f'{indent}{rest[0]} = {expression(rest[1], language)};')
+        elif word == 'set':
+            index, item = (expression(part, language) for part in rest[1:])
+            lines.append(f'{indent}{rest[0]}[{index}] = {item};')
         elif word == 'read':
             lines.append(f'{indent}read {rest[0]} {rest[1]};')
         else:
@@ -102,11 +108,21 @@ def branch(parts, indent, language):
     return [*lines, indent + '} else {', *block(second, indent + '  ', language), indent + '}']
 
 
-def canonical(processes, channels, instances, growing, language=1):
-    lines = ['language 2;'] * (language == 2)
-    for name, (parts, body) in processes.items():
-        head = '; '.join(f'{part} {", ".join(names)}' for part, names in parts.items() if names)
-        lines += [f'process {name}({head}) {{', *block(body, '  ', language), '}']
+def tables_of(tables, indent=''):
+    return [f'{indent}table {name} = {", ".join(map(str, values))};' for name, values in tables.items()]
+
+
+def process(name, written, language):
+    head = '; '.join(f'{part} {", ".join(names)}' for part, names in written.parts.items() if names)
+    arrays = [f'  array {array}[{size}];' for array, size in written.arrays.items()]
+    return [f'process {name}({head}) {{', *arrays, *tables_of(written.tables, '  '),
+            *block(written.body, '  ', language), '}']
+
+
+def canonical(processes, channels, instances, growing, language=1, shared=MappingProxyType({})):
+    lines = ['language 2;'] * (language == 2) + tables_of(shared)
+    for name, written in processes.items():
+        lines += process(name, written, language)
     lines.append('network {')
     if growing.limit < rounds.LARGEST_CAPACITY:
         lines.append(f'  limit {growing.limit};')
@@ -131,7 +147,9 @@ def check(file):
 
 def print_text(file):
     text, *parts = description(file)
-    return canonical(*parts, 2 if rounds.Parser(text).took('language') else 1)
+    parser = rounds.Parser(text)
+    parser.description()
+    return canonical(*parts, parser.language, parser.shared)
 
 
 def lists_of(channels, options):

@@ -41,7 +41,7 @@ def standing(audit, p):
 def parameters(network, p):
     """The parameters of process p, with their names and values."""
     program, _, values = network.given[p]
-    return ' '.join(f'{name}={value}' for name, value in zip(network.processes[program][0]['par'], values))
+    return ' '.join(f'{name}={value}' for name, value in zip(network.processes[program].parts['par'], values))
 
 
 # ---- the tables

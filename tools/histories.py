@@ -28,9 +28,9 @@ STEP, PAUSED = ('step',), ('paused',)
 class Process:
     """One process, from stop to stop."""
 
-    def __init__(self, parts, body, values):
-        self.variables = dict(zip(parts['par'], values))
-        self.turns = self.block(body)
+    def __init__(self, program, values):
+        self.variables = program.variables(values)
+        self.turns = self.block(program.body)
         self.stands_at = None
         self.move()
 
@@ -43,6 +43,9 @@ class Process:
             elif word == 'assign':
                 yield STEP
                 self.variables[rest[0]] = rounds.value(rest[1], self.variables)
+            elif word == 'set':
+                yield STEP
+                rounds.set_cell(self.variables, *rest)
             elif word == 'if':
                 yield STEP
                 yield from self.inner(rest[1] if rounds.value(rest[0], self.variables) else rest[2])
@@ -88,7 +91,7 @@ class Network:
         self.writers, self.readers = [None] * len(channels), [None] * len(channels)
         self.ends, self.given = [], []
         for p, (program, ins, outs, values) in enumerate(instances.values()):
-            parts, _ = self.processes[program]
+            parts = self.processes[program].parts
             for c in ins:
                 self.readers[self.channels.index(c)] = p
             for c in outs:
@@ -98,7 +101,7 @@ class Network:
             self.given.append((program, [self.channels.index(c) for c in ins], values))
 
     def start(self):
-        return [Process(*self.processes[program], values) for program, _, values in self.given]
+        return [Process(self.processes[program], values) for program, _, values in self.given]
 
     def ins(self, p):
         return self.given[p][1]

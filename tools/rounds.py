@@ -10,7 +10,7 @@ import pathlib
 import re
 import typing
 
-TOKEN = re.compile(r'\s+|#[^\n]*|([A-Za-z_]\w*|\d+|<=|>=|==|!=|&&|\|\||<<|>>|[-(){};,=+*/%<>!?:~&|^])')
+TOKEN = re.compile(r'\s+|#[^\n]*|([A-Za-z_]\w*|\d+|<=|>=|==|!=|&&|\|\||<<|>>|[-(){}\[\];,=+*/%<>!?:~&|^])')
 SMALLEST, LARGEST = -2**63, 2**63 - 1
 LARGEST_CAPACITY = 1_048_576
 # How tightly each operator binds, from the loosest on. Those of one row go from the left.
@@ -21,7 +21,8 @@ COMPARING, SHIFTING, OPERAND = TIGHTNESS['<'], TIGHTNESS['<<'], len(ROWS) + 1
 
 
 class Fault(Exception):
-    """An expression has no value, which ends its process. The text for it is `overflow`, `zero-divisor` or `shift`."""
+    """An expression has no value, which ends its process. The text for it is `overflow`, `zero-divisor`, `index` or
+    `shift`."""
 
 
 class Starved(Exception):
@@ -44,10 +45,25 @@ class Growing(typing.NamedTuple):
         return capacity + 1 if self.growth == 'one' else min(2 * capacity, self.limit)
 
 
+class Program(typing.NamedTuple):
+    """A process as it is written. Its arrays have sizes, and tables have values. The shared ones are those of all."""
+    parts: dict
+    body: list
+    arrays: dict
+    tables: dict
+    shared: dict
+
+    def variables(self, values):
+        """All variables at the start. An array or a table is one too, the list of its cells."""
+        arrays = {name: [0] * size for name, size in self.arrays.items()}
+        return {**self.shared, **self.tables, **arrays, **dict(zip(self.parts['par'], values))}
+
+
 class Parser:
     def __init__(self, text):
         self.tokens = [token for token in TOKEN.findall(text) if token]
         self.place = 0
+        self.language, self.shared = 1, {}
 
     def peek(self):
         return self.tokens[self.place] if self.place < len(self.tokens) else None
@@ -80,8 +96,10 @@ class Parser:
 
     def description(self):
         if self.took('language'):
-            self.number()
+            self.language = self.number()
             self.next(';')
+            while self.took('table'):
+                self.table(self.shared)
         processes = {}
         while self.took('process'):
             name = self.next()
@@ -95,10 +113,34 @@ class Parser:
             part = self.next()
             parts[part] = self.names()
             self.took(';')
-        return parts, self.block()
+        self.next('{')
+        arrays, tables = {}, {}
+        while self.language == 2 and self.peek() in ('array', 'table'):
+            if self.next() == 'table':
+                self.table(tables)
+            else:
+                self.array(arrays)
+        return Program(parts, self.statements(), arrays, tables, self.shared)
+
+    def table(self, tables):
+        name = self.next()
+        self.next('=')
+        tables[name] = self.listed(self.number)
+        self.next(';')
+
+    def array(self, arrays):
+        name = self.next()
+        self.next('[')
+        arrays[name] = self.number()
+        self.next(']')
+        self.next(';')
 
     def block(self):
         self.next('{')
+        return self.statements()
+
+    def statements(self):
+        """Those of a block, behind its brace."""
         found = []
         while not self.took('}'):
             found.append(self.statement())
@@ -115,10 +157,20 @@ class Parser:
             found = word, self.next(), self.next()
         elif word == 'write':
             found = word, self.next(), self.expression()
+        elif self.took('['):
+            found = 'set', word, self.index()
+            self.next('=')
+            found += self.expression(),
         else:
             self.next('=')
             found = 'assign', word, self.expression()
         self.next(';')
+        return found
+
+    def index(self):
+        """The number of a cell, behind its bracket."""
+        found = self.expression()
+        self.next(']')
         return found
 
     def otherwise(self):
@@ -153,7 +205,9 @@ class Parser:
                 found = '?', found, first, self.expression()
             self.next(')')
             return found
-        return int(token) if token.isdigit() else token
+        if token.isdigit():
+            return int(token)
+        return ('[]', token, self.index()) if self.took('[') else token
 
     def network(self):
         self.next('network')
@@ -245,12 +299,29 @@ MARKS = {
 }
 
 
+def number_of_cell(cells, tree, variables):
+    number = value(tree, variables)
+    if not 0 <= number < len(cells):
+        raise Fault('index')
+    return number
+
+
+def set_cell(variables, name, tree, item):
+    """The cell has to be there before its item is evaluated."""
+    cells = variables[name]
+    number = number_of_cell(cells, tree, variables)
+    cells[number] = value(item, variables)
+
+
 def value(tree, variables):
     if isinstance(tree, int):
         return tree
     if isinstance(tree, str):
         return variables.get(tree, 0)
     mark, *parts = tree
+    if mark == '[]':
+        cells = variables[parts[0]]
+        return cells[number_of_cell(cells, parts[1], variables)]
     left = value(parts[0], variables)
     if mark == '!':
         return int(left == 0)
@@ -272,6 +343,8 @@ def run(turns, block, variables, ins, outs):
         word = statement[0]
         if word == 'assign':
             variables[statement[1]] = value(statement[2], variables)
+        elif word == 'set':
+            set_cell(variables, *statement[1:])
         elif word == 'read':
             if not ins[statement[1]]:
                 raise Starved
@@ -297,14 +370,14 @@ def rounds(text, turns, sources):
     for _ in range(turns):
         following = dict(start)
         for program, ins, outs, values in instances.values():
-            parts, body = processes[program]
-            put = {port: [] for port in parts['out']}
+            written = processes[program]
+            put = {port: [] for port in written.parts['out']}
             try:
-                run(turns, body, dict(zip(parts['par'], values)),
-                    {port: list(now[channel]) for port, channel in zip(parts['in'], ins)}, put)
+                run(turns, written.body, written.variables(values),
+                    {port: list(now[channel]) for port, channel in zip(written.parts['in'], ins)}, put)
             except (Fault, Starved, Cut):
                 pass
-            for port, channel in zip(parts['out'], outs):
+            for port, channel in zip(written.parts['out'], outs):
                 following[channel] = put[port]
         now = following
     return now

@@ -179,7 +179,7 @@ def main():
     parser.add_argument('networks', nargs='?', type=int, default=100)
     parser.add_argument('seed', nargs='?', type=int, default=1)
     parser.add_argument('--kind', choices=native_networks.KINDS, default='', help='networks that fuse, with a fault in '
-                        'a period, or whose periods have small items')
+                        'a period, or whose periods have small items, or networks with arrays and tables')
     parser.add_argument('--processes', type=int, default=2)
     parser.add_argument('--seconds', type=int, default=120, help='the most that a run may take')
     parser.add_argument('--schedules', nargs='+', choices=command.SCHEDULES, default=command.SCHEDULES)

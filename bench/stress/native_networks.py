@@ -3,6 +3,8 @@ without a fault in one statement of a period."""
 import pathlib
 import runpy
 
+import random_cells
+
 # By its path, since the tests of the Python package have a module of this name too.
 mixed_network = runpy.run_path(str(pathlib.Path(__file__).with_name('random_networks.py')))['network']
 MARKS = ('+', '-', '*', '/', '%', '<', '<=', '>', '>=', '==', '!=', '&&', '||')
@@ -272,7 +274,17 @@ class Small(Signal):
         return text, lists
 
 
-KINDS = {'faults': Faulty, 'small': Small}
+class Cells:
+    """Processes of language 2 with arrays and tables."""
+
+    def __init__(self, random):
+        self.random = random
+
+    def network(self):
+        return random_cells.network(self.random)
+
+
+KINDS = {'faults': Faulty, 'small': Small, 'cells': Cells}
 
 
 def network(random, kind=''):

@@ -33,7 +33,7 @@ TIGHTNESS = {mark: number for number, row in enumerate(ROWS, 1) for mark in row}
 COMPARING, SHIFTING, OPERAND = TIGHTNESS['<'], TIGHTNESS['<<'], len(ROWS) + 1
 OPERATORS_OF_ONE = frozenset(TIGHTNESS) - frozenset('& | ^ << >>'.split())
 SPACE = re.compile(r'(?:[ \t\r\n]|#[^\n]*)*')
-TOKEN = re.compile(r'[A-Za-z_][A-Za-z0-9_]*|[0-9]+|<=|>=|==|!=|&&|\|\||<<|>>|[-(){};,=+*/%<>!~&|^?:]')
+TOKEN = re.compile(r'[A-Za-z_][A-Za-z0-9_]*|[0-9]+|<=|>=|==|!=|&&|\|\||<<|>>|[-(){}\[\];,=+*/%<>!~&|^?:]')
 
 
 class Token(NamedTuple):
@@ -53,13 +53,15 @@ class Entry(NamedTuple):
 
 
 class Description(NamedTuple):
-    """A text that has been read. A channel has a kind (`channel`, `source` or `sink`) and its capacity."""
+    """A text that has been read. A channel has a kind (`channel`, `source` or `sink`) and its capacity. The tables are
+    the shared ones, as lines."""
 
     language: int
     processes: List[Process]
     settings: Dict[str, str]
     channels: List[Tuple[str, str, Optional[int]]]
     instances: List[Tuple[str, Entry]]
+    tables: Tuple[str, ...] = ()
 
 
 def tokens_of(text: str) -> List[Token]:
@@ -174,11 +176,48 @@ class Reader:
         if level > MOST_LEVELS:
             self.fail()
         self.need('{')
-        lines: List[str] = []
+        lines = self.declarations(indent) if level == 1 else []
         while self.peek() != '}':
             lines += self.statement(level, indent)
         self.need('}')
         return lines
+
+    def declarations(self, indent: str) -> List[str]:
+        """Reads the arrays and tables at the head of a process, and gives their lines."""
+        lines: List[str] = []
+        while self.language == 2 and self.peek() in ('array', 'table'):
+            lines.append(indent + (self.array() if self.peek() == 'array' else self.table()))
+        return lines
+
+    def array(self) -> str:
+        """Reads an array, and gives its line."""
+        self.need('array')
+        name = self.name()
+        self.need('[')
+        if is_number(self.peek()) and int(self.peek()) == 0:
+            self.fail()
+        size = self.number()
+        self.need(']')
+        self.need(';')
+        return f'array {name}[{size}];'
+
+    def table(self) -> str:
+        """Reads a table, and gives its line."""
+        self.need('table')
+        name = self.name()
+        self.need('=')
+        values = [self.value()]
+        while self.peek() == ',':
+            self.place += 1
+            values.append(self.value())
+        self.need(';')
+        return f'table {name} = {", ".join(values)};'
+
+    def value(self) -> str:
+        """Reads a number, and its sign if it has one."""
+        sign = '-' if self.peek() == '-' else ''
+        self.place += len(sign)
+        return f'{sign}{self.number()}'
 
     def statement(self, level: int, indent: str) -> List[str]:
         """Reads a statement, and gives its lines."""
@@ -195,11 +234,21 @@ class Reader:
             self.place += 1
             line = f'write {self.name()} {self.expression()};'
         else:
-            target = self.name()
+            target = self.target()
             self.need('=')
             line = f'{target} = {self.expression()};'
         self.need(';')
         return [indent + line]
+
+    def target(self) -> str:
+        """Reads the variable or the cell that an assignment sets."""
+        name = self.name()
+        if self.language == 1 or self.peek() != '[':
+            return name
+        self.place += 1
+        index = self.expression()
+        self.need(']')
+        return f'{name}[{index}]'
 
     def branch(self, level: int, indent: str, before: str) -> List[str]:
         """Reads an `if`, and gives its lines, the first of them behind this."""
@@ -220,8 +269,8 @@ class Reader:
         return text
 
     def operation(self, around: int, least: int) -> Tuple[str, int]:
-        """Reads operators of language 2 that bind at least so tightly, from the left, with so many signs and
-        parentheses around. It gives the text and its levels."""
+        """Reads operators of language 2 that bind at least so tightly, from the left, with so many signs,
+        parentheses and brackets around. It gives the text and its levels."""
         (text, levels), most = self.operand(around), OPERAND
         while self.peek() in TIGHTNESS:
             mark, tightness = self.peek(), TIGHTNESS[self.peek()]
@@ -236,7 +285,7 @@ class Reader:
         return text, levels
 
     def operand(self, around: int) -> Tuple[str, int]:
-        """Reads an operand, with so many signs and parentheses around it, and gives its text and its levels."""
+        """Reads an operand, with so many signs, parentheses and brackets around, and gives its text and its levels."""
         token = self.peek()
         if around == MOST_LEVELS:
             self.fail()
@@ -247,11 +296,21 @@ class Reader:
         if is_number(token):
             return str(self.number()), 1
         if token != '(':
-            return self.name(), 1
+            return self.element(around)
         self.place += 1
         text, levels = self.within(around + 1)
         self.need(')')
         return f'({text})', levels
+
+    def element(self, around: int) -> Tuple[str, int]:
+        """Reads a name, with an index if it has one, and gives the text and its levels."""
+        name = self.name()
+        if self.language == 1 or self.peek() != '[':
+            return name, 1
+        self.place += 1
+        index, levels = self.operation(around + 1, 1)
+        self.need(']')
+        return f'{name}[{index}]', levels + 1
 
     def within(self, around: int) -> Tuple[str, int]:
         """Reads what stands in parentheses, and gives its text and its levels."""
@@ -271,7 +330,10 @@ class Reader:
 
     def description(self) -> Description:
         """Reads a whole text."""
-        found = Description(self.language, [], {}, [], [])
+        tables = []
+        while self.language == 2 and self.peek() == 'table':
+            tables.append(self.table())
+        found = Description(self.language, [], {}, [], [], tuple(tables))
         while self.peek() == 'process':
             found.processes.append(self.process())
         self.need('network')
@@ -313,9 +375,7 @@ class Reader:
         values: List[int] = []
         while self.peek() == (',' if values else ';'):
             self.place += 1
-            sign = -1 if self.peek() == '-' else 1
-            self.place += sign < 0
-            values.append(sign * self.number())
+            values.append(int(self.value()))
         self.need(')')
         return Entry(process, ins, outs, tuple(values))
 

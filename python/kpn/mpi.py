@@ -38,7 +38,8 @@ class Part(NamedTuple):
     def text(self) -> str:
         """The part in the language."""
         made = self.description
-        lines = ['language 2;\n'] * (made.language == 2) + [*map(str, made.processes), 'network {\n']
+        lines = ['language 2;\n'] * (made.language == 2) + [f'{line}\n' for line in made.tables]
+        lines += [*map(str, made.processes), 'network {\n']
         lines += [f'{word} {it};\n' for word, it in made.settings.items()]
         for kind, name, capacity in made.channels:
             lines.append(f'{kind} {name}{"" if capacity is None else f" cap {capacity}"};\n')
@@ -79,7 +80,8 @@ def part_of(net: Description, ranks: Dict[str, int], rank: int, is_alone: bool) 
             channels.append(('source', name, None))
     used = {it.process for _, it in instances}
     settings = {word: it for word, it in net.settings.items() if word != 'policy' or is_alone}
-    made = Description(net.language, [it for it in net.processes if it.name in used], settings, channels, instances)
+    made = Description(net.language, [it for it in net.processes if it.name in used], settings, channels, instances,
+                       net.tables)
     of_kind = {kind: [name for it, name, _ in channels if it == kind] for kind in ('source', 'sink')}
     return Part(made, [name for _, name, _ in channels], of_kind['source'], of_kind['sink'])
 

@@ -90,6 +90,7 @@ class Network:
         self.limit = whole('the limit', limit, 1, LARGEST_CAPACITY)
         self.policy, self.grow, self.auto_fork = policy, grow, auto_fork
         self._language = 1
+        self._tables: Tuple[str, ...] = ()
         self._processes: List[Process] = []
         self._channels: List[Stream] = []
         self._instances: List[Instance] = []
@@ -117,7 +118,7 @@ class Network:
 
     def _filled(self, found: Description) -> Network:
         """This network with what a text says."""
-        self._language, self._processes = found.language, found.processes
+        self._language, self._tables, self._processes = found.language, found.tables, found.processes
         processes = {it.name: it for it in found.processes}
         if len(processes) < len(found.processes):
             raise KpnError('two processes of the text have one name')
@@ -344,7 +345,8 @@ class Network:
         table = Names(language, (it.given_name for it in self._channels if it.given_name))
         for stream in self._channels:
             names[stream] = stream.given_name or table.give(stream.wanted_name(names))
-        self._names, begins, text = names, [], 'language 2;\n' if language == 2 else ''
+        self._names, begins = names, []
+        text = ''.join(f'{line}\n' for line in ['language 2;'] * (language == 2) + list(self._tables))
         for process, name in called.items():
             begins.append((len(text), process.renamed(name)))
             text += str(begins[-1][1])

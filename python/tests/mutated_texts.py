@@ -19,8 +19,8 @@ TEXTS = [file.read_text() for folder in (TOP / 'examples', TOP / 'examples/langu
          for file in sorted(folder.glob('*.kpn'))]
 TOKENS = ('(', ')', '{', '}', ';', ',', '=', '-', '0', '1', '007', '1048577', '9223372036854775808', 'x', 'cap',
           'limit', 'policy', 'grow', 'all', 'double', 'source', 'sink', 'channel', 'read', 'in', 'out', '_' * 33, '&',
-          '~', '?', ':', '<<', '+', '==', 'language', 'table', 'if', 'else')
-CHARACTERS = ('', *'(){};,=-1x#\n\r\t\x00\x0b&', '\u00b2', '\ufeff', '\udc80', '# \u00e9 \ud800\n', '\r\n')
+          '~', '?', ':', '<<', '+', '==', 'language', 'table', 'array', '[', ']', 'if', 'else')
+CHARACTERS = ('', *'(){}[];,=-1x#\n\r\t\x00\x0b&', '\u00b2', '\ufeff', '\udc80', '# \u00e9 \ud800\n', '\r\n')
 PARTS = re.compile(r'(\w+ = \w+\()([^;)]*);([^;)]*)(;[^;)]*)?\);')
 
 

@@ -5,6 +5,7 @@ import sys
 TOP = pathlib.Path(__file__).resolve().parents[2]
 for folder in ('python', 'tools'):
     sys.path.insert(0, str(TOP / folder))
+sys.path += [str(TOP / folder) for folder in ('bench/stress', 'tools/tests')]
 
 import examples  # noqa: E402
 import kpn  # noqa: E402
@@ -17,8 +18,9 @@ GALLERY = TOP / 'examples/gallery'
 
 def second_canonical(text):
     """The canonical form of a text, by the second implementation."""
-    processes, network = rounds.Parser(text).description()
-    return examples.canonical(processes, *network)
+    parser = rounds.Parser(text)
+    processes, network = parser.description()
+    return examples.canonical(processes, *network, parser.language, parser.shared)
 
 
 def run_one(build, *lists, **options):

@@ -18,16 +18,17 @@ import unittest
 
 from support import GALLERY, PROGRAM, TOP
 
-sys.path.append(str(TOP / 'bench/stress'))
 os.environ.setdefault('CFLAGS', '-std=c11 -O0 -w')
 
 import kpn  # noqa: E402
+import random_cells  # noqa: E402
 import native  # noqa: E402
 import native_fixed  # noqa: E402
 import native_stream  # noqa: E402
 from kpn.native import command  # noqa: E402
 from native_networks import MARKS  # noqa: E402
 from test_applications import module_of  # noqa: E402
+from test_language2 import HEAD, MEANINGS, TAIL  # noqa: E402
 
 NETWORKS, PROCESSES, STREAMS = 12, 2, 150
 # Wrong bodies: a file of the package, a text that stands there once, what stands there instead, and the random network
@@ -44,6 +45,7 @@ WRONG = {
     'a period with a fault is kept': ('region_text.py', "yield '    break;'",
                                       "yield from [*self.keeping(), '    break;']", 11, 'faults'),
     'items are small without a look': ('vectors.c', 'return all < 65536;', 'return true;', 11, 'small'),
+    'a cell behind the last one is there': ('c_text.py', '>= {cells.size})', '> {cells.size})', 0, 'cells'),
     'a value comes a period too late': ('vectors.py', 'ago + 1, (*path', 'ago + 2, (*path', 6, 'small'),
     'no period comes before vectors': ('region_text.py', 'first = {self.vectors.depth}', 'first = 0', 4, 'small'),
     'the events of a dropped period are kept': ('network.h', 'kpn_history_cut(network->history, mark);',
@@ -156,6 +158,14 @@ class Equal(WithFolder):
                     network += f'sink {name} cap 1; {name} = f{number}(; {name}; {", ".join(map(str, values))});\n'
             with self.subTest(marks=marks), tempfile.TemporaryDirectory(prefix='kpn-') as folder:
                 native.Trial(folder, f'{text}network {{\n{network}}}\n', {}, RUNTIME).judge([])
+
+    def test_cells(self):
+        """Random processes with arrays and tables, and each of some faults of cells by its order."""
+        networks = [random_cells.network(random.Random(seed)) for seed in range(8)]
+        networks += [(HEAD + statements + TAIL, {}) for statements, _, _ in MEANINGS]
+        for number, (text, lists) in enumerate(networks):
+            with self.subTest(number=number), tempfile.TemporaryDirectory(prefix='kpn-') as folder:
+                native.Trial(folder, text, lists, RUNTIME).judge([])
 
     def test_random_networks(self):
         found = native.try_networks(NETWORKS, 1, PROCESSES, runtime=RUNTIME)

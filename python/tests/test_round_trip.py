@@ -1,8 +1,10 @@
 """Texts of random networks: by the builder, `kpn print`, the package's reader and the second implementation."""
+import copy
 import random
 import unittest
 
 import mutated_texts
+import random_cells
 from random_networks import Maker
 from support import kpn, second_canonical
 
@@ -66,6 +68,32 @@ class RoundTrips(unittest.TestCase):
         with self.assertRaises(kpn.KpnError) as caught:
             net.check()
         self.assertEqual(caught.exception.place.column, len(head) - len('language 2; ') + 30)
+
+    def test_arrays_and_tables(self):
+        """The lines have the tokens of the text, and shared tables stand in front of the processes."""
+        head = 'language 2; table t=1,-02, -0; process p(in i; out o) {table u = 5;array a[04];'
+        text = head + 'read i x; a[(x)&3]=t[x]; write o a[u[0] - 4]; } ' \
+            'network { source s; sink z cap 1; a = p(s; z); }'
+        net = kpn.Network.from_text(text)
+        lines = 'language 2;\ntable t = 1, -2, -0;\nprocess p(in i; out o) {\n  table u = 5;\n  array a[4];\n' \
+            '  read i x;\n  a[(x) & 3] = t[x];\n'
+        self.assertTrue(str(net).startswith(lines), str(net))
+        self.assertEqual(str(copy.deepcopy(net)), str(net))
+        printed = answer('print', text)
+        self.assertIn('table t = 1, -2, 0;\nprocess p(in i; out o) {\n  array a[4];\n  table u = 5;\n', printed)
+        self.assertEqual((answer('print', str(net)), second_canonical(text)), (printed, printed))
+        self.assertEqual(net.run({'s': [1]}), {'z': [-2]})
+        for old, error in (('[04]', '[00]'), ('a[(x)&3]', 'a[]'), ('table u = 5', 'table u = '), ('[x]', '[x')):
+            wrong = text.replace(old, error)
+            self.assertRaisesRegex(kpn.KpnError, '21 Grammar', kpn.Network.from_text, wrong)
+
+    def test_300_networks_with_cells(self):
+        for seed in range(300):
+            text, _ = random_cells.network(random.Random(seed))
+            with self.subTest(seed=seed):
+                printed = answer('print', text)
+                self.assertEqual(second_canonical(text), printed)
+                self.assertEqual(answer('print', str(kpn.Network.from_text(text))), printed)
 
     def test_deep_texts(self):
         for depth in (31, 32, 5_000):

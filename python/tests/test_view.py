@@ -20,6 +20,7 @@ from support import TOP, kpn
 from random_networks import Maker
 
 import histories
+import random_cells
 import ticks
 from kpn import program, view
 from kpn.__main__ import main
@@ -120,6 +121,11 @@ class Pages(unittest.TestCase):
         for name in ('kahn', 'deadlock', 'jammed', 'clogged', 'two', 'fault', 'sieve'):
             text = (TOP / f'examples/{name}.kpn').read_text()
             cls.stored.append(Stored(cls.folder.name, text, name))
+        for seed in range(8):
+            text, lists = random_cells.network(random.Random(seed))
+            file = pathlib.Path(cls.folder.name, f'items_{seed}')
+            file.write_text(''.join(f'{it}\n' for it in lists['s'][:40]))
+            cls.stored.append(Stored(cls.folder.name, text, f'cells_{seed}', ['--source', f's={file}']))
 
     def test_the_events_come_back(self):
         for it in self.stored:

@@ -18,7 +18,7 @@ import unittest
 TOP = pathlib.Path(__file__).resolve().parent.parent.parent
 sys.path += [str(TOP / it) for it in ('tools', 'python', 'editors')]
 
-from kpn.language import RESERVED  # noqa: E402
+from kpn.language import RESERVED, RESERVED_IN_TWO  # noqa: E402
 from rounds import TOKEN  # noqa: E402
 
 PROGRAM = os.environ.get('KPN_PROGRAM', TOP / 'crates/kpn/out/kpn')
@@ -27,7 +27,7 @@ REFUSED = sorted((TOP / 'examples/refused').iterdir())
 TRIED = 40
 # Without the marks of language 2, which are operators in any text.
 WRONG = b'$."\x00\x80\xff_9az#\n'
-MARKS = set('(){};,')
+MARKS = set('(){}[];,')
 # What the names of scopes, of tokens and of vim's groups begin with.
 SCOPES = {'comment': 'comment', 'keyword.operator': 'operator', 'keyword': 'word', 'constant.numeric': 'number',
           'punctuation': 'mark', 'invalid': 'wrong', 'variable': 'name', 'entity': 'name', 'constant.language': 'name'}
@@ -63,14 +63,14 @@ def kind(name, kinds):
 def by_tokens(text):
     """The kinds by rounds.py, of a right text."""
     kinds = []
-    opening = 'language' if text.startswith('language 2;') else None
+    reserved = RESERVED | RESERVED_IN_TWO if text.startswith('language 2;') else RESERVED
     for found in TOKEN.finditer(text):
         token = found[1]
         if token is None:
             what = 'comment' if found[0][0] == '#' else ''
         elif token.isdigit():
             what = 'number'
-        elif token in RESERVED or token == opening:
+        elif token in reserved:
             what = 'word'
         else:
             what = 'name' if re.match(r'\w', token) else 'mark' if token in MARKS else 'operator'

@@ -247,7 +247,8 @@ class Habits(unittest.TestCase):
         self.assertNotIn('power', self.advice('', 'network { source s ^; }'))
 
     def test_arrays(self):
-        said = 'There are no arrays: give each place a variable of its own, as in `a0 = x;`, or a channel.'
+        said = ('There are no arrays: give each place a variable, as in `a0 = x;`, '
+                'or begin the text with `language 2;`.')
         for text in ('a[0] = x;', 'y = a[0];', 'write o (x + a[k]);', 'if a[0] { } else { }'):
             self.assertEqual(self.advice(text), said, text)
         for text in ('read i[0] x;', '[a] = x;', 'y = [1];'):

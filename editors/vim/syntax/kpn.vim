@@ -4,7 +4,7 @@ if exists('b:current_syntax')
 endif
 syntax case match
 syntax match kpnError /[^ \t\r]/
-syntax match kpnPunctuation /[(){};,]/
+syntax match kpnPunctuation /[][(){};,]/
 syntax match kpnOperator /[-+*\/%<>!=~&|^?:]/
 syntax match kpnOperator /<=\|>=\|==\|!=\|&&\|||/
 syntax match kpnNumber /[0-9]\+/
@@ -15,6 +15,8 @@ syntax keyword kpnStatement read write if else while
 syntax keyword kpnKeyword process network channel source sink in out par limit cap policy grow
 syntax match kpnConstant /\%(\<\%(policy\|grow\)[ \t]\+\)\@<=\%(cycles\|all\|one\|double\)\>/
 syntax match kpnKeyword /language\ze[ \t]\+0*2[ \t]*;/
+syntax match kpnKeyword /\<array\ze[ \t]\+[A-Za-z_][A-Za-z0-9_]*[ \t]*\[/
+syntax match kpnKeyword /\<table\ze[ \t]\+[A-Za-z_][A-Za-z0-9_]*[ \t]*=/
 syntax match kpnFunction /\%(\<process[ \t]\+\)\@<=[A-Za-z_][A-Za-z0-9_]\{,31}\>/
 syntax match kpnComment /#.*$/
 

@@ -17,13 +17,14 @@ class NetworkText:
         self.text, self.given, self.description, self.is_one_talk = text, given, description, schedule == 'kpn'
         # The most items that wait at a source in static memory; 0 if memory is taken as it is needed.
         self.fixed = fixed
-        self.rows = {it.name: rows_of(it) for it in description.processes}
+        self.rows = {it.name: rows_of(it, number, description.tables)
+                     for number, it in enumerate(description.processes)}
         self.kinds: Dict[Kind, int] = {}
         self.numbers = {name: number for number, (_, name, _) in enumerate(description.channels)}
         self.of_instance = [self.kind_of(entry) for _, entry in description.instances]
         self.starts = [0]
         for _, entry in description.instances:
-            self.starts.append(self.starts[-1] + len(self.rows[entry.process].variables))
+            self.starts.append(self.starts[-1] + self.rows[entry.process].places)
         finder = Finder(description, self.rows)
         found = list(finder.regions()) if schedule == 'fuse' else []
         self.heads = {self.of_instance[p]: finder.loops[p].head for region in found for p in region.laps}
@@ -48,6 +49,7 @@ class NetworkText:
         yield '#pragma GCC diagnostic ignored "-Wtautological-compare"'
         yield '#pragma GCC diagnostic ignored "-Wunused-but-set-variable"'
         yield ''
+        yield from self.constants()
         for kind, number in self.kinds.items():
             yield from Function(number, kind, self.rows[kind.name], self.heads.get(kind), self.is_one_talk).text()
         for region in self.regions:
@@ -56,6 +58,12 @@ class NetworkText:
         yield from self.plan()
         if self.fixed:
             yield from self.memory()
+
+    def constants(self) -> Iterator[str]:
+        """The tables of the text that its processes name."""
+        for cells in dict.fromkeys(it for kind in self.kinds for it in self.rows[kind.name].cells.values()):
+            if cells.values:
+                yield f'static const int64_t {cells.name}[] = {{{", ".join(map(str, cells.values))}}};'
 
     def tables(self) -> Iterator[str]:
         """The tables of channels and processes."""
@@ -76,18 +84,18 @@ class NetworkText:
 
     def process_tables(self) -> Iterator[str]:
         """The tables of processes and of the first values of their variables."""
-        values: List[int] = []
+        values: List[str] = []
         rows = []
         for p, (name, entry) in enumerate(self.description.instances):
-            number, of_process = self.kinds[self.of_instance[p]], self.rows[entry.process]
+            number = self.kinds[self.of_instance[p]]
             ports = f'ports_{p}' if entry.ins or entry.outs else 'NULL'
             rows.append(f'  {{"{name}", plain_turn_{number}, traced_turn_{number}, {ports}, {len(entry.ins)}, '
                         f'{len(entry.outs)}, {self.starts[p]}}},')
-            values += [*entry.values, *[0] * (len(of_process.variables) - len(entry.values))]
+            values += [f'[{self.starts[p] + place}] = {it}' for place, it in enumerate(entry.values) if it]
         if rows:
             yield '\n'.join(['static const struct kpn_process_plan processes[] = {', *rows, '};'])
-        if values:
-            yield f'static const int64_t variables[] = {{{", ".join(map(str, values))}}};'
+        if self.starts[-1]:
+            yield f'static const int64_t variables[{self.starts[-1]}] = {{{", ".join(values) or "0"}}};'
         if self.regions:
             plans = [it.plan() for it in self.regions]
             yield '\n'.join(['static const struct kpn_region_plan regions[] = {', *plans, '};'])

@@ -54,7 +54,7 @@ class RegionText:
     def row(self, p: int, lap: int, place: int) -> Iterator[str]:
         """A row of a period, and the mark of the one behind it: the rows of other members may come in between."""
         row, label = self.rows(p).rows[place], f'm{p}_{lap}_'
-        values = Values('      ', f'm{p}_', self.constants[p])
+        values = Values('      ', self.rows(p).cells, f'm{p}_', self.constants[p])
         if place == self.finder.loops[p].head + 1 and place in self.targets(p):
             yield f'    {label}{place}:;'
         yield '    {'
@@ -231,8 +231,8 @@ class RegionText:
         yield '    made++;'
         yield '    continue;'
         text = '\n'.join(self.body)
-        stops = {'overflow': 'KPN_OVERFLOW', 'zero_divisor': 'KPN_ZERO_DIVISOR', 'shift': 'KPN_SHIFT',
-                 'starved': 'made ? KPN_PAUSED : KPN_LAPPED'}
+        stops = {'overflow': 'KPN_OVERFLOW', 'zero_divisor': 'KPN_ZERO_DIVISOR', 'index': 'KPN_INDEX',
+                 'shift': 'KPN_SHIFT', 'starved': 'made ? KPN_PAUSED : KPN_LAPPED'}
         ways = [label for label in stops if f'goto {label};' in text]
         for label in ways:
             yield f'  {label}: stop = {stops[label]}; goto dropped;'

@@ -1,10 +1,10 @@
 """Regions: processes whose periods are made in one function.
 
 A process may belong to one if it is a loop without end whose talks stand outside of inner blocks, behind assignments
-and writes of first items. So it has the same talks in each turn of its loop, a lap. In a period of a region each member
-makes a fixed number of laps, and each channel inside has at the end as many items as at the beginning. The order of the
-rows in a period is found by stepping the members under the capacities of the channels. So it is the order of a legal
-history.
+and writes of first items, and if it has no arrays. So it has the same talks in each turn of its loop, a lap. In a
+period of a region each member makes a fixed number of laps, and each channel inside has at the end as many items as at
+the beginning. The order of the rows in a period is found by stepping the members under the capacities of the channels.
+So it is the order of a legal history.
 """
 from __future__ import annotations
 
@@ -14,7 +14,7 @@ import math
 from typing import Dict, Iterator, List, NamedTuple, Optional, Sequence, Set, Tuple
 
 from ..language import Description
-from .paths import Assign, Leave, Read, Rows, Test, Write
+from .paths import INDEX, Assign, Leave, Read, Rows, Test, Write
 
 # The most rows of a period. What is larger falls apart at its widest channel.
 MOST_ROWS = 500
@@ -42,7 +42,9 @@ class Region(NamedTuple):
 
 
 def loop_of(rows: Rows) -> Optional[Loop]:
-    """A process as first items and laps, if it has this form."""
+    """A process as first items and laps, if it has this form. An array would have to be copied in each period."""
+    if rows.arrays():
+        return None
     first: Dict[str, int] = collections.Counter()
     for head, row in enumerate(rows.rows):
         if isinstance(row, Test):
@@ -231,5 +233,5 @@ def used_in(row: object) -> Sequence[str]:
         if isinstance(tree, str):
             found.append(tree)
         elif isinstance(tree, tuple):
-            left += tree[1:]
+            left += tree[2:] if tree[0] == INDEX else tree[1:]
     return found

@@ -8,15 +8,15 @@ from __future__ import annotations
 
 from typing import Any, Dict, Iterator, List, NamedTuple, Optional, Tuple
 
-from .paths import Assign, Expression, Read, Write
+from .paths import INDEX, Assign, Expression, Read, Write
 
 # What an item of 16 bits may be, and what a value of 32 bits may be.
 SMALL, WIDE = (-2**15, 2**15 - 1), (-2**31, 2**31 - 1)
 # The most values, channels of a region, and periods that have to come before the loop.
 MOST_VALUES, MOST_ENDS, MOST_DEPTH = 1000, 8, 256
 COMPARED = ('<', '<=', '>', '>=', '==', '!=')
-# The operators of which no interval is known, or that may leave an operand out.
-NOT_IN_VECTORS = ('&&', '||', '?', '~', '&', '|', '^', '<<', '>>')
+# The operators of which no interval is known, or that may leave an operand out; and cells.
+NOT_IN_VECTORS = ('&&', '||', '?', '~', '&', '|', '^', '<<', '>>', INDEX)
 
 # What a period leaves to the next: a variable of a member, or the place of a first item in a channel.
 State = Tuple[Any, ...]

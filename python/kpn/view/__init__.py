@@ -108,7 +108,7 @@ def table_of(text: str) -> Dict[str, List[Any]]:
 # ---- the network
 
 def network_of(found: Description) -> Dict[str, Any]:
-    """The processes with their texts, the instances, and the channels with their ends."""
+    """The processes with their texts, the shared tables, the instances, and the channels with their ends."""
     place = {name: number for number, (_, name, _) in enumerate(found.channels)}
     which = {it.name: number for number, it in enumerate(found.processes)}
     writers, readers = [-1] * len(place), [-1] * len(place)
@@ -123,7 +123,8 @@ def network_of(found: Description) -> Dict[str, Any]:
                           'values': [str(it) for it in entry.values]})
     channels = [{'name': name, 'kind': kind, 'cap': cap, 'writer': writers[number], 'reader': readers[number]}
                 for number, (kind, name, cap) in enumerate(found.channels)]
-    return {'processes': [process_of(it) for it in found.processes], 'instances': instances, 'channels': channels}
+    return {'processes': [process_of(it) for it in found.processes], 'tables': found.tables, 'instances': instances,
+            'channels': channels}
 
 
 def process_of(process: Process) -> Dict[str, Any]:

@@ -1,7 +1,7 @@
 'use strict';
 // The details beside the network: what is chosen, the tables of `kpn stats`, and the chain.
 
-const PAGE_OF_ITEMS = 100, MOST_LINKS = 200, MOST_NAMES = 60;
+const PAGE_OF_ITEMS = 100, MOST_LINKS = 200, MOST_NAMES = 60, MOST_CELLS = 64;
 const TABS = {chosen: 'chosen', channels: 'channels', processes: 'processes', chain: 'chain', summary: 'summary'};
 
 // An element of the page; what it says is text, never markup.
@@ -12,6 +12,12 @@ function html(name, attributes = {}, ...children) {
   }
   element.append(...children);
   return element;
+}
+
+// A value of a variable, or the first cells of an array.
+function valueText(value) {
+  if (!Array.isArray(value)) return String(value);
+  return value.slice(0, MOST_CELLS).join(' ') + (value.length > MOST_CELLS ? ' ..' : '');
 }
 
 const row = (cell, entries) => html('tr', {}, ...entries.map(it => html(cell, {}, it)));
@@ -255,7 +261,7 @@ class Panel {
 
   variables({line, vars}) {
     if (line < 0 || !vars.size) return [];
-    const rows = [...vars].map(([name, value]) => row('td', [name, String(value)]));
+    const rows = [...vars].map(([name, value]) => row('td', [name, valueText(value)]));
     return [html('h3', {}, 'Variables'), html('table', {id: 'variables'}, html('tbody', {}, ...rows))];
   }
 

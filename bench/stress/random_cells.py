@@ -1,0 +1,73 @@
+"""Random networks of language 2 whose processes have arrays and tables. Most indices are right."""
+OPERATORS = ('+', '-', '*', '/', '%', '&', '|', '^', '<<', '>>', '<', '<=', '==', '&&', '||')
+TABLE = 'table t = 3, -1, 4, -1, 5;\n'
+SIZES = {'a': 4, 'b': 3, 't': 5, 'u': 2}
+
+
+def index(chance, name, known, depth):
+    """The number of a cell: mostly one that is there."""
+    size = SIZES[name]
+    if chance.random() < 0.03:
+        return chance.choice((str(size), '-1', expression(chance, known, 't', depth - 1)))
+    if chance.random() < 0.4:
+        return str(chance.randrange(size))
+    return f'(({expression(chance, known, "t", 0)} % {size} + {size}) % {size})'
+
+
+def expression(chance, known, cells, depth=3):
+    """An expression over variables and cells, fully in parentheses."""
+    kind = chance.random()
+    if depth <= 0 or kind < 0.2:
+        return chance.choice(known) if chance.random() < 0.7 else str(chance.choice((0, 1, 2, 3, 7, 40)))
+    if kind < 0.5:
+        name = chance.choice(cells)
+        return f'{name}[{index(chance, name, known, depth)}]'
+    parts = [expression(chance, known, cells, depth - 1) for _ in range(3)]
+    if kind < 0.58:
+        return chance.choice('-!~') + f'({parts[0]})'
+    if kind < 0.66:
+        return f'({parts[0]} ? {parts[1]} : {parts[2]})'
+    mark = chance.choice(OPERATORS)
+    if mark in ('/', '%', '<<', '>>') and chance.random() < 0.9:
+        parts[1] = str(chance.choice((1, 2, 3)))
+    return f'(({parts[0]}) {mark} ({parts[1]}))'
+
+
+def statements(chance, cells, arrays):
+    """What a process does between its read and its write."""
+    known, found = ['x', 'y', 'k'], ['y = y & 1023;']
+    for _ in range(chance.randrange(1, 5)):
+        value = expression(chance, known, cells)
+        if arrays and chance.random() < 0.6:
+            name = chance.choice(arrays)
+            found.append(f'{name}[{index(chance, name, known, 2)}] = ({value}) & 65535;')
+        elif chance.random() < 0.3:
+            found.append(f'if {value} {{ y = {expression(chance, known, cells)}; }} else if x {{ y = 5; }}')
+        else:
+            found.append(f'y = ({value}) % 1000;')
+    if chance.random() < 0.4:
+        cell = f'{chance.choice(cells)}[k]'
+        found.append(f'k = 0; while k < 2 {{ y = y + {cell}; k = k + 1; }}')
+    return found
+
+
+def process(chance, name, has_arrays):
+    """A process, which reads and writes in turn."""
+    arrays = 'ab' if has_arrays else ''
+    cells = 'tu' + arrays
+    declared = ['table u = -7, 8;', *(f'array {it}[{SIZES[it]}];' for it in arrays)]
+    chance.shuffle(declared)
+    body = ' '.join(statements(chance, cells, arrays))
+    return f'process {name}(in i; out o) {{ {" ".join(declared)} y = 0; k = 0; ' \
+           f'while 1 {{ read i x; {body} write o y; }} }}\n'
+
+
+def network(chance):
+    """A row of processes, some of them without arrays, and items for its source `s`."""
+    count = chance.randrange(1, 5)
+    text = 'language 2;\n' + TABLE + ''.join(process(chance, f'p{n}', chance.random() < 0.5) for n in range(count))
+    ends = ['s', *(f'c{n}' for n in range(1, count)), 'z']
+    channels = ' '.join(f'channel {it} cap {chance.randrange(1, 4)};' for it in ends[1:-1])
+    rows = ' '.join(f'i{n} = p{n}({ends[n]}; {ends[n + 1]});' for n in range(count))
+    items = [chance.randrange(-9, 100) for _ in range(chance.choice((3, 40, 200)))]
+    return f'{text}network {{ source s; {channels} sink z cap 2; {rows} }}\n', {'s': items}
