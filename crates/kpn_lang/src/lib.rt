@@ -2,6 +2,7 @@
 //! expression, and what a process does when it runs alone on whole lists of items.
 #![tactic(auto)]
 
+mod celled;
 mod chain;
 mod code;
 mod codes;
@@ -18,6 +19,7 @@ mod syntax;
 mod talk;
 mod value;
 
+pub use celled::{Celled, Pick, Put};
 pub use chain::Chain;
 pub use code::{Code, Round, Ways};
 pub use codes::Coded;
