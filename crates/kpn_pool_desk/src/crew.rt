@@ -86,6 +86,8 @@ pub enum Awaited {
 pub(crate) struct Crew {
     // those that have not ended
     working: usize,
+    // no more of them are busy, but for those that have waited in vain: so many processors there are
+    most: usize,
     busy: usize,
     looking: usize,
     resting: usize,
@@ -138,6 +140,7 @@ impl Crew {
     {
         Crew {
             working: workers,
+            most: workers,
             hold: HOLD,
             ..Crew::default()
         }
@@ -163,15 +166,38 @@ impl Crew {
     /// How many busy workers pay.
     fn paying(&self) -> usize {
         if self.goes_by_regions {
-            return usize::MAX;
+            return self.most;
         }
+        self.fitting().min(self.most)
+    }
+
+    /// How many turns fit into the time that one of them takes with its hold: so many workers pay if there are as many
+    /// processors.
+    fn fitting(&self) -> usize {
         (self.away / self.hold.max(1)) as usize + 1
+    }
+
+    /// There are so many processors.
+    pub(crate) fn run_on(&mut self, processors: usize)
+        ensures { self.new.working ≡ self.old.working }
+    {
+        self.most = processors.max(1).min(self.working.max(1));
+    }
+
+    /// How many workers may be busy at once.
+    pub(crate) fn most(&self) -> usize {
+        self.most
+    }
+
+    /// Whether there is a processor for one more.
+    pub(crate) fn has_processor(&self) -> bool {
+        self.busy < self.most
     }
 
     /// Whether a worker that is back makes turns in a row while it has the lock: they are too short to pay for it, and
     /// the outside does not wait for the lock. Before turns were measured it makes none.
     pub(crate) fn makes_rows(&self) -> bool {
-        self.away > 0 && self.paying() == 1 && self.yields == 0
+        self.away > 0 && self.fitting() == 1 && self.yields == 0
     }
 
     /// From now on workers claim whole regions, or processes.
@@ -318,6 +344,18 @@ impl Crew {
         ensures { self.new.working ≡ self.old.working }
     {
         self.owes_call = true;
+    }
+
+    /// Whether there is something for the outside.
+    pub(crate) fn owes_call(&self) -> bool {
+        self.owes_call
+    }
+
+    /// What there was for the outside was done here.
+    pub(crate) fn owe_none(&mut self)
+        ensures { self.new.working ≡ self.old.working }
+    {
+        self.owes_call = false;
     }
 
     /// Whether the outside is to be called once the lock is let go.

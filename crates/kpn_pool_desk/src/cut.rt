@@ -6,10 +6,7 @@ use std::alloc::{AllocError, Allocator};
 // A channel of a smaller capacity is narrow. None such is cut: a hand-over would pass an item or two.
 const WIDE: u32 = 8;
 
-// So many nanoseconds a hand-over takes in the mean: a claim, a commit, and now and then a worker that has to be woken.
-const HAND_OVER: u64 = 80_000;
-
-// For so many of them the lock is held.
+// For so many nanoseconds of a hand-over the lock is held.
 const HOLD: u64 = 1_000;
 
 /// Whether a channel of this capacity is wide, as a source is, which has none.
@@ -57,24 +54,24 @@ pub(crate) struct Cut<A: Allocator> {
 }
 
 impl<A: Allocator + Copy> Cut<A> {
-    /// The cut with which so many workers would take least time, by what each process takes in a region: one region at
-    /// least. `None` if none is better than turns, which take so long.
+    /// The cut with which so many workers would take least time, by what each process takes in a region, and by how many
+    /// nanoseconds a hand-over takes: one region at least.
     pub(crate) fn best(
         alloc: A,
         loads: &[u64],
         flows: &[Flow],
         workers: usize,
-        by_turns: u64,
-    ) -> Result<Option<Self>, AllocError> {
-        let mut least = by_turns - by_turns / 8;
-        let mut best = None;
+        hand_over: u64,
+    ) -> Result<Self, AllocError> {
+        let mut best = Cut::of_each(alloc, loads)?;
+        let mut least = u64::MAX;
         for count in 1..workers.saturating_mul(2).min(loads.len()).saturating_add(1) {
             let mut cut = Cut::of_each(alloc, loads)?;
             cut.join_to(count, flows);
-            let time = cut.time(workers, flows);
+            let time = cut.time(workers, flows, hand_over);
             if time < least {
                 least = time;
-                best = Some(cut);
+                best = cut;
             }
         }
         Ok(best)
@@ -184,7 +181,7 @@ impl<A: Allocator> Cut<A> {
 
     /// How many nanoseconds so many workers would take for what one thread has done so far: the busiest region, or an
     /// even part of all, or the time for which the lock is held.
-    pub(crate) fn time(&self, workers: usize, flows: &[Flow]) -> u64 {
+    pub(crate) fn time(&self, workers: usize, flows: &[Flow], hand_over: u64) -> u64 {
         let mut busiest = 0_u64;
         let mut all = 0_u64;
         let mut work = 0_u64;
@@ -192,7 +189,7 @@ impl<A: Allocator> Cut<A> {
         for region in 0..self.load.len() {
             let load = self.load_of(region);
             let most = self.hand_overs(region, flows);
-            let time = load.saturating_add(most.saturating_mul(HAND_OVER));
+            let time = load.saturating_add(most.saturating_mul(hand_over));
             busiest = busiest.max(time);
             all = all.saturating_add(time);
             work = work.saturating_add(load);

@@ -19,16 +19,21 @@ use crate::desk::Desk;
 use crate::job::Job;
 use crate::regions::Regions;
 use crate::rows::Takers;
+use crate::trial::Trial;
 use kpn_region::Batch;
 use kpn_run_history::State;
 use kpn_run_state::Book;
 use std::alloc::{AllocError, Allocator};
+use std::time::Instant;
 
-// Before so many commits the workers make single turns, which are timed.
-const TIMED: u64 = 2_000;
+// Before so many commits, and some more for each process, the workers make single turns, which are timed.
+const TIMED: u64 = 256;
 
-// The network is cut after so many commits, and anew after so many times as many, since what goes through it may change.
-const FIRST: u64 = 20_000;
+const TIMED_EACH: u64 = 8;
+
+// The ways are tried after so many commits, and anew after so many times as many, since what goes through the network
+// may change.
+const FIRST: u64 = 10_000;
 
 const LATER: u64 = 16;
 
@@ -51,8 +56,12 @@ pub(crate) struct Division<A: Allocator> {
     due: u64,
     // no region is claimed before there are so many
     from: u64,
-    regions: Option<Regions<A>>,
-    // how many of them are held
+    // the cuts, of which one at most is in use
+    cuts: Vec<Regions<A>, A>,
+    trial: Trial,
+    // what time a worker has told since the last look at the trial
+    now: Option<Instant>,
+    // how many regions are held
     held: usize,
     // which is looked at first when one is claimed
     next: usize,
@@ -71,7 +80,9 @@ impl<A: Allocator> Division<A> {
             turns: Vec::new(alloc),
             due: FIRST,
             from: 0,
-            regions: None,
+            cuts: Vec::new(alloc),
+            trial: Trial::new(),
+            now: None,
             held: 0,
             next: 0,
         }
@@ -98,7 +109,7 @@ impl<A: Allocator> Division<A> {
     /// If the network is no longer divided, and no region is held, the regions go.
     fn let_go(&mut self) {
         if self.limit == 0 && self.held == 0 {
-            self.regions = None;
+            self.cuts.clear();
         }
     }
 
@@ -117,20 +128,32 @@ impl<A: Allocator> Division<A> {
         }
     }
 
-    /// Cuts the network, if it is time. If memory for that runs out, the network is not divided.
+    /// Tries the next way, if it is time. If memory for that runs out, the network is not divided.
     fn cut_if_due(&mut self, book: &Book<'_, A>, drains: bool, workers: usize)
     where
         A: Copy,
     {
-        let commits = book.commits();
-        if self.limit == 0 || self.held > 0 || commits < self.due {
+        if let Some(now) = self.now.take() {
+            self.trial.note(now, book.commits());
+        }
+        if self.limit == 0 || self.held > 0 {
             return;
         }
-        self.due = commits.saturating_mul(LATER);
-        match self.cut(book, drains, workers) {
-            Ok(regions) => self.regions = regions,
-            Err(_error) => self.stop(),
+        if book.commits() >= self.due {
+            self.due = book.commits().saturating_mul(LATER);
+            self.cuts.clear();
+            self.trial.begin();
         }
+        if !self.trial.is_over() {
+            return;
+        }
+        if self.trial.way() == 0 {
+            match self.cut(book, drains, workers) {
+                Ok(cuts) => self.cuts = cuts,
+                Err(_error) => self.stop(),
+            }
+        }
+        self.trial.go_on(self.cuts.len());
     }
 
     /// Cuts the network by what was timed and what its channels have carried.
@@ -139,7 +162,7 @@ impl<A: Allocator> Division<A> {
         book: &Book<'_, A>,
         drains: bool,
         workers: usize,
-    ) -> Result<Option<Regions<A>>, AllocError>
+    ) -> Result<Vec<Regions<A>, A>, AllocError>
     where
         A: Copy,
     {
@@ -148,7 +171,7 @@ impl<A: Allocator> Division<A> {
         for c in 0..network.channels() {
             carried.push((book.read_count(c) as u64).saturating_add(book.unread_count(c) as u64))?;
         }
-        Regions::cut(
+        Regions::cuts(
             self.alloc,
             network,
             carried.as_slice(),
@@ -159,9 +182,14 @@ impl<A: Allocator> Division<A> {
         )
     }
 
+    /// The regions by which the run goes, if it does.
+    fn regions(&self) -> Option<&Regions<A>> {
+        self.cuts.get(self.trial.way().wrapping_sub(1))
+    }
+
     /// How many regions there are.
     fn len(&self) -> usize {
-        match &self.regions {
+        match self.regions() {
             Some(regions) => regions.len(),
             None => 0,
         }
@@ -169,7 +197,7 @@ impl<A: Allocator> Division<A> {
 
     /// The processes of a region. None, if there is no such region.
     fn processes(&self, region: usize) -> &[usize] {
-        match &self.regions {
+        match self.regions() {
             Some(regions) => regions.processes(region),
             None => &[],
         }
@@ -206,9 +234,29 @@ impl<'n, J: Job, A: Allocator> Desk<'n, J, A> {
         self.division.limit = most;
     }
 
+    /// There are so many processors: no more workers run at once.
+    pub fn run_on(&mut self, processors: usize)
+        ensures { self.new ≡ self.old }
+    {
+        self.crew.run_on(processors);
+    }
+
+    /// Whether a way is tried, so that the desk is to be told the time.
+    pub fn is_tried(&self) -> bool {
+        self.division.trial.is_on()
+    }
+
+    /// It is this time now, before a worker commits what it has in hand.
+    pub fn tell_time(&mut self, now: Instant)
+        ensures { self.new ≡ self.old }
+    {
+        self.division.now = Some(now);
+    }
+
     /// Whether turns are to be timed.
     pub fn times(&self) -> bool {
-        self.division.limit > 0 && self.book.commits() < TIMED
+        let each = TIMED_EACH.saturating_mul(self.book.network().instances() as u64);
+        self.division.limit > 0 && self.book.commits() < TIMED.saturating_add(each)
     }
 
     /// Cuts the network, if it is time.
@@ -218,7 +266,7 @@ impl<'n, J: Job, A: Allocator> Desk<'n, J, A> {
         ensures { self.new ≡ self.old }
     {
         let drains = self.drains();
-        self.division.cut_if_due(&self.book, drains, self.workers);
+        self.division.cut_if_due(&self.book, drains, self.crew.most());
         let goes_by_regions = self.goes_by_regions();
         self.crew.go_by_regions(goes_by_regions);
     }
@@ -263,7 +311,8 @@ impl<'n, J: Job, A: Allocator> Desk<'n, J, A> {
     /// Whether a region more may be claimed: the last one has made a commit, or turns have since; it is not time to cut
     /// anew; and the limit is far.
     fn claims_regions(&self) -> bool {
-        self.division.regions.is_some()
+        self.division.regions().is_some()
+            && !self.division.trial.is_over()
             && self.division.from <= self.book.commits()
             && self.book.commits() < self.division.due
             && self.is_limit_far()
@@ -314,7 +363,7 @@ impl<'n, J: Job, A: Allocator> Desk<'n, J, A> {
         }
         let count = self.division.len();
         if let Some(last) = last {
-            if count <= self.workers && self.may_claim(last) {
+            if count <= self.crew.most() && self.may_claim(last) {
                 return Some(last);
             }
         }

@@ -18,6 +18,7 @@ mod region_turn;
 mod regions;
 mod rows;
 mod seat;
+mod trial;
 mod turn;
 mod watch;
 

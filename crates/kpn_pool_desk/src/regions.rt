@@ -4,13 +4,13 @@ use crate::cut::{Cut, Flow, is_wide};
 use kpn_net::{End, Network};
 use std::alloc::{AllocError, Allocator};
 
-// So many nanoseconds a get or put takes beside the steps of its process, if turns are made in a row.
-const IN_A_ROW: u64 = 30;
+// So many nanoseconds a hand-over takes in the mean: a claim, a commit, and now and then a worker that has to be woken. It
+// depends on the machine and on how the regions wait for each other, so that for each of these there is a cut. The last
+// one leaves together what hangs together.
+const HAND_OVERS: [u64; 3] = [2_500, 80_000, u64::MAX];
 
-// By turns that are not: for so long each keeps the lock from others.
-const BY_TURNS: u64 = 450;
-
-// In a region, on a wide channel, where many come without a wait, and on a narrow one.
+// So many nanoseconds a get or put takes beside the steps of its process, in a region, on a wide channel, where many come
+// without a wait, and on a narrow one.
 const WIDE: u64 = 10;
 
 const NARROW: u64 = 45;
@@ -25,10 +25,9 @@ pub(crate) struct Regions<A: Allocator> {
 }
 
 impl<A: Allocator + Copy> Regions<A> {
-    /// Cuts a network for so many workers, by how many items each of its channels has carried, and how many nanoseconds
-    /// so many turns of each of its processes took that were timed: into one region, or several. `None` if turns are
-    /// faster. The error is that memory ran out.
-    pub(crate) fn cut(
+    /// Some cuts of a network for so many workers, by how many items each of its channels has carried, and how many
+    /// nanoseconds so many turns of each of its processes took that were timed. The error is that memory ran out.
+    pub(crate) fn cuts(
         alloc: A,
         network: &Network,
         carried: &[u64],
@@ -36,15 +35,18 @@ impl<A: Allocator + Copy> Regions<A> {
         turns: &[u64],
         drains: bool,
         workers: usize,
-    ) -> Result<Option<Self>, AllocError> {
+    ) -> Result<Vec<Self, A>, AllocError> {
         let flows = flows(alloc, network, carried)?;
-        let times = Times { taken, turns };
-        let by_turns = time_by_turns(alloc, network, carried, times, workers)?;
-        let in_regions = loads(alloc, network, carried, times, Way::Regions { drains })?;
-        match Cut::best(alloc, &in_regions, &flows, workers, by_turns)? {
-            Some(cut) => Ok(Some(Regions::of(alloc, cut.regions())?)),
-            None => Ok(None),
+        let loads = loads(alloc, network, carried, Times { taken, turns }, drains)?;
+        let mut cuts: Vec<Self, A> = Vec::new(alloc);
+        for nanos in HAND_OVERS {
+            let cut = Cut::best(alloc, &loads, &flows, workers, nanos)?;
+            let regions = Regions::of(alloc, cut.regions())?;
+            if cuts.iter().all(|other| other.len() != regions.len()) {
+                cuts.push(regions)?;
+            }
         }
+        Ok(cuts)
     }
 
     /// The regions of a cut.
@@ -137,44 +139,13 @@ impl Times<'_> {
     }
 }
 
-/// How processes are stepped: in turns, which may be made in a row, or in regions, which may empty their sinks.
-#[derive(Clone, Copy)]
-enum Way {
-    InARow,
-    ByTurns,
-    Regions { drains: bool },
-}
-
-impl Way {
-    /// How many nanoseconds a get or put takes beside the steps of its process.
-    fn nanos(self, is_wide: bool, is_sink: bool) -> u64 {
-        match self {
-            Way::InARow => IN_A_ROW,
-            Way::ByTurns => BY_TURNS,
-            Way::Regions { drains } if is_wide || drains && is_sink => WIDE,
-            Way::Regions { .. } => NARROW,
-        }
+/// How many nanoseconds a get or put takes beside the steps of its process, if sinks may be emptied.
+fn nanos(is_wide: bool, is_sink: bool, drains: bool) -> u64 {
+    if is_wide || drains && is_sink {
+        WIDE
+    } else {
+        NARROW
     }
-}
-
-/// How many nanoseconds so many workers take for the gets and puts so far by turns: as many of them as pay, or one that
-/// makes turns in a row.
-fn time_by_turns<A: Allocator + Copy>(
-    alloc: A,
-    network: &Network,
-    carried: &[u64],
-    times: Times<'_>,
-    workers: usize,
-) -> Result<u64, AllocError> {
-    let paying = (times.mean() / BY_TURNS)
-        .saturating_add(1)
-        .min(workers as u64);
-    if paying <= 1 {
-        return Ok(sum(&loads(alloc, network, carried, times, Way::InARow)?));
-    }
-    let loads = loads(alloc, network, carried, times, Way::ByTurns)?;
-    let busiest = loads.iter().copied().max().unwrap_or(0);
-    Ok(busiest.max(sum(&loads) / paying))
 }
 
 /// What each process takes for the gets and puts so far, in nanoseconds.
@@ -183,13 +154,13 @@ fn loads<A: Allocator + Copy>(
     network: &Network,
     carried: &[u64],
     times: Times<'_>,
-    way: Way,
+    drains: bool,
 ) -> Result<Vec<u64, A>, AllocError> {
     network.known();
     let mut loads = vec![in alloc; 0_u64; network.instances()]?;
     for c in 0..network.channels() {
         let items = number_at(carried, c);
-        let nanos = way.nanos(is_wide(network.cap_of(c)), network.is_sink(c));
+        let nanos = nanos(is_wide(network.cap_of(c)), network.is_sink(c), drains);
         for end in [network.writer_of(c), network.reader_of(c)] {
             if let End::Process(p) = end {
                 let each = times.turn(p).saturating_add(nanos);

@@ -107,6 +107,25 @@ impl<'n, J: Job, A: Allocator> Desk<'n, J, A> {
         }
     }
 
+    /// A turn may have put an item on a sink, for which the outside is to be called. If the workers take, it is taken
+    /// here: a call, and the wait for it, would take longer than many turns.
+    pub(crate) fn serve_itself(&mut self)
+        ensures takes { TakesOn self.old.takers self.old.book self.new.book }
+        ensures same { self.new ≡ with_book self.new.book self.old }
+    {
+        if !self.crew.owes_call() || !self.do_workers_take() || self.have_taken_enough() {
+            return;
+        }
+        self.crew.owe_none();
+        self.take_from_sinks();
+        self.note_rows();
+    }
+
+    /// Whether the workers take what comes to the sinks.
+    fn do_workers_take(&self) -> bool {
+        matches!(self.takers, Takers::Workers(_))
+    }
+
     /// An item was put on this sink: it is taken, if the workers take, and else noted for the outside.
     fn serve(&mut self, sink: usize)
         ensures takes { TakesOn self.old.takers self.old.book self.new.book }
@@ -115,6 +134,19 @@ impl<'n, J: Job, A: Allocator> Desk<'n, J, A> {
         match self.takers {
             Takers::Workers(wanted) => self.take_from(sink, wanted),
             Takers::Seats => self.note_put(sink),
+        }
+    }
+
+    /// Whether a row is the last one that has put an item on this sink.
+    fn ends_rows_at(&self, sink: usize) -> bool {
+        self.crew.is_to_call() || self.has_enough_of(sink) && self.have_taken_enough()
+    }
+
+    /// Whether so many items of this sink were read as are wanted, if the workers take.
+    fn has_enough_of(&self, sink: usize) -> bool {
+        match self.takers {
+            Takers::Workers(Some(items)) => self.book.read_count(sink) as u64 >= items,
+            _ => false,
         }
     }
 
@@ -163,6 +195,7 @@ pub(crate) fn go_in_rows<J: Job, A: Allocator + Copy, G: Gate>(
     if !gate.lets_all() {
         return;
     }
+    desk.serve_itself();
     if !desk.makes_rows() {
         return;
     }
@@ -191,7 +224,7 @@ fn make_rows<J: Job, A: Allocator + Copy>(
             return;
         };
         desk.serve(sink);
-        if desk.ends_rows() {
+        if desk.ends_rows_at(sink) {
             return;
         }
     }

@@ -49,6 +49,11 @@ impl<'n, J: Job, A: Allocator> Shared<'n, J, A> {
         };
         let mut desk = self.lock_after(rt, tries);
         pace.hold(rt);
+        if desk.is_tried() {
+            if let Ok(now) = Instant::now(rt) {
+                desk.tell_time(now);
+            }
+        }
         let next = self.come_back(rt, gate, seat, quota, pace, batch, region, &mut desk, away);
         let Some(mut desk) = self.wait_for_work(rt, seat, pace, desk, next) else {
             return false;
