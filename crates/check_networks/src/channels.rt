@@ -1,5 +1,5 @@
 //! Channels as rows of calls, each with its answer. For a while a heap is full, and calls get no memory.
-use kpn_chan::{Channel, Unread};
+use kpn_chan::{Channel, Journal, Unread};
 use kpn_limits::MAX_CAPACITY;
 use linked_list_allocator::LocalHeap;
 use std::alloc::{AllocError, Global};
@@ -381,6 +381,8 @@ const A_BATCH_IS_JOINED: Row<'static> = Row {
         Call::HasPlacesFor(1, true),
         Call::Join(0, &[16], 0),
         Call::Counts(7, 5),
+        Call::Cap(Some(5)),
+        Call::IsFull(false),
         Call::Most(4),
         Call::Journal(&[5, 6, 7, 8, 9, 10, 11, 12, 13, 14, 15, 16]),
     ],
@@ -505,11 +507,20 @@ fn make_all(rt: &impl Abort, alloc: Global, row: &Row<'_>, name: &str) -> Result
     make(rt, alloc, &heap, &mut channel, row.after, name)
 }
 
+/// Whether journals of these items are equal.
+fn are_equal(alloc: Global, items: &[i64], others: &[i64]) -> Result<bool, AllocError> {
+    let journal = Journal::from_vec(alloc, items.to_vec(alloc)?);
+    let other = Journal::from_vec(alloc, others.to_vec(alloc)?);
+    Ok(journal == other)
+}
+
 #[test]
 fn channels_answer_as_these_rows_say(rt: HostRuntime) -> Result<(), Fail> {
     for (name, row) in &ROWS {
         make_all(&rt, rt.alloc(), row, name)?;
     }
+    assert!(rt; are_equal(rt.alloc(), &[5, 6], &[5, 6])?);
+    assert!(rt; !are_equal(rt.alloc(), &[5, 6], &[5, 5])?);
     Ok(())
 }
 

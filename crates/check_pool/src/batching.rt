@@ -124,7 +124,7 @@ fn put_by(book: &Book<'_>, processes: &[u16]) -> bool {
     is_so
 }
 
-/// Two turns of a worker. Returns whether all is as it has to be after each.
+/// Two turns of a worker, of two commits and of seven. Returns whether all is as it has to be after each.
 fn ends_twice<J: Job + Send + Sync, R: Wait + Clock>(
     rt: &R,
     alloc: Global,
@@ -149,7 +149,8 @@ fn ends_twice<J: Job + Send + Sync, R: Wait + Clock>(
     let is_shown = shows(&shared.try_snapshot(alloc)?, 2);
     let (seat, second) = works(rt, alloc, &shared, seat, &[8, 0, 1, 2, 3, 4, 5, 6]);
     let book = gather(shared, vec![in alloc; seat]?);
-    Ok(first && is_shown && second && put_by(&book, &[0, 1, 8]))
+    let is_whole = book.history().len() == 9;
+    Ok(first && is_shown && second && is_whole && put_by(&book, &[0, 1, 8]))
 }
 
 /// The gate is asked for processes 0, 1 and 2, and ends the worker at the last. The queue is then 8, 0, 1, 2 and so on.

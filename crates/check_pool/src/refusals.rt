@@ -7,7 +7,10 @@ use crate::endings::is_ready;
 use crate::networks::{copying, pouring};
 use crate::outside::shows;
 use kpn_net::Network;
-use kpn_pool::{Opened, Shared, close, feed, feed_when_room, gather, leave, snapshot, take, work};
+use kpn_pool::{
+    Opened, Shared, close, feed, feed_when_room, gather, leave, snapshot, take, take_when_there,
+    work,
+};
 use kpn_pool_desk::{Go, Job, Refused, SinkSeat, SnapFault, SourceSeat, Why};
 use linked_list_allocator::LocalHeap;
 use std::alloc::{AllocError, Global};
@@ -211,16 +214,20 @@ fn is_poured<'a, J: Job, R: Wait + Clock>(
         return Ok(false);
     };
     let filling = Vec::<u8, &'a LocalHeap>::with_capacity(heap, HEAP / 2)?;
+    let places = Vec::<i64, &'a LocalHeap>::with_capacity(heap, 6)?;
     let gate = Always(Go::On);
     let seat = work(rt, &shared, &gate, seat, 1_000);
     let has_ended = seat.why() == Some(Why::NoMemory);
     let is_put_back = is_ready(&shared.try_snapshot(alloc)?);
     let seat = work(rt, &shared, &gate, seat, 1_000);
     let is_halted = seat.why() == Some(Why::Halted);
+    places.destroy_empty();
+    let is_there = take_when_there(rt, &shared, &mut sink) == Err(Refused::NoMemory)
+        && !sink.taken().is_empty();
     let are_refused = takes_until_refused(rt, &shared, &mut sink);
     filling.destroy_empty();
     let is_taken = take(rt, &shared, &mut sink) == Ok(Some(7));
-    Ok(has_ended && is_put_back && is_halted && are_refused && is_taken)
+    Ok(has_ended && is_put_back && is_halted && is_there && are_refused && is_taken)
 }
 
 #[test]

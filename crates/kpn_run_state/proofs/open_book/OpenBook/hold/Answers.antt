@@ -1,7 +1,7 @@
+use Rattle.std.proofs.Common.{arith}
 use Rattle.kpn_run_state.specs.Open.{book_of}
 use Rattle.kpn_run_state.proofs.Committing.{kept_claimed}
 use Rattle.kpn_run_state.proofs.FirstOfQueue.{first_by, claimed_by}
-use Rattle.std.proofs.Common.{arith}
 use Rattle.kpn_run_state.proofs.open_book.OpenBook.hold.Goals as goal
 
 pub set_first-requires-clause-first : goal.set_first-requires-clause-first

@@ -1,6 +1,6 @@
-use Rattle.std.proofs.Common.{◌≡◌, ◌<◌, true, length, sym, ap, ◌∙◌, subst}
-use Rattle.kpn_net.proofs.Networks.{Reads-reader_of, Writes-writer_of}
+use Rattle.std.proofs.Common.{◌<◌, length, sym, ap, ◌∙◌, subst}
 use Rattle.kpn_net.specs.Tables.{writer_of}
+use Rattle.kpn_net.proofs.Networks.{Reads-reader_of, Writes-writer_of}
 use Rattle.kpn_run_state.specs.RegionClaims.{is_end_within}
 use Rattle.kpn_run_state.proofs.Claiming.{on_ok}
 use Rattle.kpn_run_state.proofs.open_book.claims.claim_channel.Goals as goal
