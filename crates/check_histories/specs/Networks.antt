@@ -16,7 +16,8 @@ use Rattle.kpn_net.specs.View.{tables_with}
 
 -- a program without parameters: its in ports, out ports, variables, and blocks
 abbrev program : (ins outs vars : ℕ) → List (List Statement) → Parts
-program ins outs vars blocks = record { ins = ins; outs = outs; pars = 0; vars = vars; free = 0; tables = []; blocks = blocks }
+program ins outs vars blocks =
+    record { ins = ins; outs = outs; pars = 0; vars = vars; free = 0; tables = []; blocks = blocks }
 
 -- a process without parameters
 abbrev instance : (program : ℕ) → (ins outs : List ℕ) → Instance

@@ -30,7 +30,9 @@ under policy growth t = record t { policy = policy; growth = growth }
 
 -- a program without blocks stands for one that is not there
 abbrev pub program_at : Tables → ℕ → Parts
-program_at t i = slice_index_or t.programs i (record { ins = 0; outs = 0; pars = 0; vars = 0; free = 0; tables = []; blocks = [] })
+program_at t i =
+    slice_index_or t.programs i
+    (record { ins = 0; outs = 0; pars = 0; vars = 0; free = 0; tables = []; blocks = [] })
 
 -- an instance without ports stands for one that is not there
 abbrev pub instance_at : Tables → ℕ → Instance

@@ -48,8 +48,8 @@ impl<'n, A: Allocator> OpenBook<'n, A> {
         p < self.schedule.len() && self.schedule.state(p) == State::Held
     }
 
-    /// The process that is the next to be held, the first of the queue. `None` if no process is ready, or if the commits
-    /// and the held processes are as many as can be counted.
+    /// The process that is the next to be held, the first of the queue. `None` if no process is ready, or if the
+    /// commits and the held processes are as many as can be counted.
     pub(crate) fn next(&self) -> Option<usize>
         requires { IsKept (book_of self.now) }
         ensures { next_by result (book_of self.now) }

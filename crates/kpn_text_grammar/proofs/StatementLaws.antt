@@ -34,7 +34,8 @@ abbrev list_of : Statements → List Statement
 list_of no_statements = []
 list_of (statement s ss) = s ∷ list_of ss
 
--- what was read as a statement, as a block, as a block behind its opening brace, as what stands behind `else`, and as that with its `else`
+-- what was read as a statement, as a block, as a block behind its opening brace, as what stands behind `else`, and as
+-- that with its `else`
 pub record TakesStatement (l : Language) (d : ℕ) (tokens : List Token) (st : Statement) (rest : List Lexeme)
     : Type 0 where
   pub spelled : SpellsStatement l st tokens (kinds rest)

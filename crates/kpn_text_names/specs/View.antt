@@ -28,8 +28,8 @@ program_seen shared p =
 abbrev pub named_seen : NamedCode → Named
 named_seen n = record {
   tables =
-      tables_with (map (λ q. q.parts) (map (program_seen n.shared) n.programs.items)) n.instances.items n.channels.items n.limit
-      n.policy n.growth;
+      tables_with (map (λ q. q.parts) (map (program_seen n.shared) n.programs.items)) n.instances.items
+      n.channels.items n.limit n.policy n.growth;
   shared = n.shared;
   processes = n.processes;
   scopes = map (λ q. q.names) (map (program_seen n.shared) n.programs.items);

@@ -74,7 +74,8 @@ unfoldable mutual
     Ok (body.0, lang.While a body.1)
 
   -- several statements, after these
-  pub statements_at : (shared : List Name) → Written → List lang.Statement → Statements → Result (Written × List lang.Statement) NameError
+  pub statements_at : (shared : List Name) → Written → List lang.Statement → Statements
+      → Result (Written × List lang.Statement) NameError
   statements_at shared w done no_statements = Ok (w, done)
   statements_at shared w done (statement s ss) = do
     first ← statement_at shared w s

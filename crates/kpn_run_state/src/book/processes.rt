@@ -75,9 +75,9 @@ impl<'n, A: Allocator> Book<'n, A> {
         }))
     }
 
-    /// Claims the first process of the queue as `try_claim` does, in the memory that the claim has: it copies the frame,
-    /// and makes no step. It returns whether there was one. It takes memory if the frame has other cells than that of
-    /// the claim. The error is that memory ran out; then nobody is held.
+    /// Claims the first process of the queue as `try_claim` does, in the memory that the claim has: it copies the
+    /// frame, and makes no step. It takes memory if the frame has other cells than that of the claim. It returns
+    /// whether there was one. The error is that memory ran out; then nobody is held.
     pub fn claim_into(&mut self, claim: &mut Claim<'n>) -> Result<bool, AllocError>
         ensures claimed { IfOk result (λ found. (found ≡ true)
             → IsClaimed claim.new.process self.old self.new) }

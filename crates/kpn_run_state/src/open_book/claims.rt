@@ -180,7 +180,8 @@ fn make_room<A: Allocator + Copy>(
 ) -> Result<(), AllocError>
     requires { c < length configuration.old.channels }
     ensures room { MakesRoom configuration.old configuration.new }
-    ensures places { OnOk result (writes ≡ true → IsTrue (channel_in configuration.new c).is_roomy) }
+    ensures places { OnOk result (writes ≡ true
+        → IsTrue (channel_in configuration.new c).is_roomy) }
 {
     if !writes {
         return Ok(());
