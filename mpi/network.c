@@ -132,12 +132,15 @@ static void join_ports(network *net, int number) {
   }
 }
 
+/* Keeps `language 2;` and the tables for all processes. */
 static void read_opening(reader *in, network *net) {
-  const char *start = in->token.at;
-  next(in);
-  next(in);
-  net->opening = (span){start, (size_t)(in->at - start)};
-  next(in);
+  const char *start = in->token.at, *end;
+  do {
+    while (!is(in, ";")) next(in);
+    end = in->at;
+    next(in);
+  } while (is(in, "table"));
+  net->opening = (span){start, (size_t)(end - start)};
 }
 
 void read_network(network *net, const char *text, size_t length) {

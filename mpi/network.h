@@ -37,7 +37,7 @@ typedef struct {
 } instance;
 
 typedef struct {
-  span opening; /* `language 2;`, or empty in a text of language 1 */
+  span opening; /* `language 2;` and the tables for all processes; empty in a text of language 1 */
   process processes[MOST_PROCESSES];
   instance instances[MOST_INSTANCES];
   channel channels[MOST_CHANNELS];

@@ -23,20 +23,20 @@ BUDGETS = {
     'README.md': 1_905,
     'docs/ARCHITECTURE.md': 2_915,
     'docs/COMPILED.md': 1_595,
-    'docs/DECISIONS.md': 2_920,
+    'docs/DECISIONS.md': 3_030,
     'docs/DEFINITIONS.md': 2_330,
     'docs/ERRORS.md': 1_030,
     'docs/GUARANTEES.md': 6_725,
     'docs/GUIDE.md': 910,
     'docs/LANGUAGE.md': 2_050,
     'docs/LIBRARY.md': 1_965,
-    'docs/PROVING.md': 2_645,
+    'docs/PROVING.md': 2_655,
     'docs/RUNS.md': 1_990,
     'docs/STREAMS.md': 1_275,
     'docs/TRACES.md': 815,
     'docs/VIEWS.md': 1_985,
     'python/README.md': 970,
-    'bench/RESULTS.md': 2_010,
+    'bench/RESULTS.md': 1_915,
 }
 BUDGET = 36_000
 POINT = re.compile(r'\s*(?:[-*+]|\d+\.)\s+')

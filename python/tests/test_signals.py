@@ -284,13 +284,6 @@ class Signals(unittest.TestCase):
                     self.assertEqual(found, wanted)
                     self.assertEqual(result.faults, {})
 
-    def test_how_many_processes_a_fir_is(self):
-        for taps, wanted in ((1, 1), (63, 1), (64, 2), (124, 2), (125, 3), (186, 3), (200, 4)):
-            net = kpn.Network()
-            net.sink('y', parts.fir(net.source('x'), TAPS[:taps]))
-            self.assertEqual(str(net).count(' = fir'), wanted)
-            net.check()
-
     def test_the_largest_fit_into_the_language(self):
         taps = [7, -5] * 500
         for build in (lambda x: parts.interpolate(x, taps[:992], 16, shift=9), lambda x: parts.huffman(

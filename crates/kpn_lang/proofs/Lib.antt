@@ -7,6 +7,7 @@ pub mod Further
 pub mod Interpreting
 pub mod Laying
 pub mod Pairs
+pub mod Picked
 pub mod Prefixes
 pub mod Processes
 pub mod Programs

@@ -2,6 +2,7 @@
 //! expression, and what a process does when it runs alone on whole lists of items.
 #![tactic(auto)]
 
+mod celled;
 mod chain;
 mod code;
 mod codes;
@@ -16,8 +17,10 @@ mod spine;
 mod start;
 mod syntax;
 mod talk;
+mod tap;
 mod value;
 
+pub use celled::{Celled, Pick, Put};
 pub use chain::Chain;
 pub use code::{Code, Round, Ways};
 pub use codes::Coded;
@@ -32,4 +35,5 @@ pub use spine::{Links, Spine};
 pub use start::Start;
 pub use syntax::{BlockId, Expr, Op, Stmt};
 pub use talk::{Ending, Said};
+pub use tap::{Index, Spot, Tap};
 pub use value::{Fault, eval, eval_in, index_in};

@@ -153,14 +153,15 @@ pub(crate) fn apply(op: Op, left: i64, right: i64) -> Result<i64, Fault>
 }
 
 /// The index of a cell that a number is, if there are so many cells.
+#[inline(always)]
 pub fn index_in(size: usize, number: i64) -> Result<usize, Fault>
     ensures ok { IfOk result (λ index. (number ≡ pos index) × (index < size)) }
     ensures err { IfErr result (λ fault. (fault ≡ Index) × (is_index size number ≡ false)) }
 {
-    match usize::try_from(number) {
-        Ok(index) if index < size => Ok(index),
-        _ => Err(Fault::Index),
+    if number >= 0 && (number as usize) < size {
+        return Ok(number as usize);
     }
+    Err(Fault::Index)
 }
 
 /// The value of an expression without cells if the variables have these values. The left side comes first, and the

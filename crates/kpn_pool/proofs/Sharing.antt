@@ -17,11 +17,15 @@ use Rattle.kpn_lang.proofs.syntax.Op.TheSendSync as op
 use Rattle.kpn_lang.proofs.start.Start.TheSendSync as start
 use Rattle.kpn_lang.proofs.link.Link.TheSendSync as link
 use Rattle.kpn_lang.proofs.code.Round.TheSendSync as round
+use Rattle.kpn_lang.proofs.tap.Tap.TheSendSync as tap
 use Rattle.kpn_lang.proofs.spine.Links.TheLaws.TheKnot.{crosses as links_cross}
 use Rattle.kpn_lang.proofs.syntax.Expr.TheLaws.TheKnot.{crosses as trees_cross}
 use Rattle.kpn_lang.specs.contracts.syntax.Expr as Expr
 use Rattle.kpn_lang.specs.contracts.syntax.Stmt as Stmt
 use Rattle.kpn_lang.specs.contracts.chain.Chain as Chain
+use Rattle.kpn_lang.specs.contracts.celled.Celled as Celled
+use Rattle.kpn_lang.specs.contracts.celled.Pick as Pick
+use Rattle.kpn_lang.specs.contracts.celled.Put as Put
 use Rattle.kpn_lang.specs.contracts.code.Code as Code
 use Rattle.kpn_lang.specs.contracts.codes.Coded as Coded
 use Rattle.kpn_lang.specs.contracts.spine.Links as Links
@@ -60,9 +64,26 @@ chain_sync =
     let trees = tree_sync in
     search (start.the_field_sync, link.the_field_sync, crosses, sendable) depth 40
 
+pick_sync : IsSync Pick.the_field.row
+pick_sync = let chains = chain_sync in search (crosses, sendable) depth 40
+
+celled_sync : IsSync Celled.the_field.row
+celled_sync =
+    let chains = chain_sync in
+    let picks = pick_sync in
+    let trees = tree_sync in
+    search (tap.the_field_sync, crosses, sendable) depth 40
+
+put_sync : IsSync Put.the_field.row
+put_sync = let picks = pick_sync in let items = celled_sync in search (crosses, sendable) depth 40
+
 -- a large enum, for which the search counts further
 code_sync : IsSync Code.the_field.row
-code_sync = let chains = chain_sync in search (round.the_field_sync, crosses, sendable) depth 40 fits 20000
+code_sync =
+    let chains = chain_sync in
+    let items = celled_sync in
+    let puts = put_sync in
+    search (round.the_field_sync, crosses, sendable) depth 40 fits 20000
 
 coded_sync : IsSync Coded.the_field.row
 coded_sync = let codes = code_sync in search (crosses, sendable) depth 40

@@ -139,6 +139,11 @@ impl<'n, J: Job, A: Allocator> Shared<'n, J, A> {
         self.changed.notify_all();
     }
 
+    /// There are so many processors for the workers.
+    pub(crate) fn run_on<R: Wait>(&self, rt: &R, processors: usize) {
+        self.lock(rt).run_on(processors);
+    }
+
     /// From now on workers that make turns in a row take what comes to the sinks, as `Desk::let_workers_take` says.
     pub(crate) fn let_workers_take<R: Wait>(&self, rt: &R, wanted: Option<u64>) {
         self.lock(rt).let_workers_take(wanted);

@@ -84,6 +84,12 @@ fn work_in<
     requires { 0 < quota }
     ensures { IfOk result (λ ended. vec_len ended.seats ≡ vec_len seats) }
 {
+    // a gate may hold workers for long, which then need no processor
+    if gate.lets_all() {
+        if let Ok(processors) = thread::available_parallelism(rt) {
+            shared.run_on(rt, processors.get());
+        }
+    }
     let mut threads = Vec::with_capacity(alloc, seats.len())?;
     let mut ended = Vec::with_capacity(alloc, seats.len())?;
     'seats: for seat in seats {

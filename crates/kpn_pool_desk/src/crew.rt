@@ -10,8 +10,9 @@
 //! A worker that joins claims its part of the processes that are ready, by the number of workers and rounded up, but no
 //! more than eight: so others find some too. A process of such a batch waits for the turns of those before it.
 //!
-//! A worker joins if a process is ready and fewer workers are busy than pays. It joins in any case if it has waited in
-//! vain: nobody has committed since it left the lock, so the gate or long turns hold those that are busy.
+//! A worker joins if a process is ready and fewer workers are busy than pays. No more pay than there are processors. It
+//! joins in any case if it has rested in vain: nobody has committed since it left the lock, so the gate or long turns hold
+//! those that are busy. If it has looked on in vain, it joins if there is a processor for it.
 //!
 //! If no more than one worker pays, that one makes turns in a row while it has the lock. Once the network is cut into
 //! regions, workers claim these in place of processes, and each counts as one turn (`division.rt`).
@@ -86,6 +87,8 @@ pub enum Awaited {
 pub(crate) struct Crew {
     // those that have not ended
     working: usize,
+    // no more of them are busy, but for those that have rested in vain: so many processors there are
+    most: usize,
     busy: usize,
     looking: usize,
     resting: usize,
@@ -138,6 +141,7 @@ impl Crew {
     {
         Crew {
             working: workers,
+            most: workers,
             hold: HOLD,
             ..Crew::default()
         }
@@ -163,15 +167,38 @@ impl Crew {
     /// How many busy workers pay.
     fn paying(&self) -> usize {
         if self.goes_by_regions {
-            return usize::MAX;
+            return self.most;
         }
+        self.fitting().min(self.most)
+    }
+
+    /// How many turns fit into the time that one of them takes with its hold: so many workers pay if there are as many
+    /// processors.
+    fn fitting(&self) -> usize {
         (self.away / self.hold.max(1)) as usize + 1
+    }
+
+    /// There are so many processors.
+    pub(crate) fn run_on(&mut self, processors: usize)
+        ensures { self.new.working ≡ self.old.working }
+    {
+        self.most = processors.clamp(1, self.working.max(1));
+    }
+
+    /// How many workers may be busy at once.
+    pub(crate) fn most(&self) -> usize {
+        self.most
+    }
+
+    /// Whether there is a processor for one more.
+    pub(crate) fn has_processor(&self) -> bool {
+        self.busy < self.most
     }
 
     /// Whether a worker that is back makes turns in a row while it has the lock: they are too short to pay for it, and
     /// the outside does not wait for the lock. Before turns were measured it makes none.
     pub(crate) fn makes_rows(&self) -> bool {
-        self.away > 0 && self.paying() == 1 && self.yields == 0
+        self.away > 0 && self.fitting() == 1 && self.yields == 0
     }
 
     /// From now on workers claim whole regions, or processes.

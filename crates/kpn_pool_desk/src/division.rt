@@ -206,6 +206,13 @@ impl<'n, J: Job, A: Allocator> Desk<'n, J, A> {
         self.division.limit = most;
     }
 
+    /// There are so many processors: no more workers run at once.
+    pub fn run_on(&mut self, processors: usize)
+        ensures { self.new ≡ self.old }
+    {
+        self.crew.run_on(processors);
+    }
+
     /// Whether turns are to be timed.
     pub fn times(&self) -> bool {
         self.division.limit > 0 && self.book.commits() < TIMED
@@ -218,7 +225,8 @@ impl<'n, J: Job, A: Allocator> Desk<'n, J, A> {
         ensures { self.new ≡ self.old }
     {
         let drains = self.drains();
-        self.division.cut_if_due(&self.book, drains, self.workers);
+        self.division
+            .cut_if_due(&self.book, drains, self.crew.most());
         let goes_by_regions = self.goes_by_regions();
         self.crew.go_by_regions(goes_by_regions);
     }
@@ -314,7 +322,7 @@ impl<'n, J: Job, A: Allocator> Desk<'n, J, A> {
         }
         let count = self.division.len();
         if let Some(last) = last {
-            if count <= self.workers && self.may_claim(last) {
+            if count <= self.crew.most() && self.may_claim(last) {
                 return Some(last);
             }
         }

@@ -90,7 +90,8 @@ impl<'n, J: Job, A: Allocator> Desk<'n, J, A> {
         ensures ends { EndsFor self.old most result }
     {
         self.crew.look_away();
-        let in_vain = self.book.commits() == stay.commits;
+        // those that are busy may have lost their processors to others
+        let in_vain = self.crew.has_processor() && self.book.commits() == stay.commits;
         self.next(most, in_vain, false)
     }
 

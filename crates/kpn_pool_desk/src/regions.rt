@@ -4,11 +4,9 @@ use crate::cut::{Cut, Flow, is_wide};
 use kpn_net::{End, Network};
 use std::alloc::{AllocError, Allocator};
 
-// So many nanoseconds a get or put takes beside the steps of its process, if turns are made in a row.
-const IN_A_ROW: u64 = 30;
-
-// By turns that are not: for so long each keeps the lock from others.
-const BY_TURNS: u64 = 450;
+// So many nanoseconds a get or put takes beside the steps of its process, by turns: each keeps the lock from others, and
+// waits for it.
+const BY_TURNS: u64 = 1_500;
 
 // In a region, on a wide channel, where many come without a wait, and on a narrow one.
 const WIDE: u64 = 10;
@@ -137,10 +135,9 @@ impl Times<'_> {
     }
 }
 
-/// How processes are stepped: in turns, which may be made in a row, or in regions, which may empty their sinks.
+/// How processes are stepped: in turns, or in regions, which may empty their sinks.
 #[derive(Clone, Copy)]
 enum Way {
-    InARow,
     ByTurns,
     Regions { drains: bool },
 }
@@ -149,7 +146,6 @@ impl Way {
     /// How many nanoseconds a get or put takes beside the steps of its process.
     fn nanos(self, is_wide: bool, is_sink: bool) -> u64 {
         match self {
-            Way::InARow => IN_A_ROW,
             Way::ByTurns => BY_TURNS,
             Way::Regions { drains } if is_wide || drains && is_sink => WIDE,
             Way::Regions { .. } => NARROW,
@@ -157,8 +153,8 @@ impl Way {
     }
 }
 
-/// How many nanoseconds so many workers take for the gets and puts so far by turns: as many of them as pay, or one that
-/// makes turns in a row.
+/// How many nanoseconds so many workers take for the gets and puts so far by turns: as many of them as pay. If no more
+/// than one does, it is endless, since one worker is as fast in a region.
 fn time_by_turns<A: Allocator + Copy>(
     alloc: A,
     network: &Network,
@@ -170,7 +166,7 @@ fn time_by_turns<A: Allocator + Copy>(
         .saturating_add(1)
         .min(workers as u64);
     if paying <= 1 {
-        return Ok(sum(&loads(alloc, network, carried, times, Way::InARow)?));
+        return Ok(u64::MAX);
     }
     let loads = loads(alloc, network, carried, times, Way::ByTurns)?;
     let busiest = loads.iter().copied().max().unwrap_or(0);

@@ -9,7 +9,7 @@ ghost use Rattle.kpn_region.specs.Batch.{stop_of, IsBatch, IsFresh, IsEmpty, wit
 
 use crate::ready::Ready;
 use crate::side::Side;
-use crate::traffic::{Halt, Traffic};
+use crate::traffic::{Halt, SHORT_TURN, Traffic, turn_with};
 use kpn_chan::Channel;
 use kpn_net::Network;
 use kpn_run_configuration::frames_at_start;
@@ -66,6 +66,7 @@ impl<'n, A: Allocator + Copy> Batch<'n, A> {
             sides,
             events: Vec::new(alloc),
             ready: Ready::new(network.instances()),
+            most: SHORT_TURN,
         };
         Ok(Batch {
             network,
@@ -94,6 +95,7 @@ impl<'n, A: Allocator> Batch<'n, A> {
         clear_sides(&mut self.traffic.sides);
         self.traffic.events.clear();
         self.traffic.ready.clear();
+        self.traffic.most = SHORT_TURN;
     }
 
     /// Takes process `p` into the region, where it stands at this frame. It may go on if it is `ready`; else it first
@@ -133,6 +135,7 @@ impl<'n, A: Allocator> Batch<'n, A> {
             (if is_ok result then claimed_with items.now room drains else no_side) self.old.first }
         ensures fresh { IsFresh self.new }
     {
+        self.traffic.most = turn_with(self.traffic.most, items.len(), room, drains);
         let side = &mut self.traffic.sides[c];
         side.claim(items, room, drains)
     }
@@ -154,6 +157,7 @@ impl<'n, A: Allocator> Batch<'n, A> {
             then claimed_with (take n (readable channel.now)) room drains else no_side) self.old.first }
         ensures fresh { IsFresh self.new }
     {
+        self.traffic.most = turn_with(self.traffic.most, n, room, drains);
         let side = &mut self.traffic.sides[c];
         side.claim_front(channel, n, room, drains)
     }

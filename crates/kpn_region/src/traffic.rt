@@ -17,12 +17,31 @@ use std::alloc::{AllocError, Allocator};
 /// So many events a process makes at most before the next one has its turn.
 const TURN: u32 = 256;
 
+/// So many if no channel of the region is wide. Then the next one can't go on for long, and a try in vain costs as much
+/// as an event.
+pub(crate) const SHORT_TURN: u32 = 2;
+
+/// A channel with as many places is wide.
+const WIDE: u64 = 8;
+
 /// The channels of a region, the events that it has made, and the processes that may go on.
 #[derive(Debug, Drop)]
 pub(crate) struct Traffic<A: Allocator> {
     pub(crate) sides: Vec<Side<A>, A>,
     pub(crate) events: Vec<Event, A>,
     pub(crate) ready: Ready,
+    // so many events a process makes at most before the next one has its turn
+    pub(crate) most: u32,
+}
+
+/// So many events a process makes at most, once a channel more is in the region: one with so many items and so much room,
+/// and maybe a sink that is emptied.
+pub(crate) fn turn_with(most: u32, items: usize, room: u64, drains: bool) -> u32 {
+    if !drains && room.saturating_add(items as u64) >= WIDE {
+        TURN
+    } else {
+        most
+    }
 }
 
 /// What came of a stop.
@@ -108,7 +127,7 @@ impl<A: Allocator> Traffic<A> {
     {
         network.known();
         let program = network.program(p);
-        let most = left.min(TURN);
+        let most = left.min(self.most);
         let mut made = 0;
         'events: while made < most {
             let (_, stop) = frame.run(program, quota);

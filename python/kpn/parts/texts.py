@@ -5,8 +5,8 @@ from typing import Any, Iterable, List, Sequence
 
 from ..errors import LARGEST, whole
 
-# The most variables of a process, parameters included, and the most nodes.
-MOST_VARIABLES, MOST_NODES = 64, 4096
+# The most variables of a process, parameters included, the most nodes, and the most cells of its arrays and tables.
+MOST_VARIABLES, MOST_NODES, MOST_CELLS = 64, 4096, 4096
 
 
 def whole_numbers(what: str, given: Any) -> List[int]:
@@ -60,3 +60,8 @@ def zeros(names: Iterable[str]) -> str:
 def slide(name: str, count: int, first: int = 0) -> str:
     """Statements that move each of the variables NAME0, NAME1 and so on into the next."""
     return ' '.join(f'{name}{it} = {name}{it - 1};' for it in range(first + count - 1, first, -1))
+
+
+def times(count: int, statements: str) -> str:
+    """Statements of language 2 that do these so many times; `n` counts."""
+    return statements * count if count < 2 else f'n = 0; while n < {count} {{ {statements} n = n + 1; }}'
