@@ -22,6 +22,13 @@ network {
   first = copy(a; b); second = copy(b; z);
 }";
 
+const WIDE_COPIES: &str = "
+process copy(in i; out o) { while 1 { read i x; write o x; } }
+network {
+  source a; channel b cap 8; sink z cap 1;
+  first = copy(a; b); second = copy(b; z);
+}";
+
 const REST: &str = "
 process rest(in i; out o) { while 1 { read i x; write o (10 % x); } }
 network { source a; sink z cap 1; rest = rest(a; z); }";
@@ -60,10 +67,10 @@ const THROUGH: Row<'static> = Row {
     events: &[
         Event::Get(0, 0, 5),
         Event::Put(0, 1, 5),
-        Event::Get(0, 0, 6),
         Event::Get(1, 1, 5),
         Event::Put(1, 2, 5),
         Event::Take(2, 5),
+        Event::Get(0, 0, 6),
         Event::Put(0, 1, 6),
         Event::Get(1, 1, 6),
         Event::Put(1, 2, 6),
@@ -81,12 +88,12 @@ const LEFT_FULL: Row<'static> = Row {
     events: &[
         Event::Get(0, 0, 5),
         Event::Put(0, 1, 5),
-        Event::Get(0, 0, 6),
         Event::Get(1, 1, 5),
         Event::Put(1, 2, 5),
+        Event::Get(0, 0, 6),
         Event::Put(0, 1, 6),
-        Event::Get(0, 0, 7),
         Event::Get(1, 1, 6),
+        Event::Get(0, 0, 7),
         Event::Put(0, 1, 7),
     ],
     stops: &[Some(Stop::WantRead(0)), Some(Stop::WantWrite(0, 6))],
@@ -161,15 +168,42 @@ fn does(alloc: Global, row: &Row<'_>) -> Result<bool, Fail> {
     Ok(done?)
 }
 
-/// Each process goes on until it can't, with capacity 1, and what comes to the sink is taken at once.
+/// Each process has its turns until it can't go on, with capacity 1, and what comes to the sink is taken at once.
 #[test]
 fn runs_until_all_are_stuck(rt: HostRuntime) -> Result<(), Fail> {
     assert!(rt; does(rt.alloc(), &THROUGH)?);
     Ok(())
 }
 
-/// The same with a budget of one: each event, and each turn without one, is a run of its own, and the next process has
-/// its turn then.
+/// Where a channel is wide, a process goes on until it can't.
+#[test]
+fn goes_on_where_a_channel_is_wide(rt: HostRuntime) -> Result<(), Fail> {
+    let row = Row {
+        text: WIDE_COPIES,
+        items: &[5, 6],
+        drains: true,
+        budget: 100,
+        times: 1,
+        events: &[
+            Event::Get(0, 0, 5),
+            Event::Put(0, 1, 5),
+            Event::Get(0, 0, 6),
+            Event::Put(0, 1, 6),
+            Event::Get(1, 1, 5),
+            Event::Put(1, 2, 5),
+            Event::Take(2, 5),
+            Event::Get(1, 1, 6),
+            Event::Put(1, 2, 6),
+            Event::Take(2, 6),
+        ],
+        stops: &[Some(Stop::WantRead(0)), Some(Stop::WantRead(0))],
+    };
+    assert!(rt; does(rt.alloc(), &row)?);
+    Ok(())
+}
+
+/// The same as with capacity 1, by a budget of one: each event, and each turn without one, is a run of its own, and the
+/// next process has its turn then.
 #[test]
 fn runs_by_budgets_of_one(rt: HostRuntime) -> Result<(), Fail> {
     let row = Row {
