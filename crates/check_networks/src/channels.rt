@@ -36,6 +36,8 @@ enum Call<'a> {
     At(usize, Option<i64>),
     /// The unread item after so many others.
     PeekAt(usize, Option<i64>),
+    /// All items that a reader may get.
+    Readable(&'a [i64]),
     /// The most items that were ever unread.
     Most(usize),
     /// How many items were read, and how many are unread.
@@ -188,6 +190,16 @@ fn answers<'h>(
     }
 }
 
+/// Whether these are the items that a reader may get.
+fn lends(channel: &Channel<&LocalHeap>, wanted: &[i64]) -> bool {
+    let (first, rest) = channel.readable();
+    if wanted.len() < first.len() {
+        return false;
+    }
+    let (front, back) = wanted.split_at(first.len());
+    *front == *first && *back == *rest
+}
+
 /// Makes a call that takes no memory: whether it answers so.
 fn shows(channel: &mut Channel<&LocalHeap>, call: Call<'_>) -> bool {
     match call {
@@ -204,6 +216,7 @@ fn shows(channel: &mut Channel<&LocalHeap>, call: Call<'_>) -> bool {
         Call::IsFull(wanted) => channel.is_full() == wanted,
         Call::At(place, wanted) => channel.at(place) == wanted,
         Call::PeekAt(place, wanted) => channel.peek_at(place) == wanted,
+        Call::Readable(wanted) => lends(channel, wanted),
         Call::Most(wanted) => channel.most() == wanted,
         Call::Counts(read, unread) => {
             channel.read_count() == read
@@ -226,6 +239,25 @@ struct Row<'a> {
     meanwhile: &'a [Call<'a>],
     after: &'a [Call<'a>],
 }
+
+/// The ring has two places, and the last item lies in front of the one before it.
+const LENDS_WHAT_IS_UNREAD: Row<'static> = Row {
+    size: 4_096,
+    capacity: Some(2),
+    before: &[
+        Call::Readable(&[]),
+        Call::Put(&[5, 6]),
+        Call::Readable(&[5, 6]),
+        Call::Get(Some(5)),
+        Call::Put(&[7]),
+        Call::Readable(&[6, 7]),
+        Call::Retire,
+        Call::Readable(&[]),
+    ],
+    filling: 16,
+    meanwhile: &[],
+    after: &[],
+};
 
 const FILLS_GROWS_GIVES_AND_RETIRES: Row<'static> = Row {
     size: 4_096,
@@ -455,7 +487,7 @@ const JOINED_ITEMS_GO_ON_PAST_A_CHUNK: Row<'static> = Row {
     after: &[],
 };
 
-const ROWS: [(&str, Row<'static>); 9] = [
+const ROWS: [(&str, Row<'static>); 10] = [
     (
         "fills, grows, gives and retires",
         FILLS_GROWS_GIVES_AND_RETIRES,
@@ -470,6 +502,7 @@ const ROWS: [(&str, Row<'static>); 9] = [
         A_JOURNAL_GOES_ON_PAST_ITS_CHUNKS,
     ),
     ("items keep their order", ITEMS_KEEP_THEIR_ORDER),
+    ("what is unread is lent", LENDS_WHAT_IS_UNREAD),
     ("a batch is joined", A_BATCH_IS_JOINED),
     ("a channel is not made roomy", A_CHANNEL_IS_NOT_MADE_ROOMY),
     ("a ring is not made roomy", A_RING_IS_NOT_MADE_ROOMY),

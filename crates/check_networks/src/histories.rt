@@ -1,5 +1,5 @@
 //! A history keeps its events in order, and a reservation that fails leaves it as it was.
-use kpn_run_history::{Event, History, How};
+use kpn_run_history::{Event, History, How, Keeping};
 use linked_list_allocator::LocalHeap;
 use std::alloc::Allocator;
 use std::test::Fail;
@@ -29,6 +29,24 @@ fn keeps_events_in_order(rt: HostRuntime) -> Result<(), Fail> {
         history.push(event);
     }
     assert!(rt; holds(&history, &events));
+    Ok(())
+}
+
+/// Of events that are not kept, one by one or at once, the newest is known, and those at once take up no room.
+#[test]
+fn knows_the_newest_of_what_it_does_not_keep(rt: HostRuntime) -> Result<(), Fail> {
+    let mut history = History::keeping(rt.alloc(), Keeping::Ends);
+    assert!(rt; history.last().is_none());
+    history.reserve(3)?;
+    history.push(Event::Feed(0, 5));
+    let room = history.room();
+    history.append(&[Event::Get(0, 0, 5), Event::Put(0, 1, 6)]);
+    assert!(rt; history.last() == Some(Event::Put(0, 1, 6)) && history.room() >= room);
+    history.append(&[]);
+    assert!(rt; history.last() == Some(Event::Put(0, 1, 6)));
+    history.reserve(1)?;
+    history.push(Event::Take(1, 6));
+    assert!(rt; history.last() == Some(Event::Take(1, 6)));
     Ok(())
 }
 

@@ -51,6 +51,10 @@ next_item c = if c.is_retired then None else slice_get (unread c) 0
 abbrev pub next_at : ℕ → ChannelState → Option ℤ
 next_at k c = if c.is_retired then None else slice_get (unread c) k
 
+-- the items that a reader may get: the unread ones, and none once the reader is gone
+abbrev pub readable : ChannelState → List ℤ
+readable c = if c.is_retired then [] else unread c
+
 -- a channel on which nothing has happened yet
 abbrev pub opened : Option ℕ → Bool → ChannelState
 opened capacity reserved =

@@ -2,7 +2,7 @@
 //! into no chunk.
 ghost use Rattle.std.specs.Option.{unwrap_or, is_none};
 ghost use Rattle.std.specs.Prelude.{◌≡◌, ◌++◌, drop, ◌+◌, ◌*◌, ◌<◌, ◌≤◌, ◌^◌, max, length, [], ◌↔◌, IsTrue, false, IfErr, true, IsOk, OnOk, OnErr, IfOk, is_ok, if◌then◌else◌, slice_get, take, nat_lt};
-ghost use Rattle.kpn_chan.specs.Channel.{unread, is_full, next_item, next_at, opened, opened_as, kept_journal, with_room, after_put, after_get, retired, MayGrow, grown, MayGrowTo, grown_to, roomy, with_reserved, MayJoin, joined, has_places_for};
+ghost use Rattle.kpn_chan.specs.Channel.{unread, is_full, next_item, next_at, readable, opened, opened_as, kept_journal, with_room, after_put, after_get, retired, MayGrow, grown, MayGrowTo, grown_to, roomy, with_reserved, MayJoin, joined, has_places_for};
 ghost use Rattle.kpn_chan.specs.Ring.{MayPass, passed_through};
 ghost use Rattle.kpn_chan.specs.declared.unread.Unread.TheVariants.{Forgotten};
 ghost use Rattle.kpn_chan.specs.declared.channel.TheConstants.{FIRST_PLACES};
@@ -268,6 +268,16 @@ impl<A: Allocator> Channel<A> {
             return None;
         };
         ring.get(k).copied()
+    }
+
+    /// The items that a reader may get, in two slices: those of the second come behind those of the first.
+    pub fn readable(&self) -> (&[i64], &[i64])
+        ensures { result.0.now ++ result.1.now ≡ readable self.now }
+    {
+        match &self.ring {
+            Some(ring) => ring.as_slices(),
+            None => (&[], &[]),
+        }
     }
 
     /// How many items are unread, on a retired channel too.

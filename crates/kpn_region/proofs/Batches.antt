@@ -1,11 +1,13 @@
 -- A batch after a claim, after it was cleared, and after a turn.
-use Rattle.std.proofs.Common.{◌≡◌, ℕ, zero, suc, ◌<◌, Bool, true, false, cond, IsTrue, IfSome, List, [], ◌∷◌, length, map, get_or, slice_set, replicate, Option, Some, None, ℤ, refl, sym, ap, ◌∙◌, subst, inl, inr, arith, length-set}
+use Rattle.std.proofs.Common.{◌≡◌, ℕ, zero, suc, ◌+◌, ◌<◌, Bool, true, false, cond, IsTrue, IfSome, List, [], ◌∷◌, length, map, get_or, slice_set, replicate, Option, Some, None, ℤ, refl, sym, ap, ◌∙◌, subst, inl, inr, arith, length-set}
 use Rattle.std.proofs.lemmas.Bool.{cases_eq, false≢true}
 use Rattle.std.proofs.lemmas.List.{get_or-set_same, get_or-set_other, map-set, length-map, take_all, length-replicate}
+use Rattle.std.proofs.lemmas.List.Sums.{sum_by-append}
 use Rattle.kpn_net.specs.Tables.{Tables, program_of}
 use Rattle.kpn_step.specs.declared.stop.Stop.{Stop}
 use Rattle.kpn_step.specs.Frame.{Frame, fits}
 use Rattle.kpn_run_history.specs.declared.event.Event.{Event}
+use Rattle.kpn_run_history.specs.Talks.{is_of_process, process_events}
 use Rattle.kpn_run_configuration.specs.Configuration.{no_frame}
 use Rattle.kpn_region.specs.Local.{SideState, no_side, claimed_with, as_claimed, Local, frame_at, with_side, IsLocal, Plays, no_event}
 use Rattle.kpn_region.specs.Batch.{Batch, batch_of, IsStuckAt, IsBatch, IsFresh, IsEmpty}
@@ -294,3 +296,13 @@ module _ (t : Tables) (within : List Bool) (first frames : List Frame) (sides : 
 
       here : (s : Stop) → stop ≡ Some s → IsStuckAt t p g s
       here s is = subst (λ o. IfSome o (IsStuckAt t p g)) is stands
+
+-- as many more of its events are of processes as it has made
+pub counted : (t : Tables) (p n k : ℕ) (f g : Frame) (had then : List SideState) (events made more : List Event)
+    → k ≡ process_events events → made ≡ events → GoesOn t p n f had made g then more
+    → k + n ≡ process_events more
+counted t p n k f g had then events made more count same goes =
+    ap (λ j. k + j) (sym goes.count)
+    ∙ ap (λ j. j + process_events goes.more) (count ∙ ap process_events (sym same))
+    ∙ sym (sum_by-append (λ e. cond (is_of_process e) 1 0) made goes.more)
+    ∙ ap process_events (sym goes.events_are)

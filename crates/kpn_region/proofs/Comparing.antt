@@ -1,11 +1,12 @@
 -- What the tests of a channel and its claim say.
-use Rattle.std.proofs.Common.{◌≡◌, ◌↔◌, ℕ, ◌+◌, ◌≤◌, ◌&&◌, ◌||◌, Bool, true, false, not, leb, leb-true, le-leb, eqb, eqb-true, eq-eqb, cond, [], length, take, Option, Some, None, slice_get, refl, sym, ◌∙◌, subst, inl, inr, arith}
-use Rattle.std.proofs.lemmas.Bool.{false≢true, and_parts, or_cases}
-use Rattle.std.proofs.lemmas.List.{length-take}
+use Rattle.std.proofs.Common.{◌≡◌, ◌↔◌, ℕ, ◌+◌, ◌-◌, ◌≤◌, ◌&&◌, ◌||◌, Bool, true, false, not, leb, leb-true, le-leb, eqb, eqb-true, eq-eqb, min, ℤ, List, [], ◌++◌, length, take, drop, Option, Some, None, refl, sym, ap, ◌∙◌, subst, inl, inr, arith, append-nil}
+use Rattle.std.proofs.Math.Seq.{take-append-add, take-append_seam, drop-append_seam}
+use Rattle.std.proofs.lemmas.Bool.{cases_lt, false≢true, and_parts, or_cases}
+use Rattle.std.proofs.lemmas.List.{length-take, length-drop, take_all, take-append-le, take-append-drop}
 use Rattle.kpn_net.specs.Tables.{Tables, channel_at, is_sink}
-use Rattle.kpn_chan.specs.Channel.{ChannelState, unread, next_at}
+use Rattle.kpn_chan.specs.Channel.{ChannelState, unread, readable, has_places_for}
 use Rattle.kpn_region.specs.Local.{SideState}
-use Rattle.kpn_region.specs.Joining.{readable, TakesInOrder, ChannelAgrees}
+use Rattle.kpn_region.specs.Joining.{TakesInOrder, ChannelAgrees}
 use Rattle.kpn_region.specs.Agreeing.{is_within_capacity, keeps_capacity, empties_a_sink, takes_in_order, rest_agrees}
 
 both_true : (a b : Bool) → a ≡ true → b ≡ true → (a && b) ≡ true
@@ -88,11 +89,95 @@ module _ (t : Tables) (c : ℕ) (sink : Bool) (is : sink ≡ is_sink (channel_at
       (λ drains. let at = h.claim.drained drains in (is ∙ at.sink, at.open_still, at.none)))
       (both_true (takes_in_order side channel) _ ((order_means side channel).1 h.in_order) h.places))
 
--- the item that a read returns after so many others is that item of what can be read
-pub next_is : (k : ℕ) (channel : ChannelState) → next_at k channel ≡ slice_get (readable channel) k
-next_is k channel = by_reader channel.is_retired
-  where
-    by_reader : (gone : Bool)
-        → cond gone None (slice_get (unread channel) k) ≡ slice_get (cond gone [] (unread channel)) k
-    by_reader true = refl
-    by_reader false = refl
+-- ---- the next items of a reader, which lie in two parts
+
+-- the first n of both parts
+pub first_of_both : (first rest all : List ℤ) (n k : ℕ) → first ++ rest ≡ all → k ≡ min (length first) n
+    → take k first ++ take (n - k) rest ≡ take n all
+first_of_both first rest all n k parts is =
+    elim (cases_lt (length first) n) [
+      | inl long ↦
+          let whole : k ≡ length first = omega (arith, is, long) in
+          let left : n ≡ length first + (n - k) = omega (arith, whole, long) in
+          ap (λ xs. xs ++ take (n - k) rest) (take_all k first (omega (arith, whole)))
+          ∙ sym (take-append-add first rest (n - k))
+          ∙ ap (λ m. take m (first ++ rest)) (sym left)
+          ∙ ap (take n) parts
+      | inr short ↦
+          let all_n : k ≡ n = omega (arith, is, short) in
+          let none : n - k ≡ 0 = omega (arith, all_n) in
+          ap (λ m. take k first ++ take m rest) none
+          ∙ append-nil (take k first)
+          ∙ ap (λ m. take m first) all_n
+          ∙ sym (take-append-le n first rest (omega (arith, short)))
+          ∙ ap (take n) parts
+    ]
+
+-- these items, no more than the first part has, are the next ones if that begins with them
+pub begins_first : (items first rest all : List ℤ) → first ++ rest ≡ all → length items ≤ length first
+    → take (length items) first ≡ take (length items) all
+begins_first items first rest all parts few =
+    sym (take-append-le (length items) first rest few) ∙ ap (take (length items)) parts
+
+module _ (items first rest all : List ℤ) (parts : first ++ rest ≡ all) (more : length first ≤ length items) where
+  front_and_back : take (length first) items ++ drop (length first) items ≡ items
+  front_and_back = take-append-drop (length first) items
+
+  long_back : length items ≡ length first + length (drop (length first) items)
+  long_back = let long = length-drop (length first) items in omega (arith, long, more)
+
+  next_ones : take (length items) all ≡ first ++ take (length (drop (length first) items)) rest
+  next_ones =
+      ap (take (length items)) (sym parts)
+      ∙ ap (λ n. take n (first ++ rest)) long_back
+      ∙ take-append-add first rest (length (drop (length first) items))
+
+  -- others, of which the first part has not all, are the next ones if they are it and a beginning of the second one
+  pub begins_both : take (length first) items ≡ first
+      → drop (length first) items ≡ take (length (drop (length first) items)) rest
+      → items ≡ take (length items) all
+  begins_both front back =
+      sym front_and_back
+      ∙ ap (λ xs. xs ++ drop (length first) items) front
+      ∙ ap (λ xs. first ++ xs) back
+      ∙ sym next_ones
+
+  pub begins_front : items ≡ take (length items) all → take (length first) items ≡ first
+  begins_front is =
+      ap (take (length first)) (is ∙ next_ones)
+      ∙ take-append_seam first (take (length (drop (length first) items)) rest)
+
+  pub begins_back : items ≡ take (length items) all
+      → drop (length first) items ≡ take (length (drop (length first) items)) rest
+  begins_back is =
+      ap (drop (length first)) (is ∙ next_ones)
+      ∙ drop-append_seam first (take (length (drop (length first) items)) rest)
+
+-- ---- a channel of which the region sees nothing
+
+module _ (t : Tables) (c : ℕ) (side : SideState) (channel : ChannelState) (none : side.items ≡ [])
+    (claimed : side.claimed ≡ 0) (taken : side.taken ≡ 0) (room : side.room ≡ 0) (drained : side.is_drained ≡ false)
+    (most : channel.is_retired ≡ false → length (unread channel) ≤ channel.most)
+    (within : (cap : ℕ) → channel.capacity ≡ Some cap → channel.most ≤ cap) where
+  -- it agrees with every channel of a configuration
+  pub unseen_agrees : ChannelAgrees t c side channel
+  unseen_agrees =
+      record {
+        claim = record {
+          count = claimed ∙ sym (ap (λ (xs : List ℤ). length xs) nothing);
+          first = nothing ∙ ap (λ (xs : List ℤ). take (length xs) (readable channel)) (sym nothing);
+          room = λ there cap is.
+              let few = most there in
+              let all = within cap is in
+              omega (arith, few, all, room, claimed);
+          drained = λ drains. absurd (false≢true (sym drained ∙ drains));
+        };
+        in_order = inl (omega (arith, taken, claimed));
+        places = ap (λ (xs : List ℤ). has_places_for (length xs) channel) nothing_put;
+      }
+    where
+      nothing : take side.claimed side.items ≡ []
+      nothing = ap (take side.claimed) none ∙ ap (λ n. take {A = ℤ} n []) claimed
+
+      nothing_put : drop side.claimed side.items ≡ []
+      nothing_put = ap (drop side.claimed) none ∙ ap (λ n. drop {A = ℤ} n []) claimed

@@ -1,20 +1,81 @@
 -- A batch that is joined channel by channel, and then process by process, is joined.
-use Rattle.std.proofs.Common.{◌≡◌, ◌≢◌, ℕ, ◌+◌, ◌<◌, ◌≤◌, ◌&&◌, ◌||◌, Bool, true, false, leb, ltb, eqb, cond, List, length, get_or, None, refl, sym, ap, ◌∙◌, subst, inl, inr, ◌⊎◌, arith, length-set}
+use Rattle.std.proofs.Common.{◌≡◌, ◌≢◌, ℕ, ◌+◌, ◌-◌, ◌<◌, ◌≤◌, ◌&&◌, ◌||◌, ℤ, Bool, true, false, ltb, eqb, cond, List, [], ◌++◌, length, get_or, None, refl, sym, ap, ◌∙◌, subst, inl, inr, arith, append-nil, length-set}
 use Rattle.std.proofs.lemmas.Bool.{cases_eq, cases_lt}
 use Rattle.std.proofs.lemmas.Bool.Decides.{nat_tests}
-use Rattle.std.proofs.lemmas.List.{get_or-set_same, get_or-set_other, get_or_past}
+use Rattle.std.proofs.lemmas.List.{get_or-set_same, get_or-set_other, get_or_past, set-get_or, length-drop}
 use Rattle.kpn_net.specs.declared.wait.Wait.{Wait}
 use Rattle.kpn_net.specs.declared.wait.Wait.TheVariants.{Nobody, Empty, Full}
 use Rattle.kpn_net.specs.Waits.{wait_at, AreWaits}
-use Rattle.kpn_step.specs.Frame.{Frame}
-use Rattle.kpn_chan.specs.Channel.{opened}
-use Rattle.kpn_run_configuration.specs.Configuration.{Configuration, channel_in, wait_in, frame_in, no_frame, with_channel, with_waits, with_frame, IsConfiguration}
+use Rattle.kpn_chan.specs.Channel.{ChannelState, unread, opened}
+use Rattle.kpn_run_configuration.specs.Configuration.{Configuration, channel_in, wait_in, frame_in, no_frame, with_channel, with_frame}
 use Rattle.kpn_run_configuration.specs.Woken.{ends_by_batch}
 use Rattle.kpn_region.specs.Local.{SideState, no_side, is_within, frame_at, side_at}
 use Rattle.kpn_region.specs.Turn.{side_in}
 use Rattle.kpn_region.specs.Batch.{Batch, IsBatch}
-use Rattle.kpn_region.specs.Joining.{has_put, has_taken, wait_joined, IsChannelJoined, Joins}
+use Rattle.kpn_region.specs.Joining.{put_on, has_put, has_taken, most_with, most_joined, wait_joined, IsChannelJoined, Joins}
 use Rattle.kpn_region.specs.JoiningParts.{JoinsChannel, wait_joined_below, JoinsChannels, JoinsFrames}
+use Rattle.kpn_region.proofs.Sides.{IsSideKept}
+
+-- ---- a channel of which nothing was taken, and on which nothing was put
+
+none_of_either : (gone : Bool) (n : ℕ) → cond gone n n ≡ n
+none_of_either true n = refl
+none_of_either false n = refl
+
+module _ (b : Batch) (c : ℕ) (s : Configuration) (waits : AreWaits b.tables s.waits)
+    (taken : (side_at b.now c).taken ≡ 0) (put : put_on (side_at b.now c) ≡ [])
+    (kept : IsSideKept (side_at b.now c)) where
+  abbrev side : SideState
+  side = side_at b.now c
+
+  abbrev channel : ChannelState
+  channel = channel_in s c
+
+  no_more_items : length side.items ≤ side.claimed
+  no_more_items =
+      let long = length-drop side.claimed side.items in
+      let none = ap (λ (xs : List ℤ). length xs) put in
+      omega (arith, long, none)
+
+  same_most : channel.most ≡ most_joined side channel
+  same_most =
+      let none : side.most ≡ 0 = kept.none no_more_items in
+      sym (ap (λ n. cond channel.is_retired channel.most
+      (most_with (length (unread channel) - side.claimed) n channel.most)) none
+      ∙ none_of_either channel.is_retired channel.most)
+
+  joined_by_nothing : IsChannelJoined side channel channel
+  joined_by_nothing =
+      record {
+        journal = sym (ap (λ xs. channel.journal ++ xs) put ∙ append-nil channel.journal);
+        read = omega (arith, taken);
+        capacity = refl;
+        retired = refl;
+        reserved = λ none is. is;
+        most = same_most;
+        kept = refl;
+      }
+
+  ends_none : (wait : Wait) → ends_by_batch c (has_taken side) (has_put side) wait ≡ false
+  ends_none wait =
+      let no_take : has_taken side ≡ false = ap (ltb 0) taken in
+      let few = no_more_items in
+      let no_put : has_put side ≡ false = grind (arith, nat_tests) in
+      ap (λ x. ends_by_batch c x (has_put side) wait) no_take ∙ ap (λ x. ends_by_batch c false x wait) no_put
+
+  -- the configuration stays
+  pub nothing_joined : JoinsChannel b c s s
+  nothing_joined =
+      record {
+        rest =
+            ap (λ cs. record s { channels = cs; waits = s.waits }) (sym (set-get_or s.channels c (opened None false)));
+        channel = joined_by_nothing;
+        woken = record {
+          each = λ q.
+              sym (ap (λ x. cond x Nobody (wait_at s.waits q)) (ends_none (wait_at s.waits q)));
+        };
+        waits = waits;
+      }
 
 -- ---- one wait
 

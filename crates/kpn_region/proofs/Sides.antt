@@ -1,18 +1,18 @@
 -- What stands of each channel of a batch: how what was put, what was taken, the room and the most go together. So what
 -- the region has put may be joined to a channel with which it agrees.
-use Rattle.std.proofs.Common.{◌≡◌, ◌≢◌, ℕ, zero, suc, ◌+◌, ◌-◌, ◌<◌, ◌≤◌, ◌^◌, ◌||◌, Bool, true, false, eqb, ltb, cond, max, ℤ, IsTrue, List, [], ◌∷◌, ◌++◌, length, take, drop, get_or, Option, Some, None, refl, sym, ap, ◌∙◌, subst, inl, inr, arith, length-append}
+use Rattle.std.proofs.Common.{◌≡◌, ℕ, zero, suc, ◌+◌, ◌-◌, ◌<◌, ◌≤◌, ◌^◌, ◌||◌, Bool, true, false, eqb, ltb, cond, max, ℤ, IsTrue, List, [], ◌∷◌, ◌++◌, length, take, drop, get_or, Some, refl, sym, ap, ◌∙◌, subst, inl, inr, arith, length-append}
 use Rattle.std.proofs.lemmas.Bool.{cases_Bool, cases_eq, cases_lt, eqb-true}
 use Rattle.std.proofs.lemmas.Bool.Decides.{nat_tests}
 use Rattle.std.proofs.lemmas.List.{length-drop, length-take, get_or-map, length-set}
 use Rattle.std.proofs.lemmas.Option.{slice_get_within}
 use Rattle.kpn_net.specs.Tables.{Tables}
-use Rattle.kpn_chan.specs.Channel.{ChannelState, unread, MayJoin, joined}
+use Rattle.kpn_chan.specs.Channel.{ChannelState, unread, MayJoin, joined, readable}
 use Rattle.kpn_chan.proofs.Places.{places_are}
 use Rattle.kpn_run_history.specs.declared.event.Event.{Event}
 use Rattle.kpn_run_history.specs.declared.event.Event.TheVariants.{Get, Put, Take}
 use Rattle.kpn_region.specs.Local.{SideState, no_side, untaken, next_of, with_next_taken, with_item, as_claimed, Local, side_at, with_side, LocalStep, Plays, no_event, steps_on, one_event_more}
 use Rattle.kpn_region.specs.Batch.{Batch, IsBatch}
-use Rattle.kpn_region.specs.Joining.{readable, ChannelAgrees, put_on, most_with, most_joined, IsChannelJoined}
+use Rattle.kpn_region.specs.Joining.{ChannelAgrees, put_on, most_with, IsChannelJoined}
 use Rattle.kpn_region.specs.JoiningParts.{most_seen}
 use Rattle.kpn_region.proofs.Playing.{side_same, side_other}
 
@@ -254,6 +254,13 @@ pub kept_of : (b : Batch) → IsBatch b → (c : ℕ) → c < length b.tables.ch
 kept_of b is c below channel agrees =
     kept_in_batch c b is below (claim_counts b.tables c (side_at b.now c) channel agrees)
 
+-- the items behind those that were claimed are those that the region has put
+pub put_of : (found side : SideState) → found ≡ side → (claimed : ℕ) (items put : List ℤ) → claimed ≡ found.claimed
+    → items ≡ found.items → put ≡ drop claimed items → put ≡ put_on side
+put_of found side same claimed items put c i p =
+    p ∙ ap (λ n. drop n items) c ∙ ap (λ (l : List ℤ). drop found.claimed l) i
+    ∙ ap (λ (x : SideState). put_on x) same
+
 -- what is handed on to be joined is what stands of the side
 pub record IsHanded (side : SideState) (channel : ChannelState) (taken : ℕ) (put : List ℤ) (most : ℕ) : Type 0 where
   pub taken_is : taken ≡ side.taken
@@ -267,8 +274,6 @@ pub handed_on : (found side : SideState) → found ≡ side → (there channel :
 handed_on found side same there channel at taken claimed most items put t c i p m =
     record {
       taken_is = t ∙ ap (λ (x : SideState). x.taken) same;
-      put_is =
-          p ∙ ap (λ n. drop n items) c ∙ ap (λ (l : List ℤ). drop found.claimed l) i
-          ∙ ap (λ (x : SideState). put_on x) same;
+      put_is = put_of found side same claimed items put c i p;
       most_is = m ∙ ap (λ (x : SideState). most_seen x there) same ∙ ap (λ x. most_seen side x) at;
     }

@@ -4,17 +4,13 @@ use Rattle.std.specs.Prelude.{◌≡◌, ℕ, zero, suc, ◌+◌, ◌-◌, ◌<�
 use Rattle.kpn_net.specs.declared.wait.Wait.{Wait}
 use Rattle.kpn_net.specs.declared.wait.Wait.TheVariants.{Nobody, Empty, Full}
 use Rattle.kpn_net.specs.Tables.{Tables, channel_at, is_sink}
-use Rattle.kpn_chan.specs.Channel.{ChannelState, unread, has_places_for}
+use Rattle.kpn_chan.specs.Channel.{ChannelState, unread, readable, has_places_for}
 use Rattle.kpn_run_configuration.specs.Configuration.{Configuration, channel_in, wait_in, end_in, frame_in}
 use Rattle.kpn_region.specs.Local.{SideState, as_claimed, Local, is_within, frame_at, side_at}
 use Rattle.kpn_region.specs.Turn.{side_in}
 use Rattle.kpn_region.specs.Batch.{Batch}
 
 -- ---- what was claimed agrees with a configuration
-
--- the items that a reader may get: the unread ones, and none once the reader is gone
-abbrev pub readable : ChannelState → List ℤ
-readable channel = if channel.is_retired then [] else unread channel
 
 -- a sink that nobody has left, of which nothing was claimed
 pub record IsOpenSink (t : Tables) (c : ℕ) (claim : SideState) (channel : ChannelState) : Type 0 where

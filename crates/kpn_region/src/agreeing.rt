@@ -1,10 +1,10 @@
 //! Whether what was claimed of a region agrees with a configuration, which may be a later one than that of the claim.
-ghost use Rattle.std.specs.Prelude.{◌≡◌, ◌↔◌, ℕ, ◌<◌, length, take, IsTrue, Some};
+ghost use Rattle.std.specs.Prelude.{◌≡◌, ◌↔◌, ℕ, ◌<◌, length, take, IsTrue};
 ghost use Rattle.kpn_net.specs.Tables.{Tables, channel_at, is_sink};
-ghost use Rattle.kpn_chan.specs.Channel.{next_at};
+ghost use Rattle.kpn_chan.specs.Channel.{readable};
 ghost use Rattle.kpn_run_configuration.specs.Configuration.{channel_in, IsConfiguration};
 ghost use Rattle.kpn_region.specs.Local.{side_at};
-ghost use Rattle.kpn_region.specs.Joining.{readable, ChannelAgrees, ProcessAgrees, ProcessesAgree, ChannelsAgree, AgreesWith};
+ghost use Rattle.kpn_region.specs.Joining.{ChannelAgrees, ProcessAgrees, ProcessesAgree, ChannelsAgree, AgreesWith};
 ghost use Rattle.kpn_region.specs.Agreeing.{is_within_capacity, keeps_capacity, empties_a_sink, takes_in_order, has_places, rest_agrees};
 
 use crate::batch::Batch;
@@ -84,8 +84,13 @@ impl<'n, A: Allocator> Batch<'n, A> {
         ensures { IsTrue result ↔ ChannelAgrees self.now.tables c
             (side_at self.now.now c) (channel_in configuration.now c) }
     {
-        let sink = network.is_sink(c);
-        agrees(self.side(c), configuration.channel(c), sink)
+        let side = self.side(c);
+        let channel = configuration.channel(c);
+        if side.is_unseen() {
+            channel.known();
+            return true;
+        }
+        agrees(side, channel, network.is_sink(c))
     }
 }
 
@@ -113,19 +118,17 @@ fn agrees<A: Allocator, B: Allocator>(side: &Side<A>, channel: &Channel<B>, sink
 fn begins_with<B: Allocator>(channel: &Channel<B>, items: &[i64]) -> bool
     ensures { IsTrue result ↔ (items.now ≡ take (length items.now) (readable channel.now)) }
 {
-    'items: for k in 0..items.len() {
-        if !has_next(channel, k, &items[k]) {
-            return false;
-        }
+    let (first, rest) = channel.readable();
+    if items.len() <= first.len() {
+        let head = &first[..items.len()];
+        return *items == *head;
     }
-    true
-}
-
-/// Whether this is the item that a reader gets after `k` others.
-fn has_next<B: Allocator>(channel: &Channel<B>, k: usize, item: &i64) -> bool
-    ensures { IsTrue result ↔ (next_at k channel.now ≡ Some item.now) }
-{
-    channel.peek_at(k) == Some(*item)
+    let (front, back) = items.split_at(first.len());
+    if back.len() > rest.len() {
+        return false;
+    }
+    let head = &rest[..back.len()];
+    *front == *first && *back == *head
 }
 
 /// The same apart from the items.

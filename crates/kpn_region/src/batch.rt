@@ -1,10 +1,11 @@
 //! A batch of a region.
 ghost use Rattle.std.specs.Prelude.{◌≡◌, ℕ, ◌<◌, ◌≤◌, length, take, IsTrue, IfOk, OnErr, Some, None, true, false, is_ok, if◌then◌else◌, replicate, slice_index_or};
 ghost use Rattle.kpn_net.specs.Tables.{program_of};
+ghost use Rattle.kpn_chan.specs.Channel.{readable};
 ghost use Rattle.kpn_step.specs.Frame.{fits};
+ghost use Rattle.kpn_run_history.specs.Talks.{process_events};
 ghost use Rattle.kpn_run_configuration.specs.Configuration.{no_frame};
 ghost use Rattle.kpn_region.specs.Local.{claimed_with, no_side, is_within, frame_at, side_at, with_side};
-ghost use Rattle.kpn_region.specs.Joining.{readable};
 ghost use Rattle.kpn_region.specs.Batch.{stop_of, IsBatch, IsFresh, IsEmpty, with_process, RunsOn};
 
 use crate::ready::Ready;
@@ -30,12 +31,16 @@ pub struct Batch<'n, A: Allocator = Global> {
     frames: Vec<Frame, A>,
     stops: Vec<Option<Stop>, A>,
     traffic: Traffic<A>,
+    // how many of the events are of processes
+    made: u64,
 }
 
 impl<'n, A: Allocator> Model for Batch<'n, A> {
+    ghost use Rattle.std.specs.Prelude.{◌≡◌};
     ghost use Rattle.std.specs.Coded.{codes};
     ghost use Rattle.kpn_lang.specs.Codes.{parts_code};
     ghost use Rattle.kpn_step.specs.Frame.{frame_code};
+    ghost use Rattle.kpn_run_history.specs.Talks.{process_events};
     ghost use Rattle.kpn_region.specs.Batch.{Batch as Seen, IsBatch, batch_of};
 
     ghost Value = { Seen };
@@ -46,7 +51,8 @@ impl<'n, A: Allocator> Model for Batch<'n, A> {
         b.traffic.sides.items b.traffic.events.items b.stops.items };
 
     ghost invariant = { λ b. IsBatch (batch_of b.network.now b.within.items b.first.items
-        b.frames.items b.traffic.sides.items b.traffic.events.items b.stops.items) };
+        b.frames.items b.traffic.sides.items b.traffic.events.items b.stops.items)
+        × (b.made ≡ process_events b.traffic.events.items) };
 }
 
 impl<'n, A: Allocator + Copy> Batch<'n, A> {
@@ -75,6 +81,7 @@ impl<'n, A: Allocator + Copy> Batch<'n, A> {
             frames,
             stops,
             traffic,
+            made: 0,
         })
     }
 }
@@ -96,6 +103,7 @@ impl<'n, A: Allocator> Batch<'n, A> {
         self.traffic.events.clear();
         self.traffic.ready.clear();
         self.traffic.most = SHORT_TURN;
+        self.made = 0;
     }
 
     /// Takes process `p` into the region, where it stands at this frame. It may go on if it is `ready`; else it first
@@ -178,6 +186,13 @@ impl<'n, A: Allocator> Batch<'n, A> {
         ensures { result.now ≡ self.now.events }
     {
         self.traffic.events.as_slice()
+    }
+
+    /// How many of the events are of processes.
+    pub fn made(&self) -> u64
+        ensures { result ≡ process_events self.now.events }
+    {
+        self.made
     }
 
     /// Whether process `p` is in the region.
@@ -269,6 +284,7 @@ impl<'n, A: Allocator> Batch<'n, A> {
         self.traffic.reserve(left)?;
         let frame = &mut self.frames[p];
         let turned = self.traffic.turn(network, p, quota, left, frame);
+        self.made += u64::from(turned.made);
         self.stops[p] = turned.halt.stop();
         let rest = left - turned.made.max(1);
         match turned.halt {

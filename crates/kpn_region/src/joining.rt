@@ -60,11 +60,15 @@ impl<'n, A: Allocator> Batch<'n, A> {
         self.known();
         let side = self.side(c);
         side.known();
+        let taken = side.taken();
+        let put = side.items().split_at(side.claimed()).1;
+        if taken == 0 && put.is_empty() {
+            return;
+        }
         let channel = configuration.channel(c);
         channel.known();
         let most = most_seen(side, channel);
-        let put = side.items().split_at(side.claimed()).1;
-        configuration.join_channel(network, c, side.taken(), put, most);
+        configuration.join_channel(network, c, taken, put, most);
     }
 
     /// The processes of the region go to where they stand in the batch.

@@ -1,6 +1,6 @@
 //! A channel, as far as a region sees it.
-ghost use Rattle.std.specs.Prelude.{◌≡◌, ◌<◌, ◌≤◌, ◌++◌, true, [], length, take, IsTrue, OnOk, OnErr, is_ok, if◌then◌else◌, IfSome, IfNone};
-ghost use Rattle.kpn_region.specs.Joining.{readable};
+ghost use Rattle.std.specs.Prelude.{◌≡◌, ◌<◌, ◌≤◌, ◌++◌, true, false, [], length, take, IsTrue, OnOk, OnErr, is_ok, if◌then◌else◌, IfSome, IfNone};
+ghost use Rattle.kpn_chan.specs.Channel.{readable};
 ghost use Rattle.kpn_region.specs.Local.{claimed_with, no_side, untaken, next_of, with_next_taken, with_item, as_claimed};
 
 use kpn_chan::Channel;
@@ -149,6 +149,17 @@ impl<A: Allocator> Side<A> {
         self.most
     }
 
+    /// Whether the region sees nothing of the channel, and has put nothing there.
+    pub(crate) fn is_unseen(&self) -> bool
+        ensures items { IsTrue result → self.now.items ≡ [] }
+        ensures claimed { IsTrue result → self.now.claimed ≡ 0 }
+        ensures taken { IsTrue result → self.now.taken ≡ 0 }
+        ensures room { IsTrue result → self.now.room ≡ 0 }
+        ensures drained { IsTrue result → self.now.is_drained ≡ false }
+    {
+        self.room == 0 && self.items.is_empty() && !self.drains
+    }
+
     /// Does nothing. A caller's proof learns from it what holds of every side.
     pub(crate) fn known(&self)
         ensures { self.now.claimed ≤ length self.now.items }
@@ -222,11 +233,9 @@ fn fill_front<A: Allocator, B: Allocator>(
     ensures err { OnErr result (items.new.items ≡ []) }
 {
     items.reserve(n)?;
-    'items: for k in 0..n {
-        let Some(item) = channel.peek_at(k) else {
-            unreachable!();
-        };
-        items.push_reserved(item);
-    }
+    let (first, rest) = channel.readable();
+    let from_first = first.len().min(n);
+    let _first_appended = items.extend_from_slice(&first[..from_first]);
+    let _rest_appended = items.extend_from_slice(&rest[..n - from_first]);
     Ok(())
 }

@@ -132,7 +132,12 @@ impl<A: Allocator> History<A> {
         ensures room { self.old.room ≤ self.new.room + length events.now }
         ensures kept { self.new.is_kept ≡ self.old.is_kept }
     {
-        let _appended = self.events.extend_from_slice(events);
+        if self.keeps {
+            let _appended = self.events.extend_from_slice(events);
+            return;
+        }
+        forget(&mut self.past, &mut self.newest, &mut self.events);
+        pass(&mut self.past, &mut self.newest, events);
     }
 
     /// Whether the events are kept.
@@ -187,8 +192,17 @@ fn forget<A: Allocator>(
     ensures events { events.new.items ≡ [] }
     ensures capacity { vec_capacity events.new ≡ vec_capacity events.old }
 {
+    pass(past, newest, events);
+    events.clear();
+}
+
+/// These events become past, behind those that are.
+fn pass(past: &mut Past<Event>, newest: &mut Option<Event>, events: &[Event])
+    requires { newest.old ≡ last_or None past.old.items }
+    ensures past { past.new.items ≡ past.old.items ++ events.now }
+    ensures newest { newest.new ≡ last_or None past.new.items }
+{
     *newest = newest_of(events, *newest);
     let before = mem::replace(past, Past::new());
     *past = before.and_all(events);
-    events.clear();
 }

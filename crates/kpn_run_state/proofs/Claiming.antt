@@ -1,5 +1,5 @@
 -- A region is claimed: its processes, the channels, and what that makes of the book.
-use Rattle.std.proofs.Common.{◌≡◌, ◌↔◌, ◌⊎◌, ℕ, ◌+◌, ◌-◌, ◌/◌, ◌<◌, ◌≤◌, ◌^◌, min, ℤ, Bool, true, false, not, ◌&&◌, eqb, cond, IsTrue, List, [], ◌∷◌, ◌++◌, length, take, drop, get_or, set, Option, Some, None, is_some, is_ok, Result, Ok, Err, refl, sym, ap, ◌∙◌, subst, inl, inr, arith, length-drop}
+use Rattle.std.proofs.Common.{◌≡◌, ◌↔◌, ℕ, ◌+◌, ◌-◌, ◌<◌, ◌≤◌, ◌^◌, min, ℤ, Bool, true, false, not, ◌&&◌, eqb, cond, IsTrue, List, [], ◌∷◌, ◌++◌, length, take, drop, get_or, Option, Some, None, is_some, is_ok, Result, Ok, Err, refl, sym, ap, ◌∙◌, subst, inl, inr, arith, length-drop}
 use Rattle.std.specs.List.{Contains}
 use Rattle.std.specs.Prelude.{OnOk}
 use Rattle.std.proofs.lemmas.Bool.{cases_eq, false≢true, both_ways, eqb-true}
@@ -10,15 +10,15 @@ use Rattle.kpn_net.specs.declared.tables.End.TheVariants.{Process}
 use Rattle.kpn_net.specs.Tables.{Tables, channel_at, is_sink, writer_of, reader_of}
 use Rattle.kpn_net.specs.Faults.{IsNetwork}
 use Rattle.kpn_net.proofs.Cycles.{Contains-none}
-use Rattle.kpn_chan.specs.Channel.{ChannelState, unread, has_places_for, roomy, with_reserved, opened}
+use Rattle.kpn_chan.specs.Channel.{ChannelState, unread, has_places_for, roomy, with_reserved, opened, readable}
 use Rattle.kpn_run_history.specs.declared.event.How.{How}
 use Rattle.kpn_run_history.specs.declared.event.Event.{Event}
 use Rattle.kpn_run_configuration.specs.Configuration.{Configuration, channel_in, wait_in, end_in, frame_in, no_frame, with_channel}
 use Rattle.kpn_run_configuration.specs.Run.{IsRun}
 use Rattle.kpn_run_configuration.proofs.Moments.{within_capacity}
-use Rattle.kpn_region.specs.Local.{SideState, as_claimed, no_side, Local, is_within, frame_at, side_at, with_side, IsLocal}
+use Rattle.kpn_region.specs.Local.{no_side, Local, is_within, frame_at, side_at, IsLocal}
 use Rattle.kpn_region.specs.Batch.{Batch, IsFresh, IsEmpty, with_process}
-use Rattle.kpn_region.specs.Joining.{readable, IsOpenSink, KeepsCapacity, ChannelAgrees, AgreesWith}
+use Rattle.kpn_region.specs.Joining.{ChannelAgrees, AgreesWith}
 use Rattle.kpn_run_state.specs.Schedule.{state_at}
 use Rattle.kpn_run_state.specs.Book.{Book}
 use Rattle.kpn_run_state.specs.Kept.{IsStateBy, IsKept}
@@ -314,7 +314,7 @@ on_ok (Err _) is = tt
 -- ---- what is claimed of a channel agrees with it
 
 half_at_most : (capacity : Option ℕ) (items n : ℕ) → items ≤ n → at_most_half capacity items ≤ n
-half_at_most None items n few = few
+half_at_most None items n few = omega (arith, few)
 half_at_most (Some capacity) items n few = omega (arith, few)
 
 pub items_there : (reads writes : Bool) (most : ℕ) (channel : ChannelState)

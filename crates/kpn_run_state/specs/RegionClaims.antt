@@ -1,16 +1,16 @@
 -- The claim of a region: which processes it takes, and what it sees of each channel.
-use Rattle.std.specs.Prelude.{◌≡◌, ◌↔◌, ℕ, ◌+◌, ◌-◌, ◌/◌, ◌^◌, ◌<◌, min, Bool, true, false, not, ◌&&◌, nat_eq, if◌then◌else◌, IsTrue, List, [], length, take, Option, Some, None, Contains}
+use Rattle.std.specs.Prelude.{◌≡◌, ◌↔◌, ℕ, ◌-◌, ◌/◌, ◌^◌, ◌<◌, min, Bool, true, false, not, ◌&&◌, nat_eq, if◌then◌else◌, IsTrue, List, length, take, Option, Some, None, Contains}
 use Rattle.std.specs.List.{list_all, list_any}
 use Rattle.kpn_net.specs.declared.tables.End.{End}
 use Rattle.kpn_net.specs.declared.tables.End.TheVariants.{Process}
 use Rattle.kpn_net.specs.Tables.{Tables, channel_at, is_sink, writer_of, reader_of}
-use Rattle.kpn_chan.specs.Channel.{ChannelState, unread}
+use Rattle.kpn_chan.specs.Channel.{ChannelState, unread, readable}
 use Rattle.kpn_run_history.specs.declared.state.State.{State}
 use Rattle.kpn_run_history.specs.Views.{is_ready, is_held}
 use Rattle.kpn_run_configuration.specs.Configuration.{Configuration, channel_in, end_in, frame_in}
 use Rattle.kpn_region.specs.Local.{SideState, claimed_with, Local, is_within, frame_at, side_at}
 use Rattle.kpn_region.specs.Batch.{Batch, IsFresh}
-use Rattle.kpn_region.specs.Joining.{readable, AgreesWith}
+use Rattle.kpn_region.specs.Joining.{AgreesWith}
 use Rattle.kpn_run_state.specs.Schedule.{state_at}
 use Rattle.kpn_run_state.specs.Book.{Book}
 use Rattle.kpn_run_state.specs.Regions.{batch_held}
@@ -28,9 +28,9 @@ abbrev pub is_end_within : Local → End → Bool
 is_end_within s (Process p) = is_within s p
 is_end_within s other = false
 
--- so many items, but no more than half the capacity, rounded up
+-- so many items, but no more than half the capacity, rounded up, or than 512 of a source, which has none
 abbrev pub at_most_half : Option ℕ → ℕ → ℕ
-at_most_half None items = items
+at_most_half None items = min items 512
 at_most_half (Some capacity) items = min items (capacity - capacity / 2)
 
 -- how many items are claimed. Who only reads the channel leaves its writer half of the capacity

@@ -11,11 +11,11 @@ use kpn_region::Batch;
 use std::alloc::{AllocError, Allocator};
 
 impl<'n, A: Allocator> Book<'n, A> {
-    /// Claims those of these processes that have not ended for a batch: the ready ones are held together, and those that
-    /// wait may go on in the batch once it ends their waits. Of a channel between them the batch sees what is unread, at
-    /// most `most` items; of one that they only read, at most `most` and half the capacity; and where they write, the
-    /// room that is free; those channels are made roomy. If `drains` is true, it empties their sinks, those on which
-    /// nothing is unread now.
+    /// Claims those of these processes that have not ended for a batch: the ready ones are held together, and those
+    /// that wait may go on in the batch once it ends their waits. Of a channel between them the batch sees what is
+    /// unread, at most `most` items; of one that they only read, at most `most` and half the capacity, or 512 of a
+    /// source; and where they write, the room that is free; those channels are made roomy. If `drains` is true, it
+    /// empties their sinks, those on which nothing is unread now.
     ///
     /// It returns `false`, and changes nothing, if one of them is held, none is ready, or the commits could not be
     /// counted. The error is that memory ran out. The book is then as before, but for memory that was made ready.

@@ -21,6 +21,10 @@ use kpn_run_configuration::Configuration;
 use kpn_run_history::State;
 use std::alloc::{AllocError, Allocator};
 
+// So many items of a source are claimed at most. They are copied, and compared at the commit, whether or not the region
+// takes them.
+const FROM_SOURCE: usize = 512;
+
 impl<'n, A: Allocator> OpenBook<'n, A> {
     /// Claims those of these processes that have not ended for a batch, as `Book::claim_region` says.
     pub(crate) fn claim_region<B: Allocator>(
@@ -164,6 +168,9 @@ fn claim_channel<A: Allocator + Copy, B: Allocator>(
 {
     let reads = is_end_within(batch, network.reader_of(c));
     let writes = is_end_within(batch, network.writer_of(c));
+    if !reads && !writes {
+        return batch.claim_channel(c, &[], 0, false);
+    }
     make_room(configuration, c, writes)?;
     let channel = configuration.channel(c);
     let items = items_claimed(channel, reads, writes, most);
@@ -234,7 +241,8 @@ fn is_end_within<B: Allocator>(batch: &Batch<'_, B>, end: End) -> bool
     }
 }
 
-/// How many items of a channel are claimed. Who only reads it leaves its writer half of the capacity.
+/// How many items of a channel are claimed. Who only reads it leaves its writer half of the capacity, and takes part of
+/// what a source has.
 fn items_claimed<A: Allocator>(
     channel: &Channel<A>,
     reads: bool,
@@ -252,7 +260,7 @@ fn items_claimed<A: Allocator>(
     }
     match channel.cap() {
         Some(cap) => items.min(cap as usize - cap as usize / 2),
-        None => items,
+        None => items.min(FROM_SOURCE),
     }
 }
 

@@ -3,7 +3,6 @@ ghost use Rattle.std.specs.Prelude.{◌≡◌, ◌≢◌, ◌↔◌, ℕ, ◌<�
 ghost use Rattle.kpn_net.specs.Tables.{program_of};
 ghost use Rattle.kpn_step.specs.Frame.{Frame};
 ghost use Rattle.kpn_step.specs.Stops.{IsAtPort};
-ghost use Rattle.kpn_run_history.specs.Talks.{is_of_process, process_events};
 ghost use Rattle.kpn_run_history.specs.Views.{is_held};
 ghost use Rattle.kpn_run_configuration.specs.Configuration.{frame_in};
 ghost use Rattle.kpn_run_configuration.specs.Due.{Stands};
@@ -23,7 +22,7 @@ use crate::schedule::Schedule;
 use kpn_net::Wait;
 use kpn_region::Batch;
 use kpn_run_configuration::Configuration;
-use kpn_run_history::{Event, State};
+use kpn_run_history::State;
 use kpn_step::Stop;
 use std::alloc::Allocator;
 
@@ -99,7 +98,7 @@ impl<'n, A: Allocator> OpenBook<'n, A> {
         self.history.append(events);
         batch.join(&mut self.configuration);
         wake_region(&mut self.schedule, &self.configuration, batch);
-        self.commits += count_of_processes(events);
+        self.commits += batch.made();
     }
 
     /// What becomes of the processes of a batch once its events are appended: each that is held is committed at the
@@ -156,8 +155,8 @@ impl<'n, A: Allocator> OpenBook<'n, A> {
         batch.is_within(p) && is_held(self.schedule.state(p))
     }
 
-    /// Commits process `p`, which is held, at the stop where it stands. Returns whether there was memory for it; if not,
-    /// the process is put back.
+    /// Commits process `p`, which is held, at the stop where it stands. Returns whether there was memory for it; if
+    /// not, the process is put back.
     fn commit_or_put_back(&mut self, p: usize, stop: Stop) -> bool
     where
         A: Copy,
@@ -288,28 +287,5 @@ fn is_held(state: State) -> bool
     match state {
         State::Held => true,
         State::Ready | State::WaitsEmpty(_) | State::WaitsFull(_) | State::Ended(_) => false,
-    }
-}
-
-/// How many of these events are of processes.
-fn count_of_processes(events: &[Event]) -> u64
-    ensures { result ≡ process_events events.now }
-{
-    let mut count = 0;
-    'events: for k in 0..events.len() {
-        if is_of_process(events[k]) {
-            count += 1;
-        }
-    }
-    count
-}
-
-fn is_of_process(event: Event) -> bool
-    ensures { result ≡ is_of_process event }
-{
-    match event {
-        Event::Get(_, _, _) | Event::Put(_, _, _) => true,
-        Event::WaitEmpty(_, _) | Event::WaitFull(_, _) | Event::Ended(_, _) => true,
-        _ => false,
     }
 }

@@ -1,45 +1,57 @@
-use Rattle.std.proofs.Common.{◌≡◌, ◌<◌, ◌≤◌, true, false, slice_get, length, refl, sym, subst, ◌∙◌, inl, inr, arith, rules}
-use Rattle.std.proofs.lemmas.Bool.{both_ways, false≢true, cases_lt}
-use Rattle.std.proofs.lemmas.Option.{slice_get-get_or}
-use Rattle.kpn_chan.proofs.Places.{begins_by_places, at_place_of_beginning}
-use Rattle.kpn_region.specs.Joining.{readable}
-use Rattle.kpn_region.proofs.Comparing.{next_is}
+use Rattle.std.proofs.Common.{◌≡◌, ◌<◌, ◌≤◌, length, take, sym, ◌∙◌, subst, arith, rules}
+use Rattle.std.proofs.lemmas.Bool.{both_ways}
+use Rattle.std.proofs.lemmas.Slice.Eq.{slice_eq-Decides}
+use Rattle.std.proofs.lemmas.Bool.Decides.{Decides-int_eq}
+use Rattle.kpn_chan.specs.Channel.{readable}
+use Rattle.kpn_region.proofs.Comparing.{begins_first, begins_both, begins_front, begins_back}
 use Rattle.kpn_region.proofs.agreeing.begins_with.Goals as goal
 
-pub returns-then-not-has_next : goal.returns-then-not-has_next
-returns-then-not-has_next g c =
+pub returns-then-items-first : goal.returns-then-items-first
+returns-then-items-first g c =
     let items = c.args.items.now in
-    let k = c.items.k in
-    let not_at : c.has_next.result ≡ false = search rules in
-    let below : k < length items = search rules in (
-      λ is. absurd (false≢true is),
-      λ begins.
-          absurd (both_ways c.has_next.result not_at (c.has_next.ensures.1
-          (next_is k c.args.channel.now ∙ at_place_of_beginning items (readable c.args.channel.now) begins k below
-          ∙ slice_get-get_or items k _ below))),
+    let first = c.readable.result.0.now in
+    let head =
+    begins_first items first c.readable.result.1.now (readable c.args.channel.now) c.readable.ensures
+    c.if-items-first.true in
+    let same = slice_eq-Decides Decides-int_eq items (take (length items) first) c.eq.result c.eq.ensures in (
+      λ is. same.0 is ∙ head,
+      λ begins. same.1 (begins ∙ sym head),
     )
 
-pub items-preserved : goal.items-preserved
-items-preserved g c j below =
+pub returns-then-eq : goal.returns-then-eq
+returns-then-eq g c =
     let items = c.args.items.now in
-    let channel = c.args.channel.now in
-    let k = c.items.k in
-    let at : c.has_next.result ≡ true = search rules in
-    let within : k < length items = search rules in
-    elim (cases_lt j k) [
-      | inl before ↦ c.items.invariant j before
-      | inr behind ↦
-          let here : k ≡ j = omega (arith, below, behind) in
-          subst (λ i. slice_get (readable channel) i ≡ slice_get items i) here
-          (sym (next_is k channel) ∙ c.has_next.ensures.0 at ∙ sym (slice_get-get_or items k _ within))
-    ]
-
-pub returns : goal.returns
-returns g c =
-    let items = c.args.items.now in
-    let ended : length items ≤ c.items.k = search rules in (
+    let first = c.readable.result.0.now in
+    let rest = c.readable.result.1.now in
+    let all = readable c.args.channel.now in
+    let front = c.split_at.result.0.now in
+    let back = c.split_at.result.1.now in
+    let long : length first < length items = search rules in
+    let more : length first ≤ length items = omega (arith, long) in
+    let parts = c.readable.ensures in
+    let here = slice_eq-Decides Decides-int_eq front first c.eq-2.result c.eq-2.ensures in
+    let behind =
+    slice_eq-Decides Decides-int_eq back (take (length back) rest) c.eq-then-eq.result c.eq-then-eq.ensures in
+    let cut = c.split_at.ensures.back in (
       λ is.
-          begins_by_places items (readable c.args.channel.now)
-          (λ j below. c.items.invariant j (omega (arith, below, ended))),
-      λ begins. refl,
+          begins_both items first rest all parts more (sym c.split_at.ensures.front ∙ here.0 c.if-eq.true)
+          (subst (λ xs. xs ≡ take (length xs) rest) cut (behind.0 is)),
+      λ begins.
+          behind.1 (subst (λ xs. xs ≡ take (length xs) rest) (sym cut)
+          (begins_back items first rest all parts more begins)),
+    )
+
+pub returns-else-eq : goal.returns-else-eq
+returns-else-eq g c =
+    let items = c.args.items.now in
+    let first = c.readable.result.0.now in
+    let rest = c.readable.result.1.now in
+    let front = c.split_at.result.0.now in
+    let long : length first < length items = search rules in
+    let here = slice_eq-Decides Decides-int_eq front first c.eq-2.result c.eq-2.ensures in (
+      λ is. absurd (both_ways c.eq-2.result c.if-eq.false is),
+      λ begins.
+          absurd (both_ways c.eq-2.result c.if-eq.false (here.1 (c.split_at.ensures.front
+          ∙ begins_front items first rest (readable c.args.channel.now) c.readable.ensures (omega (arith, long))
+          begins))),
     )

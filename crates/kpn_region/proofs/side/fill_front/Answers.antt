@@ -1,28 +1,39 @@
-use Rattle.std.proofs.Common.{◌≡◌, ◌+◌, ◌<◌, ◌≤◌, ◌∷◌, [], ◌++◌, get_or, length, take, Some, sym, ap, ◌∙◌, arith, to_z, of_z, w64, SFits, rules}
-use Rattle.std.proofs.lemmas.Int.{to_z-of_z}
-use Rattle.std.proofs.lemmas.List.{take_more}
-use Rattle.std.proofs.lemmas.Option.{slice_get-get_or}
-use Rattle.kpn_region.specs.Joining.{readable}
-use Rattle.kpn_region.proofs.Comparing.{next_is}
+use Rattle.std.proofs.Common.{◌≡◌, ◌+◌, ◌-◌, ◌≤◌, true, cond, List, ℤ, ◌++◌, length, take, is_ok, vec_len, vec_capacity, ap, ◌∙◌, arith, rules}
+use Rattle.std.proofs.lemmas.List.{length-take}
+use Rattle.kpn_chan.specs.Channel.{readable}
+use Rattle.kpn_region.proofs.Comparing.{first_of_both}
 use Rattle.kpn_region.proofs.side.fill_front.Goals as goal
 
-pub items-preserved : goal.items-preserved
-items-preserved g c =
-    let xs = readable c.args.channel.now in
-    let k = c.items.k in
-    let v = c.in-Some.item in
-    let fits : SFits w64 v = search rules in
-    let below : k < length xs = omega (arith, c.items-test.true, c.requires.there) in
-    let same : Some (get_or xs k v) ≡ Some v =
-    sym (slice_get-get_or xs k v below) ∙ sym (next_is k c.args.channel.now) ∙ sym c.peek_at.ensures ∙ c.in-Some.is in
-    let is : v ≡ get_or xs k v = cc in
-    record {
-      items =
-          c.push_reserved.ensures.items
-          ∙ ap (λ z. c.items.items.items ++ z ∷ []) (to_z-of_z w64 v fits)
-          ∙ ap (λ ys. ys ++ v ∷ []) c.items.invariant.items
-          ∙ ap (λ y. take k xs ++ y ∷ []) is
-          ∙ sym (take_more xs k v below);
-      len = c.push_reserved.ensures.len ∙ ap (λ n. n + 1) c.items.invariant.len;
-      room = omega (arith, c.push_reserved.ensures.capacity, c.items.invariant.room);
-    }
+pub returns-clause-ok : goal.returns-clause-ok
+returns-clause-ok g c =
+    let first = c.readable.result.0.now in
+    let rest = c.readable.result.1.now in
+    let n = c.args.n in
+    let k = c.min-from_first.result in
+    let empty = c.reserve.new.self.items in
+    let some = c.extend_from_slice-first_appended.new.self.items in
+    let first_fits : is_ok c.extend_from_slice-first_appended.result ≡ true = search rules in
+    let long : vec_len c.extend_from_slice-first_appended.new.self
+    ≡ vec_len c.reserve.new.self + length (take k first) =
+    c.extend_from_slice-first_appended.ensures.len
+    ∙ ap (λ b. cond b (vec_len c.reserve.new.self + length (take k first)) (vec_len c.reserve.new.self)) first_fits in
+    let room : vec_len c.extend_from_slice-first_appended.new.self + length (take (n - k) rest)
+    ≤ vec_capacity c.extend_from_slice-first_appended.new.self =
+    omega (
+      arith,
+      long,
+      c.in_ok-reserve.ensures.ok,
+      c.in_ok-reserve.ensures.len,
+      c.extend_from_slice-first_appended.ensures.capacity,
+      length-take k first,
+      length-take (n - k) rest,
+      c.min-from_first.ensures,
+    ) in
+    let rest_fits : is_ok c.extend_from_slice-rest_appended.result ≡ true =
+    c.extend_from_slice-rest_appended.ensures.succeeds room in
+    c.extend_from_slice-rest_appended.ensures.items
+    ∙ ap (λ b. cond b (some ++ take (n - k) rest) some) rest_fits
+    ∙ ap (λ (xs : List ℤ). xs ++ take (n - k) rest) (c.extend_from_slice-first_appended.ensures.items
+    ∙ ap (λ b. cond b (empty ++ take k first) empty) first_fits
+    ∙ ap (λ (xs : List ℤ). xs ++ take k first) (c.in_ok-reserve.ensures.items ∙ c.requires.empty))
+    ∙ first_of_both first rest (readable c.args.channel.now) n k c.readable.ensures c.min-from_first.ensures

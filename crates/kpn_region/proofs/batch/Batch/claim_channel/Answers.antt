@@ -13,16 +13,18 @@ whole g c =
 
 pub invariant_of-self : goal.invariant_of-self
 invariant_of-self g c =
-    let s = c.self.inside in
-    channel_claimed s.network.now s.within.items s.first.items s.frames.items s.traffic.sides.items
-    s.traffic.events.items s.stops.items c.self.invariant (subst IsFresh (sym c.self.view_is) c.requires.fresh)
-    c.args.c c.claim.new.self (whole g (goal.at.invariant_of-self g c).After-claim)
+    let s = c.self.inside in (
+      channel_claimed s.network.now s.within.items s.first.items s.frames.items s.traffic.sides.items
+          s.traffic.events.items s.stops.items c.self.invariant.0 (subst IsFresh (sym c.self.view_is) c.requires.fresh)
+          c.args.c c.claim.new.self (whole g (goal.at.invariant_of-self g c).After-claim),
+      c.self.invariant.1,
+    )
 
 pub returns-clause-fresh : goal.returns-clause-fresh
 returns-clause-fresh g c =
     let s = c.self.inside in
     channel_fresh s.network.now s.within.items s.first.items s.frames.items s.traffic.sides.items
-    s.traffic.events.items s.stops.items c.self.invariant (subst IsFresh (sym c.self.view_is) c.requires.fresh)
+    s.traffic.events.items s.stops.items c.self.invariant.0 (subst IsFresh (sym c.self.view_is) c.requires.fresh)
     c.args.c c.claim.new.self (whole g (goal.at.returns-clause-fresh g c).After-claim)
 
 pub returns-clause-claims : goal.returns-clause-claims
@@ -33,7 +35,7 @@ returns-clause-claims g c =
     (map as_claimed (slice_set s.traffic.sides.items c.args.c c.claim.new.self)) in
     subst (λ (b : Batch). now ≡ with_side c.args.c side b.first) c.self.view_is
     (channel_is_claimed s.network.now s.within.items s.first.items s.frames.items s.traffic.sides.items
-    s.traffic.events.items s.stops.items c.self.invariant (subst IsFresh (sym c.self.view_is) c.requires.fresh)
+    s.traffic.events.items s.stops.items c.self.invariant.0 (subst IsFresh (sym c.self.view_is) c.requires.fresh)
     c.args.c c.claim.new.self (whole g (goal.at.returns-clause-claims g c).After-claim)
     ∙ ap (λ x. with_side c.args.c x (local_of s.within.items s.first.items
     (map as_claimed s.traffic.sides.items))) c.claim.ensures)

@@ -1,12 +1,13 @@
-use Rattle.std.proofs.Common.{◌≡◌, ◌<◌, ◌+◌, ◌≤◌, ◌^◌, false, List, ℤ, length, drop, nat_lt, sym, ap, ◌∙◌, subst, length-drop}
+use Rattle.std.proofs.Common.{◌≡◌, ◌<◌, ◌+◌, ◌≤◌, ◌^◌, false, List, ℤ, length, nat_lt, sym, ap, ◌∙◌, subst, length-drop, rules}
+use Rattle.std.proofs.lemmas.List.{nil_from_length}
 use Rattle.kpn_net.specs.Waits.{AreWaits}
 use Rattle.kpn_chan.specs.Channel.{unread, joined}
 use Rattle.kpn_run_configuration.specs.Configuration.{channel_in}
 use Rattle.kpn_run_configuration.specs.Woken.{AreWoken, ends_by_batch}
 use Rattle.kpn_region.specs.Local.{SideState, side_at}
-use Rattle.kpn_region.specs.Joining.{put_on, has_put, has_taken}
-use Rattle.kpn_region.specs.JoiningParts.{most_seen}
-use Rattle.kpn_region.proofs.Sides.{kept_of, handed_on, puts_some, may_join, bounded, is_joined}
+use Rattle.kpn_region.specs.Joining.{put_on, has_put}
+use Rattle.kpn_region.proofs.Piecewise.{nothing_joined}
+use Rattle.kpn_region.proofs.Sides.{kept_of, put_of, handed_on, puts_some, may_join, bounded, is_joined}
 use Rattle.kpn_region.proofs.batch.Batch.join_channel.Goals as goal
 
 pub most_seen-most-requires-clause-bound : goal.most_seen-most-requires-clause-bound
@@ -32,13 +33,27 @@ join_channel-requires-clause-joins g c =
     let at = c.channel-channel.ensures in
     let h =
     handed_on c.side-side.result.now side c.side-side.ensures c.channel-channel.result.now channel
-    c.channel-channel.ensures c.taken.result c.claimed.result c.most_seen-most.result c.items.result.now
-    c.split_at.result.1.now c.taken.ensures c.claimed.ensures c.items.ensures c.split_at.ensures.back
+    c.channel-channel.ensures c.taken-taken.result c.claimed.result c.most_seen-most.result c.items.result.now
+    c.split_at.result.1.now c.taken-taken.ensures c.claimed.ensures c.items.ensures c.split_at.ensures.back
     c.most_seen-most.ensures in
     rw (h.taken_is, h.put_is, h.most_is)
     (may_join b.tables n (side_at b.now n) channel c.requires.agrees (kept_of b c.known.ensures n c.requires.channel channel c.requires.agrees)
     (subst (λ x. x.read ≤ length x.journal) at c.known-3.ensures.read)
     (subst (λ x. x.is_retired ≡ false → length (unread x) ≤ x.most) at c.known-3.ensures.most))
+
+pub returns-then-is_empty : goal.returns-then-is_empty
+returns-then-is_empty g c =
+    let b = c.args.self.now in
+    let n = c.args.c in
+    let s = c.args.configuration.now in
+    let none_taken : c.taken-taken.result ≡ 0 = search rules in
+    let no_items : length c.split_at.result.1.now ≡ 0 = search rules in
+    let none_put = nil_from_length c.split_at.result.1.now no_items in
+    nothing_joined b n s c.requires.waits
+    (ap (λ (x : SideState). x.taken) (sym c.side-side.ensures) ∙ sym c.taken-taken.ensures ∙ none_taken)
+    (sym (put_of c.side-side.result.now (side_at b.now n) c.side-side.ensures c.claimed.result c.items.result.now
+    c.split_at.result.1.now c.claimed.ensures c.items.ensures c.split_at.ensures.back) ∙ none_put)
+    (kept_of b c.known.ensures n c.requires.channel (channel_in s n) c.requires.agrees)
 
 pub returns : goal.returns
 returns g c =
@@ -51,8 +66,8 @@ returns g c =
     let channel = channel_in before n in
     let h =
     handed_on c.side-side.result.now side c.side-side.ensures c.channel-channel.result.now channel
-    c.channel-channel.ensures c.taken.result c.claimed.result c.most_seen-most.result c.items.result.now
-    c.split_at.result.1.now c.taken.ensures c.claimed.ensures c.items.ensures c.split_at.ensures.back
+    c.channel-channel.ensures c.taken-taken.result c.claimed.result c.most_seen-most.result c.items.result.now
+    c.split_at.result.1.now c.taken-taken.ensures c.claimed.ensures c.items.ensures c.split_at.ensures.back
     c.most_seen-most.ensures in
     let some : nat_lt 0 (length c.split_at.result.1.now) ≡ has_put side =
     ap (λ (l : List ℤ). nat_lt 0 (length l)) h.put_is
@@ -69,7 +84,7 @@ returns g c =
           (λ none. c.join_channel.ensures.reserved (h.put_is ∙ none));
       woken =
           subst (λ k. AreWoken (ends_by_batch n (nat_lt 0 k) (has_put side)) before.waits after.waits) h.taken_is
-          (subst (λ x. AreWoken (ends_by_batch n (nat_lt 0 c.taken.result) x) before.waits after.waits) some
+          (subst (λ x. AreWoken (ends_by_batch n (nat_lt 0 c.taken-taken.result) x) before.waits after.waits) some
           c.join_channel.ensures.woken);
       waits = subst (λ t. AreWaits t after.waits) c.requires.tables c.join_channel.ensures.waits;
     }

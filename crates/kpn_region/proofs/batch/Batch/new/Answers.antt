@@ -1,5 +1,6 @@
-use Rattle.std.proofs.Common.{◌<◌, ◌∙◌, sym, subst}
+use Rattle.std.proofs.Common.{◌<◌, ◌∙◌, sym, ap, subst}
 use Rattle.std.proofs.lemmas.List.{ext_get_or}
+use Rattle.kpn_run_history.specs.Talks.{process_events}
 use Rattle.kpn_run_configuration.specs.Configuration.{no_frame}
 use Rattle.kpn_region.specs.Batch.{batch_of}
 use Rattle.kpn_region.proofs.Batches.{IsNew, is_new}
@@ -21,7 +22,8 @@ made g c =
     c.in_ok-stops.ensures first.len first.fit
 
 pub invariant_of-result : goal.invariant_of-result
-invariant_of-result g c = (made g (goal.at.invariant_of-result g c).After-new).batch
+invariant_of-result g c =
+    ((made g (goal.at.invariant_of-result g c).After-new).batch, sym (ap process_events c.new.ensures.items))
 
 pub returns-clause-fresh : goal.returns-clause-fresh
 returns-clause-fresh g c = (made g (goal.at.returns-clause-fresh g c).After-new).fresh

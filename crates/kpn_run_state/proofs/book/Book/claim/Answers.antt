@@ -1,4 +1,4 @@
-use Rattle.std.proofs.Common.{◌≡◌, ◌<◌, ◌≤◌, false, length, sym, subst, arith}
+use Rattle.std.proofs.Common.{◌≡◌, ◌≤◌, false, length, sym, subst, arith}
 use Rattle.kpn_net.specs.Tables.{has_cells}
 use Rattle.kpn_step.specs.Frame.{Frame}
 use Rattle.kpn_run_state.specs.Book.{Book}

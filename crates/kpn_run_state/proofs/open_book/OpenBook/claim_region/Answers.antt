@@ -1,4 +1,4 @@
-use Rattle.std.proofs.Common.{◌≡◌, ◌+◌, ◌<◌, ◌^◌, true, length, sym, ap, ◌∙◌, subst, arith, rules}
+use Rattle.std.proofs.Common.{◌≡◌, ◌+◌, ◌<◌, ◌^◌, true, length, sym, ◌∙◌, subst, arith, rules}
 use Rattle.kpn_net.specs.Faults.{IsNetwork}
 use Rattle.kpn_region.specs.Local.{is_within}
 use Rattle.kpn_run_state.specs.Kept.{IsKept}

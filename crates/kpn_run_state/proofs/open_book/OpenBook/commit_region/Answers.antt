@@ -1,6 +1,5 @@
-use Rattle.std.proofs.Common.{◌≡◌, length, true, false, sym, ap, ◌∙◌, subst, rules}
+use Rattle.std.proofs.Common.{◌≡◌, false, rules}
 use Rattle.std.proofs.lemmas.Bool.{both_ways}
-use Rattle.kpn_run_state.specs.Open.{book_of}
 use Rattle.kpn_run_state.proofs.open_book.OpenBook.commit_region.Goals as goal
 
 pub returns-then-not-can_join-clause-refused : goal.returns-then-not-can_join-clause-refused

@@ -1,4 +1,4 @@
-use Rattle.std.proofs.Common.{◌≡◌, ◌+◌, ◌<◌, ◌^◌, ◌++◌, length, sym, ap, ◌∙◌, subst, arith}
+use Rattle.std.proofs.Common.{◌+◌, ◌<◌, ◌^◌, ◌++◌, length, sym, ap, ◌∙◌, subst, arith}
 use Rattle.std.proofs.lemmas.List.Sums.{count_by-le-length}
 use Rattle.kpn_run_history.specs.Talks.{is_of_process, process_events}
 use Rattle.kpn_run_configuration.specs.Configuration.{IsConfiguration}
@@ -21,9 +21,9 @@ returns-clause-kept g c =
     let few : book.commits + process_events b.events + length book.tables.instances < 2 ^ 64 =
     omega (arith, most, c.requires.can_join.countable) in
     subst IsKept
-    (sym (joined_book b s book c.append.new.self.events c.wake_region.new.schedule c.count_of_processes.result
+    (sym (joined_book b s book c.append.new.self.events c.wake_region.new.schedule c.made.result
     (c.append.ensures.events ∙ ap (λ xs. book.history ++ xs) c.events-events.ensures) c.wake_region.ensures
-    (c.count_of_processes.ensures ∙ ap process_events c.events-events.ensures)))
+    c.made.ensures))
     (c.a_book_with_a_batch.ensures b c.known.ensures book
     (record { network = c.known-2.ensures; schedule = c.known-3.ensures.schedule; kept = c.requires.kept })
     c.requires.tables c.requires.can_join.agrees s c.join.ensures few)

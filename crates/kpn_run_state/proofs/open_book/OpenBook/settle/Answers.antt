@@ -1,7 +1,6 @@
 use Rattle.std.proofs.Common.{◌≡◌, length, true, false, Some, None, refl, sym, ap, ◌∙◌, subst, arith, rules}
 use Rattle.kpn_run_state.specs.Kept.{IsKept}
 use Rattle.kpn_run_state.specs.Open.{book_of}
-use Rattle.kpn_run_state.specs.Regions.{has_part}
 use Rattle.kpn_run_state.proofs.Following.{recorded}
 use Rattle.kpn_run_state.proofs.Committing.{kept_put_back}
 use Rattle.kpn_run_state.proofs.Settling.{stuck_here, settles_not, settles_by, part_held}

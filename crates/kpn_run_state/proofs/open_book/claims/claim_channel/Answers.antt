@@ -1,4 +1,4 @@
-use Rattle.std.proofs.Common.{◌≡◌, ◌<◌, true, length, sym, ap, ◌∙◌, subst}
+use Rattle.std.proofs.Common.{◌<◌, length, sym, ap, ◌∙◌, subst}
 use Rattle.kpn_net.proofs.Networks.{Reads-reader_of, Writes-writer_of}
 use Rattle.kpn_net.specs.Tables.{writer_of}
 use Rattle.kpn_run_state.specs.RegionClaims.{is_end_within}
