@@ -62,6 +62,18 @@ def fastest(commands, runs):
     return {name: min(tried, key=lambda run: run.elapsed) for name, tried in found.items()}
 
 
+def side_by_side(words, count, runs):
+    """The least time on the clock of so many runs of this command line that start at once."""
+    found = []
+    for _ in range(runs):
+        started = time.monotonic()
+        children = [subprocess.Popen(words, stdout=subprocess.DEVNULL) for _ in range(count)]
+        if any([child.wait() for child in children]):
+            sys.exit(f'{" ".join(map(str, words))} failed beside others')
+        found.append(time.monotonic() - started)
+    return min(found)
+
+
 def kpn():
     """The program to measure. It is built if it is not current. All programs then take memory as the launcher has it."""
     launcher = TOP / 'kpn'

@@ -2,6 +2,7 @@
 
 The language's parser is that of tools/rounds.py.
 """
+import re
 import sys
 
 from measure import TOP
@@ -114,6 +115,19 @@ def writing_pipeline(stages, capacity, items, operators):
 process stage(in i; out o) {{ while 1 {{ read i x; write o ({total('x', operators)} % 2147483647); }} }}
 '''
     return network(processes, *row_of('stage', stages, capacity, items))
+
+
+def of_gallery(name, capacity, items):
+    """A network of the gallery, whose sources are processes that count and whose sinks are sums: so no text is read or
+    written."""
+    text = re.sub(r'#.*', '', (TOP / f'examples/gallery/{name}.kpn').read_text())
+    sources, sinks = (re.findall(rf'^  {kind} (\w+)', text, re.M) for kind in ('source', 'sink'))
+    text = re.sub(r'^  (source|sink) (\w+).*;', r'  channel \2;', text, flags=re.M)
+    text = re.sub(r'^  channel (\w+).*;', rf'  channel \1 cap {capacity};', text, flags=re.M)
+    ends = [*(f'sink total_{name} cap 1' for name in sinks),
+            *(f'count_{name} = count(; {name}; {items})' for name in sources),
+            *(f'sum_{name} = sum({name}; total_{name}; {items})' for name in sinks)]
+    return PROCESSES + text.rstrip().removesuffix('}') + ''.join(f'  {line};\n' for line in ends) + '}\n'
 
 
 def total(variable, operators):

@@ -23,7 +23,7 @@ BUDGETS = {
     'README.md': 1_905,
     'docs/ARCHITECTURE.md': 2_915,
     'docs/COMPILED.md': 1_595,
-    'docs/DECISIONS.md': 3_030,
+    'docs/DECISIONS.md': 3_080,
     'docs/DEFINITIONS.md': 2_330,
     'docs/ERRORS.md': 1_030,
     'docs/GUARANTEES.md': 6_725,
@@ -36,7 +36,7 @@ BUDGETS = {
     'docs/TRACES.md': 815,
     'docs/VIEWS.md': 1_985,
     'python/README.md': 970,
-    'bench/RESULTS.md': 1_915,
+    'bench/RESULTS.md': 1_865,
 }
 BUDGET = 36_000
 POINT = re.compile(r'\s*(?:[-*+]|\d+\.)\s+')

@@ -4,11 +4,20 @@
 It reports parts of the speed of one thread, by the clock, above 1 if the workers are faster. At fine grain a turn of a
 process is short. At medium grain the stages of pipelines go through a loop or write the value of a long expression for
 each item; the row has the microseconds that one thread takes for an item at a stage. At coarse grain processes compute
-by themselves. All have to write the same. It is no part of the gate. A word may name the number of hops, of items that
-are put on a channel; the default is 4,000,000. The command lines take turns, and the best of three runs of each counts,
-or of `--runs N`. `--only WORD` leaves out each network without this word in its title.
+by themselves. All have to write the same.
+
+Four processors may do less side by side than four times the work of one. So a row also has the speed of four workers as
+a part of that of four runs on one thread that start at once: 1 if these take four times as long. If `go` is installed,
+it has the time that goroutines and channels take on four processors, as a part of that of four workers.
+
+It is no part of the gate. A word may name the number of hops, of items that are put on a channel; the default is
+4,000,000. The command lines take turns, and the best of three runs of each counts, or of `--runs N`. `--only WORD`
+leaves out each network without this word in its title.
 """
+import os
 import pathlib
+import shutil
+import subprocess
 import sys
 import tempfile
 
@@ -21,6 +30,7 @@ import networks
 import run as one_thread
 
 WORKERS = (1, 2, 4, 16)
+PROCESSORS = 4
 ITEMS = 1_000_000
 # A turn of the loop of a stage takes some 50 ns: so these take about 0.4, 1, 2, 4 and 10 microseconds. The three steps
 # of each stay within the 1,000 of a claim.
@@ -62,18 +72,38 @@ def measured_commands(hops):
     text = networks.writing_pipeline(8, 64, items, OPERATORS)
     yield Command(f'long writes, 8 stages of {OPERATORS} operators', text, passed=8 * items)
     yield Command('16 computing processes', networks.computing(16, hops))
+    # whole frames of the FFT
+    for name in ('fft', 'fir'):
+        yield Command(f'{name} of the gallery, capacity 64', networks.of_gallery(name, 64, hops // 128 * 16))
     for copies in (1, 8):
         title = f'source of {ITEMS} and {copies} {"copy" if copies == 1 else "copies"}, capacity 64'
         yield Command(title, networks.fed_pipeline(copies, 64), items=ITEMS)
 
 
-def told(command, words, runs):
+def time_of_go(command, folder, runs):
+    """The least time that the same program in Go takes, or None if there is none."""
+    if command.items or not shutil.which('go'):
+        return None
+    source, program = pathlib.Path(folder) / 'network.go', pathlib.Path(folder) / 'network_go'
+    source.write_text(networks.as_go(command.text, command.wanted))
+    subprocess.run(['go', 'build', '-o', program, source], check=True)
+    environment = dict(os.environ, GOMAXPROCS=str(PROCESSORS))
+    return min(measure.Run([program], environment).elapsed for _ in range(runs))
+
+
+def told(command, folder, kpn, runs):
     """The row of a network behind its title."""
+    words = command.line(folder, kpn)
     lines = {0: words} | {count: [*words, '--workers', str(count)] for count in WORKERS}
     best = measure.fastest(lines, runs)
     if any(run.wrote != best[0].wrote for run in best.values()):
         sys.exit(f'{command.title}: the outputs differ')
     parts = [f'{best[0].elapsed / best[count].elapsed:5.2f} with {count}' for count in WORKERS]
+    beside = measure.side_by_side(words, PROCESSORS, runs)
+    parts.append(f'{beside / PROCESSORS / best[PROCESSORS].elapsed:5.2f} of {PROCESSORS} side by side')
+    go = time_of_go(command, folder, runs)
+    if go is not None:
+        parts.append(f'{go / best[PROCESSORS].elapsed:5.2f} of Go')
     if command.passed:
         parts.append(f'{best[0].elapsed / command.passed * 1e6:5.2f} us')
     return ', '.join(parts)
@@ -85,7 +115,7 @@ def main():
     with tempfile.TemporaryDirectory() as folder:
         for command in measured_commands(asked.hops):
             if asked.only in command.title:
-                print(f'{command.title:42} {told(command, command.line(folder, kpn), asked.runs)}', flush=True)
+                print(f'{command.title:42} {told(command, folder, kpn, asked.runs)}', flush=True)
 
 
 if __name__ == '__main__':
