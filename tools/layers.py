@@ -21,10 +21,10 @@ OFFERED = {
     'kpn_text_items': 'read_all read_items write_items',
     'kpn_step': 'start fits copy advance program from to steps stop give wrote alone',
     'kpn_chan': 'new reserve_one copy_journal room put get len is_full read_count cap at retire grow',
-    'kpn_run_history': 'new reserve room push len at',
+    'kpn_history': 'new reserve room push len at',
     'kpn_trace': 'event_line write_trace read_event read_trace',
     'kpn_cycle': 'new set get cycle_through scan_all',
-    'kpn_run_state': 'new claim commit put_back feed close_source take leave_sink counts commits history into_history '
+    'kpn_book': 'new claim commit put_back feed close_source take leave_sink counts commits history into_history '
                 'verdict snapshot',
     'kpn_book': 'run_here',
     'kpn_pool_desk': 'new between why commits halt feed close take leave fed taken snapshot',

@@ -1,9 +1,9 @@
 //! Whether a run by workers is like one on one thread.
 use kpn_audit::audit;
 use kpn_book::{Limits, Outcome, Report};
+use kpn_history::{Event, History, Trace, Version};
 use kpn_lang::Sequence;
 use kpn_net::Network;
-use kpn_run_history::{Event, History, Trace, Version};
 use std::alloc::{AllocError, Global};
 
 /// The most steps that the auditor makes for an event.

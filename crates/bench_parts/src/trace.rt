@@ -1,7 +1,7 @@
 //! A trace in memory. `bench/trace` measures it beside a plain writer.
 use anyhow::{Result, bail};
+use kpn_history::{Event, History};
 use kpn_net::{Growth, Policy};
-use kpn_run_history::{Event, History};
 use kpn_trace::write_trace;
 use std::alloc::{AllocError, Global};
 

@@ -1,4 +1,4 @@
-//! Books and configurations, by public calls. Standard input has sections that end with a line `.`: a description of a
+//! Books and machines, by public calls. Standard input has sections that end with a line `.`: a description of a
 //! network, and then a line `calls` with calls below it, one on a line, or a trace.
 //!
 //! The program makes each call of a book on a heap with ever more bytes left, from none on, until memory suffices. So
@@ -14,10 +14,10 @@
 //! - `begins C ITEM` asks whether the journal of a channel begins with an item.
 //! - `view` makes a snapshot on that heap.
 //!
-//! Of a trace it steps each process to its stop before its event. It repeats the event on a configuration, and writes
-//! which processes it woke and all that the configuration then shows.
+//! Of a trace it steps each process to its stop before its event. It repeats the event on a machine, and writes
+//! which processes it woke and all that the machine then shows.
 //!
-//! What calls of books must give was worked out by hand. Another program (tools/configurations.py) computed what comes
+//! What calls of books must give was worked out by hand. Another program (tools/machines.py) computed what comes
 //! of the traces, only from the histories.
 #![tactic(auto)]
 

@@ -1,5 +1,5 @@
-//! A history, replayed by the calls of a configuration.
-ghost use Rattle.kpn_run_configuration.specs.Configuration.{IsConfiguration};
+//! A history, replayed by the calls of a machine.
+ghost use Rattle.kpn_machine.specs.Machine.{IsMachine};
 
 mod events;
 mod telling;
@@ -7,8 +7,8 @@ mod telling;
 use crate::replays::events::happen;
 use crate::replays::telling::write_state;
 use anyhow::{Result, bail};
+use kpn_machine::Machine;
 use kpn_net::Network;
-use kpn_run_configuration::Configuration;
 use kpn_trace::{Version, read_event};
 use std::alloc::Global;
 use std::io::Write;
@@ -17,12 +17,12 @@ use std::io::Write;
 fn replay_line<O: Write>(
     alloc: Global,
     network: &Network,
-    state: &mut Configuration,
+    state: &mut Machine,
     line: &str,
     out: &mut O,
 ) -> Result<()>
-    requires { IsConfiguration network.now state.old }
-    ensures { IsConfiguration network.now state.new }
+    requires { IsMachine network.now state.old }
+    ensures { IsMachine network.now state.new }
 {
     let Ok(event) = read_event(line.as_bytes(), Version::One) else {
         bail!("a line is no event");
@@ -37,11 +37,11 @@ fn replay_line<O: Write>(
 fn replay_lines<O: Write>(
     alloc: Global,
     network: &Network,
-    state: &mut Configuration,
+    state: &mut Machine,
     lines: &str,
     out: &mut O,
 ) -> Result<()>
-    requires { IsConfiguration network.now state.old }
+    requires { IsMachine network.now state.old }
 {
     write_state(alloc, network, state, out)?;
     for line in lines.lines() {
@@ -57,6 +57,6 @@ pub(crate) fn replay<O: Write>(
     lines: &str,
     out: &mut O,
 ) -> Result<()> {
-    let mut state = Configuration::new(alloc, network)?;
+    let mut state = Machine::new(alloc, network)?;
     replay_lines(alloc, network, &mut state, lines, out)
 }

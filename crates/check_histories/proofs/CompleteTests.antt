@@ -9,13 +9,13 @@ use Rattle.kpn_net.specs.declared.wait.Wait.{Wait}
 use Rattle.kpn_net.specs.declared.wait.Wait.TheVariants.{Nobody, Empty, Full}
 use Rattle.kpn_net.specs.Tables.{Tables, writer_of}
 use Rattle.kpn_net.proofs.Cycles.{Contains-none, Contains-cases}
-use Rattle.kpn_run_history.specs.declared.event.Event.{Event}
-use Rattle.kpn_run_history.specs.Talks.{has_ended}
-use Rattle.kpn_run_history.specs.Channels.{is_closed}
-use Rattle.kpn_run_history.specs.Waiting.{wait_of}
-use Rattle.kpn_run_history.specs.Complete.{PutsNoMore, StarvesAmong, IsFinished, IsComplete, WaitsOnComplete}
-use Rattle.kpn_run_history.proofs.Finished.{complete_among, finished_cases}
-use Rattle.kpn_run_history.proofs.Searching.{member, member-true}
+use Rattle.kpn_history.specs.declared.event.Event.{Event}
+use Rattle.kpn_history.specs.Talks.{has_ended}
+use Rattle.kpn_history.specs.Channels.{is_closed}
+use Rattle.kpn_history.specs.Waiting.{wait_of}
+use Rattle.kpn_history.specs.Complete.{PutsNoMore, StarvesAmong, IsFinished, IsComplete, WaitsOnComplete}
+use Rattle.kpn_history.proofs.Finished.{complete_among, finished_cases}
+use Rattle.kpn_history.proofs.Searching.{member, member-true}
 
 module _ (t : Tables) (H : List Event) where
   -- ---- complete channels

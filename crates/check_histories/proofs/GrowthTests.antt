@@ -9,17 +9,17 @@ use Rattle.kpn_net.specs.declared.wait.Wait.{Wait}
 use Rattle.kpn_net.specs.declared.wait.Wait.TheVariants.{Nobody, Empty, Full}
 use Rattle.kpn_net.specs.Tables.{Tables}
 use Rattle.kpn_net.specs.Waits.{IsSmallest, awaited_as_full}
-use Rattle.kpn_run_history.specs.declared.event.Event.{Event}
-use Rattle.kpn_run_history.specs.Talks.{has_ended}
-use Rattle.kpn_run_history.specs.Channels.{capacity_or_zero}
-use Rattle.kpn_run_history.specs.Waiting.{wait_of, waits_of, full_in_cycle}
-use Rattle.kpn_run_history.specs.Ends.{HasStopped, IsSettled}
-use Rattle.kpn_run_history.specs.Legal.{waiter_of_last, OwesCycleGrowth, OwesStopGrowth, OwesGrowth, growth_after}
+use Rattle.kpn_history.specs.declared.event.Event.{Event}
+use Rattle.kpn_history.specs.Talks.{has_ended}
+use Rattle.kpn_history.specs.Channels.{capacity_or_zero}
+use Rattle.kpn_history.specs.Waiting.{wait_of, waits_of, full_in_cycle}
+use Rattle.kpn_history.specs.Ends.{HasStopped, IsSettled}
+use Rattle.kpn_history.specs.Legal.{waiter_of_last, OwesCycleGrowth, OwesStopGrowth, OwesGrowth, growth_after}
 use Rattle.kpn_net.proofs.Cycles.{smallest_unique}
-use Rattle.kpn_run_history.proofs.Searching.{each_below, each_below-at, each_below-fails, Way, Round, Off, Lost, Allows}
-use Rattle.kpn_run_history.proofs.Growth.{last_waiter}
-use Rattle.kpn_run_history.proofs.Checking.{way_round, way_round-allows, way_round-cycle, is_nobody}
-use Rattle.kpn_run_history.proofs.EndTests.{is_settled, is_settled-true}
+use Rattle.kpn_history.proofs.Searching.{each_below, each_below-at, each_below-fails, Way, Round, Off, Lost, Allows}
+use Rattle.kpn_history.proofs.Growth.{last_waiter}
+use Rattle.kpn_history.proofs.Checking.{way_round, way_round-allows, way_round-cycle, is_nobody}
+use Rattle.kpn_history.proofs.EndTests.{is_settled, is_settled-true}
 use Rattle.check_histories.proofs.ListTests.{is_smallest, smallest, is_smallest-true}
 
 -- ---- growth for a cycle

@@ -10,13 +10,13 @@ use Rattle.kpn_lang.specs.Prefix.{IsPrefix}
 use Rattle.kpn_lang.proofs.Prefixes.{rest_of_prefix, length_of_prefix}
 use Rattle.kpn_net.specs.Tables.{Tables, channel_at, is_source}
 use Rattle.kpn_net.proofs.Networks.{source_there}
-use Rattle.kpn_run_history.specs.declared.event.Event.{Event}
-use Rattle.kpn_run_history.specs.Channels.{written_on}
-use Rattle.kpn_run_history.specs.Legal.{Legal}
-use Rattle.kpn_run_history.specs.Ends.{IsQuiet}
-use Rattle.kpn_run_history.proofs.EndTests.{is_quiet, is_quiet-true}
-use Rattle.kpn_run_history.proofs.Legality.{Legal-nil}
-use Rattle.kpn_run_history.proofs.Searching.{each_below, each_below-at}
+use Rattle.kpn_history.specs.declared.event.Event.{Event}
+use Rattle.kpn_history.specs.Channels.{written_on}
+use Rattle.kpn_history.specs.Legal.{Legal}
+use Rattle.kpn_history.specs.Ends.{IsQuiet}
+use Rattle.kpn_history.proofs.EndTests.{is_quiet, is_quiet-true}
+use Rattle.kpn_history.proofs.Legality.{Legal-nil}
+use Rattle.kpn_history.proofs.Searching.{each_below, each_below-at}
 use Rattle.kpn_parts.specs.declared.order.PartEvent.{PartEvent}
 use Rattle.kpn_parts.specs.Cut.{Part, whole_channel, empty_part, part_at, IsCutSource}
 use Rattle.kpn_parts.specs.Joined.{events_of, whole_history, IsSent, IsJoined, IsDelivered, AreQuiet}

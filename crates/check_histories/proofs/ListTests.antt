@@ -6,7 +6,7 @@ use Rattle.std.proofs.lemmas.Bool.{and_parts, or_cases, eqb-true, ltb-true, leb-
 use Rattle.kpn_lang.specs.Prefix.{IsPrefix}
 use Rattle.kpn_net.specs.Waits.{IsSmallest}
 use Rattle.kpn_net.proofs.Cycles.{Contains-none, Contains-cases}
-use Rattle.kpn_run_history.proofs.Searching.{member, member-true}
+use Rattle.kpn_history.proofs.Searching.{member, member-true}
 
 -- ---- beginnings of lists, and equal lists
 

@@ -16,14 +16,14 @@ use Rattle.kpn_net.specs.declared.wait.Wait.{Wait}
 use Rattle.kpn_net.specs.declared.wait.Wait.TheVariants.{Nobody, Empty, Full}
 use Rattle.kpn_net.specs.Tables.{Tables, channel_at, is_source, is_sink, larger_capacity}
 use Rattle.kpn_net.specs.Process.{CanSay, ComesTo, talk_on, ending_on}
-use Rattle.kpn_run_history.specs.declared.event.Event.{Event}
-use Rattle.kpn_run_history.specs.declared.event.Event.TheVariants.{Get, Put, WaitEmpty, WaitFull, Ended, Feed, Close, Take, Leave, Grow}
-use Rattle.kpn_run_history.specs.Talks.{talk_of, has_ended}
-use Rattle.kpn_run_history.specs.Channels.{written_on, read_on, unread_on, is_closed, is_left, reader_lives, capacity_after, capacity_or_zero, is_empty, is_full}
-use Rattle.kpn_run_history.specs.Waiting.{wait_of}
-use Rattle.kpn_run_history.specs.Legal.{IsConsistent, OwesGrowth, HasNumbers, CanGo, ending_of, ComesToWrite, MayFeed, MayTake, IsDue, MayFollow, Legal, growth_after}
-use Rattle.kpn_run_history.proofs.Searching.{each_below, each_below-at}
-use Rattle.kpn_run_history.proofs.Checking.{is_nobody}
+use Rattle.kpn_history.specs.declared.event.Event.{Event}
+use Rattle.kpn_history.specs.declared.event.Event.TheVariants.{Get, Put, WaitEmpty, WaitFull, Ended, Feed, Close, Take, Leave, Grow}
+use Rattle.kpn_history.specs.Talks.{talk_of, has_ended}
+use Rattle.kpn_history.specs.Channels.{written_on, read_on, unread_on, is_closed, is_left, reader_lives, capacity_after, capacity_or_zero, is_empty, is_full}
+use Rattle.kpn_history.specs.Waiting.{wait_of}
+use Rattle.kpn_history.specs.Legal.{IsConsistent, OwesGrowth, HasNumbers, CanGo, ending_of, ComesToWrite, MayFeed, MayTake, IsDue, MayFollow, Legal, growth_after}
+use Rattle.kpn_history.proofs.Searching.{each_below, each_below-at}
+use Rattle.kpn_history.proofs.Checking.{is_nobody}
 use Rattle.check_histories.proofs.GrowthTests.{grows, grows-owed, grows-one, owes_none, owes_none-true}
 use Rattle.check_histories.proofs.ListTests.{begins, equals, begins-true, equals-true}
 

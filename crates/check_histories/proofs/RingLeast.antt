@@ -5,11 +5,11 @@ use Rattle.kpn_lang.specs.Alone.{alone, put_at}
 use Rattle.kpn_net.specs.Tables.{program_at, instance_at}
 use Rattle.kpn_net.specs.Process.{Family, at_channel, out_of}
 use Rattle.kpn_net.specs.Iteration.{round, IsBelowLeast}
-use Rattle.kpn_run_history.specs.Channels.{written_on}
+use Rattle.kpn_history.specs.Channels.{written_on}
 use Rattle.kpn_parts.specs.Joined.{whole_history, IsJoined}
 use Rattle.kpn_parts.proofs.Below.{below_least}
 use Rattle.kpn_net.proofs.Monotone.{IsPrefixOnSources-refl}
-use Rattle.kpn_run_history.specs.Channels.{fed}
+use Rattle.kpn_history.specs.Channels.{fed}
 use Rattle.check_histories.specs.Networks.{copy_network}
 use Rattle.check_histories.specs.Cuts.{ring_network, ring_cut}
 use Rattle.check_histories.specs.Orders.{ring_order}

@@ -2,11 +2,11 @@
 use Rattle.std.specs.Prelude.{ℕ, suc, List, take, Some}
 use Rattle.kpn_net.specs.Tables.{Tables}
 use Rattle.kpn_net.specs.Faults.{IsNetwork}
-use Rattle.kpn_run_history.specs.declared.event.Event.{Event}
-use Rattle.kpn_run_history.specs.declared.state.Verdict.{Verdict}
-use Rattle.kpn_run_history.specs.declared.state.Verdict.TheVariants.{Ended}
-use Rattle.kpn_run_history.specs.Legal.{Legal}
-use Rattle.kpn_run_history.specs.Ends.{IsQuiet, IsVerdict}
+use Rattle.kpn_history.specs.declared.event.Event.{Event}
+use Rattle.kpn_history.specs.declared.state.Verdict.{Verdict}
+use Rattle.kpn_history.specs.declared.state.Verdict.TheVariants.{Ended}
+use Rattle.kpn_history.specs.Legal.{Legal}
+use Rattle.kpn_history.specs.Ends.{IsQuiet, IsVerdict}
 
 -- a legal history of a network has this verdict
 pub record StopsAs (t : Tables) (H : List Event) (verdict : Verdict) : Type 0 where

@@ -1,8 +1,8 @@
 -- A history of each worked network.
 use Rattle.std.specs.Prelude.{pos, List, [], ◌∷◌}
-use Rattle.kpn_run_history.specs.declared.event.How.TheVariants as how
-use Rattle.kpn_run_history.specs.declared.event.Event.{Event}
-use Rattle.kpn_run_history.specs.declared.event.Event.TheVariants.{Get, Put, WaitEmpty, WaitFull, Ended, Feed, Close, Take, Leave, Grow}
+use Rattle.kpn_history.specs.declared.event.How.TheVariants as how
+use Rattle.kpn_history.specs.declared.event.Event.{Event}
+use Rattle.kpn_history.specs.declared.event.Event.TheVariants.{Get, Put, WaitEmpty, WaitFull, Ended, Feed, Close, Take, Leave, Grow}
 
 -- ---- runs to the end
 

@@ -1,11 +1,11 @@
 -- Views of worked histories.
 use Rattle.std.specs.Prelude.{pos, false, true, List, [], ◌∷◌, Some, None}
 use Rattle.std.specs.declared.alloc.Global.{Global}
-use Rattle.kpn_run_history.specs.declared.event.How.TheVariants as how
-use Rattle.kpn_run_history.specs.declared.event.Event.{Event}
-use Rattle.kpn_run_history.specs.declared.event.Event.TheVariants.{Feed, Close, Leave}
-use Rattle.kpn_run_history.specs.declared.state.State.TheVariants.{Ready, WaitsEmpty, WaitsFull, Ended}
-use Rattle.kpn_run_history.specs.declared.state.View.{View}
+use Rattle.kpn_history.specs.declared.event.How.TheVariants as how
+use Rattle.kpn_history.specs.declared.event.Event.{Event}
+use Rattle.kpn_history.specs.declared.event.Event.TheVariants.{Feed, Close, Leave}
+use Rattle.kpn_history.specs.declared.state.State.TheVariants.{Ready, WaitsEmpty, WaitsFull, Ended}
+use Rattle.kpn_history.specs.declared.state.View.{View}
 
 -- the copy network once its source is fed and closed and its sink is left
 unfoldable pub fed_closed_left : List Event

@@ -1,8 +1,8 @@
 -- Lists of events that no run brings: the last event of each breaks one rule and no other.
 use Rattle.std.specs.Prelude.{pos, List, [], ◌∷◌, ◌++◌, take}
-use Rattle.kpn_run_history.specs.declared.event.How.TheVariants as how
-use Rattle.kpn_run_history.specs.declared.event.Event.{Event}
-use Rattle.kpn_run_history.specs.declared.event.Event.TheVariants.{Get, Put, WaitEmpty, WaitFull, Ended, Feed, Close, Take, Leave, Grow}
+use Rattle.kpn_history.specs.declared.event.How.TheVariants as how
+use Rattle.kpn_history.specs.declared.event.Event.{Event}
+use Rattle.kpn_history.specs.declared.event.Event.TheVariants.{Get, Put, WaitEmpty, WaitFull, Ended, Feed, Close, Take, Leave, Grow}
 use Rattle.check_histories.specs.Runs.{two_run, two_at_limit_run, clogged_run, larger_run, tie_run, doubling_run, doubled_to_limit_run, close_settles_run, small_full_run, reader_waits_last_run, cycle_goes_first_run, resolved_to_limit_run}
 
 -- ---- a process says and meets what its text says

@@ -1,8 +1,8 @@
 //! Which channels of worked histories are complete, as contracts of functions that do nothing.
 ghost use Rattle.std.specs.Prelude.{◌≡◌, pos, [], ◌∷◌};
-ghost use Rattle.kpn_run_history.specs.declared.state.Verdict.TheVariants.{Clogged};
-ghost use Rattle.kpn_run_history.specs.Channels.{written_on};
-ghost use Rattle.kpn_run_history.specs.Complete.{IsComplete};
+ghost use Rattle.kpn_history.specs.declared.state.Verdict.TheVariants.{Clogged};
+ghost use Rattle.kpn_history.specs.Channels.{written_on};
+ghost use Rattle.kpn_history.specs.Complete.{IsComplete};
 ghost use Rattle.check_histories.specs.Claims.{StopsAs};
 ghost use Rattle.check_histories.specs.Networks.{copy_network, two_network, two_at_limit, two_readers_network, clogged_network, resolved_network, zero_divisor_network, delayed_network, scaled_network, scaled_to_limit_network};
 ghost use Rattle.check_histories.specs.Runs.{copy_run, two_run, two_at_limit_run, two_readers_run, clogged_run, resolved_run, zero_divisor_run, delayed_run, scaled_run, scaled_to_limit_run, open_run};

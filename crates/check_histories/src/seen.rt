@@ -1,6 +1,6 @@
 //! Views of worked histories, as contracts of functions that do nothing.
 ghost use Rattle.std.specs.Prelude.{take};
-ghost use Rattle.kpn_run_history.specs.Views.{Agrees};
+ghost use Rattle.kpn_history.specs.Views.{Agrees};
 ghost use Rattle.check_histories.specs.Networks.{copy_network, two_network};
 ghost use Rattle.check_histories.specs.Runs.{two_run};
 ghost use Rattle.check_histories.specs.Views.{fed_closed_left, fed_closed_left_view, two_waiting_view, stale_waits_view, stale_counts_view, two_ended_view};

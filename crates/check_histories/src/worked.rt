@@ -1,8 +1,8 @@
 //! Histories that a run may bring, and what they come to, as contracts of functions that do nothing.
 ghost use Rattle.std.specs.Prelude.{◌≡◌, pos, [], ◌∷◌, Some};
-ghost use Rattle.kpn_run_history.specs.declared.state.Verdict.TheVariants.{Ended, Clogged, Jammed};
-ghost use Rattle.kpn_run_history.specs.Channels.{written_on, capacity_after};
-ghost use Rattle.kpn_run_history.specs.Legal.{Legal};
+ghost use Rattle.kpn_history.specs.declared.state.Verdict.TheVariants.{Ended, Clogged, Jammed};
+ghost use Rattle.kpn_history.specs.Channels.{written_on, capacity_after};
+ghost use Rattle.kpn_history.specs.Legal.{Legal};
 ghost use Rattle.kpn_net.specs.Faults.{IsNetwork};
 ghost use Rattle.check_histories.specs.Claims.{StopsAs, RunsToItsEnd};
 ghost use Rattle.check_histories.specs.Networks.{copy_network, kahn_network, two_network, two_at_limit, larger_network, tie_network, self_loop_network, two_readers_network, ended_reader_network, clogged_network, zero_divisor_network, overflow_network, doubling_network, doubling_to_limit_network, resolved_network, resolved_to_limit_network, small_full_network, outside_network, cycle_below_limit, cycle_at_limit};

@@ -1,10 +1,10 @@
-//! Audits in a heap. If the heap is too small for the configuration on which an audit replays, or for the items that
+//! Audits in a heap. If the heap is too small for the machine on which an audit replays, or for the items that
 //! come, the audit fails. So does each audit in a heap that is smaller than the first that suffices. And three wrong
 //! auditors, each with a history that they judge wrongly.
 use kpn_audit::{AuditFault, audit};
+use kpn_history::{Event, Trace, Version};
 use kpn_lang::Sequence;
 use kpn_net::{Growth, Network, Policy};
-use kpn_run_history::{Event, Trace, Version};
 use kpn_text::read_network;
 use linked_list_allocator::LocalHeap;
 use std::alloc::{AllocError, Global};

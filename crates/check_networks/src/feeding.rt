@@ -1,9 +1,9 @@
 //! A feed.
 ghost use Rattle.std.specs.Prelude.{◌<◌, length};
-ghost use Rattle.kpn_run_configuration.specs.Configuration.{IsConfiguration};
+ghost use Rattle.kpn_machine.specs.Machine.{IsMachine};
 
+use kpn_machine::Machine;
 use kpn_net::Network;
-use kpn_run_configuration::Configuration;
 use std::alloc::{AllocError, Allocator};
 use std::process::Abort;
 
@@ -11,17 +11,17 @@ use std::process::Abort;
 pub fn feed<A: Allocator + Copy>(
     rt: &impl Abort,
     network: &Network,
-    configuration: &mut Configuration<A>,
+    machine: &mut Machine<A>,
     c: usize,
     item: i64,
 ) -> Result<Option<usize>, AllocError>
-    requires { IsConfiguration network.now configuration.old }
-    ensures { IsConfiguration network.now configuration.new }
+    requires { IsMachine network.now machine.old }
+    ensures { IsMachine network.now machine.new }
 {
     assert!(rt; c < network.channels());
     assert!(rt; network.is_source(c));
-    configuration.reserve_one(c)?;
-    assert!(rt; configuration.channel(c).room());
-    assert!(rt; !configuration.is_closed(c));
-    Ok(configuration.feed(network, c, item))
+    machine.reserve_one(c)?;
+    assert!(rt; machine.channel(c).room());
+    assert!(rt; !machine.is_closed(c));
+    Ok(machine.feed(network, c, item))
 }

@@ -1,5 +1,5 @@
 //! A history keeps its events in order, and a reservation that fails leaves it as it was.
-use kpn_run_history::{Event, History, How, Keeping};
+use kpn_history::{Event, History, How, Keeping};
 use linked_list_allocator::LocalHeap;
 use std::alloc::Allocator;
 use std::test::Fail;

@@ -1,7 +1,7 @@
 //! Two copies joined by the links between them.
+use kpn_history::Event;
 use kpn_lang::Sequence;
 use kpn_parts::{Link, join};
-use kpn_run_history::Event;
 use std::alloc::{AllocError, Global};
 use std::test::Fail;
 

@@ -1,4 +1,4 @@
-//! Tests of networks, channels, cycles of waiting processes, histories, joined histories of parts, configurations and
+//! Tests of networks, channels, cycles of waiting processes, histories, joined histories of parts, machines and
 //! audits, only by public calls: what no clause says, memory that runs out, and worked rows whose values come from
 //! outside.
 #![tactic(auto)]

@@ -1,10 +1,10 @@
 //! Calls that take memory fail once, because a heap is full for a while. All is as before, and the repeated call
 //! succeeds.
-ghost use Rattle.kpn_run_configuration.specs.Configuration.{IsConfiguration};
+ghost use Rattle.kpn_machine.specs.Machine.{IsMachine};
 
 use crate::feeding::feed;
+use kpn_machine::Machine;
 use kpn_net::{Network, Wait};
-use kpn_run_configuration::Configuration;
 use kpn_text::read_network;
 use linked_list_allocator::LocalHeap;
 use std::alloc::{AllocError, Allocator, Global};
@@ -17,15 +17,15 @@ use test_support::texts::COPY;
 fn feed_four<A: Allocator + Copy>(
     rt: &impl Abort,
     network: &Network,
-    configuration: &mut Configuration<A>,
+    machine: &mut Machine<A>,
 ) -> Result<(), AllocError>
-    requires { IsConfiguration network.now configuration.old }
-    ensures { IsConfiguration network.now configuration.new }
+    requires { IsMachine network.now machine.old }
+    ensures { IsMachine network.now machine.new }
 {
-    feed(rt, network, configuration, 0, 5)?;
-    feed(rt, network, configuration, 0, 6)?;
-    feed(rt, network, configuration, 0, 7)?;
-    feed(rt, network, configuration, 0, 8)?;
+    feed(rt, network, machine, 0, 5)?;
+    feed(rt, network, machine, 0, 6)?;
+    feed(rt, network, machine, 0, 7)?;
+    feed(rt, network, machine, 0, 8)?;
     Ok(())
 }
 
@@ -33,68 +33,62 @@ fn feed_four<A: Allocator + Copy>(
 fn is_fed<A: Allocator, B: Allocator>(
     alloc: B,
     network: &Network,
-    configuration: &Configuration<A>,
+    machine: &Machine<A>,
     items: &[i64],
 ) -> Result<bool, AllocError>
-    requires { IsConfiguration network.now configuration.now }
+    requires { IsMachine network.now machine.now }
 {
     if network.channels() != 2 || network.instances() != 1 {
         return Ok(false);
     }
-    let Ok(journal) = configuration.copy_journal(alloc, 0) else {
+    let Ok(journal) = machine.copy_journal(alloc, 0) else {
         return Ok(false);
     };
-    let channel = configuration.channel(0);
+    let channel = machine.channel(0);
     Ok(
         journal.as_slice() == items
             && channel.len() == items.len()
             && channel.read_count() == 0
-            && configuration.channel(1).cap() == Some(1)
-            && !configuration.is_closed(0)
-            && configuration.wait(0) == Wait::Nobody
-            && configuration.end_of(0).is_none(),
+            && machine.channel(1).cap() == Some(1)
+            && !machine.is_closed(0)
+            && machine.wait(0) == Wait::Nobody
+            && machine.end_of(0).is_none(),
     )
 }
 
 /// Whether each call that wants memory is refused it.
-fn are_refused<A: Allocator + Copy>(
-    heap: A,
-    network: &Network,
-    configuration: &mut Configuration<A>,
-) -> bool
-    requires { IsConfiguration network.now configuration.old }
-    ensures { IsConfiguration network.now configuration.new }
+fn are_refused<A: Allocator + Copy>(heap: A, network: &Network, machine: &mut Machine<A>) -> bool
+    requires { IsMachine network.now machine.old }
+    ensures { IsMachine network.now machine.new }
 {
     if network.channels() != 2 {
         return false;
     }
-    let is_refused = configuration.reserve_one(0).is_err();
-    is_refused
-        && configuration.copy_journal(heap, 0).is_err()
-        && Configuration::new(heap, network).is_err()
+    let is_refused = machine.reserve_one(0).is_err();
+    is_refused && machine.copy_journal(heap, 0).is_err() && Machine::new(heap, network).is_err()
 }
 
-/// Feeds a configuration, once more while its heap is full, and then once more.
+/// Feeds a machine, once more while its heap is full, and then once more.
 fn feed_on<'a>(
     rt: &impl Abort,
     alloc: Global,
     heap: &'a LocalHeap,
     network: &Network,
-    configuration: &mut Configuration<&'a LocalHeap>,
+    machine: &mut Machine<&'a LocalHeap>,
 ) -> Result<(), AllocError>
-    requires { IsConfiguration network.now configuration.old }
+    requires { IsMachine network.now machine.old }
 {
-    feed_four(rt, network, configuration)?;
+    feed_four(rt, network, machine)?;
     let filling = fill(heap).expect(rt, "a block is left");
-    let refused = are_refused(heap, network, configuration);
+    let refused = are_refused(heap, network, machine);
     assert!(rt; refused);
-    let same = is_fed(alloc, network, configuration, &[5, 6, 7, 8]);
+    let same = is_fed(alloc, network, machine, &[5, 6, 7, 8]);
     filling.destroy_empty();
     assert!(rt; same?);
-    assert_eq!(rt; feed(rt, network, configuration, 0, 9)?, None);
-    let same = is_fed(heap, network, configuration, &[5, 6, 7, 8, 9])?;
+    assert_eq!(rt; feed(rt, network, machine, 0, 9)?, None);
+    let same = is_fed(heap, network, machine, &[5, 6, 7, 8, 9])?;
     assert!(rt; same);
-    assert!(rt; Configuration::new(heap, network).is_ok());
+    assert!(rt; Machine::new(heap, network).is_ok());
     Ok(())
 }
 
@@ -103,7 +97,7 @@ fn refused_calls_change_nothing(rt: HostRuntime) -> Result<(), Fail> {
     let alloc = rt.alloc();
     let document = read_network(alloc, COPY.as_bytes())?;
     let heap = LocalHeap::new(alloc, 4_096)?;
-    let mut configuration = Configuration::new(&heap, document.network())?;
-    feed_on(&rt, alloc, &heap, document.network(), &mut configuration)?;
+    let mut machine = Machine::new(&heap, document.network())?;
+    feed_on(&rt, alloc, &heap, document.network(), &mut machine)?;
     Ok(())
 }

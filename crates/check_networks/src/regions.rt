@@ -1,14 +1,14 @@
 //! Regions that are a whole network and run by themselves. What they do is worked by hand.
 ghost use Rattle.std.specs.Prelude.{◌≡◌, length};
 ghost use Rattle.kpn_region.specs.Batch.{IsFresh};
-ghost use Rattle.kpn_run_configuration.specs.Configuration.{IsConfiguration};
+ghost use Rattle.kpn_machine.specs.Machine.{IsMachine};
 
 use crate::feeding::feed;
+use kpn_history::Event;
 use kpn_lang::Fault;
+use kpn_machine::Machine;
 use kpn_net::Network;
 use kpn_region::Batch;
-use kpn_run_configuration::Configuration;
-use kpn_run_history::Event;
 use kpn_step::{Frame, Stop};
 use kpn_text::read_network;
 use std::alloc::{AllocError, Global};
@@ -282,21 +282,21 @@ fn stops_where_it_cannot_go_on(rt: HostRuntime) -> Result<(), Fail> {
 fn make_ready(
     rt: &impl Abort,
     network: &Network,
-    configuration: &mut Configuration,
+    machine: &mut Machine,
     items: &[i64],
     roomy: bool,
 ) -> Result<(), AllocError>
-    requires { IsConfiguration network.now configuration.old }
-    ensures { IsConfiguration network.now configuration.new }
+    requires { IsMachine network.now machine.old }
+    ensures { IsMachine network.now machine.new }
 {
     'channels: for c in 0..network.channels() {
         if network.is_source(c) {
             'items: for item in items {
-                let _woken = feed(rt, network, configuration, c, *item)?;
+                let _woken = feed(rt, network, machine, c, *item)?;
             }
         }
         if roomy {
-            configuration.make_roomy(c)?;
+            machine.make_roomy(c)?;
         }
     }
     Ok(())
@@ -306,33 +306,33 @@ fn make_ready(
 /// process is where it is in the batch.
 fn stands_so(
     network: &Network,
-    configuration: &Configuration,
+    machine: &Machine,
     batch: &Batch<'_>,
     counts: &[(usize, usize, usize)],
 ) -> bool
-    requires channels { length configuration.now.channels ≡ length network.now.channels }
-    requires frames { length configuration.now.frames ≡ length network.now.instances }
+    requires channels { length machine.now.channels ≡ length network.now.channels }
+    requires frames { length machine.now.frames ≡ length network.now.instances }
     requires tables { batch.now.tables ≡ network.now }
 {
     if network.channels() != counts.len() {
         return false;
     }
     'counts: for c in 0..counts.len() {
-        let channel = configuration.channel(c);
+        let channel = machine.channel(c);
         if (channel.read_count(), channel.len(), channel.most()) != counts[c] {
             return false;
         }
     }
     'frames: for p in 0..network.instances() {
-        if *configuration.frame(p) != *batch.frame(p) {
+        if *machine.frame(p) != *batch.frame(p) {
             return false;
         }
     }
     true
 }
 
-/// Runs a whole network as a region beside a configuration, and joins it: whether that stands then as these counts say.
-/// If the channels are not made roomy, the batch does not agree with the configuration.
+/// Runs a whole network as a region beside a machine, and joins it: whether that stands then as these counts say.
+/// If the channels are not made roomy, the batch does not agree with the machine.
 fn joins(
     rt: &impl Abort,
     alloc: Global,
@@ -341,17 +341,17 @@ fn joins(
     counts: &[(usize, usize, usize)],
 ) -> Result<bool, AllocError> {
     let mut batch = Batch::new(alloc, network)?;
-    let mut bare = Configuration::new(alloc, network)?;
-    let mut configuration = Configuration::new(alloc, network)?;
+    let mut bare = Machine::new(alloc, network)?;
+    let mut machine = Machine::new(alloc, network)?;
     make_ready(rt, network, &mut bare, row.items, false)?;
-    make_ready(rt, network, &mut configuration, row.items, true)?;
+    make_ready(rt, network, &mut machine, row.items, true)?;
     let played = plays(network, &mut batch, row)?;
     let is_refused = !batch.agrees_with(&bare);
-    if !batch.agrees_with(&configuration) {
+    if !batch.agrees_with(&machine) {
         return Ok(false);
     }
-    batch.join(&mut configuration);
-    let stands = stands_so(network, &configuration, &batch, counts);
+    batch.join(&mut machine);
+    let stands = stands_so(network, &machine, &batch, counts);
     drop(bare);
     drop(batch);
     Ok(played && is_refused && stands)

@@ -4,10 +4,10 @@ ghost use Rattle.std.specs.Prelude.{◌≡◌};
 
 use crate::flag::Flag;
 use crate::networks::nine_sevens;
+use kpn_book::{Book, Event};
 use kpn_net::Network;
 use kpn_pool::{Opened, Shared, gather, work};
 use kpn_pool_desk::{Gate, Go, Job, View, Why, WorkerSeat};
-use kpn_run_state::{Book, Event};
 use std::alloc::{AllocError, Allocator, Global};
 use std::marker::Brand;
 use std::sync::Wait;

@@ -3,12 +3,11 @@ ghost use Rattle.std.specs.Prelude.{◌≡◌};
 
 use crate::abandoning::TestGate;
 use crate::holding::Held;
-use kpn_book::{Limits, Outcome, Report};
+use kpn_book::{Keeping, Limits, Outcome, Report};
 use kpn_limits::MAX_WORKERS;
 use kpn_net::Network;
 use kpn_pool::{RunFault, run};
 use kpn_pool_desk::{Batch, Desk, Job};
-use kpn_run_state::Keeping;
 use kpn_text::read_network;
 use std::alloc::{AllocError, Global};
 use std::marker::Brand;

@@ -1,7 +1,6 @@
 //! A commit and a run on one thread that get the memory that they want.
-use kpn_book::{Limits, run_here};
+use kpn_book::{Book, Done, Limits, Refused, run_here};
 use kpn_net::Network;
-use kpn_run_state::{Book, Done, Refused};
 use kpn_step::try_advance;
 use kpn_text::read_network;
 use std::alloc::{AllocError, Global};

@@ -2,9 +2,9 @@
 ghost use Rattle.std.specs.Prelude.{◌≡◌};
 
 use crate::abandoning::TestGate;
+use kpn_book::Keeping;
 use kpn_net::Network;
 use kpn_pool_desk::{Batch, Desk, Job, Next, RegionTurn, Why, WorkerSeat, end_seats};
-use kpn_run_state::Keeping;
 use kpn_text::read_network;
 use linked_list_allocator::LocalHeap;
 use std::alloc::AllocError;

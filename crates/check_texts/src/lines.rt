@@ -1,5 +1,5 @@
 //! An event of each kind with its line.
-use kpn_run_history::{Event, How};
+use kpn_history::{Event, How};
 use kpn_trace::{Version, event_line, read_event};
 use std::alloc::Global;
 use std::test::Fail;

@@ -1,5 +1,5 @@
 //! A trace is read while memory runs out, because a heap is full for a while, and once more with memory.
-use kpn_run_history::Event;
+use kpn_history::Event;
 use kpn_trace::{TraceFault, read_trace};
 use linked_list_allocator::LocalHeap;
 use std::test::Fail;

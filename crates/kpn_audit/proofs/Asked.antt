@@ -4,20 +4,20 @@ use Rattle.std.proofs.Common.{◌≡◌, ◌≢◌, ℕ, ◌<◌, Bool, true, fa
 use Rattle.kpn_net.specs.Tables.{Tables, instance_at, program_of}
 use Rattle.kpn_net.specs.Faults.{IsNetwork}
 use Rattle.kpn_net.proofs.Networks.{IsProgram-of, IsInstance-of}
-use Rattle.kpn_run_history.specs.declared.event.Event.{Event}
-use Rattle.kpn_run_history.specs.declared.event.Event.TheVariants.{Feed, Close, Take, Leave, Grow}
-use Rattle.kpn_run_history.specs.Talks.{is_of_process}
-use Rattle.kpn_run_history.specs.Channels.{is_growth_of}
+use Rattle.kpn_history.specs.declared.event.Event.{Event}
+use Rattle.kpn_history.specs.declared.event.Event.TheVariants.{Feed, Close, Take, Leave, Grow}
+use Rattle.kpn_history.specs.Talks.{is_of_process}
+use Rattle.kpn_history.specs.Channels.{is_growth_of}
 use Rattle.kpn_step.specs.declared.stop.Stop.TheVariants.{WantRead, WantWrite}
 use Rattle.kpn_step.proofs.MayStep.{at_port}
 use Rattle.kpn_chan.specs.Channel.{is_full, next_item}
-use Rattle.kpn_run_configuration.specs.Configuration.{Configuration, channel_in, frame_in, IsFree}
-use Rattle.kpn_run_configuration.specs.Changes.{IsChannelAt}
-use Rattle.kpn_run_configuration.specs.Due.{Stands}
+use Rattle.kpn_machine.specs.Machine.{Machine, channel_in, frame_in, IsFree}
+use Rattle.kpn_machine.specs.Changes.{IsChannelAt}
+use Rattle.kpn_machine.specs.Due.{Stands}
 use Rattle.kpn_audit.specs.declared.scene.Doing.TheVariants.{Reads, Writes}
 use Rattle.kpn_audit.specs.Scene.{IsDoing}
 
-module _ (t : Tables) (network : IsNetwork t) (s : Configuration) (p : ℕ) (there : p < length t.instances) (port : ℕ)
+module _ (t : Tables) (network : IsNetwork t) (s : Machine) (p : ℕ) (there : p < length t.instances) (port : ℕ)
   where
     pub in_port : Stands t s p (WantRead port) → port < length (instance_at t p).ins
     in_port stands =
@@ -34,7 +34,7 @@ module _ (t : Tables) (network : IsNetwork t) (s : Configuration) (p : ℕ) (the
         omega (arith, below, long)
 
 -- what a free process at a read or a write is doing
-module _ (t : Tables) (H : List Event) (event : Event) (quota : ℕ) (s : Configuration) (p c : ℕ) (free : IsFree s p)
+module _ (t : Tables) (H : List Event) (event : Event) (quota : ℕ) (s : Machine) (p c : ℕ) (free : IsFree s p)
     (port : ℕ) where
   pub reads_there : IsChannelAt (instance_at t p).ins port c → Stands t s p (WantRead port) → (next : Option ℤ)
       → next ≡ next_item (channel_in s c) → IsDoing t H event quota s p (Reads c next)

@@ -7,26 +7,26 @@ use Rattle.kpn_net.specs.Tables.{Tables}
 use Rattle.kpn_net.specs.Faults.{IsNetwork}
 use Rattle.kpn_net.specs.Process.{Family}
 use Rattle.kpn_net.specs.Iteration.{IsLeast}
-use Rattle.kpn_run_history.specs.declared.event.Event.{Event}
-use Rattle.kpn_run_history.specs.Channels.{written_on}
-use Rattle.kpn_run_history.specs.Complete.{IsComplete, IsFedFrom}
-use Rattle.kpn_run_history.proofs.Complete.{least_if_complete}
-use Rattle.kpn_run_configuration.specs.Configuration.{Configuration}
-use Rattle.kpn_run_configuration.specs.Run.{IsRun}
+use Rattle.kpn_history.specs.declared.event.Event.{Event}
+use Rattle.kpn_history.specs.Channels.{written_on}
+use Rattle.kpn_history.specs.Complete.{IsComplete, IsFedFrom}
+use Rattle.kpn_history.proofs.Complete.{least_if_complete}
+use Rattle.kpn_machine.specs.Machine.{Machine}
+use Rattle.kpn_machine.specs.Run.{IsRun}
 use Rattle.kpn_audit.specs.Complete.{TellsComplete}
 use Rattle.kpn_audit.specs.declared.findings.Audit.{Audit}
 use Rattle.kpn_audit.specs.Audit.{IsAudit}
 
 -- the entries of the first channels
-pub record ToldSoFar (t : Tables) (s : Configuration) (n : ℕ) (complete : List Bool) : Type 0 where
+pub record ToldSoFar (t : Tables) (s : Machine) (n : ℕ) (complete : List Bool) : Type 0 where
   pub long : length complete ≡ n
   pub exact : (H : List Event) → IsRun t H s → (c : ℕ) → c < n
       → (get_or complete c false ≡ true) ↔ IsComplete t H c
 
-pub told_none : (t : Tables) (s : Configuration) (complete : List Bool) → complete ≡ [] → ToldSoFar t s 0 complete
+pub told_none : (t : Tables) (s : Machine) (complete : List Bool) → complete ≡ [] → ToldSoFar t s 0 complete
 told_none t s complete none = record { long = ap length none; exact = λ H run c below. absurd (omega arith) }
 
-module _ (t : Tables) (s : Configuration) (n : ℕ) (complete : List Bool) (told : ToldSoFar t s n complete)
+module _ (t : Tables) (s : Machine) (n : ℕ) (complete : List Bool) (told : ToldSoFar t s n complete)
     (answer : Bool) (exact : (H : List Event) → IsRun t H s → (IsTrue answer ↔ IsComplete t H n)) where
   entry : (H : List Event) → IsRun t H s → (c : ℕ) → c < n + 1
       → (get_or (complete ++ answer ∷ []) c false ≡ true) ↔ IsComplete t H c
@@ -52,7 +52,7 @@ module _ (t : Tables) (s : Configuration) (n : ℕ) (complete : List Bool) (told
             (entry H run c below);
       }
 
-pub told_all : (t : Tables) (s : Configuration) (n : ℕ) (complete result : List Bool) → n ≡ length t.channels
+pub told_all : (t : Tables) (s : Machine) (n : ℕ) (complete result : List Bool) → n ≡ length t.channels
     → ToldSoFar t s n complete → result ≡ complete → (H : List Event) → IsRun t H s → TellsComplete t H result
 told_all t s n complete result all told is H run =
     subst (TellsComplete t H) (sym is)

@@ -9,18 +9,18 @@ use Rattle.kpn_step.specs.Frame.{Frame}
 use Rattle.kpn_step.specs.Step.{Goes, step_of, Steps}
 use Rattle.kpn_step.proofs.StepCases.{Steps-append}
 use Rattle.kpn_chan.specs.Channel.{ChannelState}
-use Rattle.kpn_run_history.specs.declared.event.Event.{Event}
-use Rattle.kpn_run_history.specs.declared.event.Event.TheVariants.{Get, Put, WaitEmpty, WaitFull, Ended}
-use Rattle.kpn_run_history.specs.Talks.{is_of, is_of_process}
-use Rattle.kpn_run_history.specs.Legal.{waiter}
-use Rattle.kpn_run_history.proofs.AfterEvent.{of_process}
-use Rattle.kpn_run_history.specs.Stops.{OwesNothing, OwesNoCycleGrowth, OwesNoStopGrowth, goes_on}
-use Rattle.kpn_run_history.proofs.Growth.{no_cycle_owed_after}
-use Rattle.kpn_run_history.proofs.OwedGrowth.{no_stop_owed_after}
-use Rattle.kpn_run_configuration.specs.Changes.{IsFrameAfter}
-use Rattle.kpn_run_configuration.specs.Configuration.{Configuration, end_in, wait_in, frame_in, with_frame, with_channel, IsFree}
-use Rattle.kpn_run_configuration.specs.Due.{Stands}
-use Rattle.kpn_run_configuration.specs.Run.{IsRun}
+use Rattle.kpn_history.specs.declared.event.Event.{Event}
+use Rattle.kpn_history.specs.declared.event.Event.TheVariants.{Get, Put, WaitEmpty, WaitFull, Ended}
+use Rattle.kpn_history.specs.Talks.{is_of, is_of_process}
+use Rattle.kpn_history.specs.Legal.{waiter}
+use Rattle.kpn_history.proofs.AfterEvent.{of_process}
+use Rattle.kpn_history.specs.Stops.{OwesNothing, OwesNoCycleGrowth, OwesNoStopGrowth, goes_on}
+use Rattle.kpn_history.proofs.Growth.{no_cycle_owed_after}
+use Rattle.kpn_history.proofs.OwedGrowth.{no_stop_owed_after}
+use Rattle.kpn_machine.specs.Changes.{IsFrameAfter}
+use Rattle.kpn_machine.specs.Machine.{Machine, end_in, wait_in, frame_in, with_frame, with_channel, IsFree}
+use Rattle.kpn_machine.specs.Due.{Stands}
+use Rattle.kpn_machine.specs.Run.{IsRun}
 use Rattle.kpn_audit.specs.declared.judged.Judged.{Judged}
 use Rattle.kpn_audit.specs.declared.judged.Judged.TheVariants.{Follows, Illegal, Budget}
 use Rattle.kpn_audit.specs.Judged.{StandsFree, AllGoBy, IsFollowed, IsMade, IsMoved, IsJudged}
@@ -47,11 +47,11 @@ one_process (Ended r how) q p a b = sym (eqb-true r q a) ∙ eqb-true r p b
 one_process e q p a b = absurd (false≢true a)
 
 -- what happens to each frame
-abbrev pub FramesAfter : Tables → Event → (before after : Configuration) → Type 0
+abbrev pub FramesAfter : Tables → Event → (before after : Machine) → Type 0
 FramesAfter t e before after =
     (q : ℕ) → q < length t.instances → IsFrameAfter t e q (frame_in before q) (frame_in after q)
 
-pub goes_made : (t : Tables) (before after : Configuration) (p : ℕ) (stop : Stop) → StandsFree t before p stop
+pub goes_made : (t : Tables) (before after : Machine) (p : ℕ) (stop : Stop) → StandsFree t before p stop
     → (e : Event) → is_of p e ≡ true → FramesAfter t e before after → AllGoBy t e before after
 goes_made t before after p stop at e own frames q below =
     record {
@@ -74,7 +74,7 @@ goes_made t before after p stop at e own frames q below =
       other = λ differs. kept t e q (frame_in before q) (frame_in after q) differs (frames q below);
     }
 
-pub goes_outside : (t : Tables) (before after : Configuration) (e : Event) → is_of_process e ≡ false
+pub goes_outside : (t : Tables) (before after : Machine) (e : Event) → is_of_process e ≡ false
     → FramesAfter t e before after → AllGoBy t e before after
 goes_outside t before after e none frames q below =
     record {
@@ -83,12 +83,12 @@ goes_outside t before after e none frames q below =
     }
 
 -- room for an item moves no frame
-pub frames_kept : (b : Bool) (s m : Configuration) (c : ℕ) (channel : ChannelState)
+pub frames_kept : (b : Bool) (s m : Machine) (c : ℕ) (channel : ChannelState)
     → m ≡ cond b (with_channel c channel s) s → (q : ℕ) → frame_in m q ≡ frame_in s q
 frames_kept true s m c channel e q = ap (λ x. frame_in x q) e
 frames_kept false s m c channel e q = ap (λ x. frame_in x q) e
 
-pub frames_from : (t : Tables) (e : Event) (s m after : Configuration) → ((q : ℕ) → frame_in m q ≡ frame_in s q)
+pub frames_from : (t : Tables) (e : Event) (s m after : Machine) → ((q : ℕ) → frame_in m q ≡ frame_in s q)
     → FramesAfter t e m after → FramesAfter t e s after
 frames_from t e s m after same frames q below =
     subst (λ f. IsFrameAfter t e q f (frame_in after q)) (same q) (frames q below)
@@ -101,7 +101,7 @@ nothing_owed t H cycle stop p d (inl owed) = cycle p d owed
 nothing_owed t H cycle stop p d (inr owed) = stop p d owed
 
 -- after an event that moves an item, or a growth, nothing is owed
-pub followed : (t : Tables) → IsNetwork t → (H : List Event) (e : Event) (before after : Configuration)
+pub followed : (t : Tables) → IsNetwork t → (H : List Event) (e : Event) (before after : Machine)
     → waiter e ≡ None
     → goes_on e ≡ true → IsRun t (H ++ e ∷ []) after → AllGoBy t e before after → IsFollowed t H e before after None
 followed t network H e before after none on run goes =
@@ -114,13 +114,13 @@ followed t network H e before after none on run goes =
     }
 
 -- a step of a process leaves it free
-pub stays_free : (s after : Configuration) (p : ℕ) (f : Frame) → after ≡ with_frame p f s → IsFree s p → IsFree after p
+pub stays_free : (s after : Machine) (p : ℕ) (f : Frame) → after ≡ with_frame p f s → IsFree s p → IsFree after p
 stays_free s after p f e free =
     record { lives = ap (λ x. end_in x p) e ∙ free.lives; free = ap (λ x. wait_in x p) e ∙ free.free }
 
 -- ---- what was found
 
-pub judged_if_made : (t : Tables) (H : List Event) (e : Event) (quota : ℕ) (before after : Configuration) (j : Judged)
+pub judged_if_made : (t : Tables) (H : List Event) (e : Event) (quota : ℕ) (before after : Machine) (j : Judged)
     → IsMade t H e before after j → IsJudged t H e quota before after j
 judged_if_made t H e quota before after (Follows owed) made = made
 judged_if_made t H e quota before after Illegal made = made
@@ -128,7 +128,7 @@ judged_if_made t H e quota before after Budget made = absurd made
 
 -- the steps to the stop, and then the event
 module _ (t : Tables) (H : List Event) (e : Event) (p : ℕ) (own : is_of p e ≡ true)
-    (before middle after : Configuration) (moved : IsMoved t p before middle) where
+    (before middle after : Machine) (moved : IsMoved t p before middle) where
   go_on : AllGoBy t e middle after → AllGoBy t e before after
   go_on goes q below =
       record {

@@ -9,10 +9,10 @@ use Rattle.kpn_step.specs.Frame.{Frame, start_frame}
 use Rattle.kpn_step.specs.Step.{Step, Stops, Faults, Goes, step_of, Steps}
 use Rattle.kpn_step.specs.Stops.{StandsAt, IsBetween, stop_at}
 use Rattle.kpn_step.proofs.StepCases.{Steps-append}
-use Rattle.kpn_run_history.specs.declared.event.Event.{Event}
-use Rattle.kpn_run_history.specs.declared.event.Event.TheVariants.{Get, Put}
-use Rattle.kpn_run_history.specs.Talks.{is_of}
-use Rattle.kpn_run_configuration.specs.Changes.{IsFrameAfter}
+use Rattle.kpn_history.specs.declared.event.Event.{Event}
+use Rattle.kpn_history.specs.declared.event.Event.TheVariants.{Get, Put}
+use Rattle.kpn_history.specs.Talks.{is_of}
+use Rattle.kpn_machine.specs.Changes.{IsFrameAfter}
 use Rattle.kpn_audit.specs.Place.{StopsWithin, GoesBy, ComesBy, IsPlaceAfter}
 
 -- ---- what the stop of a call says

@@ -5,10 +5,10 @@ use Rattle.std.proofs.lemmas.Bool.{cases_order}
 use Rattle.std.proofs.lemmas.Option.{slice_get_within}
 use Rattle.kpn_lang.specs.Prefix.{IsPrefix}
 use Rattle.kpn_net.specs.Tables.{Tables, program_of}
-use Rattle.kpn_run_history.specs.declared.event.Event.{Event}
-use Rattle.kpn_run_history.specs.Legal.{CanGo, Legal}
-use Rattle.kpn_run_history.specs.Stops.{OwesNothing}
-use Rattle.kpn_run_history.proofs.Legality.{Legal-prefix}
+use Rattle.kpn_history.specs.declared.event.Event.{Event}
+use Rattle.kpn_history.specs.Legal.{CanGo, Legal}
+use Rattle.kpn_history.specs.Stops.{OwesNothing}
+use Rattle.kpn_history.proofs.Legality.{Legal-prefix}
 use Rattle.kpn_audit.specs.declared.findings.AuditFault.{AuditFault}
 use Rattle.kpn_audit.specs.declared.findings.AuditFault.TheVariants.{Illegal, NoMemory, Budget, PolicyDiffers}
 use Rattle.kpn_audit.specs.Place.{StopsWithin}

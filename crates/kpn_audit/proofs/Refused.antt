@@ -1,4 +1,4 @@
--- Why an event may not follow: what it needs of the configuration is not there.
+-- Why an event may not follow: what it needs of the machine is not there.
 use Rattle.std.proofs.Common.{◌≡◌, ◌≢◌, ℕ, true, false, ℤ, List, [], ◌∷◌, ◌++◌, Option, Some, is_some, refl, sym, ap, ◌∙◌}
 use Rattle.std.proofs.lemmas.Bool.{eq-eqb, both_ways}
 use Rattle.kpn_net.specs.Tables.{Tables, instance_at, program_of, channel_at, is_sink}
@@ -6,19 +6,19 @@ use Rattle.kpn_net.specs.Faults.{IsNetwork}
 use Rattle.kpn_step.specs.declared.stop.Stop.{Stop}
 use Rattle.kpn_step.specs.declared.stop.Stop.TheVariants.{WantRead, WantWrite}
 use Rattle.kpn_chan.specs.Channel.{unread, is_full, next_item}
-use Rattle.kpn_run_history.specs.declared.event.Event.{Event}
-use Rattle.kpn_run_history.specs.declared.event.Event.TheVariants.{Get, Put, WaitEmpty, WaitFull, Ended, Feed, Close, Take, Leave, Grow}
-use Rattle.kpn_run_history.specs.declared.event.How.{How}
-use Rattle.kpn_run_history.specs.Talks.{is_of, is_of_process}
-use Rattle.kpn_run_history.specs.Legal.{HasNumbers, OwesGrowth, growth_after, Legal}
-use Rattle.kpn_run_history.specs.Stops.{OwesNothing}
-use Rattle.kpn_run_history.proofs.OneMore.{Legal-exactly}
-use Rattle.kpn_run_configuration.specs.Configuration.{Configuration, channel_in, frame_in}
-use Rattle.kpn_run_configuration.specs.Due.{Stands, ReadsFrom, WritesTo, stop_of, IsDueNow}
-use Rattle.kpn_run_configuration.specs.Run.{IsRun}
-use Rattle.kpn_run_configuration.proofs.Due.{end_is_no_pause}
-use Rattle.kpn_run_configuration.proofs.OneStop.{one_stop}
-use Rattle.kpn_run_configuration.proofs.Exact.{due_here, due_outside}
+use Rattle.kpn_history.specs.declared.event.Event.{Event}
+use Rattle.kpn_history.specs.declared.event.Event.TheVariants.{Get, Put, WaitEmpty, WaitFull, Ended, Feed, Close, Take, Leave, Grow}
+use Rattle.kpn_history.specs.declared.event.How.{How}
+use Rattle.kpn_history.specs.Talks.{is_of, is_of_process}
+use Rattle.kpn_history.specs.Legal.{HasNumbers, OwesGrowth, growth_after, Legal}
+use Rattle.kpn_history.specs.Stops.{OwesNothing}
+use Rattle.kpn_history.proofs.OneMore.{Legal-exactly}
+use Rattle.kpn_machine.specs.Machine.{Machine, channel_in, frame_in}
+use Rattle.kpn_machine.specs.Due.{Stands, ReadsFrom, WritesTo, stop_of, IsDueNow}
+use Rattle.kpn_machine.specs.Run.{IsRun}
+use Rattle.kpn_machine.proofs.Due.{end_is_no_pause}
+use Rattle.kpn_machine.proofs.OneStop.{one_stop}
+use Rattle.kpn_machine.proofs.Exact.{due_here, due_outside}
 use Rattle.kpn_audit.specs.Judged.{IsReadFrom, IsWriteOf, StandsFree}
 
 same_item : (o : Option ℤ) (v w : ℤ) → o ≡ Some v → o ≡ Some w → v ≡ w
@@ -26,7 +26,7 @@ same_item o v w e f = let g : ◌≡◌ {A = Option ℤ} (Some v) (Some w) = sym
 
 -- ---- where a process stands
 
-module _ (t : Tables) (s : Configuration) (p : ℕ) (stop : Stop) (at : StandsFree t s p stop) (c : ℕ) where
+module _ (t : Tables) (s : Machine) (p : ℕ) (stop : Stop) (at : StandsFree t s p stop) (c : ℕ) where
   pub is_read : ReadsFrom t s p c → IsReadFrom (instance_at t p).ins c stop
   is_read reads = (
     reads.port,
@@ -43,7 +43,7 @@ module _ (t : Tables) (s : Configuration) (p : ℕ) (stop : Stop) (at : StandsFr
         at.is_no_pause (λ e. absurd cc),
   )
 
-pub is_stop : (t : Tables) (s : Configuration) (p : ℕ) (stop : Stop) → StandsFree t s p stop → (how : How)
+pub is_stop : (t : Tables) (s : Machine) (p : ℕ) (stop : Stop) → StandsFree t s p stop → (how : How)
     → Stands t s p (stop_of how) → stop ≡ stop_of how
 is_stop t s p stop at how stands =
     one_stop (program_of t p).blocks (frame_in s p) stop (stop_of how) at.stands stands at.is_no_pause
@@ -51,7 +51,7 @@ is_stop t s p stop at how stands =
 
 -- ---- events of processes
 
-module _ (t : Tables) (network : IsNetwork t) (H : List Event) (s : Configuration) (run : IsRun t H s) (p : ℕ)
+module _ (t : Tables) (network : IsNetwork t) (H : List Event) (s : Machine) (run : IsRun t H s) (p : ℕ)
     (stop : Stop) (at : StandsFree t s p stop) where
   due : (e : Event) → is_of p e ≡ true → Legal t (H ++ e ∷ []) → IsDueNow t s e
   due e own legal = due_here t network H s run p at.there stop at.stands at.is_no_pause e own legal
@@ -94,7 +94,7 @@ module _ (t : Tables) (network : IsNetwork t) (H : List Event) (s : Configuratio
 
 -- ---- events of the outside
 
-module _ (t : Tables) (network : IsNetwork t) (H : List Event) (s : Configuration) (run : IsRun t H s)
+module _ (t : Tables) (network : IsNetwork t) (H : List Event) (s : Machine) (run : IsRun t H s)
     (owes : OwesNothing t H) (c : ℕ) where
   pub take_of_no_sink : (v : ℤ) → is_sink (channel_at t c) ≡ false → ¬ Legal t (H ++ Take c v ∷ [])
   take_of_no_sink v not legal =
@@ -128,7 +128,7 @@ pub has_its_numbers : (t : Tables) (H : List Event) (e : Event) → Legal t (H +
 has_its_numbers t H e legal = ((Legal-exactly t H e).0 legal).1.numbers
 
 -- an event of no process is one of the four of the outside, or a growth, which is not due by itself
-not_due : (t : Tables) (s : Configuration) (e : Event) → is_of_process e ≡ false → ((c : ℕ) (v : ℤ) → e ≢ Feed c v)
+not_due : (t : Tables) (s : Machine) (e : Event) → is_of_process e ≡ false → ((c : ℕ) (v : ℤ) → e ≢ Feed c v)
     → ((c : ℕ) → e ≢ Close c) → ((c : ℕ) (v : ℤ) → e ≢ Take c v) → ((c : ℕ) → e ≢ Leave c) → ¬ IsDueNow t s e
 not_due t s (Feed c v) own feed close take leave due = feed c v refl
 not_due t s (Close c) own feed close take leave due = close c refl
@@ -137,7 +137,7 @@ not_due t s (Leave c) own feed close take leave due = leave c refl
 not_due t s (Grow p d n) own feed close take leave due = due
 not_due t s e own feed close take leave due = absurd cc
 
-pub growth_of_nothing : (t : Tables) (network : IsNetwork t) (H : List Event) (s : Configuration) → IsRun t H s
+pub growth_of_nothing : (t : Tables) (network : IsNetwork t) (H : List Event) (s : Machine) → IsRun t H s
     → OwesNothing t H → (e : Event) → is_of_process e ≡ false → ((c : ℕ) (v : ℤ) → e ≢ Feed c v)
     → ((c : ℕ) → e ≢ Close c) → ((c : ℕ) (v : ℤ) → e ≢ Take c v) → ((c : ℕ) → e ≢ Leave c)
     → ¬ Legal t (H ++ e ∷ [])

@@ -7,18 +7,18 @@ use Rattle.kpn_net.specs.Faults.{IsNetwork}
 use Rattle.kpn_step.specs.Frame.{Frame, start_frame}
 use Rattle.kpn_step.specs.Step.{step_of, Steps}
 use Rattle.kpn_step.specs.Stops.{IsBetween}
-use Rattle.kpn_run_history.specs.declared.event.Event.{Event}
-use Rattle.kpn_run_history.specs.declared.event.Event.TheVariants.{Get, Put, WaitEmpty, WaitFull, Ended}
-use Rattle.kpn_run_history.specs.declared.event.How.{How}
-use Rattle.kpn_run_history.specs.Talks.{is_of}
-use Rattle.kpn_run_history.specs.Legal.{HasNumbers, CanGo, Legal}
-use Rattle.kpn_run_history.specs.Stops.{OwesNothing}
-use Rattle.kpn_run_history.proofs.EndsOnce.{ended_exactly}
-use Rattle.kpn_run_history.proofs.Legality.{Legal-prefix}
-use Rattle.kpn_run_configuration.specs.Configuration.{Configuration, end_in, frame_in, IsFree}
-use Rattle.kpn_run_configuration.specs.Run.{IsEndOf, IsRun}
-use Rattle.kpn_run_configuration.proofs.Due.{may_go}
-use Rattle.kpn_run_configuration.specs.declared.configuration.growth.OwedGrowth.{OwedGrowth}
+use Rattle.kpn_history.specs.declared.event.Event.{Event}
+use Rattle.kpn_history.specs.declared.event.Event.TheVariants.{Get, Put, WaitEmpty, WaitFull, Ended}
+use Rattle.kpn_history.specs.declared.event.How.{How}
+use Rattle.kpn_history.specs.Talks.{is_of}
+use Rattle.kpn_history.specs.Legal.{HasNumbers, CanGo, Legal}
+use Rattle.kpn_history.specs.Stops.{OwesNothing}
+use Rattle.kpn_history.proofs.EndsOnce.{ended_exactly}
+use Rattle.kpn_history.proofs.Legality.{Legal-prefix}
+use Rattle.kpn_machine.specs.Machine.{Machine, end_in, frame_in, IsFree}
+use Rattle.kpn_machine.specs.Run.{IsEndOf, IsRun}
+use Rattle.kpn_machine.proofs.Due.{may_go}
+use Rattle.kpn_machine.specs.declared.machine.growth.OwedGrowth.{OwedGrowth}
 use Rattle.kpn_audit.specs.declared.judged.Judged.{Judged}
 use Rattle.kpn_audit.specs.declared.judged.Judged.TheVariants.{Follows, Illegal, Budget}
 use Rattle.kpn_audit.specs.Place.{GoesBy, ComesBy}
@@ -40,7 +40,7 @@ event_at (x ∷ H) (suc k) e d below is = event_at H k e d (omega arith) is
 event_at [] k e d below is = absurd (omega arith)
 
 -- what the loop over the events keeps, after n of them
-pub record IsReplayed (t : Tables) (H : List Event) (quota n : ℕ) (s : Configuration) (owed : Option OwedGrowth)
+pub record IsReplayed (t : Tables) (H : List Event) (quota n : ℕ) (s : Machine) (owed : Option OwedGrowth)
     : Type 0 where
   pub run : IsRun t (take n H) s
   pub owes : Owes t (take n H) s owed
@@ -48,7 +48,7 @@ pub record IsReplayed (t : Tables) (H : List Event) (quota n : ℕ) (s : Configu
   pub within : AreWithinSteps t H quota n
 
 -- event k, and what it was judged to be
-pub record IsJudgedAt (t : Tables) (H : List Event) (quota k : ℕ) (s after : Configuration) (judged : Judged)
+pub record IsJudgedAt (t : Tables) (H : List Event) (quota k : ℕ) (s after : Machine) (judged : Judged)
     : Type 0 where
   pub owed : Option OwedGrowth
   pub before : IsReplayed t H quota k s owed
@@ -60,7 +60,7 @@ pub record IsJudgedAt (t : Tables) (H : List Event) (quota k : ℕ) (s after : C
   pub in_time : owed ≡ None → judged ≢ Budget → IsInTime t s quota event
 
 -- where this leads
-abbrev pub LeadsTo : Tables → List Event → (quota k : ℕ) → Configuration → Judged → Type 0
+abbrev pub LeadsTo : Tables → List Event → (quota k : ℕ) → Machine → Judged → Type 0
 LeadsTo t H quota k after (Follows owed) = IsReplayed t H quota (k + 1) after owed
 LeadsTo t H quota k after Illegal = IsIllegalAt t H k × AreWithinSteps t H quota (suc k)
 LeadsTo t H quota k after Budget = IsBudgetAt t H quota k × AreWithinSteps t H quota k
@@ -73,7 +73,7 @@ comes_more t p (x ∷ H) e f g h comes goes =
     (comes.0, comes.1, comes_more t p H e comes.0 g h comes.2 goes)
 
 -- a free process that is between two steps once they are used up
-pub out_of_steps : (t : Tables) → IsNetwork t → (H : List Event) (s : Configuration) → IsRun t H s → OwesNothing t H
+pub out_of_steps : (t : Tables) → IsNetwork t → (H : List Event) (s : Machine) → IsRun t H s → OwesNothing t H
     → ArePlaces t H s → (event : Event) (quota p : ℕ) → p < length t.instances → is_of p event ≡ true
     → HasNumbers t event → IsFree s p → (reached : Frame)
     → Steps (program_of t p).blocks quota (frame_in s p) reached
@@ -95,7 +95,7 @@ out_of_steps t network H s run owes places event quota p there own numbers free 
 -- ---- within the steps
 
 -- a process that can go is free
-free_there : (t : Tables) (H : List Event) (s : Configuration) → IsRun t H s → (p : ℕ) → p < length t.instances
+free_there : (t : Tables) (H : List Event) (s : Machine) → IsRun t H s → (p : ℕ) → p < length t.instances
     → CanGo t H p → IsFree s p
 free_there t H s run p there go =
     record { lives = unended (end_in s p) (run.leads.ends p there); free = run.leads.waits p there ∙ go.free }
@@ -114,7 +114,7 @@ process_there t (Ended q how) p own numbers = subst (λ x. x < length t.instance
 process_there t e p own numbers = absurd (false≢true own)
 
 -- what owes nothing has no growth beside it
-nothing_kept : (t : Tables) (H : List Event) (s : Configuration) (owed : Option OwedGrowth) → Owes t H s owed
+nothing_kept : (t : Tables) (H : List Event) (s : Machine) (owed : Option OwedGrowth) → Owes t H s owed
     → OwesNothing t H → owed ≡ None
 nothing_kept t H s None owes nothing = refl
 nothing_kept t H s (Some growth) owes nothing = absurd (nothing growth.process growth.channel owes.owed)
@@ -123,7 +123,7 @@ same_event : (o : Option Event) (e f : Event) → o ≡ Some e → o ≡ Some f 
 same_event o e f a b = let g : ◌≡◌ {A = Option Event} (Some e) (Some f) = sym a ∙ b in cc
 
 -- the event that was judged in time is within its steps
-within_at : (t : Tables) (H : List Event) (quota k : ℕ) (e d : Event) (s : Configuration) (owed : Option OwedGrowth)
+within_at : (t : Tables) (H : List Event) (quota k : ℕ) (e d : Event) (s : Machine) (owed : Option OwedGrowth)
     → IsRun t (take k H) s → Owes t (take k H) s owed → ArePlaces t (take k H) s → k < length H → e ≡ get_or H k d
     → (owed ≡ None → IsInTime t s quota e) → IsWithinSteps t H quota k
 within_at t H quota k e d s owed run owes places below is in_time event p at own numbers nothing go =
@@ -140,7 +140,7 @@ within_at t H quota k e d s owed run owes places below is in_time event p at own
 pub none_within : (t : Tables) (H : List Event) (quota : ℕ) → AreWithinSteps t H quota 0
 none_within t H quota k below = absurd (omega (arith, below))
 
-within_more : (t : Tables) (H : List Event) (quota k : ℕ) (e d : Event) (s : Configuration)
+within_more : (t : Tables) (H : List Event) (quota k : ℕ) (e d : Event) (s : Machine)
     (owed : Option OwedGrowth)
     → IsRun t (take k H) s → Owes t (take k H) s owed → ArePlaces t (take k H) s → k < length H → e ≡ get_or H k d
     → (owed ≡ None → IsInTime t s quota e) → AreWithinSteps t H quota k → AreWithinSteps t H quota (suc k)
@@ -157,7 +157,7 @@ within_more t H quota k e d s owed run owes places below is in_time within j les
 pub ok_apart : {E : Type 0} (j k : Judged) → j ≢ k → ◌≢◌ {A = Result Judged E} (Ok j) (Ok k)
 ok_apart j k differ e = let same : j ≡ k = cc in differ same
 
-module _ (t : Tables) (H : List Event) (quota k : ℕ) (s after : Configuration) where
+module _ (t : Tables) (H : List Event) (quota k : ℕ) (s after : Machine) where
   with_it : (j : Judged) (at : IsJudgedAt t H quota k s after j) → take (k + 1) H ≡ take k H ++ at.event ∷ []
   with_it j at = one_event_more H k at.event at.other at.there at.is
 

@@ -2,17 +2,17 @@
 use Rattle.std.proofs.Common.{◌≡◌, List, Option, Some, None, refl, inr}
 use Rattle.std.specs.Prelude.{IfSome}
 use Rattle.kpn_net.specs.Tables.{Tables}
-use Rattle.kpn_run_history.specs.declared.event.Event.{Event}
-use Rattle.kpn_run_history.specs.Legal.{OwesStopGrowth}
-use Rattle.kpn_run_history.specs.Stops.{OwesNoCycleGrowth, OwesNoStopGrowth}
-use Rattle.kpn_run_configuration.specs.declared.configuration.growth.OwedGrowth.{OwedGrowth}
-use Rattle.kpn_run_configuration.specs.Configuration.{Configuration}
-use Rattle.kpn_run_configuration.specs.Owed.{IsOwedAtStop, IsAwaitedBelowLimit}
-use Rattle.kpn_run_configuration.specs.Run.{IsRun}
+use Rattle.kpn_history.specs.declared.event.Event.{Event}
+use Rattle.kpn_history.specs.Legal.{OwesStopGrowth}
+use Rattle.kpn_history.specs.Stops.{OwesNoCycleGrowth, OwesNoStopGrowth}
+use Rattle.kpn_machine.specs.declared.machine.growth.OwedGrowth.{OwedGrowth}
+use Rattle.kpn_machine.specs.Machine.{Machine}
+use Rattle.kpn_machine.specs.Owed.{IsOwedAtStop, IsAwaitedBelowLimit}
+use Rattle.kpn_machine.specs.Run.{IsRun}
 use Rattle.kpn_audit.specs.Judged.{Owes}
 use Rattle.kpn_audit.proofs.Followed.{nothing_owed}
 
-pub owes_at_stop : (t : Tables) (H : List Event) (s : Configuration) (found : Option OwedGrowth) → IsRun t H s
+pub owes_at_stop : (t : Tables) (H : List Event) (s : Machine) (found : Option OwedGrowth) → IsRun t H s
     → OwesNoCycleGrowth t H → IfSome found (λ owed. IsOwedAtStop t s owed.process owed.channel)
     → ((G : List Event) → IsRun t G s → OwesNoCycleGrowth t G
     → IfSome found (λ owed. OwesStopGrowth t G owed.process owed.channel))

@@ -1,4 +1,4 @@
--- What a configuration shows of the history that led to it.
+-- What a machine shows of the history that led to it.
 use Rattle.std.proofs.Common.{◌≡◌, ◌↔◌, ℕ, zero, suc, ◌+◌, ◌<◌, true, List, [], ◌∷◌, length, map, slice_index_or, Option, None, refl, sym, ap, ◌∙◌, subst, arith}
 use Rattle.std.specs.List.{range_with_len}
 use Rattle.std.proofs.lemmas.List.FromFn.{get_or-map-range_with_len, length-map-range_with_len}
@@ -6,15 +6,15 @@ use Rattle.kpn_chan.specs.Channel.{ChannelState}
 use Rattle.kpn_net.specs.Tables.{Tables}
 use Rattle.kpn_net.specs.Faults.{IsNetwork}
 use Rattle.kpn_net.specs.Iteration.{IsLeast}
-use Rattle.kpn_run_history.specs.declared.event.Event.{Event}
-use Rattle.kpn_run_history.specs.Channels.{written_on, read_on, capacity_after, fed}
-use Rattle.kpn_run_history.specs.declared.event.How.{How}
-use Rattle.kpn_run_history.specs.Waiting.{wait_of}
-use Rattle.kpn_run_history.specs.Ends.{IsQuiet}
-use Rattle.kpn_run_history.proofs.Kahn.{least_if_quiet}
-use Rattle.kpn_run_configuration.specs.Configuration.{Configuration, channel_in, wait_in, end_in}
-use Rattle.kpn_run_configuration.specs.Run.{IsEndOf, IsRun}
-use Rattle.kpn_run_configuration.proofs.Numbered.{by_number}
+use Rattle.kpn_history.specs.declared.event.Event.{Event}
+use Rattle.kpn_history.specs.Channels.{written_on, read_on, capacity_after, fed}
+use Rattle.kpn_history.specs.declared.event.How.{How}
+use Rattle.kpn_history.specs.Waiting.{wait_of}
+use Rattle.kpn_history.specs.Ends.{IsQuiet}
+use Rattle.kpn_history.proofs.Kahn.{least_if_quiet}
+use Rattle.kpn_machine.specs.Machine.{Machine, channel_in, wait_in, end_in}
+use Rattle.kpn_machine.specs.Run.{IsEndOf, IsRun}
+use Rattle.kpn_machine.proofs.Numbered.{by_number}
 use Rattle.kpn_audit.specs.Shown.{ShowsLists}
 use Rattle.kpn_audit.specs.declared.findings.Audit.{Audit}
 use Rattle.kpn_audit.specs.Audit.{IsAudit, AreLeast}
@@ -27,8 +27,8 @@ same_entries f g a (suc n) m fits same =
     ap (λ x. x ∷ map f (range_with_len (a + 1) n)) (same a (omega arith))
     ∙ ap (λ xs. g a ∷ xs) (same_entries f g (a + 1) n m (omega arith) same)
 
--- the entries of a configuration are those of the history
-pub shown : {A : Type 0} (t : Tables) (H : List Event) (s : Configuration) → IsRun t H s → (audit : Audit A)
+-- the entries of a machine are those of the history
+pub shown : {A : Type 0} (t : Tables) (H : List Event) (s : Machine) → IsRun t H s → (audit : Audit A)
     → audit.journals ≡ map (λ (channel : ChannelState). channel.journal) s.channels
     → ShowsLists t H s audit → ((audit.exact ≡ true) ↔ IsQuiet t H) → IsAudit t H audit
 shown t H s run audit journals lists exact =

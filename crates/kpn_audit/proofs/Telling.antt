@@ -9,14 +9,14 @@ use Rattle.kpn_net.specs.declared.tables.Growth.TheVariants as growth
 use Rattle.kpn_net.specs.Tables.{Tables}
 use Rattle.kpn_net.specs.Faults.{IsNetwork}
 use Rattle.kpn_net.proofs.Networks.{limit_in_range}
-use Rattle.kpn_run_history.specs.declared.event.Event.{Event}
-use Rattle.kpn_run_history.specs.declared.stored.Version.{Version}
-use Rattle.kpn_run_history.specs.declared.stored.Version.TheVariants.{One, Two}
-use Rattle.kpn_run_history.specs.declared.stored.Trace.{Trace}
-use Rattle.kpn_run_history.specs.Channels.{capacity_after}
-use Rattle.kpn_run_history.proofs.Capacities.{in_limit}
-use Rattle.kpn_run_configuration.specs.Configuration.{Configuration, channel_in}
-use Rattle.kpn_run_configuration.specs.Run.{IsRun}
+use Rattle.kpn_history.specs.declared.event.Event.{Event}
+use Rattle.kpn_history.specs.declared.stored.Version.{Version}
+use Rattle.kpn_history.specs.declared.stored.Version.TheVariants.{One, Two}
+use Rattle.kpn_history.specs.declared.stored.Trace.{Trace}
+use Rattle.kpn_history.specs.Channels.{capacity_after}
+use Rattle.kpn_history.proofs.Capacities.{in_limit}
+use Rattle.kpn_machine.specs.Machine.{Machine, channel_in}
+use Rattle.kpn_machine.specs.Run.{IsRun}
 use Rattle.kpn_audit.specs.declared.findings.AuditFault.{AuditFault}
 use Rattle.kpn_audit.specs.declared.findings.AuditFault.TheVariants.{Illegal, NoMemory, Budget, PolicyDiffers}
 use Rattle.kpn_audit.specs.Audit.{IsFault, IsRefusal}
@@ -62,7 +62,7 @@ is_there v t events k below = let same = history_of-length v t events in omega (
 -- ---- the capacity that a growth names
 
 -- one more than a capacity is a number of the machine
-pub has_room : (t : Tables) → IsNetwork t → (H : List Event) (s : Configuration) → IsRun t H s → (c cap : ℕ)
+pub has_room : (t : Tables) → IsNetwork t → (H : List Event) (s : Machine) → IsRun t H s → (c cap : ℕ)
     → c < length t.channels → (channel_in s c).capacity ≡ Some cap → cap + 1 < 2 ^ 32
 has_room t network H s run c cap there is =
     let within = ((in_limit t network H run.legal).each c cap there
@@ -70,8 +70,8 @@ has_room t network H s run c cap there is =
     let most = (limit_in_range t network).1 in
     omega (arith, within, most)
 
--- the configuration shows the capacity of the history
-pub same_capacity : (t : Tables) (H : List Event) (s : Configuration) → IsRun t H s → (c n : ℕ)
+-- the machine shows the capacity of the history
+pub same_capacity : (t : Tables) (H : List Event) (s : Machine) → IsRun t H s → (c n : ℕ)
     → told_capacity t (channel_in s c).capacity c n ≡ told_capacity t (capacity_after t H c) c n
 same_capacity t H s run c n = by_test (nat_lt c (length t.channels)) refl
   where

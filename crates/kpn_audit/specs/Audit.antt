@@ -7,20 +7,20 @@ use Rattle.kpn_net.specs.Iteration.{IsLeast, lists_of}
 use Rattle.kpn_step.specs.Frame.{Frame}
 use Rattle.kpn_step.specs.Step.{step_of, Steps}
 use Rattle.kpn_step.specs.Stops.{IsBetween}
-use Rattle.kpn_run_history.specs.declared.event.Event.{Event}
-use Rattle.kpn_run_history.specs.Talks.{is_of}
-use Rattle.kpn_run_history.specs.Channels.{written_on, read_on, capacity_after, fed}
-use Rattle.kpn_run_history.specs.Waiting.{waits_of}
-use Rattle.kpn_run_history.specs.Ends.{IsQuiet}
-use Rattle.kpn_run_history.specs.Legal.{HasNumbers, CanGo, Legal}
-use Rattle.kpn_run_history.specs.Stops.{OwesNothing}
-use Rattle.kpn_run_configuration.specs.Run.{IsEndOf, StandsAfter}
+use Rattle.kpn_history.specs.declared.event.Event.{Event}
+use Rattle.kpn_history.specs.Talks.{is_of}
+use Rattle.kpn_history.specs.Channels.{written_on, read_on, capacity_after, fed}
+use Rattle.kpn_history.specs.Waiting.{waits_of}
+use Rattle.kpn_history.specs.Ends.{IsQuiet}
+use Rattle.kpn_history.specs.Legal.{HasNumbers, CanGo, Legal}
+use Rattle.kpn_history.specs.Stops.{OwesNothing}
+use Rattle.kpn_machine.specs.Run.{IsEndOf, StandsAfter}
 use Rattle.kpn_audit.specs.Complete.{TellsComplete}
 use Rattle.kpn_audit.specs.Place.{IsPlaceAfter, StopsWithin}
 use Rattle.kpn_audit.specs.declared.findings.Audit.{Audit}
 use Rattle.kpn_audit.specs.declared.findings.AuditFault.{AuditFault}
 use Rattle.kpn_audit.specs.declared.findings.AuditFault.TheVariants.{Illegal, NoMemory, Budget, PolicyDiffers}
-use Rattle.kpn_run_history.specs.declared.stored.Trace.{Trace}
+use Rattle.kpn_history.specs.declared.stored.Trace.{Trace}
 use Rattle.kpn_audit.specs.Stored.{Differs, tables_for, history_in}
 
 -- the events are a legal history, after which these are the journals, the numbers of items read, the capacities, the

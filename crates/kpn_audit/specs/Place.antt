@@ -7,9 +7,9 @@ use Rattle.kpn_step.specs.declared.stop.Stop.TheVariants.{Paused}
 use Rattle.kpn_step.specs.Frame.{Frame, start_frame}
 use Rattle.kpn_step.specs.Step.{Goes, step_of, Steps}
 use Rattle.kpn_step.specs.Stops.{StandsAt, IsBetween}
-use Rattle.kpn_run_history.specs.declared.event.Event.{Event}
-use Rattle.kpn_run_history.specs.Talks.{is_of}
-use Rattle.kpn_run_configuration.specs.Changes.{IsFrameAfter}
+use Rattle.kpn_history.specs.declared.event.Event.{Event}
+use Rattle.kpn_history.specs.Talks.{is_of}
+use Rattle.kpn_machine.specs.Changes.{IsFrameAfter}
 
 -- so many steps lead from the one frame to the other, and no further step can be made there: it stands at a stop
 pub record ComesToStop (blocks : List (List Statement)) (steps : ℕ) (before there : Frame) : Type 0 where

@@ -3,16 +3,16 @@ use Rattle.std.specs.Prelude.{◌≡◌, ℕ, true, if◌then◌else◌, List, t
 use Rattle.kpn_net.specs.declared.wait.Wait.TheVariants.{Empty, Full}
 use Rattle.kpn_net.specs.Tables.{Tables, channel_at, is_source, is_sink, larger_capacity}
 use Rattle.kpn_chan.specs.Channel.{is_full, next_item}
-use Rattle.kpn_run_history.specs.declared.event.Event.{Event}
-use Rattle.kpn_run_history.specs.declared.event.Event.TheVariants.{Feed, Close, Take, Leave}
-use Rattle.kpn_run_history.specs.declared.stored.Trace.{Trace}
-use Rattle.kpn_run_history.specs.Talks.{is_of}
-use Rattle.kpn_run_history.specs.Channels.{capacity_or_zero, is_growth_of}
-use Rattle.kpn_run_history.specs.Legal.{HasNumbers, OwesGrowth}
-use Rattle.kpn_run_history.specs.Stops as owing
-use Rattle.kpn_run_configuration.specs.Configuration.{Configuration, channel_in, closed_in, wait_in, end_in, IsFree}
-use Rattle.kpn_run_configuration.specs.Due.{Stands, ReadsFrom, WritesTo, stop_of}
-use Rattle.kpn_run_configuration.specs.Run.{IsRun}
+use Rattle.kpn_history.specs.declared.event.Event.{Event}
+use Rattle.kpn_history.specs.declared.event.Event.TheVariants.{Feed, Close, Take, Leave}
+use Rattle.kpn_history.specs.declared.stored.Trace.{Trace}
+use Rattle.kpn_history.specs.Talks.{is_of}
+use Rattle.kpn_history.specs.Channels.{capacity_or_zero, is_growth_of}
+use Rattle.kpn_history.specs.Legal.{HasNumbers, OwesGrowth}
+use Rattle.kpn_history.specs.Stops as owing
+use Rattle.kpn_machine.specs.Machine.{Machine, channel_in, closed_in, wait_in, end_in, IsFree}
+use Rattle.kpn_machine.specs.Due.{Stands, ReadsFrom, WritesTo, stop_of}
+use Rattle.kpn_machine.specs.Run.{IsRun}
 use Rattle.kpn_audit.specs.declared.findings.AuditFault.{AuditFault}
 use Rattle.kpn_audit.specs.Audit.{IsOutOfSteps, IsFault}
 use Rattle.kpn_audit.specs.Stored.{tables_for, history_in}
@@ -24,9 +24,9 @@ use Rattle.kpn_audit.specs.declared.scene.Doing.TheVariants.{Ended, WaitsEmpty, 
 use Rattle.kpn_audit.specs.declared.scene.Side.{Side}
 use Rattle.kpn_audit.specs.declared.scene.Side.TheVariants.{NoSource, Closed, Open, NoSink, Left, Next}
 
--- what process p, of which the event is, is doing in a configuration. It comes to a read, a write or an end only if it
+-- what process p, of which the event is, is doing in a machine. It comes to a read, a write or an end only if it
 -- may go on, and is elsewhere only if it has used up its steps
-abbrev pub IsDoing : Tables → List Event → Event → (quota : ℕ) → Configuration → (p : ℕ) → Doing → Type 0
+abbrev pub IsDoing : Tables → List Event → Event → (quota : ℕ) → Machine → (p : ℕ) → Doing → Type 0
 IsDoing t H event quota s p (Ended how) = end_in s p ≡ Some how
 IsDoing t H event quota s p (WaitsEmpty c) = wait_in s p ≡ Empty c
 IsDoing t H event quota s p (WaitsFull c) = wait_in s p ≡ Full c
@@ -36,18 +36,18 @@ IsDoing t H event quota s p (Ends how) = IsFree s p × Stands t s p (stop_of how
 IsDoing t H event quota s p Elsewhere = IsOutOfSteps t H event quota
 
 -- how channel c stands to the outside that feeds it
-abbrev pub source_side : Tables → Configuration → (c : ℕ) → Side
+abbrev pub source_side : Tables → Machine → (c : ℕ) → Side
 source_side t s c =
     if is_source (channel_at t c) then (if closed_in s c then Closed else Open) else NoSource
 
 -- how channel c stands to the outside that takes from it
-abbrev pub sink_side : Tables → Configuration → (c : ℕ) → Side
+abbrev pub sink_side : Tables → Machine → (c : ℕ) → Side
 sink_side t s c =
     if is_sink (channel_at t c) then
     (if (channel_in s c).is_retired then Left else Next (next_item (channel_in s c))) else NoSink
 
 -- how the channel of an event of the outside stands to it
-abbrev pub IsSide : Tables → Configuration → Event → (c : ℕ) → Side → Type 0
+abbrev pub IsSide : Tables → Machine → Event → (c : ℕ) → Side → Type 0
 IsSide t s (Feed d v) c side = (c ≡ d) × (side ≡ source_side t s c)
 IsSide t s (Close d) c side = (c ≡ d) × (side ≡ source_side t s c)
 IsSide t s (Take d v) c side = (c ≡ d) × (side ≡ sink_side t s c)
@@ -64,18 +64,18 @@ pub record IsJudgedByItself (t : Tables) (H : List Event) (event : Event) : Type
   pub nothing_owed : owing.OwesNothing t H
   pub numbers : HasNumbers t event
 
--- the event is of process p, and a configuration to which the history leads shows what p is doing
+-- the event is of process p, and a machine to which the history leads shows what p is doing
 pub record IsOfProcess (t : Tables) (H : List Event) (event : Event) (quota p : ℕ) (doing : Doing) : Type 0 where
   pub by_itself : IsJudgedByItself t H event
   pub own : is_of p event ≡ true
-  pub seen : Configuration
+  pub seen : Machine
   pub run : IsRun t H seen
   pub is_doing : IsDoing t H event quota seen p doing
 
--- the event is of the outside, and a configuration to which the history leads shows how its channel stands
+-- the event is of the outside, and a machine to which the history leads shows how its channel stands
 pub record IsOfOutside (t : Tables) (H : List Event) (event : Event) (c : ℕ) (side : Side) : Type 0 where
   pub by_itself : IsJudgedByItself t H event
-  pub seen : Configuration
+  pub seen : Machine
   pub run : IsRun t H seen
   pub is_side : IsSide t seen event c side
 

@@ -5,12 +5,12 @@ use Rattle.std.specs.Prelude.{◌≡◌, ℕ, ◌+◌, nat_lt, if◌then◌else�
 use Rattle.kpn_net.specs.declared.tables.Policy.TheVariants.{Cycles}
 use Rattle.kpn_net.specs.declared.tables.Growth.TheVariants as growth
 use Rattle.kpn_net.specs.Tables.{Tables, under}
-use Rattle.kpn_run_history.specs.declared.event.Event.{Event}
-use Rattle.kpn_run_history.specs.declared.event.Event.TheVariants.{Grow}
-use Rattle.kpn_run_history.specs.declared.stored.Version.{Version}
-use Rattle.kpn_run_history.specs.declared.stored.Version.TheVariants.{One, Two}
-use Rattle.kpn_run_history.specs.declared.stored.Trace.{Trace}
-use Rattle.kpn_run_history.specs.Channels.{capacity_after}
+use Rattle.kpn_history.specs.declared.event.Event.{Event}
+use Rattle.kpn_history.specs.declared.event.Event.TheVariants.{Grow}
+use Rattle.kpn_history.specs.declared.stored.Version.{Version}
+use Rattle.kpn_history.specs.declared.stored.Version.TheVariants.{One, Two}
+use Rattle.kpn_history.specs.declared.stored.Trace.{Trace}
+use Rattle.kpn_history.specs.Channels.{capacity_after}
 
 -- ---- which rules
 

@@ -1,7 +1,7 @@
 //! The auditor.
 ghost use Rattle.std.specs.Prelude.{◌≡◌, ◌⊎◌, ◌↔◌, ℕ, true, length, IsTrue, IfOk, IfErr};
-ghost use Rattle.kpn_run_history.specs.Legal.{Legal};
-ghost use Rattle.kpn_run_configuration.specs.Run.{IsRun};
+ghost use Rattle.kpn_history.specs.Legal.{Legal};
+ghost use Rattle.kpn_machine.specs.Run.{IsRun};
 ghost use Rattle.kpn_audit.specs.Audit.{IsAudit, AreLeast, AreWithinSteps, IsFault, IsRefusal};
 ghost use Rattle.kpn_audit.specs.Judged.{ArePlaces, Owes};
 ghost use Rattle.kpn_audit.specs.Stored.{Differs, history_of, tables_for, history_in};
@@ -11,9 +11,9 @@ use crate::judged::Judged;
 use crate::judging::judge;
 use crate::stored::told;
 use crate::summary::summary;
+use kpn_history::{Event, Trace, Version};
+use kpn_machine::{Machine, OwedGrowth};
 use kpn_net::{Growth, Network, Policy};
-use kpn_run_configuration::{Configuration, OwedGrowth};
-use kpn_run_history::{Event, Trace, Version};
 use std::alloc::Allocator;
 
 /// Audits a trace: whether its events are a legal history of the network, and what stands after them.
@@ -25,7 +25,7 @@ use std::alloc::Allocator;
 /// whether the network has its numbers, and whether its process has ended or is blocked. Then the process makes steps,
 /// `quota` of them at most, and where it stops the event has to be due.
 ///
-/// The configuration on which it replays takes its memory from `alloc`, and so does what it finds; the journals are
+/// The machine on which it replays takes its memory from `alloc`, and so does what it finds; the journals are
 /// moved there, not copied. If memory is refused, the answer is [`AuditFault::NoMemory`], and nothing is kept.
 pub fn audit<A: Allocator + Copy, B: Allocator>(
     alloc: A,
@@ -95,17 +95,17 @@ fn audit_events<A: Allocator + Copy>(
 {
     network.known();
     let replayed = replay(alloc, network, version, events, quota)?;
-    Ok(summary(alloc, network, replayed.configuration)?)
+    Ok(summary(alloc, network, replayed.machine)?)
 }
 
-/// What a replay leads to: a configuration, and what is owed then.
+/// What a replay leads to: a machine, and what is owed then.
 #[derive(Drop)]
 pub(crate) struct Replayed<A: Allocator> {
-    pub configuration: Configuration<A>,
+    pub machine: Machine<A>,
     pub owed: Option<OwedGrowth>,
 }
 
-/// Replays events of this version on a configuration of its own, from the start.
+/// Replays events of this version on a machine of its own, from the start.
 pub(crate) fn replay<A: Allocator + Copy>(
     alloc: A,
     network: &Network,
@@ -114,29 +114,26 @@ pub(crate) fn replay<A: Allocator + Copy>(
     quota: u64,
 ) -> Result<Replayed<A>, AuditFault>
     ensures run { IfOk result (λ made.
-        IsRun network.now (history_of version network.now events.now) made.configuration) }
+        IsRun network.now (history_of version network.now events.now) made.machine) }
     ensures owes { let H = history_of version network.now events.now in
-        IfOk result (λ made. Owes network.now H made.configuration made.owed) }
+        IfOk result (λ made. Owes network.now H made.machine made.owed) }
     ensures places { let H = history_of version network.now events.now in
-        IfOk result (λ made. ArePlaces network.now H made.configuration) }
+        IfOk result (λ made. ArePlaces network.now H made.machine) }
     ensures within { let H = history_of version network.now events.now in
         IfOk result (λ made. AreWithinSteps network.now H quota (length H)) }
     ensures refused { let H = history_of version network.now events.now in
         IfErr result (λ fault. IsFault network.now H quota fault) }
 {
     network.known();
-    let mut configuration = Configuration::new(alloc, network)?;
+    let mut machine = Machine::new(alloc, network)?;
     let mut owed = None;
     'events: for k in 0..events.len() {
-        let event = told(&configuration, network, version, events[k]);
-        match judge(&mut configuration, network, owed, event, quota)? {
+        let event = told(&machine, network, version, events[k]);
+        match judge(&mut machine, network, owed, event, quota)? {
             Judged::Follows(growth) => owed = growth,
             Judged::Illegal => return Err(AuditFault::Illegal(k)),
             Judged::Budget => return Err(AuditFault::Budget(k)),
         }
     }
-    Ok(Replayed {
-        configuration,
-        owed,
-    })
+    Ok(Replayed { machine, owed })
 }

@@ -4,8 +4,8 @@ ghost use Rattle.kpn_net.specs.Tables.{Tables};
 ghost use Rattle.kpn_net.specs.Faults.{IsNetwork};
 ghost use Rattle.kpn_net.specs.Process.{Family};
 ghost use Rattle.kpn_net.specs.Iteration.{IsLeast};
-ghost use Rattle.kpn_run_history.specs.declared.event.Event.{Event};
-ghost use Rattle.kpn_run_history.specs.Complete.{IsFedFrom};
+ghost use Rattle.kpn_history.specs.declared.event.Event.{Event};
+ghost use Rattle.kpn_history.specs.Complete.{IsFedFrom};
 ghost use Rattle.kpn_audit.specs.declared.findings.Audit.{Audit};
 ghost use Rattle.kpn_audit.specs.Audit.{IsAudit};
 

@@ -3,9 +3,9 @@ ghost use Rattle.std.specs.Prelude.{◌≡◌};
 ghost use Rattle.kpn_audit.specs.declared.findings.AuditFault.TheVariants.{NoMemory};
 
 use kpn_chan::Journal;
+use kpn_history::How;
 use kpn_lang::Sequence;
 use kpn_net::Wait;
-use kpn_run_history::How;
 use std::alloc::{AllocError, Allocator, Global};
 use thiserror::Error;
 

@@ -1,11 +1,11 @@
 //! What is found of one event.
 
-use kpn_run_configuration::OwedGrowth;
+use kpn_machine::OwedGrowth;
 
 /// What is found of the event that comes next.
 #[derive(Clone, Copy, PartialEq, Eq)]
 pub enum Judged {
-    /// It may follow, and the configuration is the one after it. This growth is owed then.
+    /// It may follow, and the machine is the one after it. This growth is owed then.
     Follows(Option<OwedGrowth>),
     /// It may not follow.
     Illegal,

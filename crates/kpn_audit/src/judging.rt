@@ -1,13 +1,13 @@
 //! One event judged: first what can be judged before any step, then, once its process has come to a stop, whether it
 //! is due there.
 ghost use Rattle.std.specs.Prelude.{◌≡◌, ◌≢◌, ◌↔◌, ◌<◌, ℕ, true, false, List, length, IsTrue, IfOk, Some, None, Ok};
-ghost use Rattle.kpn_run_history.specs.declared.event.Event.{Event};
-ghost use Rattle.kpn_run_history.specs.Talks.{is_of, is_of_process};
-ghost use Rattle.kpn_run_history.specs.Legal.{HasNumbers};
-ghost use Rattle.kpn_run_history.specs.Stops.{OwesNothing};
-ghost use Rattle.kpn_run_configuration.specs.Configuration.{IsConfiguration};
-ghost use Rattle.kpn_run_configuration.specs.Owed.{IsAwaitedBelowLimit};
-ghost use Rattle.kpn_run_configuration.specs.Run.{IsRun};
+ghost use Rattle.kpn_history.specs.declared.event.Event.{Event};
+ghost use Rattle.kpn_history.specs.Talks.{is_of, is_of_process};
+ghost use Rattle.kpn_history.specs.Legal.{HasNumbers};
+ghost use Rattle.kpn_history.specs.Stops.{OwesNothing};
+ghost use Rattle.kpn_machine.specs.Machine.{IsMachine};
+ghost use Rattle.kpn_machine.specs.Owed.{IsAwaitedBelowLimit};
+ghost use Rattle.kpn_machine.specs.Run.{IsRun};
 ghost use Rattle.kpn_audit.specs.declared.judged.Judged.TheVariants.{Budget};
 ghost use Rattle.kpn_audit.specs.Judged.{StandsFree, Owes, IsFound, IsJudged, StopsInTime, IsInTime};
 
@@ -15,9 +15,9 @@ use crate::growth::judge_owed;
 use crate::judged::Judged;
 use crate::stepping::come_to_stop;
 use crate::{outside, processes};
+use kpn_history::{Event, How};
+use kpn_machine::{Machine, OwedGrowth};
 use kpn_net::Network;
-use kpn_run_configuration::{Configuration, OwedGrowth};
-use kpn_run_history::{Event, How};
 use kpn_step::Stop;
 use std::alloc::{AllocError, Allocator};
 
@@ -45,130 +45,130 @@ pub(crate) fn has_numbers(network: &Network, event: Event) -> bool
 
 /// Judges an event of a process, which stands at this stop.
 fn judge_at_stop<A: Allocator + Copy>(
-    configuration: &mut Configuration<A>,
+    machine: &mut Machine<A>,
     network: &Network,
     event: Event,
     stop: Stop,
 ) -> Result<Judged, AllocError>
-    requires shape { IsConfiguration network.now configuration.old }
+    requires shape { IsMachine network.now machine.old }
     requires numbers { HasNumbers network.now event }
     requires stopped { (p : ℕ) → is_of p event ≡ true
-        → StandsFree network.now configuration.old p stop }
-    ensures shape { IsConfiguration network.now configuration.new }
+        → StandsFree network.now machine.old p stop }
+    ensures shape { IsMachine network.now machine.new }
     ensures judged { is_of_process event ≡ true
-        → IfOk result (IsFound network.now event configuration.old configuration.new) }
+        → IfOk result (IsFound network.now event machine.old machine.new) }
 {
     match event {
         Event::Get(p, c, item) => {
-            Ok(processes::get(configuration, network, p.into(), c.into(), item, stop))
+            Ok(processes::get(machine, network, p.into(), c.into(), item, stop))
         }
         Event::Put(p, c, item) => {
-            processes::put(configuration, network, p.into(), c.into(), item, stop)
+            processes::put(machine, network, p.into(), c.into(), item, stop)
         }
         Event::WaitEmpty(p, c) => {
-            Ok(processes::wait_on_empty(configuration, network, p.into(), c.into(), stop))
+            Ok(processes::wait_on_empty(machine, network, p.into(), c.into(), stop))
         }
         Event::WaitFull(p, c) => {
-            processes::wait_on_full(configuration, network, p.into(), c.into(), stop)
+            processes::wait_on_full(machine, network, p.into(), c.into(), stop)
         }
-        Event::Ended(p, how) => Ok(processes::end(configuration, network, p.into(), how, stop)),
+        Event::Ended(p, how) => Ok(processes::end(machine, network, p.into(), how, stop)),
         _ => Ok(Judged::Illegal),
     }
 }
 
 /// Judges an event of process `p`: whether it may go on, at which stop it comes to stand, and what is due there.
 fn judge_process<A: Allocator + Copy>(
-    configuration: &mut Configuration<A>,
+    machine: &mut Machine<A>,
     network: &Network,
     p: usize,
     event: Event,
     quota: u64,
 ) -> Result<Judged, AllocError>
-    requires shape { IsConfiguration network.now configuration.old }
+    requires shape { IsMachine network.now machine.old }
     requires numbers { HasNumbers network.now event }
     requires own { is_of p event ≡ true }
-    ensures shape { IsConfiguration network.now configuration.new }
-    ensures in_time { result ≢ Ok Budget → StopsInTime network.now configuration.old quota p }
-    ensures judged { (H : List Event) → IsRun network.now H configuration.old
+    ensures shape { IsMachine network.now machine.new }
+    ensures in_time { result ≢ Ok Budget → StopsInTime network.now machine.old quota p }
+    ensures judged { (H : List Event) → IsRun network.now H machine.old
         → OwesNothing network.now H
         → IfOk result
-        (IsJudged network.now H event quota configuration.old configuration.new) }
+        (IsJudged network.now H event quota machine.old machine.new) }
 {
-    match come_to_stop(configuration, network, p, quota) {
-        Ok(stop) => judge_at_stop(configuration, network, event, stop),
+    match come_to_stop(machine, network, p, quota) {
+        Ok(stop) => judge_at_stop(machine, network, event, stop),
         Err(judged) => Ok(judged),
     }
 }
 
 /// Judges an event of the outside. A growth, which nothing owes, may not follow.
 fn judge_outside<A: Allocator + Copy>(
-    configuration: &mut Configuration<A>,
+    machine: &mut Machine<A>,
     network: &Network,
     event: Event,
 ) -> Result<Judged, AllocError>
-    requires shape { IsConfiguration network.now configuration.old }
+    requires shape { IsMachine network.now machine.old }
     requires numbers { HasNumbers network.now event }
     requires outside { is_of_process event ≡ false }
-    ensures shape { IsConfiguration network.now configuration.new }
+    ensures shape { IsMachine network.now machine.new }
     ensures judged { IfOk result
-        (IsFound network.now event configuration.old configuration.new) }
+        (IsFound network.now event machine.old machine.new) }
 {
     network.known();
     match event {
-        Event::Feed(c, item) => outside::feed(configuration, network, c.into(), item),
-        Event::Close(c) => Ok(outside::close(configuration, network, c.into())),
-        Event::Take(c, item) => Ok(outside::take(configuration, network, c.into(), item)),
-        Event::Leave(c) => Ok(outside::leave(configuration, network, c.into())),
+        Event::Feed(c, item) => outside::feed(machine, network, c.into(), item),
+        Event::Close(c) => Ok(outside::close(machine, network, c.into())),
+        Event::Take(c, item) => Ok(outside::take(machine, network, c.into(), item)),
+        Event::Leave(c) => Ok(outside::leave(machine, network, c.into())),
         _ => Ok(Judged::Illegal),
     }
 }
 
 /// Judges an event if nothing is owed.
 fn judge_next<A: Allocator + Copy>(
-    configuration: &mut Configuration<A>,
+    machine: &mut Machine<A>,
     network: &Network,
     event: Event,
     quota: u64,
 ) -> Result<Judged, AllocError>
-    requires shape { IsConfiguration network.now configuration.old }
-    ensures shape { IsConfiguration network.now configuration.new }
-    ensures in_time { result ≢ Ok Budget → IsInTime network.now configuration.old quota event }
-    ensures judged { (H : List Event) → IsRun network.now H configuration.old
+    requires shape { IsMachine network.now machine.old }
+    ensures shape { IsMachine network.now machine.new }
+    ensures in_time { result ≢ Ok Budget → IsInTime network.now machine.old quota event }
+    ensures judged { (H : List Event) → IsRun network.now H machine.old
         → OwesNothing network.now H
         → IfOk result
-        (IsJudged network.now H event quota configuration.old configuration.new) }
+        (IsJudged network.now H event quota machine.old machine.new) }
 {
     if !has_numbers(network, event) {
         return Ok(Judged::Illegal);
     }
     match event.process() {
-        Some(p) => judge_process(configuration, network, p, event, quota),
-        None => judge_outside(configuration, network, event),
+        Some(p) => judge_process(machine, network, p, event, quota),
+        None => judge_outside(machine, network, event),
     }
 }
 
 /// Judges the event that comes next, if this is owed, and makes it if it may follow. The error is that memory ran out.
 pub(crate) fn judge<A: Allocator + Copy>(
-    configuration: &mut Configuration<A>,
+    machine: &mut Machine<A>,
     network: &Network,
     owed: Option<OwedGrowth>,
     event: Event,
     quota: u64,
 ) -> Result<Judged, AllocError>
-    requires shape { IsConfiguration network.now configuration.old }
+    requires shape { IsMachine network.now machine.old }
     requires owed { (growth : OwedGrowth) → owed ≡ Some growth
         → (growth.process < length network.now.instances)
-        × IsAwaitedBelowLimit network.now configuration.old growth.channel }
-    ensures shape { IsConfiguration network.now configuration.new }
+        × IsAwaitedBelowLimit network.now machine.old growth.channel }
+    ensures shape { IsMachine network.now machine.new }
     ensures in_time { owed ≡ None → result ≢ Ok Budget
-        → IsInTime network.now configuration.old quota event }
-    ensures judged { (H : List Event) → IsRun network.now H configuration.old
-        → Owes network.now H configuration.old owed
+        → IsInTime network.now machine.old quota event }
+    ensures judged { (H : List Event) → IsRun network.now H machine.old
+        → Owes network.now H machine.old owed
         → IfOk result
-        (IsJudged network.now H event quota configuration.old configuration.new) }
+        (IsJudged network.now H event quota machine.old machine.new) }
 {
     match owed {
-        Some(growth) => Ok(judge_owed(configuration, network, growth, event)),
-        None => judge_next(configuration, network, event, quota),
+        Some(growth) => Ok(judge_owed(machine, network, growth, event)),
+        None => judge_next(machine, network, event, quota),
     }
 }

@@ -1,11 +1,11 @@
 //! What holds of the findings of audits and of stored traces, as contracts of functions with nothing to do.
 ghost use Rattle.std.specs.Prelude.{◌≡◌, ◌≢◌, ◌<◌, ◌+◌, ℕ, suc, List, length, take, count_by, Some, slice_get};
 ghost use Rattle.kpn_net.specs.Tables.{Tables, channel_at, capacity};
-ghost use Rattle.kpn_run_history.specs.declared.event.Event.{Event};
-ghost use Rattle.kpn_run_history.specs.declared.event.Event.TheVariants.{Grow};
-ghost use Rattle.kpn_run_history.specs.declared.stored.Version.TheVariants.{One};
-ghost use Rattle.kpn_run_history.specs.Channels.{is_growth_of};
-ghost use Rattle.kpn_run_history.specs.Legal.{Legal};
+ghost use Rattle.kpn_history.specs.declared.event.Event.{Event};
+ghost use Rattle.kpn_history.specs.declared.event.Event.TheVariants.{Grow};
+ghost use Rattle.kpn_history.specs.declared.stored.Version.TheVariants.{One};
+ghost use Rattle.kpn_history.specs.Channels.{is_growth_of};
+ghost use Rattle.kpn_history.specs.Legal.{Legal};
 ghost use Rattle.kpn_audit.specs.declared.findings.AuditFault.{AuditFault};
 ghost use Rattle.kpn_audit.specs.declared.findings.AuditFault.TheVariants.{NoMemory, Illegal};
 ghost use Rattle.kpn_audit.specs.declared.scene.Scene.{Scene};

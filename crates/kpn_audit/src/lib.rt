@@ -1,4 +1,4 @@
-//! The auditor: it replays a list of events on a configuration of its own, and reports whether they are a legal history
+//! The auditor: it replays a list of events on a machine of its own, and reports whether they are a legal history
 //! of a network and what stands after them, or the first event that goes wrong.
 #![tactic(auto)]
 

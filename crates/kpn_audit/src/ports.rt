@@ -1,13 +1,13 @@
 //! What a stop asks for: a read from a channel, a write to it, or an end.
 ghost use Rattle.std.specs.Prelude.{◌≡◌, ◌↔◌, ◌<◌, ℤ, IsTrue, length};
 ghost use Rattle.kpn_net.specs.Tables.{instance_at};
-ghost use Rattle.kpn_run_configuration.specs.Changes.{IsChannelAt};
-ghost use Rattle.kpn_run_configuration.specs.Due.{stop_of};
+ghost use Rattle.kpn_machine.specs.Changes.{IsChannelAt};
+ghost use Rattle.kpn_machine.specs.Due.{stop_of};
 ghost use Rattle.kpn_audit.specs.Judged.{IsReadFrom, IsWriteOf};
 
+use kpn_history::How;
+use kpn_machine::stop_of;
 use kpn_net::Network;
-use kpn_run_configuration::stop_of;
-use kpn_run_history::How;
 use kpn_step::Stop;
 
 /// Whether the channel stands at a port among these.

@@ -1,6 +1,6 @@
 //! What stands before an event: what its process is doing, or how its channel stands.
 
-use kpn_run_history::How;
+use kpn_history::How;
 
 /// What stands before an event of a trace.
 #[derive(Clone, Copy)]

@@ -1,9 +1,9 @@
 //! What stands before an event of a trace: the events before it are replayed.
 ghost use Rattle.std.specs.Prelude.{◌≡◌, ◌<◌, ℕ, List, length, IfOk, IfErr};
-ghost use Rattle.kpn_run_history.specs.declared.event.Event.{Event};
-ghost use Rattle.kpn_run_configuration.specs.Configuration.{IsConfiguration};
-ghost use Rattle.kpn_run_configuration.specs.Owed.{IsAwaitedBelowLimit};
-ghost use Rattle.kpn_run_configuration.specs.Run.{IsRun};
+ghost use Rattle.kpn_history.specs.declared.event.Event.{Event};
+ghost use Rattle.kpn_machine.specs.Machine.{IsMachine};
+ghost use Rattle.kpn_machine.specs.Owed.{IsAwaitedBelowLimit};
+ghost use Rattle.kpn_machine.specs.Run.{IsRun};
 ghost use Rattle.kpn_audit.specs.Audit.{IsFault};
 ghost use Rattle.kpn_audit.specs.Judged.{IsOwing};
 ghost use Rattle.kpn_audit.specs.Scene.{IsOwedAfter, IsScene, IsSceneBefore, IsFaultBefore};
@@ -14,12 +14,12 @@ use crate::findings::AuditFault;
 use crate::scene::{GrowthOwed, Scene};
 use crate::seeing::seen;
 use crate::stored::told;
+use kpn_history::{Event, Trace, Version};
+use kpn_machine::{Machine, OwedGrowth};
 use kpn_net::{Growth, Network, Policy};
-use kpn_run_configuration::{Configuration, OwedGrowth};
-use kpn_run_history::{Event, Trace, Version};
 use std::alloc::Allocator;
 
-/// What stands before event `k` of a trace: what a configuration shows to which the events before it lead. If the
+/// What stands before event `k` of a trace: what a machine shows to which the events before it lead. If the
 /// event's process may go on, it first makes steps to its next stop, `quota` at most.
 ///
 /// The events before it have to be legal, else the answer is the fault that an audit of them has.
@@ -60,30 +60,27 @@ fn scene_after<A: Allocator + Copy>(
         IfErr result (IsFault network.now H quota) }
 {
     let replayed = replay(alloc, network, version, before, quota)?;
-    let Replayed {
-        mut configuration,
-        owed,
-    } = replayed;
-    let event = told(&configuration, network, version, event);
+    let Replayed { mut machine, owed } = replayed;
+    let event = told(&machine, network, version, event);
     match owed {
-        Some(owed) => Ok(Scene::Owes(growth_owed(&mut configuration, network, owed))),
-        None => Ok(seen(&mut configuration, network, event, quota)),
+        Some(owed) => Ok(Scene::Owes(growth_owed(&mut machine, network, owed))),
+        None => Ok(seen(&mut machine, network, event, quota)),
     }
 }
 
 /// The growth that is owed, with the capacity that it gives the channel.
 fn growth_owed<A: Allocator>(
-    configuration: &mut Configuration<A>,
+    machine: &mut Machine<A>,
     network: &Network,
     owed: OwedGrowth,
 ) -> GrowthOwed
-    requires shape { IsConfiguration network.now configuration.old }
+    requires shape { IsMachine network.now machine.old }
     requires process { owed.process < length network.now.instances }
-    requires awaited { IsAwaitedBelowLimit network.now configuration.old owed.channel }
-    ensures { (H : List Event) → IsRun network.now H configuration.old
-        → IsOwing network.now H configuration.old owed → IsOwedAfter network.now H result }
+    requires awaited { IsAwaitedBelowLimit network.now machine.old owed.channel }
+    ensures { (H : List Event) → IsRun network.now H machine.old
+        → IsOwing network.now H machine.old owed → IsOwedAfter network.now H result }
 {
-    let grown = configuration.grow(network, owed.process, owed.channel);
+    let grown = machine.grow(network, owed.process, owed.channel);
     GrowthOwed {
         process: owed.process,
         channel: owed.channel,

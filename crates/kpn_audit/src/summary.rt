@@ -2,28 +2,28 @@
 ghost use Rattle.std.specs.Prelude.{◌≡◌, List, length, map, IfOk, OnOk};
 ghost use Rattle.std.specs.List.{range_with_len};
 ghost use Rattle.kpn_net.specs.Faults.{channel_numbers};
-ghost use Rattle.kpn_run_history.specs.declared.event.Event.{Event};
-ghost use Rattle.kpn_run_configuration.specs.Configuration.{channel_in, wait_in, end_in, IsConfiguration};
-ghost use Rattle.kpn_run_configuration.specs.Run.{IsRun};
+ghost use Rattle.kpn_history.specs.declared.event.Event.{Event};
+ghost use Rattle.kpn_machine.specs.Machine.{channel_in, wait_in, end_in, IsMachine};
+ghost use Rattle.kpn_machine.specs.Run.{IsRun};
 ghost use Rattle.kpn_audit.specs.Audit.{IsAudit};
 ghost use Rattle.kpn_audit.specs.Shown.{ShowsLists};
 
 use crate::complete::complete_channels;
 use crate::findings::Audit;
+use kpn_history::How;
 use kpn_lang::Sequence;
+use kpn_machine::Machine;
 use kpn_net::{Network, Wait};
-use kpn_run_configuration::Configuration;
-use kpn_run_history::How;
 use std::alloc::{AllocError, Allocator};
 
-/// What a configuration shows of the history that led to it; its journals are moved. The error is that memory ran out.
+/// What a machine shows of the history that led to it; its journals are moved. The error is that memory ran out.
 pub(crate) fn summary<A: Allocator + Copy>(
     alloc: A,
     network: &Network,
-    configuration: Configuration<A>,
+    machine: Machine<A>,
 ) -> Result<Audit<A>, AllocError>
-    requires { IsConfiguration network.now configuration }
-    ensures { (H : List Event) → IsRun network.now H configuration
+    requires { IsMachine network.now machine }
+    ensures { (H : List Event) → IsRun network.now H machine
         → IfOk result (λ audit. IsAudit network.now H audit) }
 {
     network.known();
@@ -36,9 +36,9 @@ pub(crate) fn summary<A: Allocator + Copy>(
         ends: Sequence::new(alloc),
         exact: false,
     };
-    fill_in(alloc, network, &configuration, &mut audit)?;
-    audit.exact = configuration.is_quiet(network);
-    let Ok(journals) = configuration.into_journals(alloc) else {
+    fill_in(alloc, network, &machine, &mut audit)?;
+    audit.exact = machine.is_quiet(network);
+    let Ok(journals) = machine.into_journals(alloc) else {
         return Err(AllocError);
     };
     audit.journals = journals;
@@ -50,18 +50,18 @@ pub(crate) fn summary<A: Allocator + Copy>(
 fn fill_in<A: Allocator + Copy>(
     alloc: A,
     network: &Network,
-    configuration: &Configuration<A>,
+    machine: &Machine<A>,
     audit: &mut Audit<A>,
 ) -> Result<(), AllocError>
-    requires { IsConfiguration network.now configuration.now }
-    ensures { (H : List Event) → IsRun network.now H configuration.now
-        → OnOk result (ShowsLists network.now H configuration.now audit.new) }
+    requires { IsMachine network.now machine.now }
+    ensures { (H : List Event) → IsRun network.now H machine.now
+        → OnOk result (ShowsLists network.now H machine.now audit.new) }
 {
-    audit.reads = read_counts(alloc, network, configuration)?;
-    audit.caps = capacities(alloc, network, configuration)?;
-    audit.complete = complete_channels(alloc, network, configuration)?;
-    audit.waits = waits(alloc, network, configuration)?;
-    audit.ends = ends(alloc, network, configuration)?;
+    audit.reads = read_counts(alloc, network, machine)?;
+    audit.caps = capacities(alloc, network, machine)?;
+    audit.complete = complete_channels(alloc, network, machine)?;
+    audit.waits = waits(alloc, network, machine)?;
+    audit.ends = ends(alloc, network, machine)?;
     Ok(())
 }
 
@@ -69,15 +69,15 @@ fn fill_in<A: Allocator + Copy>(
 fn read_counts<A: Allocator>(
     alloc: A,
     network: &Network,
-    configuration: &Configuration<A>,
+    machine: &Machine<A>,
 ) -> Result<Sequence<usize, A>, AllocError>
-    requires { IsConfiguration network.now configuration.now }
+    requires { IsMachine network.now machine.now }
     ensures { IfOk result (λ reads. reads
-        ≡ map (λ c. (channel_in configuration.now c).read) (channel_numbers network.now)) }
+        ≡ map (λ c. (channel_in machine.now c).read) (channel_numbers network.now)) }
 {
     let mut reads = Vec::with_capacity(alloc, network.channels())?;
     for c in 0..network.channels() {
-        reads.push(configuration.channel(c).read_count())?;
+        reads.push(machine.channel(c).read_count())?;
     }
     Ok(Sequence::from_vec(reads))
 }
@@ -86,15 +86,15 @@ fn read_counts<A: Allocator>(
 fn capacities<A: Allocator>(
     alloc: A,
     network: &Network,
-    configuration: &Configuration<A>,
+    machine: &Machine<A>,
 ) -> Result<Sequence<Option<u32>, A>, AllocError>
-    requires { IsConfiguration network.now configuration.now }
+    requires { IsMachine network.now machine.now }
     ensures { IfOk result (λ caps. caps
-        ≡ map (λ c. (channel_in configuration.now c).capacity) (channel_numbers network.now)) }
+        ≡ map (λ c. (channel_in machine.now c).capacity) (channel_numbers network.now)) }
 {
     let mut caps = Vec::with_capacity(alloc, network.channels())?;
     for c in 0..network.channels() {
-        caps.push(configuration.channel(c).cap())?;
+        caps.push(machine.channel(c).cap())?;
     }
     Ok(Sequence::from_vec(caps))
 }
@@ -103,15 +103,15 @@ fn capacities<A: Allocator>(
 fn waits<A: Allocator>(
     alloc: A,
     network: &Network,
-    configuration: &Configuration<A>,
+    machine: &Machine<A>,
 ) -> Result<Sequence<Wait, A>, AllocError>
-    requires { IsConfiguration network.now configuration.now }
+    requires { IsMachine network.now machine.now }
     ensures { IfOk result (λ waits. waits
-        ≡ map (wait_in configuration.now) (range_with_len 0 (length network.now.instances))) }
+        ≡ map (wait_in machine.now) (range_with_len 0 (length network.now.instances))) }
 {
     let mut waits = Vec::with_capacity(alloc, network.instances())?;
     for p in 0..network.instances() {
-        waits.push(configuration.wait(p))?;
+        waits.push(machine.wait(p))?;
     }
     Ok(Sequence::from_vec(waits))
 }
@@ -120,15 +120,15 @@ fn waits<A: Allocator>(
 fn ends<A: Allocator>(
     alloc: A,
     network: &Network,
-    configuration: &Configuration<A>,
+    machine: &Machine<A>,
 ) -> Result<Sequence<Option<How>, A>, AllocError>
-    requires { IsConfiguration network.now configuration.now }
+    requires { IsMachine network.now machine.now }
     ensures { IfOk result (λ ends. ends
-        ≡ map (end_in configuration.now) (range_with_len 0 (length network.now.instances))) }
+        ≡ map (end_in machine.now) (range_with_len 0 (length network.now.instances))) }
 {
     let mut ends = Vec::with_capacity(alloc, network.instances())?;
     for p in 0..network.instances() {
-        ends.push(configuration.end_of(p))?;
+        ends.push(machine.end_of(p))?;
     }
     Ok(Sequence::from_vec(ends))
 }

@@ -12,22 +12,22 @@ use Rattle.kpn_net.specs.Tables.{Tables, channel_at, is_source, writer_of}
 use Rattle.kpn_net.specs.Faults.{IsNetwork}
 use Rattle.kpn_net.specs.Iteration.{given_by, IsLeast}
 use Rattle.kpn_net.proofs.Networks.{Writes-writer_of, source-writer_of, writer_is_no_sink}
-use Rattle.kpn_run_history.specs.declared.event.Event.{Event}
-use Rattle.kpn_run_history.specs.declared.event.How.{How}
-use Rattle.kpn_run_history.specs.declared.state.State.{State}
-use Rattle.kpn_run_history.specs.declared.state.State.TheVariants.{Ready, Held, WaitsEmpty, WaitsFull, Ended}
-use Rattle.kpn_run_history.specs.declared.state.View.{View}
-use Rattle.kpn_run_history.specs.Channels.{written_on, read_on, is_closed}
-use Rattle.kpn_run_history.specs.Legal.{Legal}
-use Rattle.kpn_run_history.specs.Views.{IsStateOf, Agrees}
-use Rattle.kpn_run_history.specs.Complete.{IsComplete, IsFedFrom}
-use Rattle.kpn_run_history.proofs.EndsOnce.{ended_by}
-use Rattle.kpn_run_history.proofs.Journals.{reads_begin_writes}
-use Rattle.kpn_run_history.proofs.OwnWaits.{wait_on_empty}
-use Rattle.kpn_run_history.proofs.Finished.{process-complete}
-use Rattle.kpn_run_history.proofs.Complete.{least_if_complete, begins_complete, complete_same}
-use Rattle.kpn_run_history.proofs.CompleteQuiet.{finished_if_quiet}
-use Rattle.kpn_run_history.proofs.CompleteWalks.{Walked, complete_source, complete_if_ended, incomplete_if_neither, walk_more, walk_long}
+use Rattle.kpn_history.specs.declared.event.Event.{Event}
+use Rattle.kpn_history.specs.declared.event.How.{How}
+use Rattle.kpn_history.specs.declared.state.State.{State}
+use Rattle.kpn_history.specs.declared.state.State.TheVariants.{Ready, Held, WaitsEmpty, WaitsFull, Ended}
+use Rattle.kpn_history.specs.declared.state.View.{View}
+use Rattle.kpn_history.specs.Channels.{written_on, read_on, is_closed}
+use Rattle.kpn_history.specs.Legal.{Legal}
+use Rattle.kpn_history.specs.Views.{IsStateOf, Agrees}
+use Rattle.kpn_history.specs.Complete.{IsComplete, IsFedFrom}
+use Rattle.kpn_history.proofs.EndsOnce.{ended_by}
+use Rattle.kpn_history.proofs.Journals.{reads_begin_writes}
+use Rattle.kpn_history.proofs.OwnWaits.{wait_on_empty}
+use Rattle.kpn_history.proofs.Finished.{process-complete}
+use Rattle.kpn_history.proofs.Complete.{least_if_complete, begins_complete, complete_same}
+use Rattle.kpn_history.proofs.CompleteQuiet.{finished_if_quiet}
+use Rattle.kpn_history.proofs.CompleteWalks.{Walked, complete_source, complete_if_ended, incomplete_if_neither, walk_more, walk_long}
 use Rattle.kpn_book.specs.declared.outcome.Limits.{Limits}
 use Rattle.kpn_book.specs.declared.outcome.Outcome.TheVariants as outcome
 use Rattle.kpn_book.specs.declared.report.Report.{Report}

@@ -9,15 +9,15 @@ use Rattle.kpn_net.specs.declared.tables.ChannelSpec.{ChannelSpec}
 use Rattle.kpn_net.specs.declared.tables.ChannelSpec.TheVariants as channel
 use Rattle.kpn_net.specs.Tables.{Tables, channel_at, is_source, is_sink}
 use Rattle.kpn_net.specs.Faults.{IsNetwork}
-use Rattle.kpn_run_history.specs.declared.event.Event.{Event}
-use Rattle.kpn_run_history.specs.declared.event.Event.TheVariants.{Put, Feed}
-use Rattle.kpn_run_history.specs.Channels.{written_in, written_on, is_closed, is_close_of}
-use Rattle.kpn_run_history.specs.Legal.{Legal}
-use Rattle.kpn_run_history.proofs.Legality.{Legal-prefix, Legal-last}
-use Rattle.kpn_run_history.proofs.Ownership.{IsOwn-last}
-use Rattle.kpn_run_history.proofs.Journals.{no_source, none_elsewhere}
-use Rattle.kpn_run_history.proofs.Events.{flat_map-same, written_on-same}
-use Rattle.kpn_run_history.proofs.AfterEvent.{is_closed-next}
+use Rattle.kpn_history.specs.declared.event.Event.{Event}
+use Rattle.kpn_history.specs.declared.event.Event.TheVariants.{Put, Feed}
+use Rattle.kpn_history.specs.Channels.{written_in, written_on, is_closed, is_close_of}
+use Rattle.kpn_history.specs.Legal.{Legal}
+use Rattle.kpn_history.proofs.Legality.{Legal-prefix, Legal-last}
+use Rattle.kpn_history.proofs.Ownership.{IsOwn-last}
+use Rattle.kpn_history.proofs.Journals.{no_source, none_elsewhere}
+use Rattle.kpn_history.proofs.Events.{flat_map-same, written_on-same}
+use Rattle.kpn_history.proofs.AfterEvent.{is_closed-next}
 
 -- ---- which channels
 

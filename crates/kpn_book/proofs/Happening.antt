@@ -3,16 +3,16 @@
 use Rattle.std.proofs.Common.{◌≡◌, ℕ, Bool, true, false, ◌||◌, ℤ, List, [], ◌∷◌, ◌++◌, refl, sym, ap, ◌∙◌, subst, inl, inr, append_assoc}
 use Rattle.kpn_lang.specs.Prefix.{IsPrefix}
 use Rattle.kpn_lang.proofs.Prefixes.{IsPrefix-append}
-use Rattle.kpn_run_history.specs.declared.event.Event.{Event}
-use Rattle.kpn_run_history.specs.declared.event.Event.TheVariants.{Grow}
-use Rattle.kpn_run_history.specs.Channels.{written_on, read_on, is_closed}
-use Rattle.kpn_run_history.specs.Stops.{OwesNothing}
-use Rattle.kpn_run_history.proofs.Events.{written_on-same, read_on-same}
-use Rattle.kpn_run_history.proofs.AfterEvent.{is_closed-next}
-use Rattle.kpn_run_state.specs.Book.{Book}
-use Rattle.kpn_run_state.specs.Kept.{IsBook}
-use Rattle.kpn_run_state.specs.Appending.{Appends, AppendsAll, IsGrowthOwed, Happens, AllHappen}
-use Rattle.kpn_run_state.proofs.Appended.{tables_stay, history_then, commits_stay}
+use Rattle.kpn_history.specs.declared.event.Event.{Event}
+use Rattle.kpn_history.specs.declared.event.Event.TheVariants.{Grow}
+use Rattle.kpn_history.specs.Channels.{written_on, read_on, is_closed}
+use Rattle.kpn_history.specs.Stops.{OwesNothing}
+use Rattle.kpn_history.proofs.Events.{written_on-same, read_on-same}
+use Rattle.kpn_history.proofs.AfterEvent.{is_closed-next}
+use Rattle.kpn_book.specs.Book.{Book}
+use Rattle.kpn_book.specs.Kept.{IsBook}
+use Rattle.kpn_book.specs.Appending.{Appends, AppendsAll, IsGrowthOwed, Happens, AllHappen}
+use Rattle.kpn_book.proofs.Appended.{tables_stay, history_then, commits_stay}
 
 module _ (e : Event) (before after : Book) (is : Happens e before after) where
   pub happens_tables : after.tables ≡ before.tables

@@ -16,29 +16,29 @@ use Rattle.kpn_net.proofs.Networks.{Writes-writer_of, Reads-reader_of}
 use Rattle.kpn_net.proofs.Cycles.{Contains-none}
 use Rattle.kpn_step.specs.declared.stop.Stop.{Stop}
 use Rattle.kpn_step.specs.Stops.{Advanced}
-use Rattle.kpn_run_history.specs.declared.event.How.{How}
-use Rattle.kpn_run_history.specs.declared.event.How.TheVariants as how
-use Rattle.kpn_run_history.specs.declared.event.Event.{Event}
-use Rattle.kpn_run_history.specs.declared.event.Event.TheVariants as event
-use Rattle.kpn_run_history.specs.declared.state.State.{State}
-use Rattle.kpn_run_history.specs.declared.state.State.TheVariants.{Ready, Held, WaitsEmpty, WaitsFull, Ended}
-use Rattle.kpn_run_history.specs.Channels.{capacity_or_zero}
-use Rattle.kpn_run_history.specs.Views.{is_held}
-use Rattle.kpn_run_history.specs.Waking.{wait_then}
-use Rattle.kpn_run_configuration.specs.Configuration.{Configuration, wait_in, end_in}
-use Rattle.kpn_run_configuration.specs.Woken.{is_wait_on_full, is_wait_on_empty, waiting_at, waiting_writer, waiting_reader}
-use Rattle.kpn_run_configuration.proofs.Waking.{woken_at_end}
-use Rattle.kpn_run_state.specs.Schedule.{Schedule, state_at, made_ready}
-use Rattle.kpn_run_state.specs.declared.answers.Done.{Done}
-use Rattle.kpn_run_state.specs.declared.answers.Done.TheVariants as done
-use Rattle.kpn_run_state.specs.Book.{Book, held_count, standing_at, counted, IsClaimed}
-use Rattle.kpn_run_state.specs.Kept.{IsBook, IsStateBy}
-use Rattle.kpn_run_state.specs.Appending.{AppendsAll, all_made_ready, own_part, woken_by, IsGrowthOwed, Happens}
-use Rattle.kpn_run_state.specs.Commits.{IsAnswer, ready_if_paused}
-use Rattle.kpn_run_state.specs.Refusals.{Feeds, Takes, takes_item}
-use Rattle.kpn_run_state.specs.Stepping.{StepsNext}
-use Rattle.kpn_run_state.proofs.Woken.{only_one}
-use Rattle.kpn_run_state.proofs.CommitCounts.{held_in, held_less, held_more, held_as_before}
+use Rattle.kpn_history.specs.declared.event.How.{How}
+use Rattle.kpn_history.specs.declared.event.How.TheVariants as how
+use Rattle.kpn_history.specs.declared.event.Event.{Event}
+use Rattle.kpn_history.specs.declared.event.Event.TheVariants as event
+use Rattle.kpn_history.specs.declared.state.State.{State}
+use Rattle.kpn_history.specs.declared.state.State.TheVariants.{Ready, Held, WaitsEmpty, WaitsFull, Ended}
+use Rattle.kpn_history.specs.Channels.{capacity_or_zero}
+use Rattle.kpn_history.specs.Views.{is_held}
+use Rattle.kpn_history.specs.Waking.{wait_then}
+use Rattle.kpn_machine.specs.Machine.{Machine, wait_in, end_in}
+use Rattle.kpn_machine.specs.Woken.{is_wait_on_full, is_wait_on_empty, waiting_at, waiting_writer, waiting_reader}
+use Rattle.kpn_machine.proofs.Waking.{woken_at_end}
+use Rattle.kpn_book.specs.Schedule.{Schedule, state_at, made_ready}
+use Rattle.kpn_book.specs.declared.answers.Done.{Done}
+use Rattle.kpn_book.specs.declared.answers.Done.TheVariants as done
+use Rattle.kpn_book.specs.Book.{Book, held_count, standing_at, counted, IsClaimed}
+use Rattle.kpn_book.specs.Kept.{IsBook, IsStateBy}
+use Rattle.kpn_book.specs.Appending.{AppendsAll, all_made_ready, own_part, woken_by, IsGrowthOwed, Happens}
+use Rattle.kpn_book.specs.Commits.{IsAnswer, ready_if_paused}
+use Rattle.kpn_book.specs.Refusals.{Feeds, Takes, takes_item}
+use Rattle.kpn_book.specs.Stepping.{StepsNext}
+use Rattle.kpn_book.proofs.Woken.{only_one}
+use Rattle.kpn_book.proofs.CommitCounts.{held_in, held_less, held_more, held_as_before}
 
 -- ---- a process that waits is not held
 
@@ -101,7 +101,7 @@ all_made_ready-append [] qs s = refl
 all_made_ready-append (p ∷ ps) qs s = all_made_ready-append ps qs (made_ready p s)
 
 -- if an event makes no free process wait, a process that waits after it waited before it
-waited_before : (t : Tables) (e : Event) (s after : Configuration) (q : ℕ)
+waited_before : (t : Tables) (e : Event) (s after : Machine) (q : ℕ)
     → (q < length t.instances → wait_in after q ≡ wait_then t e q (wait_in s q)) → wait_then t e q Nobody ≡ Nobody
     → Waits t after.waits q → Waits t s.waits q
 waited_before t e s after q then none waits =
@@ -110,13 +110,13 @@ waited_before t e s after q then none waits =
 -- ---- the outside
 
 module _ (before : Book) (book : IsBook before) where
-  idle : (q : ℕ) → Waits before.tables before.configuration.waits q
+  idle : (q : ℕ) → Waits before.tables before.machine.waits q
       → (q < length before.schedule.states) × (is_held (state_at before.schedule.states q) ≡ false)
   idle q waits =
       let there = waits.0 in
       let long = book.kept.in_step.processes in (
         omega arith,
-        not_held_by (end_in before.configuration q) (wait_in before.configuration q) (state_at before.schedule.states q)
+        not_held_by (end_in before.machine q) (wait_in before.machine q) (state_at before.schedule.states q)
             (book.kept.in_step.states q there) waits.1,
       )
 
@@ -124,28 +124,28 @@ module _ (before : Book) (book : IsBook before) where
       → held_count after ≡ held_count before
   held_after_feed c item bound after feeds =
       ap (λ s. held_in s.states) feeds.appends.schedule
-      ∙ held_as_before (option_to_list (waiting_reader before.tables before.configuration.waits c)) before.schedule
-      (λ q among. idle q (a_reader before.tables before.configuration.waits c q among))
+      ∙ held_as_before (option_to_list (waiting_reader before.tables before.machine.waits c)) before.schedule
+      (λ q among. idle q (a_reader before.tables before.machine.waits c q among))
 
   -- an event of the outside, and the growth that is owed then
   held_after_event : (e : Event) → own_part e before.schedule ≡ before.schedule
       → ((q : ℕ) → wait_then before.tables e q Nobody ≡ Nobody)
-      → ((q : ℕ) → Contains (woken_by before.tables before.configuration.waits e) q
-      → Waits before.tables before.configuration.waits q) → (after : Book) → Happens e before after
+      → ((q : ℕ) → Contains (woken_by before.tables before.machine.waits e) q
+      → Waits before.tables before.machine.waits q) → (after : Book) → Happens e before after
       → held_count after ≡ held_count before
   held_after_event e own none each after is = by is.growth is.owed is.appends
     where
       by : (growth : List Event) → IsGrowthOwed before.tables (before.history ++ e ∷ []) growth
           → AppendsAll (e ∷ growth) before after → held_count after ≡ held_count before
       by [] owed h =
-          let woken = woken_by before.tables before.configuration.waits e in
+          let woken = woken_by before.tables before.machine.waits e in
           ap held_count h.2 ∙ ap (λ s. held_in s.states) h.1.schedule
           ∙ ap (λ s. held_in (all_made_ready woken s).states) own
           ∙ held_as_before woken before.schedule (λ q among. idle q (each q among))
       by (event.Grow r d n ∷ []) owed h =
-          let woken = woken_by before.tables before.configuration.waits e in
+          let woken = woken_by before.tables before.machine.waits e in
           let middle = h.0 in
-          let writer = option_to_list (waiting_writer middle.tables middle.configuration.waits d) in
+          let writer = option_to_list (waiting_writer middle.tables middle.machine.waits d) in
           ap held_count h.2.2
           ∙ ap (λ s. held_in s.states)
           (h.2.1.schedule
@@ -157,10 +157,10 @@ module _ (before : Book) (book : IsBook before) where
             | inl first ↦ idle q (each q first)
             | inr second ↦
                 idle q
-                (waited_before before.tables e before.configuration middle.configuration q
-                (λ there. h.1.configuration.waits q there) (none q)
-                (subst (λ t. Waits t middle.configuration.waits q) h.1.tables
-                (a_writer middle.tables middle.configuration.waits d q second)))
+                (waited_before before.tables e before.machine middle.machine q
+                (λ there. h.1.machine.waits q there) (none q)
+                (subst (λ t. Waits t middle.machine.waits q) h.1.tables
+                (a_writer middle.tables middle.machine.waits d q second)))
           ])
       by growth owed h = absurd owed
 
@@ -177,7 +177,7 @@ module _ (before : Book) (book : IsBook before) where
       by None same = ap held_count same.1
       by (Some v) taken =
           held_after_event (event.Take c v) refl (λ q. refl)
-          (λ q among. a_writer before.tables before.configuration.waits c q among) after taken.1
+          (λ q among. a_writer before.tables before.machine.waits c q among) after taken.1
 
 -- ---- a step
 
@@ -199,23 +199,23 @@ module _ (before : Book) (book : IsBook before) (p : ℕ) (between : Book) (clai
       ∙ held_more before.schedule.states p claimed.holds.there (ap is_held claimed.holds.was_ready)
 
   -- p waits for nobody, since it was ready
-  claimed_free : p < length before.tables.instances → wait_in before.configuration p ≡ Nobody
+  claimed_free : p < length before.tables.instances → wait_in before.machine p ≡ Nobody
   claimed_free there =
-      (subst (λ x. IsStateBy (end_in before.configuration p) (wait_in before.configuration p) x)
+      (subst (λ x. IsStateBy (end_in before.machine p) (wait_in before.machine p) x)
       claimed.holds.was_ready (book.kept.in_step.states p there)).1
 
   -- a process that waits is not held, also now that p is
   abbrev NotHeld : ℕ → Type 0
   NotHeld q = (q < length between.schedule.states) × (is_held (state_at between.schedule.states q) ≡ false)
 
-  others_before : (q : ℕ) → Waits before.tables before.configuration.waits q → NotHeld q
+  others_before : (q : ℕ) → Waits before.tables before.machine.waits q → NotHeld q
   others_before q waits =
       let was = idle before book q waits in
       let there = was.0 in
       let long = ap length claimed.holds.states in
       elim (cases_eq q p) [
         | inl same ↦
-            absurd (waits.1 (subst (λ z. wait_in before.configuration z ≡ Nobody) (sym same)
+            absurd (waits.1 (subst (λ z. wait_in before.machine z ≡ Nobody) (sym same)
             (claimed_free (subst (λ z. z < length before.tables.instances) same waits.0))))
         | inr other ↦ (
           omega (arith, length-set before.schedule.states p Held),
@@ -225,19 +225,19 @@ module _ (before : Book) (book : IsBook before) (p : ℕ) (between : Book) (clai
         )
       ]
 
-  others : (q : ℕ) → Waits between.tables between.configuration.waits q → NotHeld q
+  others : (q : ℕ) → Waits between.tables between.machine.waits q → NotHeld q
   others q =
-      subst (λ b. Waits b.tables b.configuration.waits q → NotHeld q) (sym claimed.same) (others_before q)
+      subst (λ b. Waits b.tables b.machine.waits q → NotHeld q) (sym claimed.same) (others_before q)
 
-  own_waits : AreWaits between.tables between.configuration.waits
-  own_waits = subst (λ b. AreWaits b.tables b.configuration.waits) (sym claimed.same) book.kept.in_step.run.shape.waits
+  own_waits : AreWaits between.tables between.machine.waits
+  own_waits = subst (λ b. AreWaits b.tables b.machine.waits) (sym claimed.same) book.kept.in_step.run.shape.waits
 
   network : IsNetwork between.tables
   network = subst (λ b. IsNetwork b.tables) (sym claimed.same) book.network
 
   -- p is in a state that is not held, and others that are not held are ready
   released : (y : State) → is_held y ≡ false → (woken : List ℕ)
-      → ((q : ℕ) → Contains woken q → (q ≡ p) ⊎ Waits between.tables between.configuration.waits q) → (s : Schedule)
+      → ((q : ℕ) → Contains woken q → (q ≡ p) ⊎ Waits between.tables between.machine.waits q) → (s : Schedule)
       → s.states ≡ set between.schedule.states p y → held_in (all_made_ready woken s).states ≡ held_count before
   released y new woken each s is =
       let less = held_less between.schedule.states p y claimed_there claimed_held new in
@@ -269,32 +269,32 @@ module _ (before : Book) (book : IsBook before) (p : ℕ) (between : Book) (clai
     abbrev stood : Book
     stood = standing_at p a.to between
 
-    nobody : (q : ℕ) → Contains [] q → (q ≡ p) ⊎ Waits between.tables between.configuration.waits q
+    nobody : (q : ℕ) → Contains [] q → (q ≡ p) ⊎ Waits between.tables between.machine.waits q
     nobody q among = absurd (Contains-none q among)
 
     -- one event of p
     by_one : (e : Event) (y : State) → is_held y ≡ false
-        → ((q : ℕ) → Contains (woken_by between.tables between.configuration.waits e) q
-        → (q ≡ p) ⊎ Waits between.tables between.configuration.waits q)
+        → ((q : ℕ) → Contains (woken_by between.tables between.machine.waits e) q
+        → (q ≡ p) ⊎ Waits between.tables between.machine.waits q)
         → (own_part e between.schedule).states ≡ set between.schedule.states p y → (es : List Event) → es ≡ e ∷ []
         → AppendsAll es (counted stood) after → held_count after ≡ held_count before
     by_one e y new each own es same appends =
         let h = subst (λ es. AppendsAll es (counted stood) after) same appends in
         ap held_count h.2 ∙ ap (λ s. held_in s.states) h.1.schedule
-        ∙ released y new (woken_by between.tables between.configuration.waits e) each (own_part e between.schedule) own
+        ∙ released y new (woken_by between.tables between.machine.waits e) each (own_part e between.schedule) own
 
     -- an event of p and a growth
     by_two : (e : Event) (r d n : ℕ) (y : State) → is_held y ≡ false
-        → ((q : ℕ) → Contains (woken_by between.tables between.configuration.waits e) q
-        → (q ≡ p) ⊎ Waits between.tables between.configuration.waits q)
+        → ((q : ℕ) → Contains (woken_by between.tables between.machine.waits e) q
+        → (q ≡ p) ⊎ Waits between.tables between.machine.waits q)
         → ((q : ℕ) → (q ≡ p → ⊥) → wait_then between.tables e q Nobody ≡ Nobody)
         → (own_part e between.schedule).states ≡ set between.schedule.states p y → (es : List Event)
         → es ≡ e ∷ event.Grow r d n ∷ [] → AppendsAll es (counted stood) after → held_count after ≡ held_count before
     by_two e r d n y new each none own es same appends =
         let h = subst (λ es. AppendsAll es (counted stood) after) same appends in
         let middle = h.0 in
-        let woken = woken_by between.tables between.configuration.waits e in
-        let writer = option_to_list (waiting_writer middle.tables middle.configuration.waits d) in
+        let woken = woken_by between.tables between.machine.waits e in
+        let writer = option_to_list (waiting_writer middle.tables middle.machine.waits d) in
         ap held_count h.2.2
         ∙ ap (λ s. held_in s.states)
         (h.2.1.schedule ∙ ap (all_made_ready writer) h.1.schedule
@@ -308,10 +308,10 @@ module _ (before : Book) (book : IsBook before) (p : ℕ) (between : Book) (clai
                 | inl own ↦ inl own
                 | inr other ↦
                     inr
-                    (waited_before between.tables e between.configuration middle.configuration q
-                    (λ there. h.1.configuration.waits q there) (none q other)
-                    (subst (λ t. Waits t middle.configuration.waits q) h.1.tables
-                    (a_writer middle.tables middle.configuration.waits d q second)))
+                    (waited_before between.tables e between.machine middle.machine q
+                    (λ there. h.1.machine.waits q there) (none q other)
+                    (subst (λ t. Waits t middle.machine.waits q) h.1.tables
+                    (a_writer middle.tables middle.machine.waits d q second)))
               ]
         ])
         (own_part e between.schedule) own
@@ -332,21 +332,21 @@ module _ (before : Book) (book : IsBook before) (p : ℕ) (between : Book) (clai
         subst (λ b. p < length b.tables.instances) (sym claimed.same) (omega arith)
 
     at_end : (q : ℕ)
-        → Contains (woken_by between.tables between.configuration.waits (event.Ended p how.Done)) q
-        → (q ≡ p) ⊎ Waits between.tables between.configuration.waits q
+        → Contains (woken_by between.tables between.machine.waits (event.Ended p how.Done)) q
+        → (q ≡ p) ⊎ Waits between.tables between.machine.waits q
     at_end q among =
-        let r = (woken_at_end between.tables network between.configuration.waits own_waits p process_there q).0 among in
+        let r = (woken_at_end between.tables network between.machine.waits own_waits p process_there q).0 among in
         inr (r.0, λ none. let clash : Nobody ≡ Full r.1.channel = sym none ∙ r.1.waits in cc)
 
     held_by_answer : (s : Stop) (answer : Done) (es : List Event) → IsAnswer stood p s answer es
         → AppendsAll es (ready_if_paused p answer (counted stood)) after → held_count after ≡ held_count before
     held_by_answer s (done.Got v) es got appends =
         by_one (event.Get p got.channel v) Ready refl
-        (λ q among. inr (a_writer between.tables between.configuration.waits got.channel q among)) refl es got.appends
+        (λ q among. inr (a_writer between.tables between.machine.waits got.channel q among)) refl es got.appends
         appends
     held_by_answer s done.Put es put appends =
         by_one (event.Put p put.channel put.item) Ready refl
-        (λ q among. inr (a_reader between.tables between.configuration.waits put.channel q among)) refl es put.appends
+        (λ q among. inr (a_reader between.tables between.machine.waits put.channel q among)) refl es put.appends
         appends
     held_by_answer s done.Blocked es blocked appends =
         elim blocked.waits [

@@ -1,13 +1,13 @@
 -- Turns in a row: each of them goes on where the one before it has led.
 use Rattle.std.proofs.Common.{◌≡◌, ℕ, ◌+◌, ◌-◌, ◌<◌, ◌≤◌, max, Bool, true, false, [], ◌∷◌, Option, Some, None, sym, ap, ◌∙◌, subst, inl, inr, arith}
 use Rattle.std.proofs.lemmas.Bool.{false≢true}
-use Rattle.kpn_run_history.specs.Views.{is_stopped}
-use Rattle.kpn_run_state.specs.declared.answers.Done.{Done}
-use Rattle.kpn_run_state.specs.declared.answers.Done.TheVariants as done
-use Rattle.kpn_run_state.specs.Book.{Book}
-use Rattle.kpn_run_state.specs.Stepping.{ClaimsNobody}
-use Rattle.kpn_run_state.specs.InARow.{PutsOnNoSink, IsStepInRow, StepsInRow, no_step, one_step_more, RunsOn}
-use Rattle.kpn_run_state.proofs.Seen.{not_settled}
+use Rattle.kpn_history.specs.Views.{is_stopped}
+use Rattle.kpn_book.specs.declared.answers.Done.{Done}
+use Rattle.kpn_book.specs.declared.answers.Done.TheVariants as done
+use Rattle.kpn_book.specs.Book.{Book}
+use Rattle.kpn_book.specs.Stepping.{ClaimsNobody}
+use Rattle.kpn_book.specs.InARow.{PutsOnNoSink, IsStepInRow, StepsInRow, no_step, one_step_more, RunsOn}
+use Rattle.kpn_book.proofs.Seen.{not_settled}
 use Rattle.kpn_book.specs.declared.outcome.Limits.{Limits}
 use Rattle.kpn_book.specs.Outcomes.{IsEnough, IsOutcome}
 use Rattle.kpn_book.specs.RunHere.{Turns, one_turn_more}

@@ -3,13 +3,13 @@ use Rattle.std.proofs.Common.{◌≡◌, ◌↔◌, ℕ, zero, suc, ◌+◌, ◌
 use Rattle.std.specs.List.{Contains, filter, range_with_len}
 use Rattle.std.proofs.lemmas.List.{get_or-map, length-map, map-append, get_or_past}
 use Rattle.std.proofs.lemmas.List.Elements.{filter-append}
-use Rattle.kpn_run_state.proofs.Queueing.{range_next}
+use Rattle.kpn_book.proofs.Queueing.{range_next}
 use Rattle.kpn_net.specs.Tables.{Tables, channel_at, is_sink}
 use Rattle.kpn_net.specs.Faults.{channel_numbers}
 use Rattle.kpn_net.proofs.Cycles.{Contains-first, Contains-later}
-use Rattle.kpn_run_history.specs.declared.event.Event.{Event}
-use Rattle.kpn_run_history.specs.Channels.{read_on}
-use Rattle.kpn_run_state.proofs.Agreeing.{number_below}
+use Rattle.kpn_history.specs.declared.event.Event.{Event}
+use Rattle.kpn_history.specs.Channels.{read_on}
+use Rattle.kpn_book.proofs.Agreeing.{number_below}
 use Rattle.kpn_book.specs.Reports.{sink_numbers, read_of_sinks, TellsEach}
 
 -- ---- lists

@@ -3,12 +3,12 @@ use Rattle.std.proofs.Common.{◌≡◌, ℕ, ◌<◌, false, cond, List, length
 use Rattle.std.proofs.lemmas.Bool.{cases_eq}
 use Rattle.std.proofs.lemmas.List.{length-set, get_or-set_same, get_or-set_other, get_or_default}
 use Rattle.std.proofs.lemmas.List.Sums.{sum_by-le}
-use Rattle.kpn_run_history.specs.declared.state.State.{State}
-use Rattle.kpn_run_history.specs.declared.state.State.TheVariants.{Ready, Held}
-use Rattle.kpn_run_history.specs.Views.{is_held}
-use Rattle.kpn_run_state.specs.Schedule.{state_at}
-use Rattle.kpn_run_state.specs.Book.{Book, IsHeld, held_count, put_back}
-use Rattle.kpn_run_state.specs.Kept.{IsBook}
+use Rattle.kpn_history.specs.declared.state.State.{State}
+use Rattle.kpn_history.specs.declared.state.State.TheVariants.{Ready, Held}
+use Rattle.kpn_history.specs.Views.{is_held}
+use Rattle.kpn_book.specs.Schedule.{state_at}
+use Rattle.kpn_book.specs.Book.{Book, IsHeld, held_count, put_back}
+use Rattle.kpn_book.specs.Kept.{IsBook}
 use Rattle.kpn_book.specs.Releasing.{Releases, IsNoneHeldBelow}
 
 -- ---- one process

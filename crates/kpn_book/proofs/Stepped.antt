@@ -5,26 +5,26 @@ use Rattle.kpn_lang.specs.Prefix.{IsPrefix}
 use Rattle.kpn_lang.proofs.Prefixes.{IsPrefix-append, IsPrefix-trans, IsPrefix-refl}
 use Rattle.kpn_net.specs.Tables.{Tables, channel_at, is_source, is_sink}
 use Rattle.kpn_net.specs.Faults.{IsNetwork}
-use Rattle.kpn_run_history.specs.declared.event.Event.{Event}
-use Rattle.kpn_run_history.specs.declared.event.Event.TheVariants as event
-use Rattle.kpn_run_history.specs.Channels.{written_in, read_in, written_on, read_on, unread_on}
-use Rattle.kpn_run_history.specs.Legal.{Legal, growth_after}
-use Rattle.kpn_run_history.proofs.Ownership.{IsOwn-last}
-use Rattle.kpn_run_history.proofs.Journals.{no_sink, none_elsewhere}
-use Rattle.kpn_run_history.proofs.Events.{written_on-push, written_on-same, read_on-push, read_on-same}
-use Rattle.kpn_run_history.proofs.OneMore.{item_here, unread_length}
-use Rattle.kpn_run_configuration.specs.Configuration.{channel_in}
+use Rattle.kpn_history.specs.declared.event.Event.{Event}
+use Rattle.kpn_history.specs.declared.event.Event.TheVariants as event
+use Rattle.kpn_history.specs.Channels.{written_in, read_in, written_on, read_on, unread_on}
+use Rattle.kpn_history.specs.Legal.{Legal, growth_after}
+use Rattle.kpn_history.proofs.Ownership.{IsOwn-last}
+use Rattle.kpn_history.proofs.Journals.{no_sink, none_elsewhere}
+use Rattle.kpn_history.proofs.Events.{written_on-push, written_on-same, read_on-push, read_on-same}
+use Rattle.kpn_history.proofs.OneMore.{item_here, unread_length}
+use Rattle.kpn_machine.specs.Machine.{channel_in}
 use Rattle.kpn_step.specs.declared.stop.Stop.{Stop}
 use Rattle.kpn_chan.specs.Channel.{unread}
-use Rattle.kpn_run_state.specs.declared.answers.Done.{Done}
-use Rattle.kpn_run_state.specs.declared.answers.Done.TheVariants as done
-use Rattle.kpn_run_state.specs.Book.{Book, held_count, standing_at}
-use Rattle.kpn_run_state.specs.Kept.{IsBook}
-use Rattle.kpn_run_state.specs.Appending.{IsGrowthOwed, AllHappen}
-use Rattle.kpn_run_state.specs.Commits.{HasToWait, IsAnswer}
-use Rattle.kpn_run_state.specs.Refusals.{Takes, takes_item}
-use Rattle.kpn_run_state.specs.Stepping.{ClaimsNobody, IsStep, StepsNext}
-use Rattle.kpn_run_state.proofs.Appended.{commit_tables, commit_history, commit_commits}
+use Rattle.kpn_book.specs.declared.answers.Done.{Done}
+use Rattle.kpn_book.specs.declared.answers.Done.TheVariants as done
+use Rattle.kpn_book.specs.Book.{Book, held_count, standing_at}
+use Rattle.kpn_book.specs.Kept.{IsBook}
+use Rattle.kpn_book.specs.Appending.{IsGrowthOwed, AllHappen}
+use Rattle.kpn_book.specs.Commits.{HasToWait, IsAnswer}
+use Rattle.kpn_book.specs.Refusals.{Takes, takes_item}
+use Rattle.kpn_book.specs.Stepping.{ClaimsNobody, IsStep, StepsNext}
+use Rattle.kpn_book.proofs.Appended.{commit_tables, commit_history, commit_commits}
 use Rattle.kpn_book.specs.declared.outcome.Limits.{Limits}
 use Rattle.kpn_book.specs.Outcomes.{IsEnough}
 use Rattle.kpn_book.specs.Running.{IsLeftToItself, IsFrontStepped, IsLater, IsCommitted, HasPut, HasPutOn, KeepsSinks, sinks_after, has_put, ReadsOneMore, IsStepped}
@@ -270,11 +270,11 @@ pub record IsTaken (before after : Book) (c : ℕ) : Type 0 where
   pub elsewhere : (d : ℕ) → (c ≡ d → ⊥) → read_on after.history d ≡ read_on before.history d
 
 nothing_unread : (b : Book) → IsBook b → (c : ℕ) → c < length b.tables.channels
-    → unread (channel_in b.configuration c) ≡ []
+    → unread (channel_in b.machine c) ≡ []
     → length (written_on b.history c) ≤ length (read_on b.history c)
 nothing_unread b book c there none =
     let holds = book.kept.in_step.run.leads.channels c there in
-    let ch = channel_in b.configuration c in
+    let ch = channel_in b.machine c in
     let long = length-drop ch.read ch.journal in
     let zero = ap length none in
     let written = ap length holds.journal in
@@ -358,10 +358,10 @@ module _ (limits : Limits) (before now after : Book) (to_itself : IsLeftToItself
       ]
 
   -- what is unread on the sinks is the item that was put, and it is taken
-  unread_now : unread (channel_in now.configuration c) ≡ unread_on now.history c
+  unread_now : unread (channel_in now.machine c) ≡ unread_on now.history c
   unread_now =
       let holds = book.kept.in_step.run.leads.channels c (sink_there now.tables c takes.sink.sink) in
-      let ch = channel_in now.configuration c in
+      let ch = channel_in now.machine c in
       ap (λ n. drop n ch.journal) holds.read ∙ ap (drop (length (read_on now.history c))) holds.journal
 
   few_unread : length (unread_on now.history c) ≤ 1
@@ -396,8 +396,8 @@ module _ (limits : Limits) (before now after : Book) (to_itself : IsLeftToItself
       by (Some w) taken =
           takes_there now after c there takes.sink.sink others_empty (w ∷ [])
           (sym unread_now
-          ∙ the_one (unread (channel_in now.configuration c)) w
-          (ap (λ b. cond b None (slice_get (unread (channel_in now.configuration c)) 0)) (sym takes.sink.not_left)
+          ∙ the_one (unread (channel_in now.machine c)) w
+          (ap (λ b. cond b None (slice_get (unread (channel_in now.machine c)) 0)) (sym takes.sink.not_left)
           ∙ taken.0)
           (subst (λ xs. length xs ≤ 1) (sym unread_now) few_unread))
           (one (event.Take c w) now after taken.1)

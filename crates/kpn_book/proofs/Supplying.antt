@@ -3,23 +3,23 @@ use Rattle.std.proofs.Common.{◌≡◌, ℕ, ◌+◌, ◌<◌, Bool, true, fals
 use Rattle.std.proofs.lemmas.Bool.{cases_eq, both_ways}
 use Rattle.kpn_net.specs.Tables.{Tables, channel_at, is_source, is_sink}
 use Rattle.kpn_net.specs.Process.{Family}
-use Rattle.kpn_run_history.specs.declared.event.Event.TheVariants.{Feed, Close}
-use Rattle.kpn_run_history.specs.Channels.{written_on, is_closed, is_close_of}
-use Rattle.kpn_run_history.specs.Views.{is_held}
-use Rattle.kpn_run_history.proofs.Events.{written_on-push, written_on-same}
-use Rattle.kpn_run_history.proofs.AfterEvent.{is_closed-next}
-use Rattle.kpn_run_history.proofs.Journals.{none_elsewhere}
-use Rattle.kpn_run_history.proofs.OneMore.{item_here}
-use Rattle.kpn_run_configuration.specs.Configuration.{closed_in}
-use Rattle.kpn_run_state.specs.Schedule.{all_ready}
-use Rattle.kpn_run_state.proofs.Tallies.{AreCounts-ready}
-use Rattle.kpn_run_state.specs.Book.{Book}
-use Rattle.kpn_run_state.specs.Kept.{IsBook}
-use Rattle.kpn_run_state.specs.Appending.{Happens, AllHappen}
-use Rattle.kpn_run_state.specs.Refusals.{Feeds, Closes, closes_by}
+use Rattle.kpn_history.specs.declared.event.Event.TheVariants.{Feed, Close}
+use Rattle.kpn_history.specs.Channels.{written_on, is_closed, is_close_of}
+use Rattle.kpn_history.specs.Views.{is_held}
+use Rattle.kpn_history.proofs.Events.{written_on-push, written_on-same}
+use Rattle.kpn_history.proofs.AfterEvent.{is_closed-next}
+use Rattle.kpn_history.proofs.Journals.{none_elsewhere}
+use Rattle.kpn_history.proofs.OneMore.{item_here}
+use Rattle.kpn_machine.specs.Machine.{closed_in}
+use Rattle.kpn_book.specs.Schedule.{all_ready}
+use Rattle.kpn_book.proofs.Tallies.{AreCounts-ready}
+use Rattle.kpn_book.specs.Book.{Book}
+use Rattle.kpn_book.specs.Kept.{IsBook}
+use Rattle.kpn_book.specs.Appending.{Happens, AllHappen}
+use Rattle.kpn_book.specs.Refusals.{Feeds, Closes, closes_by}
 use Rattle.std.proofs.lemmas.Bool.{eq-eqb, or_right}
 use Rattle.kpn_book.specs.Running.{IsSupplied, IsFedBelow, IsLeftToItself}
-use Rattle.kpn_run_state.proofs.Committing.{source_there}
+use Rattle.kpn_book.proofs.Committing.{source_there}
 use Rattle.kpn_book.proofs.Ends.{sink_is_no_source, closed_next}
 use Rattle.kpn_book.proofs.Happening.{happens_tables, happens_commits, happens_written, happens_closed}
 use Rattle.kpn_book.proofs.Held.{held_after_feed, held_after_close}
@@ -72,10 +72,10 @@ closes_kept c items before between after book so_far false is = record {
 pub IsSupplied-closed : (c : ℕ) (items : List ℤ) (before between after : Book) → IsBook between
     → IsSupplied c items before between → Closes c between after → IsSupplied c items before after
 IsSupplied-closed c items before between after book so_far closes =
-    closes_kept c items before between after book so_far (closed_in between.configuration c) closes.closes
+    closes_kept c items before between after book so_far (closed_in between.machine c) closes.closes
 
 closed_by : (c : ℕ) (before after : Book) → IsBook before → c < length before.tables.channels → (b : Bool)
-    → closed_in before.configuration c ≡ b → closes_by b c before after → is_closed after.history c ≡ true
+    → closed_in before.machine c ≡ b → closes_by b c before after → is_closed after.history c ≡ true
 closed_by c before after book there true is same =
     ap (λ b. is_closed b.history c) same ∙ sym (book.kept.in_step.run.leads.closed c there) ∙ is
 closed_by c before after book there false is happens =
@@ -85,7 +85,7 @@ closed_by c before after book there false is happens =
 pub closed_then : (c : ℕ) (before after : Book) → IsBook before → Closes c before after
     → is_closed after.history c ≡ true
 closed_then c before after book closes =
-    closed_by c before after book (source_there before.tables c closes.source) (closed_in before.configuration c) refl
+    closed_by c before after book (source_there before.tables c closes.source) (closed_in before.machine c) refl
     closes.closes
 
 pub closes_open : (c : ℕ) (before after : Book) → IsBook before → Closes c before after

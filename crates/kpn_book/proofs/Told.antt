@@ -8,19 +8,19 @@ use Rattle.kpn_net.specs.Tables.{Tables, channel_at, is_source}
 use Rattle.kpn_net.specs.Iteration.{given_by, IsPrefixOnSources, AgreeOnSources}
 use Rattle.kpn_net.proofs.RoundLemmas.{list_of}
 use Rattle.kpn_net.specs.Faults.{IsNetwork}
-use Rattle.kpn_run_history.specs.Channels.{written_on, read_on, is_closed}
-use Rattle.kpn_run_history.specs.Legal.{Legal, HasNumbers}
-use Rattle.kpn_run_history.specs.Stops.{OwesNothing}
-use Rattle.kpn_run_history.specs.Talks.{process_events}
-use Rattle.kpn_run_history.specs.Views.{Agrees, is_held}
-use Rattle.kpn_run_history.specs.declared.event.Event.{Event}
-use Rattle.kpn_run_history.specs.declared.state.Verdict.{Verdict}
-use Rattle.kpn_run_history.specs.declared.state.View.{View}
-use Rattle.kpn_run_history.proofs.Journals.{reads_begin_writes}
-use Rattle.kpn_run_history.proofs.Kahn.{take-prefix}
-use Rattle.kpn_run_state.specs.Book.{Book, held_count}
-use Rattle.kpn_run_state.specs.Appending.{AllHappen}
-use Rattle.kpn_run_state.specs.Kept.{IsBook}
+use Rattle.kpn_history.specs.Channels.{written_on, read_on, is_closed}
+use Rattle.kpn_history.specs.Legal.{Legal, HasNumbers}
+use Rattle.kpn_history.specs.Stops.{OwesNothing}
+use Rattle.kpn_history.specs.Talks.{process_events}
+use Rattle.kpn_history.specs.Views.{Agrees, is_held}
+use Rattle.kpn_history.specs.declared.event.Event.{Event}
+use Rattle.kpn_history.specs.declared.state.Verdict.{Verdict}
+use Rattle.kpn_history.specs.declared.state.View.{View}
+use Rattle.kpn_history.proofs.Journals.{reads_begin_writes}
+use Rattle.kpn_history.proofs.Kahn.{take-prefix}
+use Rattle.kpn_book.specs.Book.{Book, held_count}
+use Rattle.kpn_book.specs.Appending.{AllHappen}
+use Rattle.kpn_book.specs.Kept.{IsBook}
 use Rattle.kpn_book.specs.declared.outcome.Limits.{Limits}
 use Rattle.kpn_book.specs.declared.outcome.Outcome.{Outcome}
 use Rattle.kpn_book.specs.declared.outcome.Outcome.TheVariants.{Stopped}
@@ -29,9 +29,9 @@ use Rattle.kpn_book.specs.Outcomes.{IsOutcome, verdict_of}
 use Rattle.kpn_book.specs.Reports.{events_of, read_of_sinks, IsWrittenFrom, AreSupplied, IsReport, sink_numbers}
 use Rattle.kpn_book.specs.RunHere.{supplies, takes_from_sinks, IsTurn, Turns, no_turn, one_turn_more, IsFirst, IsReportHere}
 use Rattle.kpn_book.specs.Running.{IsFedBelow, ComesToOutcome, first_read, ReadsWithin}
-use Rattle.kpn_run_state.proofs.Agreeing.{same_list}
+use Rattle.kpn_book.proofs.Agreeing.{same_list}
 use Rattle.kpn_book.proofs.Happening.{all_commits}
-use Rattle.kpn_run_state.proofs.Committing.{source_there}
+use Rattle.kpn_book.proofs.Committing.{source_there}
 use Rattle.kpn_book.proofs.Ends.{closed_stays, closed_later}
 use Rattle.kpn_book.proofs.Parts.{sink_below}
 use Rattle.kpn_book.proofs.Stepped.{step_commits}

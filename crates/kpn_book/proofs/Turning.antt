@@ -7,15 +7,15 @@ use Rattle.std.proofs.lemmas.List.{drop_all}
 use Rattle.std.proofs.lemmas.Grind.{flat_map-append}
 use Rattle.kpn_net.specs.Tables.{Tables, channel_at, is_source, is_sink}
 use Rattle.kpn_net.specs.Process.{Family}
-use Rattle.kpn_run_state.proofs.Queueing.{range_next}
-use Rattle.kpn_run_history.specs.declared.event.Event.{Event}
-use Rattle.kpn_run_history.specs.declared.event.Event.TheVariants.{Feed, Close, Take}
-use Rattle.kpn_run_history.specs.Channels.{written_on, read_on, unread_on, is_closed, is_close_of}
-use Rattle.kpn_run_history.proofs.AfterEvent.{is_closed-next}
-use Rattle.kpn_run_state.specs.declared.answers.Done.{Done}
-use Rattle.kpn_run_state.specs.Book.{Book}
-use Rattle.kpn_run_state.specs.Appending.{Happens, AllHappen}
-use Rattle.kpn_run_state.specs.Stepping.{ClaimsNobody, IsStep}
+use Rattle.kpn_book.proofs.Queueing.{range_next}
+use Rattle.kpn_history.specs.declared.event.Event.{Event}
+use Rattle.kpn_history.specs.declared.event.Event.TheVariants.{Feed, Close, Take}
+use Rattle.kpn_history.specs.Channels.{written_on, read_on, unread_on, is_closed, is_close_of}
+use Rattle.kpn_history.proofs.AfterEvent.{is_closed-next}
+use Rattle.kpn_book.specs.declared.answers.Done.{Done}
+use Rattle.kpn_book.specs.Book.{Book}
+use Rattle.kpn_book.specs.Appending.{Happens, AllHappen}
+use Rattle.kpn_book.specs.Stepping.{ClaimsNobody, IsStep}
 use Rattle.kpn_book.specs.RunHere.{supply_of, takes_of, takes_from_sinks}
 use Rattle.kpn_book.specs.Running.{IsFrontStepped, IsLeftToItself}
 use Rattle.kpn_book.proofs.Happening.{happens_closed, join, one}

@@ -1,11 +1,11 @@
 -- What a run has come to under its limits.
 use Rattle.std.specs.Prelude.{◌≡◌, ℕ, ◌<◌, ◌≤◌, true, List, length, Option, Some, None}
 use Rattle.kpn_net.specs.Tables.{Tables, channel_at, is_sink}
-use Rattle.kpn_run_history.specs.declared.event.Event.{Event}
-use Rattle.kpn_run_history.specs.declared.state.Verdict.{Verdict}
-use Rattle.kpn_run_history.specs.declared.state.Verdict.TheVariants as verdict
-use Rattle.kpn_run_history.specs.Channels.{read_on}
-use Rattle.kpn_run_history.specs.Ends.{IsVerdict}
+use Rattle.kpn_history.specs.declared.event.Event.{Event}
+use Rattle.kpn_history.specs.declared.state.Verdict.{Verdict}
+use Rattle.kpn_history.specs.declared.state.Verdict.TheVariants as verdict
+use Rattle.kpn_history.specs.Channels.{read_on}
+use Rattle.kpn_history.specs.Ends.{IsVerdict}
 use Rattle.kpn_book.specs.declared.outcome.Limits.{Limits}
 use Rattle.kpn_book.specs.declared.outcome.Outcome.{Outcome}
 use Rattle.kpn_book.specs.declared.outcome.Outcome.TheVariants.{Ended, Clogged, Jammed, Enough, Stopped}

@@ -1,8 +1,8 @@
 -- A book without held processes: what is put back, one process after the other.
 use Rattle.std.specs.Prelude.{◌≡◌, ℕ, ◌<◌, false, length}
-use Rattle.kpn_run_history.specs.Views.{is_held}
-use Rattle.kpn_run_state.specs.Schedule.{state_at}
-use Rattle.kpn_run_state.specs.Book.{Book}
+use Rattle.kpn_history.specs.Views.{is_held}
+use Rattle.kpn_book.specs.Schedule.{state_at}
+use Rattle.kpn_book.specs.Book.{Book}
 
 -- a process with a number below k is not held
 abbrev pub IsNoneHeldBelow : Book → (k : ℕ) → Type 0

@@ -4,14 +4,14 @@ use Rattle.std.specs.List.{filter}
 use Rattle.kpn_net.specs.Tables.{Tables, channel_at, is_source, is_sink}
 use Rattle.kpn_net.specs.Faults.{channel_numbers}
 use Rattle.kpn_net.specs.Iteration.{IsPrefixOnSources, AgreeOnSources, given_by}
-use Rattle.kpn_run_history.specs.declared.event.Event.{Event}
-use Rattle.kpn_run_history.specs.declared.state.Verdict.{Verdict}
-use Rattle.kpn_run_history.specs.Talks.{process_events}
-use Rattle.kpn_run_history.specs.Channels.{written_on, read_on, is_closed}
-use Rattle.kpn_run_history.specs.Legal.{Legal}
-use Rattle.kpn_run_history.specs.Stops.{OwesNothing}
-use Rattle.kpn_run_history.specs.Views.{Agrees}
-use Rattle.kpn_run_state.specs.Book.{Book}
+use Rattle.kpn_history.specs.declared.event.Event.{Event}
+use Rattle.kpn_history.specs.declared.state.Verdict.{Verdict}
+use Rattle.kpn_history.specs.Talks.{process_events}
+use Rattle.kpn_history.specs.Channels.{written_on, read_on, is_closed}
+use Rattle.kpn_history.specs.Legal.{Legal}
+use Rattle.kpn_history.specs.Stops.{OwesNothing}
+use Rattle.kpn_history.specs.Views.{Agrees}
+use Rattle.kpn_book.specs.Book.{Book}
 use Rattle.kpn_book.specs.declared.outcome.Limits.{Limits}
 use Rattle.kpn_book.specs.declared.outcome.Outcome.{Outcome}
 use Rattle.kpn_book.specs.declared.report.Report.{Report}

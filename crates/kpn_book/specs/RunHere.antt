@@ -7,16 +7,16 @@ use Rattle.kpn_net.specs.Faults.{channel_numbers}
 use Rattle.kpn_net.specs.Process.{Family}
 use Rattle.kpn_net.specs.Iteration.{given_by}
 use Rattle.kpn_step.specs.Frame.{start_frame}
-use Rattle.kpn_run_history.specs.declared.event.Event.{Event}
-use Rattle.kpn_run_history.specs.declared.event.Event.TheVariants.{Feed, Close, Take}
-use Rattle.kpn_run_history.specs.Channels.{unread_on}
-use Rattle.kpn_run_configuration.specs.Configuration.{frame_in}
-use Rattle.kpn_run_state.specs.Schedule.{all_ready}
-use Rattle.kpn_run_state.specs.declared.answers.Done.{Done}
-use Rattle.kpn_run_state.specs.Book.{Book}
-use Rattle.kpn_run_state.specs.Kept.{IsBook}
-use Rattle.kpn_run_state.specs.Appending.{AllHappen}
-use Rattle.kpn_run_state.specs.Stepping.{StepsNext}
+use Rattle.kpn_history.specs.declared.event.Event.{Event}
+use Rattle.kpn_history.specs.declared.event.Event.TheVariants.{Feed, Close, Take}
+use Rattle.kpn_history.specs.Channels.{unread_on}
+use Rattle.kpn_machine.specs.Machine.{frame_in}
+use Rattle.kpn_book.specs.Schedule.{all_ready}
+use Rattle.kpn_book.specs.declared.answers.Done.{Done}
+use Rattle.kpn_book.specs.Book.{Book}
+use Rattle.kpn_book.specs.Kept.{IsBook}
+use Rattle.kpn_book.specs.Appending.{AllHappen}
+use Rattle.kpn_book.specs.Stepping.{StepsNext}
 use Rattle.kpn_book.specs.declared.outcome.Limits.{Limits}
 use Rattle.kpn_book.specs.declared.outcome.Outcome.{Outcome}
 use Rattle.kpn_book.specs.declared.report.Report.{Report}
@@ -67,7 +67,7 @@ pub record IsFirst (t : Tables) (b : Book) : Type 0 where
   pub tables : b.tables ≡ t
   pub history : b.history ≡ []
   pub frames : (p : ℕ) → p < length t.instances
-      → frame_in b.configuration p ≡ start_frame (program_of t p) (instance_at t p).pars
+      → frame_in b.machine p ≡ start_frame (program_of t p) (instance_at t p).pars
   pub schedule : b.schedule ≡ all_ready (length t.instances)
   pub commits : b.commits ≡ 0
 

@@ -1,14 +1,14 @@
 //! Which channels of a run had got all their items when it stopped.
 ghost use Rattle.std.specs.Prelude.{◌↔◌, ◌<◌, ℤ, List, length, IsTrue, IfOk};
-ghost use Rattle.kpn_run_history.specs.Legal.{Legal};
-ghost use Rattle.kpn_run_history.specs.Views.{Agrees};
-ghost use Rattle.kpn_run_history.specs.Complete.{IsComplete};
+ghost use Rattle.kpn_history.specs.Legal.{Legal};
+ghost use Rattle.kpn_history.specs.Views.{Agrees};
+ghost use Rattle.kpn_history.specs.Complete.{IsComplete};
 ghost use Rattle.kpn_book.specs.Reports.{events_of, sink_numbers, AreSupplied, TellsEach};
 
 use crate::report::Report;
+use kpn_history::State;
 use kpn_lang::Sequence;
 use kpn_net::{End, Network};
-use kpn_run_history::State;
 use std::alloc::{AllocError, Global};
 
 impl Report {

@@ -5,7 +5,7 @@ ghost use Rattle.kpn_lang.specs.Prefix.{IsPrefix};
 ghost use Rattle.kpn_net.specs.Tables.{Tables};
 ghost use Rattle.kpn_net.specs.Faults.{IsNetwork};
 ghost use Rattle.kpn_net.specs.Iteration.{given_by, IsLeast};
-ghost use Rattle.kpn_run_history.specs.Complete.{IsComplete};
+ghost use Rattle.kpn_history.specs.Complete.{IsComplete};
 ghost use Rattle.kpn_book.specs.declared.outcome.Limits.{Limits};
 ghost use Rattle.kpn_book.specs.declared.outcome.Outcome.TheVariants.{Ended};
 ghost use Rattle.kpn_book.specs.declared.report.Report.{Report};

@@ -2,16 +2,16 @@
 ghost use Rattle.std.specs.Prelude.{◌≡◌, ℕ, ◌+◌, ◌<◌, true, false, ℤ, List, length, map, take, count_by, IfOk};
 ghost use Rattle.kpn_net.specs.Tables.{is_source};
 ghost use Rattle.kpn_net.specs.Iteration.{sources, given_by};
-ghost use Rattle.kpn_run_history.specs.Channels.{is_closed};
-ghost use Rattle.kpn_run_history.specs.declared.event.Event.TheVariants as event;
-ghost use Rattle.kpn_run_state.specs.Book.{Book as Seen};
-ghost use Rattle.kpn_run_state.specs.Appending.{Happens, AllHappen};
+ghost use Rattle.kpn_history.specs.Channels.{is_closed};
+ghost use Rattle.kpn_history.specs.declared.event.Event.TheVariants as event;
+ghost use Rattle.kpn_book.specs.Book.{Book as Seen};
+ghost use Rattle.kpn_book.specs.Appending.{Happens, AllHappen};
 ghost use Rattle.kpn_book.specs.RunHere.{supply_of, supplies};
 ghost use Rattle.kpn_book.specs.Running.{IsSupplied, IsFedBelow};
 
+use crate::Book;
 use kpn_lang::Sequence;
 use kpn_net::Network;
-use kpn_run_state::Book;
 use std::alloc::AllocError;
 
 /// Feeds its list to each source and closes it. The error is that memory ran out.

@@ -11,9 +11,9 @@ use crate::report::Report;
 use crate::stepping::step;
 use crate::stopping::{has_enough, outcome_unless_enough};
 use crate::telling::report_of;
+use crate::{Book, Keeping, Unread};
 use kpn_lang::Sequence;
 use kpn_net::Network;
-use kpn_run_state::{Book, Keeping, Unread};
 use std::alloc::{AllocError, Global};
 
 /// Runs a network on these lists, one for each source in order of channel number, until there is an outcome under the

@@ -1,113 +1,145 @@
-//! What holds of every report, as contracts of functions that do nothing: Kahn's theorem on reports, whatever the
-//! schedules of the runs and however many workers stepped the processes.
-ghost use Rattle.std.specs.Prelude.{◌≡◌, ℕ, ◌<◌, ◌≤◌, ◌⊎◌, ℤ, List, length, take, Option, Some};
+//! What holds of every book, as contracts of functions that do nothing. The layers above cite them.
+ghost use Rattle.std.specs.Prelude.{◌≡◌, ◌≢◌, ℕ, ◌+◌, ◌<◌, ◌≤◌, false, List, [], ◌∷◌, ◌++◌, length, map, count_by, Some};
+ghost use Rattle.kpn_lang.specs.declared.talk.Said.{Said};
+ghost use Rattle.kpn_lang.specs.Alone.{alone};
 ghost use Rattle.kpn_net.specs.declared.tables.Policy.TheVariants.{All};
-ghost use Rattle.kpn_net.specs.declared.wait.Wait.TheVariants.{Full};
-ghost use Rattle.kpn_net.specs.Tables.{Tables};
-ghost use Rattle.kpn_net.specs.Faults.{IsNetwork};
-ghost use Rattle.kpn_net.specs.Iteration.{iterate, given_by, lists_of, IsBelowLeast, IsLeast};
-ghost use Rattle.kpn_run_history.specs.declared.event.Event.{Event};
-ghost use Rattle.kpn_run_history.specs.Channels.{capacity_after};
-ghost use Rattle.kpn_run_history.specs.Ends.{WaitsOnFull, IsQuiet};
-ghost use Rattle.kpn_run_history.specs.Stops.{IsJammedAtLimit, WaitsForBlocked};
-ghost use Rattle.kpn_run_history.specs.Waiting.{wait_of, HasFullCycle};
-ghost use Rattle.kpn_book.specs.declared.outcome.Limits.{Limits};
-ghost use Rattle.kpn_book.specs.declared.outcome.Outcome.{Outcome};
-ghost use Rattle.kpn_book.specs.declared.outcome.Outcome.TheVariants.{Ended, Clogged, Jammed, Enough, Stopped};
-ghost use Rattle.kpn_book.specs.declared.report.Report.{Report};
-ghost use Rattle.kpn_book.specs.Outcomes.{IsOutcome};
-ghost use Rattle.kpn_book.specs.Reports.{events_of, journal_of, taken_of, IsReport};
-ghost use Rattle.kpn_book.specs.RunHere.{IsReportHere};
+ghost use Rattle.kpn_net.specs.declared.wait.Wait.TheVariants.{Full as FullOn};
+ghost use Rattle.kpn_net.specs.Tables.{instance_at, program_of, larger_capacity};
+ghost use Rattle.kpn_net.specs.Process.{Family, at_channel};
+ghost use Rattle.kpn_net.specs.Iteration.{IsBelowLeast, IsLeast};
+ghost use Rattle.kpn_step.specs.Residual.{residual};
+ghost use Rattle.kpn_step.specs.Stops.{Advanced};
+ghost use Rattle.kpn_step.specs.After.{GoesOnAs};
+ghost use Rattle.kpn_chan.specs.Channel.{unread};
+ghost use Rattle.kpn_history.specs.declared.event.Event.{Event};
+ghost use Rattle.kpn_history.specs.declared.event.Event.TheVariants as event;
+ghost use Rattle.kpn_history.specs.declared.state.Counts.{Counts};
+ghost use Rattle.kpn_history.specs.declared.state.Verdict.TheVariants.{Ended, Clogged, Jammed};
+ghost use Rattle.kpn_history.specs.Channels.{written_on, read_on, fed, capacity_after, capacity_or_zero};
+ghost use Rattle.kpn_history.specs.Talks.{talk_of};
+ghost use Rattle.kpn_history.specs.Waiting.{wait_of, waits_of, HasFullCycle};
+ghost use Rattle.kpn_history.specs.Legal.{Legal, OwesGrowth};
+ghost use Rattle.kpn_history.specs.Stops.{CanGrow, IsJammedAtLimit, WaitsForBlocked};
+ghost use Rattle.kpn_history.specs.Ends.{WaitsOnFull, IsQuiet, IsSettled, IsVerdict};
+ghost use Rattle.kpn_history.specs.Views.{IsStateOf, AreCounts};
+ghost use Rattle.kpn_machine.specs.Machine.{channel_in, frame_in, is_empty_wait, is_full_wait};
+ghost use Rattle.kpn_book.specs.Schedule.{state_at};
+ghost use Rattle.kpn_book.specs.declared.answers.Done.{Done};
+ghost use Rattle.kpn_book.specs.Book.{Book, IsHeld, IsClaimed};
+ghost use Rattle.kpn_book.specs.Appending.{AppendsAll};
+ghost use Rattle.kpn_book.specs.Commits.{Commits};
+ghost use Rattle.kpn_book.specs.Kept.{IsBook};
 
-// ---- Kahn's theorem on reports
+// ---- at each moment
 
-/// Under every outcome, each journal is a prefix of the least solution for the whole lists.
-pub fn journals_are_below()
-    ensures { (t : Tables) → IsNetwork t → (lists : List (List ℤ)) (limits : Limits)
-        (report : Report) → IsReport t lists limits report
-        → (c : ℕ) → c < length t.channels
-        → IsBelowLeast t (given_by t lists) c (journal_of report c) }
+/// The journal of a channel is what the history wrote there: what was read and then what is unread. If the reader is
+/// there, no more is unread than the capacity. Each journal is below the least solution for what was fed.
+pub fn journals()
+    ensures written { (b : Book) → IsBook b → (c : ℕ) → c < length b.tables.channels
+        → (channel_in b.machine c).journal ≡ written_on b.history c }
+    ensures queued { (b : Book) → IsBook b → (c : ℕ) → c < length b.tables.channels
+        → (channel_in b.machine c).journal
+        ≡ read_on b.history c ++ unread (channel_in b.machine c) }
+    ensures within { (b : Book) → IsBook b → (c : ℕ) → c < length b.tables.channels
+        → (channel_in b.machine c).is_retired ≡ false
+        → (cap : ℕ) → (channel_in b.machine c).capacity ≡ Some cap
+        → length (unread (channel_in b.machine c)) ≤ cap }
+    ensures below { (b : Book) → IsBook b → (c : ℕ) → c < length b.tables.channels
+        → IsBelowLeast b.tables (fed b.tables b.history) c
+        (channel_in b.machine c).journal }
 {}
 
-/// Under `Ended` the journals are the least solution for the whole lists.
-pub fn ended_is_least()
-    ensures { (t : Tables) → IsNetwork t → (lists : List (List ℤ)) (limits : Limits)
-        (report : Report) → IsReport t lists limits report → report.outcome ≡ Ended
-        → (c : ℕ) → c < length t.channels → IsLeast t (given_by t lists) c (journal_of report c) }
+/// The history is legal. The state of each process is what the history says of it. The counts of waiting processes are
+/// the numbers of processes that are blocked by the history.
+pub fn the_history()
+    ensures legal { (b : Book) → IsBook b → Legal b.tables b.history }
+    ensures states { (b : Book) → IsBook b → (p : ℕ) → p < length b.tables.instances
+        → IsStateOf b.tables b.history p (state_at b.schedule.states p) }
+    ensures empty { (b : Book) → IsBook b → (counts : Counts) → AreCounts b.schedule.states counts
+        → counts.empty ≡ count_by is_empty_wait (waits_of b.tables b.history) }
+    ensures full { (b : Book) → IsBook b → (counts : Counts) → AreCounts b.schedule.states counts
+        → counts.full ≡ count_by is_full_wait (waits_of b.tables b.history) }
 {}
 
-/// Two reports of the same network and lists that have ended have equal journals, and these are one iterate of Kahn's
-/// iteration.
-pub fn ended_reports_agree()
-    ensures journals { (t : Tables) → IsNetwork t → (lists : List (List ℤ)) (limits more : Limits)
-        (report other : Report) → IsReport t lists limits report → IsReport t lists more other
-        → report.outcome ≡ Ended → other.outcome ≡ Ended
-        → report.view.journals ≡ other.view.journals }
-    ensures iterate { (t : Tables) → IsNetwork t → (lists : List (List ℤ)) (limits more : Limits)
-        (report other : Report) → IsReport t lists limits report → IsReport t lists more other
-        → report.outcome ≡ Ended → other.outcome ≡ Ended
-        → ((n : ℕ) × (report.view.journals ≡ lists_of t (iterate t (given_by t lists) n))
-        × (other.view.journals ≡ lists_of t (iterate t (given_by t lists) n))) }
+/// Each growth took the smallest awaited full channel of a blocked cycle or of a settled network, below the limit, at
+/// the moment when it was owed. It names the new capacity. No blocked cycle has a full channel below the limit. Under
+/// the policy `all`, no settled book has a process that waits on a full channel below the limit.
+pub fn growths()
+    ensures owed { (b : Book) → IsBook b → (B rest : List Event) (p d n : ℕ)
+        → b.history ≡ B ++ event.Grow p d n ∷ rest → OwesGrowth b.tables B p d }
+    ensures told { (b : Book) → IsBook b → (B rest : List Event) (p d n : ℕ)
+        → b.history ≡ B ++ event.Grow p d n ∷ rest
+        → n ≡ larger_capacity b.tables (capacity_or_zero b.tables B d) }
+    ensures none_is_left { (b : Book) → IsBook b → ¬ CanGrow b.tables b.history }
+    ensures at_stop { (b : Book) → IsBook b → b.tables.policy ≡ All
+        → IsSettled b.tables b.history → (p c : ℕ) → p < length b.tables.instances
+        → wait_of b.tables b.history p ≡ FullOn c
+        → capacity_after b.tables b.history c ≡ Some b.tables.limit }
 {}
 
-/// The first items that two runs of the same network and lists have taken from a sink are the same. If both have
-/// enough, by the same number of items, so many were taken from each sink, and these are the same.
-pub fn first_items_agree()
-    ensures first { (t : Tables) → IsNetwork t → (lists : List (List ℤ)) (limits more : Limits)
-        (report other : Report) → IsReport t lists limits report → IsReport t lists more other
-        → (sink items : ℕ)
-        → items ≤ length (taken_of report sink) → items ≤ length (taken_of other sink)
-        → take items (taken_of report sink) ≡ take items (taken_of other sink) }
-    ensures enough { (t : Tables) (lists : List (List ℤ)) (limits : Limits) (report : Report)
-        → IsReport t lists limits report → report.outcome ≡ Enough
-        → (items : ℕ) → limits.take ≡ Some items
-        → (sink : ℕ) → sink < length report.taken → items ≤ length (taken_of report sink) }
-    ensures same { (t : Tables) → IsNetwork t → (lists : List (List ℤ)) (limits more : Limits)
-        (report other : Report) → IsReport t lists limits report → IsReport t lists more other
-        → report.outcome ≡ Enough → other.outcome ≡ Enough
-        → (items : ℕ) → limits.take ≡ Some items → more.take ≡ Some items
-        → (sink : ℕ) → take items (taken_of report sink) ≡ take items (taken_of other sink) }
+/// The frame of a process goes on as the process does after what it has said. Take lists that begin with what the
+/// process read. On them it says what it has said, and then what the frame says on the rest, and it comes to what the
+/// frame comes to.
+pub fn frames_go_on()
+    ensures { (b : Book) → IsBook b → (p : ℕ) → p < length b.tables.instances → (X more : Family)
+        → ((c : ℕ) → X c ≡ read_on b.history c ++ more c)
+        → (said : List Said) × (map (at_channel (instance_at b.tables p)) said ≡ talk_of b.history p)
+        × GoesOnAs (alone (program_of b.tables p) (instance_at b.tables p).pars)
+        (map X (instance_at b.tables p).ins) said
+        (residual (program_of b.tables p).blocks (frame_in b.machine p))
+        (map more (instance_at b.tables p).ins) }
 {}
 
-// ---- what an outcome means
+// ---- at a stop
 
-/// Of a history after so many commits there is one outcome at most.
-pub fn one_outcome()
-    ensures { (t : Tables) (H : List Event) (commits : ℕ) (limits : Limits)
-        (outcome other : Option Outcome) → IsOutcome t H commits limits outcome
-        → IsOutcome t H commits limits other → outcome ≡ other }
+/// If each process has ended or waits on an empty channel, each journal is the least solution for what was fed.
+pub fn a_quiet_book()
+    ensures { (b : Book) → IsBook b → IsQuiet b.tables b.history
+        → (c : ℕ) → c < length b.tables.channels
+        → IsLeast b.tables (fed b.tables b.history) c (channel_in b.machine c).journal }
 {}
 
-/// What each verdict means. `Ended`: the history is quiet. `Jammed`: some blocked cycle has full channels, all at the
-/// limit. `Clogged`: each process that is blocked on a full channel waits for a blocked process, and no blocked cycle
-/// has a full channel. Under the policy `all`, if the outcome is `Jammed` or `Clogged`, each channel on which a process
-/// waits as full is at the limit.
-pub fn what_an_outcome_means()
-    ensures ended { (t : Tables) (lists : List (List ℤ)) (limits : Limits) (report : Report)
-        → IsReport t lists limits report → report.outcome ≡ Ended → IsQuiet t (events_of report) }
-    ensures jammed { (t : Tables) → IsNetwork t → (lists : List (List ℤ)) (limits : Limits)
-        (report : Report) → IsReport t lists limits report → report.outcome ≡ Jammed
-        → IsJammedAtLimit t (events_of report) }
-    ensures clogged { (t : Tables) → IsNetwork t → (lists : List (List ℤ)) (limits : Limits)
-        (report : Report) → IsReport t lists limits report → report.outcome ≡ Clogged
-        → (p : ℕ) → WaitsOnFull t (events_of report) p → WaitsForBlocked t (events_of report) p }
-    ensures no_cycle { (t : Tables) (lists : List (List ℤ)) (limits : Limits) (report : Report)
-        → IsReport t lists limits report → report.outcome ≡ Clogged
-        → ¬ HasFullCycle t (events_of report) }
-    ensures at_limit { (t : Tables) → IsNetwork t → (lists : List (List ℤ)) (limits : Limits)
-        (report : Report) → IsReport t lists limits report
-        → (report.outcome ≡ Clogged) ⊎ (report.outcome ≡ Jammed) → t.policy ≡ All
-        → (p c : ℕ) → p < length t.instances → wait_of t (events_of report) p ≡ Full c
-        → capacity_after t (events_of report) c ≡ Some t.limit }
+/// What a verdict means. Ended: the book is quiet. Jammed: some blocked cycle has full channels, all at the limit.
+/// Clogged: each process that is blocked on a full channel waits for a blocked process, and no blocked cycle has a full
+/// channel. After each verdict no legal event but a leave can follow.
+pub fn what_a_verdict_means()
+    ensures ended { (b : Book) → IsBook b → IsVerdict b.tables b.history (Some Ended)
+        → IsQuiet b.tables b.history }
+    ensures jammed { (b : Book) → IsBook b → IsVerdict b.tables b.history (Some Jammed)
+        → IsJammedAtLimit b.tables b.history }
+    ensures clogged { (b : Book) → IsBook b → IsVerdict b.tables b.history (Some Clogged)
+        → (p : ℕ) → WaitsOnFull b.tables b.history p → WaitsForBlocked b.tables b.history p }
+    ensures no_cycle { (b : Book) → IsBook b → IsVerdict b.tables b.history (Some Clogged)
+        → ¬ HasFullCycle b.tables b.history }
+    ensures last { (b : Book) → IsBook b → IsSettled b.tables b.history
+        → (e : Event) → Legal b.tables (b.history ++ e ∷ []) → ((c : ℕ) × (e ≡ event.Leave c)) }
 {}
 
-// ---- on one thread
+// ---- from one book to the next
 
-/// A run on one thread makes no more turns than its limit of commits. If it was stopped, it made exactly as many.
-pub fn turns_of_a_run_here()
-    ensures within { (t : Tables) (lists : List (List ℤ)) (limits : Limits) (report : Report)
-        → IsReportHere t lists limits report → report.commits ≤ limits.commits }
-    ensures stopped { (t : Tables) (lists : List (List ℤ)) (limits : Limits) (report : Report)
-        → IsReportHere t lists limits report → report.outcome ≡ Stopped
-        → report.commits ≡ limits.commits }
+/// Events that are appended one after the other extend the history. They change neither the network nor the number of
+/// commits.
+pub fn what_is_appended()
+    ensures tables { (events : List Event) (before after : Book) → AppendsAll events before after
+        → after.tables ≡ before.tables }
+    ensures history { (events : List Event) (before after : Book) → AppendsAll events before after
+        → after.history ≡ before.history ++ events }
+    ensures commits { (events : List Event) (before after : Book) → AppendsAll events before after
+        → after.commits ≡ before.commits }
+{}
+
+/// A commit keeps the network, appends its events and counts itself.
+pub fn what_a_commit_does()
+    ensures tables { (p : ℕ) (a : Advanced) (answer : Done) (before after : Book)
+        → Commits p a answer before after → after.tables ≡ before.tables }
+    ensures history { (p : ℕ) (a : Advanced) (answer : Done) (before after : Book)
+        → (commits : Commits p a answer before after)
+        → after.history ≡ before.history ++ commits.handles.events }
+    ensures commits { (p : ℕ) (a : Advanced) (answer : Done) (before after : Book)
+        → Commits p a answer before after → after.commits ≡ before.commits + 1 }
+{}
+
+/// A process that is claimed is held.
+pub fn a_claimed_process()
+    ensures { (p : ℕ) (before after : Book) → IsClaimed p before after → IsHeld after p }
 {}

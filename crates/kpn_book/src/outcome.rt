@@ -2,7 +2,7 @@
 ghost use Rattle.std.specs.Prelude.{◌≡◌, Some};
 ghost use Rattle.kpn_book.specs.Outcomes.{verdict_of};
 
-use kpn_run_history::Verdict;
+use kpn_history::Verdict;
 
 /// When a run stops, and how many steps a process makes at once.
 #[derive(Clone, Copy, Debug, PartialEq, Eq)]

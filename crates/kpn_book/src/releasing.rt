@@ -1,9 +1,9 @@
 //! What workers hold when a run is over is put back.
 ghost use Rattle.std.specs.Prelude.{◌≡◌};
-ghost use Rattle.kpn_run_state.specs.Book.{held_count};
+ghost use Rattle.kpn_book.specs.Book.{held_count};
 ghost use Rattle.kpn_book.specs.Releasing.{ChangesScheduleAlone, Releases};
 
-use kpn_run_state::Book;
+use crate::Book;
 
 /// Puts back each process that is held.
 pub fn put_back_held(book: &mut Book<'_>)

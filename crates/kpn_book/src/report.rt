@@ -1,7 +1,7 @@
 //! What the caller of a run gets once it has stopped.
 use crate::outcome::Outcome;
+use kpn_history::{History, View};
 use kpn_lang::Sequence;
-use kpn_run_history::{History, View};
 
 /// A run that has stopped, as its caller gets it.
 #[derive(Drop)]

@@ -1,13 +1,13 @@
 //! Turns in a row of a network that is left to itself: processes make steps until one has put an item on a sink, and it
 //! is taken.
 ghost use Rattle.std.specs.Prelude.{◌≡◌, ◌+◌, ◌<◌, ◌^◌, max, IfOk, None};
-ghost use Rattle.kpn_run_state.specs.Book.{Book as Seen};
+ghost use Rattle.kpn_book.specs.Book.{Book as Seen};
 ghost use Rattle.kpn_book.specs.Outcomes.{IsEnough, IsOutcome};
 ghost use Rattle.kpn_book.specs.Running.{IsLeftToItself, IsFrontStepped, IsStepped, AreStepped, IsCommitted, HasPutOn};
 
+use crate::Book;
 use crate::outcome::Limits;
 use crate::stopping::has_enough_by;
-use kpn_run_state::Book;
 use std::alloc::AllocError;
 
 /// Steps the processes one after the other, each by no more steps than the quota, until one has put an item on a sink,

@@ -1,12 +1,12 @@
 //! Whether a run has come to its outcome.
 ghost use Rattle.std.specs.Prelude.{◌≡◌, ◌↔◌, ℕ, ◌+◌, ◌<◌, ◌^◌, List, length, IsTrue, IfNone};
-ghost use Rattle.kpn_run_history.specs.declared.event.Event.{Event};
-ghost use Rattle.kpn_run_history.specs.Channels.{read_on};
+ghost use Rattle.kpn_history.specs.declared.event.Event.{Event};
+ghost use Rattle.kpn_history.specs.Channels.{read_on};
 ghost use Rattle.kpn_book.specs.Outcomes.{HaveRead, IsEnough, IsOutcome};
 ghost use Rattle.kpn_book.specs.Running.{ReadsOneMore};
 
+use crate::Book;
 use crate::outcome::{Limits, Outcome};
-use kpn_run_state::Book;
 
 /// What a run has come to under its limits, if it has. It is enough if what is wanted was read of each sink. Else it is
 /// the verdict if there is one. Else it is stopped if the commits have reached their limit.

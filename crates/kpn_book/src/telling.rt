@@ -1,17 +1,17 @@
 //! How a report is made from a book.
 ghost use Rattle.std.specs.Prelude.{◌≡◌, ℕ, ◌+◌, ◌<◌, List, length, IfOk};
-ghost use Rattle.kpn_run_history.specs.declared.event.Event.{Event};
-ghost use Rattle.kpn_run_history.specs.Legal.{Legal};
-ghost use Rattle.kpn_run_history.specs.Views.{Agrees};
+ghost use Rattle.kpn_history.specs.declared.event.Event.{Event};
+ghost use Rattle.kpn_history.specs.Legal.{Legal};
+ghost use Rattle.kpn_history.specs.Views.{Agrees};
 ghost use Rattle.kpn_book.specs.Reports.{read_of_sinks, IsWrittenFrom};
 ghost use Rattle.kpn_book.specs.Running.{ReadsWithin, first_read};
 
 use crate::outcome::Outcome;
 use crate::report::Report;
+use crate::{Book, Unread};
+use kpn_history::View;
 use kpn_lang::Sequence;
 use kpn_net::Network;
-use kpn_run_history::View;
-use kpn_run_state::{Book, Unread};
 use std::alloc::Global;
 
 /// The report of a run that has come to this outcome. The error is that memory ran out, or that the book does not keep

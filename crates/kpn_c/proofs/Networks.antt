@@ -1,16 +1,16 @@
 -- No call changes the network.
 use Rattle.std.proofs.Common.{◌≡◌, ℕ, Bool, true, false, ℤ, Option, Some, None, List, [], ◌∷◌, map, take, Result, Ok, Err, refl, ap, ◌∙◌}
 use Rattle.std.specs.Prelude.{OnOk, OnErr}
-use Rattle.kpn_run_history.specs.declared.event.Event.{Event}
-use Rattle.kpn_run_history.specs.declared.event.Event.TheVariants.{Close, Take, Leave}
-use Rattle.kpn_run_configuration.specs.Configuration.{channel_in, closed_in}
-use Rattle.kpn_run_state.specs.declared.answers.Done.{Done}
-use Rattle.kpn_run_state.specs.declared.answers.Refused.{Refused}
-use Rattle.kpn_run_state.specs.Book.{Book}
-use Rattle.kpn_run_state.specs.Appending.{Happens, AllHappen}
-use Rattle.kpn_run_state.specs.Refusals.{closes_by, Closes, leaves_by, Leaves, takes_item}
-use Rattle.kpn_run_state.specs.Stepping.{StepsNext, StepsInVain}
-use Rattle.kpn_run_state.proofs.Appended.{tables_stay, commit_tables}
+use Rattle.kpn_history.specs.declared.event.Event.{Event}
+use Rattle.kpn_history.specs.declared.event.Event.TheVariants.{Close, Take, Leave}
+use Rattle.kpn_machine.specs.Machine.{channel_in, closed_in}
+use Rattle.kpn_book.specs.declared.answers.Done.{Done}
+use Rattle.kpn_book.specs.declared.answers.Refused.{Refused}
+use Rattle.kpn_book.specs.Book.{Book}
+use Rattle.kpn_book.specs.Appending.{Happens, AllHappen}
+use Rattle.kpn_book.specs.Refusals.{closes_by, Closes, leaves_by, Leaves, takes_item}
+use Rattle.kpn_book.specs.Stepping.{StepsNext, StepsInVain}
+use Rattle.kpn_book.proofs.Appended.{tables_stay, commit_tables}
 use Rattle.kpn_c.specs.Calls.{Turns, no_turn, one_turn_more, stops_by, StepsEach}
 use Rattle.kpn_c.specs.declared.stepping.Stepped.{Stepped}
 use Rattle.kpn_c.specs.declared.taking.Taken.{Taken}
@@ -36,7 +36,7 @@ closes_tables false c before after happens = happens_tables (Close c) before aft
 pub close_tables : (c : ℕ) (closed : Result (Unit {0}) Refused) (before after : Book)
     → OnOk closed (Closes c before after) → OnErr closed (after ≡ before) → after.tables ≡ before.tables
 close_tables c (Ok done) before after closes same =
-    closes_tables (closed_in before.configuration c) c before after closes.closes
+    closes_tables (closed_in before.machine c) c before after closes.closes
 close_tables c (Err cause) before after closes same = ap (λ b. b.tables) same
 
 leaves_tables : (was_left : Bool) (c : ℕ) (before after : Book) → leaves_by was_left c before after
@@ -47,7 +47,7 @@ leaves_tables false c before after happens = happens_tables (Leave c) before aft
 pub leave_tables : (c : ℕ) (left : Result (Unit {0}) Refused) (before after : Book)
     → OnOk left (Leaves c before after) → OnErr left (after ≡ before) → after.tables ≡ before.tables
 leave_tables c (Ok done) before after leaves same =
-    leaves_tables (channel_in before.configuration c).is_retired c before after leaves.leaves
+    leaves_tables (channel_in before.machine c).is_retired c before after leaves.leaves
 leave_tables c (Err cause) before after leaves same = ap (λ b. b.tables) same
 
 step_tables : (quota : ℕ) (answer : Done) (before after : Book) → StepsNext quota answer before after

@@ -1,9 +1,9 @@
 -- One more item is fed or taken in a call that moves items.
 use Rattle.std.proofs.Common.{◌≡◌, ℕ, false, ◌+◌, ◌<◌, ℤ, pos, List, [], ◌∷◌, ◌++◌, length, map, take, drop, get_or, set, Option, refl, sym, ap, ◌∙◌, subst, arith}
 use Rattle.std.proofs.lemmas.List.{take_more, take_more_set, get_or-drop}
-use Rattle.kpn_run_state.specs.Book.{Book}
-use Rattle.kpn_run_state.specs.Appending.{Happens, AllHappen}
-use Rattle.kpn_run_state.specs.Refusals.{Takes}
+use Rattle.kpn_book.specs.Book.{Book}
+use Rattle.kpn_book.specs.Appending.{Happens, AllHappen}
+use Rattle.kpn_book.specs.Refusals.{Takes}
 use Rattle.kpn_c.specs.declared.moving.Item.{Item}
 use Rattle.kpn_c.specs.declared.moving.Wanted.{Wanted}
 use Rattle.kpn_c.specs.Moving.{feed_of, item_at, wanted_at, filled, TakesAll, one_take_more}

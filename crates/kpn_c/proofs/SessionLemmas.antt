@@ -1,10 +1,10 @@
 -- A book is attached to the network of its session, and detached again.
 use Rattle.std.proofs.Common.{◌≡◌, Bool, refl, sym, ap, ◌∙◌, subst}
 use Rattle.kpn_text.specs.Document.{Document}
-use Rattle.kpn_run_state.specs.declared.detached.Detached.{Detached}
-use Rattle.kpn_run_state.specs.Book.{Book}
-use Rattle.kpn_run_state.specs.Kept.{IsBook}
-use Rattle.kpn_run_state.specs.Detached.{book_on}
+use Rattle.kpn_book.specs.declared.detached.Detached.{Detached}
+use Rattle.kpn_book.specs.Book.{Book}
+use Rattle.kpn_book.specs.Kept.{IsBook}
+use Rattle.kpn_book.specs.Detached.{book_on}
 use Rattle.kpn_c.specs.Session.{Session, session_of}
 
 -- from the attached book to the one that is detached

@@ -4,8 +4,8 @@ use Rattle.std.specs.Prelude.{slice_get}
 use Rattle.std.proofs.lemmas.List.{map-append, take_more, take_more_set, take-append-drop}
 use Rattle.std.proofs.lemmas.Option.{slice_get_within, get_or_from_slice_get, slice_get-get_or}
 use Rattle.kpn_chan.specs.Channel.{ChannelState, next_at}
-use Rattle.kpn_run_history.specs.declared.state.State.{State}
-use Rattle.kpn_run_history.specs.declared.state.State.TheVariants.{Ready}
+use Rattle.kpn_history.specs.declared.state.State.{State}
+use Rattle.kpn_history.specs.declared.state.State.TheVariants.{Ready}
 use Rattle.kpn_c.specs.declared.processes.ProcessState.{ProcessState}
 use Rattle.kpn_c.specs.States.{state_as, next_items}
 

@@ -1,15 +1,15 @@
 -- What calls with slices do to a book.
 use Rattle.std.specs.Prelude.{◌≡◌, ◌↔◌, ℕ, ◌+◌, ◌-◌, ◌^◌, ◌<◌, ◌≤◌, ◌⊎◌, Bool, true, false, ℤ, pos, List, [], length, map, take, drop, get_or, Option, Some, None}
-use Rattle.kpn_run_history.specs.Complete.{IsComplete}
+use Rattle.kpn_history.specs.Complete.{IsComplete}
 use Rattle.kpn_chan.specs.Channel.{unread}
-use Rattle.kpn_run_history.specs.declared.event.Event.TheVariants as event
-use Rattle.kpn_run_configuration.specs.Configuration.{channel_in}
-use Rattle.kpn_run_state.specs.declared.answers.Done.{Done}
-use Rattle.kpn_run_state.specs.declared.answers.Refused.{Refused}
-use Rattle.kpn_run_state.specs.Book.{Book}
-use Rattle.kpn_run_state.specs.Appending.{AllHappen}
-use Rattle.kpn_run_state.specs.Refusals.{IsOpenSource, RefusesFeed, IsOpenSink, RefusesTake}
-use Rattle.kpn_run_state.specs.Stepping.{ClaimsNobody, StepsNext, StepsInVain}
+use Rattle.kpn_history.specs.declared.event.Event.TheVariants as event
+use Rattle.kpn_machine.specs.Machine.{channel_in}
+use Rattle.kpn_book.specs.declared.answers.Done.{Done}
+use Rattle.kpn_book.specs.declared.answers.Refused.{Refused}
+use Rattle.kpn_book.specs.Book.{Book}
+use Rattle.kpn_book.specs.Appending.{AllHappen}
+use Rattle.kpn_book.specs.Refusals.{IsOpenSource, RefusesFeed, IsOpenSink, RefusesTake}
+use Rattle.kpn_book.specs.Stepping.{ClaimsNobody, StepsNext, StepsInVain}
 use Rattle.kpn_c.specs.declared.feeding.Fed.{Fed}
 use Rattle.kpn_c.specs.declared.stepping.Stepped.{Stepped}
 use Rattle.kpn_c.specs.declared.taking.Taken.{Taken}
@@ -56,7 +56,7 @@ pub record StepsEach (quota most : ℕ) (stepped : Stepped) (before after : Book
 -- take was refused for this cause
 abbrev pub takes_all_unless : Option Refused → (sink : ℕ) → (room count : ℕ) → (before after : Book) → Type 0
 takes_all_unless None sink room count before after =
-    IsOpenSink before sink × ((count ≡ room) ⊎ (unread (channel_in after.configuration sink) ≡ []))
+    IsOpenSink before sink × ((count ≡ room) ⊎ (unread (channel_in after.machine sink) ≡ []))
 takes_all_unless (Some cause) sink room count before after = RefusesTake sink after cause
 
 -- as many items as are told were taken from a sink. They stand at the front of the slice, and the rest of the slice is

@@ -1,11 +1,11 @@
 -- What an export of a session tells C, by the number that it returns, and the session that it hands back.
 use Rattle.std.specs.Str.{IsUtf8}
 use Rattle.std.specs.Prelude.{◌≡◌, ◌⊎◌, ℕ, Bool, true, false, if◌then◌else◌, ℤ, List, length, map, Option, Some, None}
-use Rattle.kpn_run_history.specs.declared.state.Verdict.{Verdict}
-use Rattle.kpn_run_history.specs.declared.state.Verdict.TheVariants.{Ended, Clogged, Jammed}
-use Rattle.kpn_run_history.specs.Ends.{IsVerdict}
-use Rattle.kpn_run_state.specs.declared.answers.Refused.{Refused}
-use Rattle.kpn_run_state.specs.Refusals.{Closes, RefusesClose, Leaves, RefusesLeave}
+use Rattle.kpn_history.specs.declared.state.Verdict.{Verdict}
+use Rattle.kpn_history.specs.declared.state.Verdict.TheVariants.{Ended, Clogged, Jammed}
+use Rattle.kpn_history.specs.Ends.{IsVerdict}
+use Rattle.kpn_book.specs.declared.answers.Refused.{Refused}
+use Rattle.kpn_book.specs.Refusals.{Closes, RefusesClose, Leaves, RefusesLeave}
 use Rattle.kpn_c.specs.Faults.{number_of_refusal}
 use Rattle.kpn_c.specs.Calls.{FeedsEach, StepsEach, TakesEach, TellsComplete}
 use Rattle.kpn_c.specs.declared.moving.Item.{Item}
@@ -19,7 +19,7 @@ use Rattle.kpn_c.specs.declared.ends.ChannelState.{ChannelState}
 use Rattle.kpn_c.specs.Telling.{TellsState, counts_of}
 use Rattle.kpn_c.specs.declared.processes.ProcessState.{ProcessState}
 use Rattle.kpn_c.specs.States.{state_as}
-use Rattle.kpn_run_history.specs.declared.stored.Version.TheVariants.{Two}
+use Rattle.kpn_history.specs.declared.stored.Version.TheVariants.{Two}
 use Rattle.kpn_book.specs.RunHere.{IsFirst}
 use Rattle.kpn_trace.specs.TraceText.{trace_text}
 use Rattle.kpn_text_names.specs.Names.{number_of}

@@ -1,11 +1,11 @@
 -- What one call does that feeds, steps and takes.
 use Rattle.std.specs.Prelude.{◌≡◌, ℕ, ◌<◌, ◌-◌, ◌^◌, Bool, true, false, ◌||◌, if◌then◌else◌, is_some, ℤ, pos, List, [], ◌∷◌, ◌++◌, length, map, take, drop, get_or, Option, Some, None}
-use Rattle.kpn_run_history.specs.declared.event.Event.{Event}
-use Rattle.kpn_run_history.specs.declared.event.Event.TheVariants as event
-use Rattle.kpn_run_state.specs.declared.answers.Refused.{Refused}
-use Rattle.kpn_run_state.specs.Book.{Book}
-use Rattle.kpn_run_state.specs.Appending.{AllHappen}
-use Rattle.kpn_run_state.specs.Refusals.{RefusesFeed, RefusesTake, Takes}
+use Rattle.kpn_history.specs.declared.event.Event.{Event}
+use Rattle.kpn_history.specs.declared.event.Event.TheVariants as event
+use Rattle.kpn_book.specs.declared.answers.Refused.{Refused}
+use Rattle.kpn_book.specs.Book.{Book}
+use Rattle.kpn_book.specs.Appending.{AllHappen}
+use Rattle.kpn_book.specs.Refusals.{RefusesFeed, RefusesTake, Takes}
 use Rattle.kpn_c.specs.declared.feeding.Fed.{Fed}
 use Rattle.kpn_c.specs.declared.stepping.Stepped.{Stepped}
 use Rattle.kpn_c.specs.declared.taking.Taken.{Taken}

@@ -2,7 +2,7 @@
 use Rattle.std.specs.Prelude.{◌≡◌, ◌≢◌, ◌⊎◌, ℕ, ℤ, List, length, map, sum, Option}
 use Rattle.kpn_net.specs.Tables.{Tables}
 use Rattle.kpn_net.specs.Iteration.{sources}
-use Rattle.kpn_run_history.specs.declared.stored.Version.TheVariants.{Two}
+use Rattle.kpn_history.specs.declared.stored.Version.TheVariants.{Two}
 use Rattle.kpn_book.specs.declared.outcome.Limits.{Limits}
 use Rattle.kpn_book.specs.declared.report.Report.{Report}
 use Rattle.kpn_book.specs.Reports.{events_of, AreSupplied, IsReport}

@@ -1,9 +1,9 @@
 -- A session: a document and a book of its network.
 use Rattle.std.specs.Prelude.{Bool}
 use Rattle.kpn_text.specs.Document.{Document}
-use Rattle.kpn_run_state.specs.declared.detached.Detached.{Detached}
-use Rattle.kpn_run_state.specs.Book.{Book}
-use Rattle.kpn_run_state.specs.Detached.{book_on}
+use Rattle.kpn_book.specs.declared.detached.Detached.{Detached}
+use Rattle.kpn_book.specs.Book.{Book}
+use Rattle.kpn_book.specs.Detached.{book_on}
 
 -- besides, whether it keeps what has happened
 pub record Session : Type 0 where

@@ -1,7 +1,7 @@
 -- A box with a session, and what a session keeps.
 use Rattle.std.specs.Prelude.{◌≡◌, ◌<◌, ℕ, Bool, length, Option, Some, None, IsSome}
-use Rattle.kpn_run_configuration.specs.Configuration.{channel_in}
-use Rattle.kpn_run_state.specs.Book.{Book}
+use Rattle.kpn_machine.specs.Machine.{channel_in}
+use Rattle.kpn_book.specs.Book.{Book}
 use Rattle.kpn_c.specs.Session.{Session}
 use Rattle.kpn_c.specs.declared.slot.Slot.{Slot}
 
@@ -17,4 +17,4 @@ holding session = Some (record { session = Some session })
 -- the items of each channel are kept, or those of none
 abbrev pub Keeps : Bool → Book → Type 0
 Keeps keeps b =
-    (c : ℕ) → c < length b.configuration.channels → (channel_in b.configuration c).is_kept ≡ keeps
+    (c : ℕ) → c < length b.machine.channels → (channel_in b.machine c).is_kept ≡ keeps

@@ -1,11 +1,11 @@
 -- What is told of processes, and of the unread items of a channel.
 use Rattle.std.specs.Prelude.{◌≡◌, ◌⊎◌, ◌<◌, ◌≤◌, ℕ, if◌then◌else◌, ℤ, List, [], length, take, drop, Option, Some, None}
 use Rattle.kpn_chan.specs.Channel.{ChannelState, unread}
-use Rattle.kpn_run_history.specs.declared.event.How.TheVariants.{Done, Overflow, ZeroDivisor, Index, Shift}
-use Rattle.kpn_run_history.specs.declared.state.State.{State}
-use Rattle.kpn_run_history.specs.declared.state.State.TheVariants.{Ready, Held, WaitsEmpty, WaitsFull, Ended}
-use Rattle.kpn_run_configuration.specs.Configuration.{channel_in}
-use Rattle.kpn_run_state.specs.Book.{Book}
+use Rattle.kpn_history.specs.declared.event.How.TheVariants.{Done, Overflow, ZeroDivisor, Index, Shift}
+use Rattle.kpn_history.specs.declared.state.State.{State}
+use Rattle.kpn_history.specs.declared.state.State.TheVariants.{Ready, Held, WaitsEmpty, WaitsFull, Ended}
+use Rattle.kpn_machine.specs.Machine.{channel_in}
+use Rattle.kpn_book.specs.Book.{Book}
 use Rattle.kpn_c.specs.declared.processes.ProcessState.{ProcessState}
 use Rattle.kpn_c.specs.Session.{Session}
 
@@ -48,7 +48,7 @@ pub record Shows (items : List ℤ) (n : ℕ) (room kept : List ℤ) : Type 0 wh
 abbrev pub LooksInto : (channel : ℕ) → Option ℕ → (room kept : List ℤ) → Book → Type 0
 LooksInto channel None room kept b = (length b.tables.channels ≤ channel) × (kept ≡ room)
 LooksInto channel (Some n) room kept b =
-    (channel < length b.tables.channels) × Shows (next_items (channel_in b.configuration channel)) n room kept
+    (channel < length b.tables.channels) × Shows (next_items (channel_in b.machine channel)) n room kept
 
 abbrev pub TellsNext : (channel code told : ℕ) → (room kept : List ℤ) → Session → Type 0
 TellsNext channel code told room kept s =

@@ -5,9 +5,9 @@ use Rattle.kpn_net.specs.declared.tables.End.TheVariants.{Process, Source, Sink}
 use Rattle.kpn_net.specs.Tables.{Tables, writer_of, reader_of}
 use Rattle.kpn_text_names.specs.Names.{name_at}
 use Rattle.kpn_chan.specs.Channel.{unread}
-use Rattle.kpn_run_history.specs.Channels.{read_on, is_closed}
-use Rattle.kpn_run_configuration.specs.Configuration.{channel_in}
-use Rattle.kpn_run_state.specs.Book.{Book}
+use Rattle.kpn_history.specs.Channels.{read_on, is_closed}
+use Rattle.kpn_machine.specs.Machine.{channel_in}
+use Rattle.kpn_book.specs.Book.{Book}
 use Rattle.kpn_c.specs.declared.ends.Counts.{Counts}
 use Rattle.kpn_c.specs.declared.ends.ChannelState.{ChannelState}
 use Rattle.kpn_c.specs.Session.{Session}
@@ -50,9 +50,9 @@ channel_state_of b c =
       writer = number_of_end (writer_of b.tables c);
       reader = number_of_end (reader_of b.tables c);
       got = length (read_on b.history c);
-      unread = length (unread (channel_in b.configuration c));
+      unread = length (unread (channel_in b.machine c));
       is_closed = is_closed b.history c;
-      is_left = (channel_in b.configuration c).is_retired;
+      is_left = (channel_in b.machine c).is_retired;
     }
 
 -- the state of the channel, or that no channel has this number

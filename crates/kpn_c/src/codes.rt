@@ -5,8 +5,7 @@ ghost use Rattle.kpn_c.specs.Exports.{code_of_cause, code_of_verdict, place_as};
 ghost use Rattle.kpn_c.specs.Runs.{code_of_outcome};
 
 use crate::fault::{Fault, number_of};
-use kpn_book::Outcome;
-use kpn_run_state::{Refused, Verdict};
+use kpn_book::{Outcome, Refused, Verdict};
 
 pub(crate) const OK: u32 = 0;
 

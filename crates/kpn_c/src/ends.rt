@@ -2,8 +2,8 @@
 ghost use Rattle.std.specs.Prelude.{◌≡◌};
 ghost use Rattle.kpn_c.specs.Telling.{TellsState, number_of_end};
 
+use kpn_book::Book;
 use kpn_net::End;
-use kpn_run_state::Book;
 
 /// How many processes and channels a network has.
 #[repr(C)]

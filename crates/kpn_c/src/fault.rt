@@ -2,9 +2,9 @@
 ghost use Rattle.std.specs.Prelude.{◌≡◌};
 ghost use Rattle.kpn_c.specs.Faults.{fault_at, fault_alone, number_of_program, fault_of_net, fault_of_text, number_of_refusal};
 
+use kpn_book::Refused;
 use kpn_lang::ProgramFault;
 use kpn_net::NetFault;
-use kpn_run_state::Refused;
 use kpn_text::TextFault;
 
 /// The number of a fault, and its place: a byte, counted from 0, or the number of a process, an instance or a channel.

@@ -1,7 +1,7 @@
 //! A slice of items is fed to a source.
 ghost use Rattle.kpn_c.specs.Calls.{FeedsEach};
 
-use kpn_run_state::{Book, Refused};
+use kpn_book::{Book, Refused};
 
 /// How many items of a slice were fed, and why the next one was refused, if it was.
 #[derive(Clone, Copy)]

@@ -1,7 +1,7 @@
 //! The unread items of a channel are shown, and stay unread.
 ghost use Rattle.kpn_c.specs.States.{LooksInto};
 
-use kpn_run_state::Book;
+use kpn_book::Book;
 
 /// Copies the next items of a channel to the front of a slice, as many as there is room for, and returns how many.
 /// `None` if no channel has this number.

@@ -7,7 +7,7 @@ use crate::fault::number_of;
 use crate::feeding::Fed;
 use crate::stepping::{Stepped, step_each};
 use crate::taking::Taken;
-use kpn_run_state::Book;
+use kpn_book::Book;
 
 /// An item, and the source to which it is fed.
 #[repr(C)]

@@ -4,8 +4,8 @@ ghost use Rattle.kpn_c.specs.Slices.{Puts};
 ghost use Rattle.kpn_c.specs.States.{state_alone, waiting_on, state_as};
 
 use crate::codes::{OK, TOO_SMALL};
-use kpn_run_history::{How, State};
-use kpn_run_state::Book;
+use kpn_book::Book;
+use kpn_history::{How, State};
 
 /// The state of a process, by number, and the channel on which it waits if it does.
 #[repr(C)]

@@ -2,16 +2,16 @@
 ghost use Rattle.std.specs.Prelude.{◌≡◌, ℕ, ◌<◌, ◌↔◌, length, map, IsTrue, IfOk, IfErr, OnOk, None};
 ghost use Rattle.std.specs.Str.{IsUtf8};
 ghost use Rattle.kpn_text_names.specs.Names.{number_of};
-ghost use Rattle.kpn_run_history.specs.Ends.{IsVerdict};
+ghost use Rattle.kpn_history.specs.Ends.{IsVerdict};
 ghost use Rattle.kpn_net.specs.Tables.{Tables};
-ghost use Rattle.kpn_run_history.specs.Keeping.{keeps_items};
-ghost use Rattle.kpn_run_history.specs.declared.stored.Version.TheVariants.{Two};
+ghost use Rattle.kpn_history.specs.Keeping.{keeps_items};
+ghost use Rattle.kpn_history.specs.declared.stored.Version.TheVariants.{Two};
 ghost use Rattle.kpn_trace.specs.TraceText.{trace_text};
 ghost use Rattle.kpn_text.specs.Spells.{Spells};
 ghost use Rattle.kpn_text.specs.Phases.{Refuses};
-ghost use Rattle.kpn_run_state.specs.Kept.{IsBook};
-ghost use Rattle.kpn_run_state.specs.Detached.{book_on};
-ghost use Rattle.kpn_run_state.specs.Refusals.{Closes, RefusesClose, Leaves, RefusesLeave};
+ghost use Rattle.kpn_book.specs.Kept.{IsBook};
+ghost use Rattle.kpn_book.specs.Detached.{book_on};
+ghost use Rattle.kpn_book.specs.Refusals.{Closes, RefusesClose, Leaves, RefusesLeave};
 ghost use Rattle.kpn_book.specs.RunHere.{IsFirst};
 ghost use Rattle.kpn_c.specs.Calls.{FeedsEach, StepsEach, TakesEach, TellsComplete};
 ghost use Rattle.kpn_c.specs.Moving.{Moves};
@@ -30,8 +30,8 @@ use crate::slices::put_text;
 use crate::stepping::{Stepped, step_each};
 use crate::taking::{Taken, take_each};
 use crate::telling::trace_of;
+use kpn_book::{Book, Detached, Keeping, Refused, Verdict};
 use kpn_net::Network;
-use kpn_run_state::{Book, Detached, Keeping, Refused, Verdict};
 use kpn_text::{Document, TextFault, read_network};
 use std::alloc::{AllocError, Global};
 use std::marker::Model;
@@ -52,8 +52,8 @@ pub struct Session {
 impl Model for Session {
     ghost use Rattle.std.specs.Coded.{codes};
     ghost use Rattle.kpn_lang.specs.Codes.{parts_code};
-    ghost use Rattle.kpn_run_state.specs.Kept.{IsBook};
-    ghost use Rattle.kpn_run_state.specs.Detached.{book_on};
+    ghost use Rattle.kpn_book.specs.Kept.{IsBook};
+    ghost use Rattle.kpn_book.specs.Detached.{book_on};
     ghost use Rattle.kpn_c.specs.Session.{Session as Seen, session_of};
 
     ghost Value = { Seen };

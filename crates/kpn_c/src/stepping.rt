@@ -1,7 +1,7 @@
 //! Processes are stepped, turn by turn.
 ghost use Rattle.kpn_c.specs.Calls.{StepsEach};
 
-use kpn_run_state::Book;
+use kpn_book::Book;
 
 /// How many commits were made, and whether there are no more because memory ran out.
 #[derive(Clone, Copy)]

@@ -1,9 +1,9 @@
 //! Items are taken from a sink into a slice.
 ghost use Rattle.std.specs.Prelude.{IfSome, IfNone};
-ghost use Rattle.kpn_run_state.specs.Refusals.{IsOpenSink, RefusesTake};
+ghost use Rattle.kpn_book.specs.Refusals.{IsOpenSink, RefusesTake};
 ghost use Rattle.kpn_c.specs.Calls.{TakesEach};
 
-use kpn_run_state::{Book, Refused};
+use kpn_book::{Book, Refused};
 
 /// How many items were taken, and why the next take was refused, if it was.
 #[derive(Clone, Copy)]

@@ -1,10 +1,10 @@
 //! The trace of a run, as text.
 ghost use Rattle.std.specs.Prelude.{◌≡◌, IfOk};
-ghost use Rattle.kpn_run_history.specs.declared.stored.Version.TheVariants.{Two};
+ghost use Rattle.kpn_history.specs.declared.stored.Version.TheVariants.{Two};
 ghost use Rattle.kpn_trace.specs.TraceText.{trace_text};
 
+use kpn_history::History;
 use kpn_net::Network;
-use kpn_run_history::History;
 use kpn_trace::write_trace;
 use std::alloc::{AllocError, Global};
 

@@ -4,7 +4,7 @@ ghost use Rattle.std.specs.Prelude.{◌≡◌, ◌↔◌, ◌+◌, Some, true, f
 ghost use Rattle.kpn_chan.specs.Chunks.{items_of, all_of, has_room, IsChunks, IsCounted, HasNext, HasPlacesFor};
 ghost use Rattle.kpn_chan.specs.declared.chunks.TheConstants.{CHUNK, MOST_GONE};
 
-use kpn_past::Past;
+use crate::past::Past;
 use std::alloc::{AllocError, Allocator};
 use std::mem;
 

@@ -7,7 +7,7 @@ ghost use Rattle.std.proofs.Common.{rules};
 ghost use Rattle.kpn_chan.specs.Chunks.{items_of, IsCounted};
 
 use crate::chunks::Chunks;
-use kpn_past::Past;
+use crate::past::Past;
 use std::alloc::{AllocError, Allocator, Global};
 use std::marker::Model;
 

@@ -6,8 +6,10 @@ mod channel;
 mod chunks;
 mod journal;
 pub mod laws;
+mod past;
 mod unread;
 
 pub use channel::Channel;
 pub use journal::{Journal, Written};
+pub use past::Past;
 pub use unread::Unread;

@@ -1,8 +1,8 @@
 //! Which processes wait, and have faulted, as the lines of a report say, and what follows from it.
 
 use crate::pieces::{push, push_name};
+use kpn_history::State;
 use kpn_net::End;
-use kpn_run_history::State;
 use kpn_text::Document;
 use std::alloc::{AllocError, Global};
 

@@ -1,6 +1,6 @@
 -- The line that a command writes of a process that ended by a fault.
 use Rattle.std.specs.Prelude.{ℕ, List, ◌++◌, codes}
-use Rattle.kpn_run_history.specs.declared.event.How.{How}
+use Rattle.kpn_history.specs.declared.event.How.{How}
 use Rattle.kpn_trace.specs.EventLine.{how_word}
 
 -- `fault NAME CAUSE`, and a line feed; the word for the cause is that of a trace

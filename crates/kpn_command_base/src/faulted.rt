@@ -3,7 +3,7 @@ ghost use Rattle.kpn_command_base.specs.Added.{Adds};
 ghost use Rattle.kpn_command_base.specs.Faulted.{faulted_line};
 
 use crate::pieces::Pushed;
-use kpn_run_history::How;
+use kpn_history::How;
 use kpn_trace::how_word;
 
 /// `fault NAME CAUSE`, and a line feed. The word for the cause is that of a trace. Call it only for an end by a fault.

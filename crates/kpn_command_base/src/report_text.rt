@@ -7,8 +7,8 @@ use crate::faulted::push_faulted;
 use crate::list_text::push_list;
 use crate::pieces::Pushed;
 use kpn_book::{Outcome, Report};
+use kpn_history::{How, State};
 use kpn_lang::Sequence;
-use kpn_run_history::{How, State};
 use kpn_text::Document;
 use std::alloc::{AllocError, Global};
 

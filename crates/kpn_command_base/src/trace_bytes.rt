@@ -4,8 +4,8 @@ ghost use Rattle.kpn_trace.specs.TraceText.{trace_text};
 ghost use Rattle.kpn_command_base.specs.Stored.{Stores};
 
 use crate::refusal::Refusal;
+use kpn_history::{History, Version};
 use kpn_net::Network;
-use kpn_run_history::{History, Version};
 use kpn_shelf::Shelf;
 use kpn_trace::write_trace;
 use std::alloc::Global;

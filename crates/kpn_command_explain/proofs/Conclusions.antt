@@ -2,7 +2,7 @@
 use Rattle.std.proofs.Common.{◌≡◌, ℕ, ◌<◌, List, length, Ok, refl, subst, arith}
 use Rattle.std.specs.declared.alloc.Global.{Global}
 use Rattle.kpn_net.specs.Tables.{Tables}
-use Rattle.kpn_run_history.specs.declared.stored.Trace.{Trace}
+use Rattle.kpn_history.specs.declared.stored.Trace.{Trace}
 use Rattle.kpn_trace.specs.TraceText.{Spells}
 use Rattle.kpn_text.specs.Document.{Document}
 use Rattle.kpn_audit.specs.declared.findings.AuditFault.TheVariants.{Illegal}

@@ -1,14 +1,14 @@
 //! What is said of a legal history with a ring: who waits for whom, what waits behind it, and on which sources items
 //! are left because of it. Rows show its words.
 ghost use Rattle.std.specs.Prelude.{◌≡◌, ◌<◌, true, length, IfOk};
-ghost use Rattle.kpn_ring.specs.Told.{AreRings, are_some};
+ghost use Rattle.kpn_deadlock.specs.Told.{AreRings, are_some};
 ghost use Rattle.kpn_command_explain.specs.TraceAnswers.{BeginsByRings, TellsRings};
 
 use kpn_audit::Audit;
 use kpn_command_base::Pushed;
+use kpn_deadlock::rings;
 use kpn_lang::Sequence;
 use kpn_net::{End, Wait};
-use kpn_ring::rings;
 use kpn_text::Document;
 use std::alloc::{AllocError, Global};
 

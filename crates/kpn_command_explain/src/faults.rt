@@ -8,7 +8,7 @@ use crate::trace_names::process;
 use crate::trace_words::push_event;
 use kpn_audit::Audit;
 use kpn_command_base::Pushed;
-use kpn_run_history::{Event, How, Trace};
+use kpn_history::{Event, How, Trace};
 use kpn_text::Document;
 use kpn_trace::how_word;
 use std::alloc::{AllocError, Global};

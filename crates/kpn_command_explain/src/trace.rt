@@ -11,7 +11,7 @@ ghost use Rattle.kpn_command_explain.specs.TraceAnswers.{IsNoExplanation, IsRefu
 use crate::trace_text::{illegal_text, legal_text, refused_text};
 use kpn_audit::scene_before;
 use kpn_command_base::{Conclusion, Finding, Flaw, Refusal, audit_trace, load_document};
-use kpn_run_history::Trace;
+use kpn_history::Trace;
 use kpn_shelf::Shelf;
 use kpn_text::Document;
 use kpn_trace::{TraceFault, read_trace};

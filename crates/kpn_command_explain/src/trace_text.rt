@@ -12,7 +12,7 @@ use crate::lines::line_start;
 use crate::not_exact::push_not_exact;
 use crate::trace_words::{push_event, push_scene};
 use kpn_audit::{Audit, Scene};
-use kpn_run_history::{Event, Trace, Version};
+use kpn_history::{Event, Trace, Version};
 use kpn_text::Document;
 use kpn_trace::TraceFault;
 use std::alloc::{AllocError, Global};

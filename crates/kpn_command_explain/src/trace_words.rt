@@ -3,7 +3,7 @@
 use crate::trace_names::{channel, process};
 use kpn_audit::{Doing, Scene, Side};
 use kpn_command_base::Pushed;
-use kpn_run_history::{Event, Version};
+use kpn_history::{Event, Version};
 use kpn_text::Document;
 use kpn_trace::how_word;
 

@@ -3,24 +3,24 @@ use Rattle.std.proofs.Common.{◌≡◌, ◌∙◌, ℕ, ◌+◌, ◌<◌, ℤ, 
 use Rattle.std.proofs.lemmas.Bool.{cases_lt}
 use Rattle.std.proofs.lemmas.List.{get_or_append_left}
 use Rattle.std.proofs.Math.Seq.{drop-append_seam, get_or-append_seam}
-use Rattle.kpn_run_history.specs.Channels.{written_on, read_on, unread_on}
-use Rattle.kpn_run_configuration.specs.Configuration.{channel_in}
-use Rattle.kpn_run_configuration.proofs.Moments.{journal_now}
-use Rattle.kpn_run_state.specs.Book.{Book}
-use Rattle.kpn_run_state.specs.Kept.{IsBook}
+use Rattle.kpn_history.specs.Channels.{written_on, read_on, unread_on}
+use Rattle.kpn_machine.specs.Machine.{channel_in}
+use Rattle.kpn_machine.proofs.Moments.{journal_now}
+use Rattle.kpn_book.specs.Book.{Book}
+use Rattle.kpn_book.specs.Kept.{IsBook}
 use Rattle.kpn_command_stream.specs.declared.counters.ChannelCounts.{ChannelCounts}
 use Rattle.kpn_command_stream.specs.Counters.{AreCounted, IsCounted}
 
 -- what of a channel is not read
 abbrev pub rest_of : Book → (c : ℕ) → List ℤ
-rest_of b c = drop (channel_in b.configuration c).read (channel_in b.configuration c).journal
+rest_of b c = drop (channel_in b.machine c).read (channel_in b.machine c).journal
 
 -- what was written on a channel is what was read and then what is unread
 written : (b : Book) → IsBook b → (c : ℕ) → c < length b.tables.channels
     → written_on b.history c ≡ read_on b.history c ++ rest_of b c
 written b book c below =
     sym (book.kept.in_step.run.leads.channels c below).journal
-    ∙ journal_now b.tables book.network b.history b.configuration book.kept.in_step.run c below
+    ∙ journal_now b.tables book.network b.history b.machine book.kept.in_step.run c below
 
 -- so many items were put on it
 pub put_is : (b : Book) → IsBook b → (c : ℕ) → c < length b.tables.channels → (read left : ℕ)

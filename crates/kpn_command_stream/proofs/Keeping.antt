@@ -1,6 +1,6 @@
 -- The devices of a stream keep the references to standard input and output.
 use Rattle.std.proofs.Common.{◌≡◌, ◌∙◌, ℕ, ℤ, List, Option, Some, None, Result, Ok, Err, refl, ap, subst}
-use Rattle.kpn_run_history.specs.declared.event.Event.{Event}
+use Rattle.kpn_history.specs.declared.event.Event.{Event}
 use Rattle.kpn_stream.specs.declared.faults.SourceFault.{SourceFault}
 use Rattle.kpn_stream.specs.declared.faults.SinkFault.{SinkFault}
 use Rattle.kpn_stream.specs.Devices.{Fed, Served, at_first, by_others, by_look, by_item, by_end, by_fault, by_no_memory}
@@ -12,7 +12,7 @@ use Rattle.kpn_stream_devices.specs.Outputs as outputs
 use Rattle.kpn_stream_devices.specs.Outputs.{OutputRel, OutputsDo}
 use Rattle.kpn_command_stream.specs.Command as command
 use Rattle.kpn_net.specs.Tables.{Tables}
-use Rattle.kpn_run_state.specs.Book.{Book}
+use Rattle.kpn_book.specs.Book.{Book}
 use Rattle.kpn_book.specs.declared.outcome.Limits.{Limits}
 use Rattle.kpn_stream.specs.declared.ending.Ending.{Ending}
 use Rattle.kpn_command_stream.specs.declared.running.Lost.{Lost}

@@ -5,9 +5,9 @@ use Rattle.std.specs.List.{AllZip}
 use Rattle.kpn_net.specs.Tables.{Tables}
 use Rattle.kpn_text.specs.Document.{Document}
 use Rattle.kpn_trace.specs.TraceText.{trace_text}
-use Rattle.kpn_run_history.specs.declared.stored.Version.TheVariants as version
-use Rattle.kpn_run_state.specs.Book.{Book}
-use Rattle.kpn_run_state.specs.Kept.{IsBook}
+use Rattle.kpn_history.specs.declared.stored.Version.TheVariants as version
+use Rattle.kpn_book.specs.Book.{Book}
+use Rattle.kpn_book.specs.Kept.{IsBook}
 use Rattle.kpn_book.specs.declared.outcome.Limits.{Limits}
 use Rattle.kpn_command_base.specs.StreamRequest.{StreamRequest}
 use Rattle.kpn_command_base.specs.declared.refusal.Refusal.{Refusal}

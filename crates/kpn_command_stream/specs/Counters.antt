@@ -1,8 +1,8 @@
 -- What the channels of a stream did, by the counters of its book.
 use Rattle.std.specs.Prelude.{◌≡◌, ℕ, ◌<◌, Bool, true, false, List, [], length, get_or}
-use Rattle.kpn_run_history.specs.Channels.{written_on, read_on, unread_on}
-use Rattle.kpn_run_configuration.specs.Configuration.{channel_in}
-use Rattle.kpn_run_state.specs.Book.{Book}
+use Rattle.kpn_history.specs.Channels.{written_on, read_on, unread_on}
+use Rattle.kpn_machine.specs.Machine.{channel_in}
+use Rattle.kpn_book.specs.Book.{Book}
 use Rattle.kpn_command_stream.specs.declared.counters.ChannelCounts.{ChannelCounts}
 
 -- how many items were put on channel c, how many were read from it, how many are unread, and the most that ever were
@@ -10,7 +10,7 @@ pub record IsCounted (b : Book) (c : ℕ) (counts : ChannelCounts) : Type 0 wher
   pub put : counts.put ≡ length (written_on b.history c)
   pub read : counts.read ≡ length (read_on b.history c)
   pub unread : counts.unread ≡ length (unread_on b.history c)
-  pub most : counts.most ≡ (channel_in b.configuration c).most
+  pub most : counts.most ≡ (channel_in b.machine c).most
 
 -- the counters of the first channels, one after the other
 pub record AreCounted (b : Book) (counts : List ChannelCounts) : Type 0 where

@@ -1,8 +1,8 @@
 -- What a stream has come to.
 use Rattle.std.specs.Prelude.{◌≡◌, Bool, Option, Some, None}
-use Rattle.kpn_run_history.specs.Waiting.{waits_of}
-use Rattle.kpn_ring.specs.Told.{AreRings}
-use Rattle.kpn_run_state.specs.Book.{Book}
+use Rattle.kpn_history.specs.Waiting.{waits_of}
+use Rattle.kpn_deadlock.specs.Told.{AreRings}
+use Rattle.kpn_book.specs.Book.{Book}
 use Rattle.kpn_book.specs.declared.outcome.Limits.{Limits}
 use Rattle.kpn_book.specs.declared.outcome.Outcome.{Outcome}
 use Rattle.kpn_book.specs.Outcomes.{IsOutcome}

@@ -5,17 +5,17 @@ use Rattle.std.specs.Fmt.{decimal}
 use Rattle.kpn_net.specs.Tables.{is_sink}
 use Rattle.kpn_text_names.specs.Names.{name_at}
 use Rattle.kpn_text.specs.Document.{Document}
-use Rattle.kpn_run_history.specs.declared.event.How.TheVariants as how
-use Rattle.kpn_run_history.specs.declared.state.State.{State}
-use Rattle.kpn_run_history.specs.declared.state.State.TheVariants as state
-use Rattle.kpn_run_history.specs.Channels.{read_on}
-use Rattle.kpn_run_history.specs.Complete.{IsComplete}
-use Rattle.kpn_run_configuration.specs.Configuration.{channel_in}
-use Rattle.kpn_run_state.specs.Book.{Book}
+use Rattle.kpn_history.specs.declared.event.How.TheVariants as how
+use Rattle.kpn_history.specs.declared.state.State.{State}
+use Rattle.kpn_history.specs.declared.state.State.TheVariants as state
+use Rattle.kpn_history.specs.Channels.{read_on}
+use Rattle.kpn_history.specs.Complete.{IsComplete}
+use Rattle.kpn_machine.specs.Machine.{channel_in}
+use Rattle.kpn_book.specs.Book.{Book}
 use Rattle.kpn_book.specs.declared.outcome.Outcome.{Outcome}
 use Rattle.kpn_book.specs.declared.outcome.Outcome.TheVariants.{Stopped}
 use Rattle.kpn_command_base.specs.ReportText.{fault_text, wait_text, state_lines, outcome_word, outcome_status}
-use Rattle.kpn_ring.specs.Told.{are_some}
+use Rattle.kpn_deadlock.specs.Told.{are_some}
 use Rattle.kpn_stream.specs.Ending.{end_numbers}
 use Rattle.kpn_command_stream.specs.declared.summary.SinkEnd.{SinkEnd}
 
@@ -26,7 +26,7 @@ pub record IsSinkEnd (b : Book) (c : ℕ) (end : SinkEnd) : Type 0 where
   pub channel : end.channel ≡ c
   pub items : end.items ≡ length (read_on b.history c)
   pub complete : IsTrue end.is_complete ↔ IsComplete b.tables b.history c
-  pub left : end.is_left ≡ (channel_in b.configuration c).is_retired
+  pub left : end.is_left ≡ (channel_in b.machine c).is_retired
 
 -- the same of each sink, in order
 abbrev pub AreSinkEnds : Book → List SinkEnd → Type 0

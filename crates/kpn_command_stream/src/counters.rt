@@ -2,7 +2,7 @@
 ghost use Rattle.std.specs.Prelude.{◌≡◌, ◌<◌, length, IfOk};
 ghost use Rattle.kpn_command_stream.specs.Counters.{AreCounted, AreCountsIf, IsCounted};
 
-use kpn_run_state::Book;
+use kpn_book::Book;
 use std::alloc::{AllocError, Global};
 
 /// What a channel did.

@@ -5,11 +5,10 @@ ghost use Rattle.kpn_command_stream.specs.Ending.{IsOutcomeAt, IsOver};
 
 use crate::counters::{ChannelCounts, counts_if};
 use crate::summary::{SinkEnd, sink_ends};
-use kpn_book::outcome_of;
+use kpn_book::{Book, outcome_of};
+use kpn_deadlock::rings_among;
+use kpn_history::{History, State};
 use kpn_lang::Sequence;
-use kpn_ring::rings_among;
-use kpn_run_history::{History, State};
-use kpn_run_state::Book;
 use kpn_stream::{Ending, Limits, Outcome, Streamed, close_sources};
 use std::alloc::{AllocError, Global};
 

@@ -3,7 +3,7 @@
 
 use crate::counters::ChannelCounts;
 use kpn_command_base::{Row, Table};
-use kpn_run_history::State;
+use kpn_history::State;
 use kpn_text::Document;
 use kpn_trace::how_word;
 use std::alloc::{AllocError, Global};

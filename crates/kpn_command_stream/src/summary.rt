@@ -4,14 +4,14 @@ ghost use Rattle.std.specs.List.{AllZip};
 ghost use Rattle.std.specs.String.{string_bytes};
 ghost use Rattle.kpn_net.specs.Tables.{is_sink};
 ghost use Rattle.kpn_command_base.specs.Added.{Adds};
-ghost use Rattle.kpn_ring.specs.Told.{are_some};
+ghost use Rattle.kpn_deadlock.specs.Told.{are_some};
 ghost use Rattle.kpn_stream.specs.Ending.{end_numbers};
 ghost use Rattle.kpn_command_stream.specs.Summary.{IsSinkEnd, AreSinkEnds, are_done, has_fault, is_fault, members_text, outcome_text, ring_text, rings_text, sink_text, sinks_text, status_at, stream_status, summary_text};
 
+use kpn_book::Book;
 use kpn_command_base::{Pushed, push_faults, push_waits, status_of, word_of};
+use kpn_history::{How, State};
 use kpn_lang::Sequence;
-use kpn_run_history::{How, State};
-use kpn_run_state::Book;
 use kpn_stream::{Outcome, end_numbers_of};
 use kpn_text::Document;
 use std::alloc::{AllocError, Global};

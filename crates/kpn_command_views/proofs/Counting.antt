@@ -7,11 +7,11 @@ use Rattle.std.proofs.Math.Seq.{take-length}
 use Rattle.std.proofs.lemmas.List.{take-append-le, get_or-set_same, get_or-set_other, length-set, length-replicate, get_or-replicate, length_push, length-take, take_more, take_all}
 use Rattle.std.proofs.lemmas.List.Sums.{sum_by_push}
 use Rattle.kpn_net.specs.Tables.{Tables}
-use Rattle.kpn_run_history.specs.declared.event.Event.{Event}
-use Rattle.kpn_run_history.specs.declared.event.Event.TheVariants.{Get, Put, WaitEmpty, WaitFull, Feed, Take, Grow}
-use Rattle.kpn_run_history.specs.Talks.{process_of, channel_of}
-use Rattle.kpn_run_history.specs.Channels.{written_in, read_in, written_on, read_on, unread_on, is_growth_of}
-use Rattle.kpn_run_history.proofs.Events.{flat_map-push}
+use Rattle.kpn_history.specs.declared.event.Event.{Event}
+use Rattle.kpn_history.specs.declared.event.Event.TheVariants.{Get, Put, WaitEmpty, WaitFull, Feed, Take, Grow}
+use Rattle.kpn_history.specs.Talks.{process_of, channel_of}
+use Rattle.kpn_history.specs.Channels.{written_in, read_in, written_on, read_on, unread_on, is_growth_of}
+use Rattle.kpn_history.proofs.Events.{flat_map-push}
 use Rattle.kpn_command_views.specs.declared.figures.ChannelFigures.{ChannelFigures}
 use Rattle.kpn_command_views.specs.declared.figures.ProcessFigures.{ProcessFigures}
 use Rattle.kpn_command_views.specs.declared.figures.Figures.{Figures}

@@ -6,12 +6,12 @@ use Rattle.std.proofs.lemmas.List.Sums.{sum-map}
 use Rattle.std.proofs.lemmas.List.{take-map, length-map}
 use Rattle.std.specs.declared.alloc.Global.{Global}
 use Rattle.kpn_net.specs.Tables.{Tables}
-use Rattle.kpn_run_history.specs.declared.event.Event.{Event}
-use Rattle.kpn_run_history.specs.declared.event.Event.TheVariants.{Grow}
-use Rattle.kpn_run_history.specs.declared.stored.Version.{Version}
-use Rattle.kpn_run_history.specs.declared.stored.Version.TheVariants.{One, Two}
-use Rattle.kpn_run_history.specs.declared.stored.Trace.{Trace}
-use Rattle.kpn_run_history.specs.Channels.{written_in, read_in, written_on, read_on, is_growth_of}
+use Rattle.kpn_history.specs.declared.event.Event.{Event}
+use Rattle.kpn_history.specs.declared.event.Event.TheVariants.{Grow}
+use Rattle.kpn_history.specs.declared.stored.Version.{Version}
+use Rattle.kpn_history.specs.declared.stored.Version.TheVariants.{One, Two}
+use Rattle.kpn_history.specs.declared.stored.Trace.{Trace}
+use Rattle.kpn_history.specs.Channels.{written_in, read_in, written_on, read_on, is_growth_of}
 use Rattle.kpn_audit.specs.Stored.{told, told_behind, history_of, tables_for, history_in}
 use Rattle.kpn_command_views.specs.declared.figures.ChannelFigures.{ChannelFigures}
 use Rattle.kpn_command_views.specs.declared.figures.ProcessFigures.{ProcessFigures}

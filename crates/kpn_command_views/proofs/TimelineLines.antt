@@ -5,7 +5,7 @@ use Rattle.std.proofs.lemmas.List.{append-nil, drop_more, drop-drop, take_all, t
 use Rattle.std.proofs.lemmas.List.Folds.{concat-append}
 use Rattle.std.proofs.lemmas.List.FromFn.{map-range_with_len_more}
 use Rattle.kpn_net.specs.Tables.{Tables}
-use Rattle.kpn_run_history.specs.declared.event.Event.{Event}
+use Rattle.kpn_history.specs.declared.event.Event.{Event}
 use Rattle.kpn_ticks.specs.Ticks.{Clocks, after, start, clocks_after}
 use Rattle.kpn_ticks.specs.Held.{reads_before}
 use Rattle.kpn_command_views.specs.TimelineText.{each_below, event_lines, all_event_lines, counter_line, read_lines, counter_lines}

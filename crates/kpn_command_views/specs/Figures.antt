@@ -1,10 +1,10 @@
 -- The figures of a history: how often each channel and each process did what, and the most items that were unread.
 use Rattle.std.specs.Prelude.{◌≡◌, ℕ, ◌+◌, ◌-◌, ◌<◌, ◌≤◌, max, Bool, false, nat_eq, List, length, take, count_by, Option, Some, None, slice_index_or, slice_set}
 use Rattle.kpn_net.specs.Tables.{Tables}
-use Rattle.kpn_run_history.specs.declared.event.Event.{Event}
-use Rattle.kpn_run_history.specs.declared.event.Event.TheVariants.{Get, Put, WaitEmpty, WaitFull, Feed, Take, Grow}
-use Rattle.kpn_run_history.specs.Talks.{process_of, channel_of}
-use Rattle.kpn_run_history.specs.Channels.{written_on, read_on, unread_on, is_growth_of}
+use Rattle.kpn_history.specs.declared.event.Event.{Event}
+use Rattle.kpn_history.specs.declared.event.Event.TheVariants.{Get, Put, WaitEmpty, WaitFull, Feed, Take, Grow}
+use Rattle.kpn_history.specs.Talks.{process_of, channel_of}
+use Rattle.kpn_history.specs.Channels.{written_on, read_on, unread_on, is_growth_of}
 use Rattle.kpn_command_views.specs.declared.figures.ChannelFigures.{ChannelFigures}
 use Rattle.kpn_command_views.specs.declared.figures.ProcessFigures.{ProcessFigures}
 use Rattle.kpn_command_views.specs.declared.figures.Figures.{Figures}

@@ -4,9 +4,9 @@ use Rattle.kpn_net.specs.Tables.{Tables, capacity, channel_at}
 use Rattle.kpn_net.specs.Waits.{wait_at}
 use Rattle.kpn_net.specs.declared.wait.Wait.{Wait}
 use Rattle.kpn_net.specs.declared.wait.Wait.TheVariants.{Nobody, Empty, Full}
-use Rattle.kpn_run_history.specs.declared.event.How.{How}
-use Rattle.kpn_run_history.specs.declared.state.State.{State}
-use Rattle.kpn_run_history.specs.declared.state.State.TheVariants.{Ready, WaitsEmpty, WaitsFull, Ended}
+use Rattle.kpn_history.specs.declared.event.How.{How}
+use Rattle.kpn_history.specs.declared.state.State.{State}
+use Rattle.kpn_history.specs.declared.state.State.TheVariants.{Ready, WaitsEmpty, WaitsFull, Ended}
 use Rattle.kpn_audit.specs.declared.findings.Audit.{Audit}
 use Rattle.kpn_command_views.specs.declared.found.Flow.{Flow}
 

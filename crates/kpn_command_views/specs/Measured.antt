@@ -1,6 +1,6 @@
 -- What is measured of a legal history.
 use Rattle.std.specs.declared.alloc.Global.{Global}
-use Rattle.kpn_run_history.specs.declared.stored.Trace.{Trace}
+use Rattle.kpn_history.specs.declared.stored.Trace.{Trace}
 use Rattle.kpn_text.specs.Document.{Document}
 use Rattle.kpn_audit.specs.Stored.{tables_for, history_in}
 use Rattle.kpn_command_views.specs.declared.measured.Measured.{Measured}

@@ -2,7 +2,7 @@
 use Rattle.std.specs.Prelude.{◌≡◌, ◌⊎◌, ℕ, List, Option}
 use Rattle.std.specs.Io.KnownBytes.{Appends}
 use Rattle.std.specs.declared.alloc.Global.{Global}
-use Rattle.kpn_run_history.specs.declared.stored.Trace.{Trace}
+use Rattle.kpn_history.specs.declared.stored.Trace.{Trace}
 use Rattle.kpn_text.specs.Document.{Document}
 use Rattle.kpn_audit.specs.declared.findings.Audit.{Audit}
 use Rattle.kpn_audit.specs.Stored.{tables_for, history_in}

@@ -1,8 +1,8 @@
 -- When the gets and puts of a history take place, as `kpn stats` tells it.
 use Rattle.std.specs.Prelude.{◌≡◌, Bool, true, false, List, length, count_by}
 use Rattle.kpn_net.specs.Tables.{Tables}
-use Rattle.kpn_run_history.specs.declared.event.Event.{Event}
-use Rattle.kpn_run_history.specs.declared.event.Event.TheVariants.{Get, Put}
+use Rattle.kpn_history.specs.declared.event.Event.{Event}
+use Rattle.kpn_history.specs.declared.event.Event.TheVariants.{Get, Put}
 use Rattle.kpn_ticks.specs.Ticks.{clocks_after}
 use Rattle.kpn_ticks.specs.Chain.{shares_of}
 use Rattle.kpn_ticks.specs.Shown.{shown}

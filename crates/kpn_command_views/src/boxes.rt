@@ -10,8 +10,8 @@ ghost use Rattle.kpn_command_views.specs.Drawable.{IsDrawable};
 
 use crate::scale::Scale;
 use kpn_command_base::Pushed;
+use kpn_history::Event;
 use kpn_net::{Network, Wait};
-use kpn_run_history::Event;
 use kpn_text::Document;
 use kpn_ticks::Clocks;
 

@@ -2,9 +2,9 @@
 ghost use Rattle.std.specs.Prelude.{◌≡◌, ◌+◌, ◌<◌, ◌^◌, ℕ, length, replicate, slice_index_or, IfOk};
 ghost use Rattle.kpn_command_views.specs.Figures.{AreFigures, no_channel, no_process, channel_then, process_then, channel_counts_then, channel_total, process_total, channels_then, processes_then};
 
+use kpn_history::Event;
 use kpn_lang::Sequence;
 use kpn_net::Network;
-use kpn_run_history::Event;
 use std::alloc::{AllocError, Global};
 
 /// The figures of a channel.

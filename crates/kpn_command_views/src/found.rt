@@ -4,8 +4,8 @@ ghost use Rattle.kpn_net.specs.Tables.{capacity, channel_at};
 ghost use Rattle.kpn_command_views.specs.Found.{standing, state_in, state_of, grown_to, flow_in, flow_of};
 
 use kpn_audit::Audit;
+use kpn_history::{How, State};
 use kpn_net::{Network, Wait};
-use kpn_run_history::{How, State};
 
 /// What went over a channel in a history.
 #[derive(Clone, Copy)]

@@ -1,9 +1,9 @@
 //! The cycles of waiting processes after a history, and which processes and channels are parts of them.
 
 use kpn_audit::Audit;
+use kpn_deadlock::cycles;
 use kpn_lang::Sequence;
 use kpn_net::{Network, Wait};
-use kpn_ring::cycles;
 use std::alloc::{AllocError, Global};
 
 /// The cycles of waiting processes: rings, and those with full channels.

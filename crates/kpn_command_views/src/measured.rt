@@ -5,7 +5,7 @@ ghost use Rattle.kpn_command_views.specs.Measured.{AreMeasured};
 
 use crate::figures::{Figures, count};
 use crate::times::{Times, times_of};
-use kpn_run_history::Trace;
+use kpn_history::Trace;
 use kpn_text::Document;
 use std::alloc::{AllocError, Global};
 

@@ -8,8 +8,8 @@ ghost use Rattle.kpn_command_views.specs.TimelineText.{slice_front, get_words, p
 
 use crate::digits::{push_digits, push_signed};
 use kpn_command_base::Pushed;
+use kpn_history::Event;
 use kpn_net::{Network, Wait};
-use kpn_run_history::Event;
 use kpn_text::Document;
 use kpn_ticks::Clocks;
 

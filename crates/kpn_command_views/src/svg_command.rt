@@ -8,8 +8,8 @@ ghost use Rattle.kpn_command_views.specs.PictureAnswers.{IsPictured, IsPicture, 
 
 use crate::picture::picture_of;
 use kpn_command_base::{Audited, Conclusion, Finding, Refusal, load_audited};
+use kpn_history::{Event, Version};
 use kpn_net::{Growth, Policy, Wait};
-use kpn_run_history::{Event, Version};
 use kpn_shelf::Shelf;
 use kpn_text::Document;
 use std::alloc::Global;

@@ -10,8 +10,8 @@ ghost use Rattle.kpn_command_views.specs.TimelineAnswers.{HasGoneOut, IsTimeline
 use crate::sending::{SendFault, send_last};
 use crate::timeline::send_timeline;
 use kpn_command_base::{Audited, Finding, Flaw, Refusal, load_audited};
+use kpn_history::{Event, Version};
 use kpn_net::{Growth, Policy, Wait};
-use kpn_run_history::{Event, Version};
 use kpn_shelf::Shelf;
 use kpn_text::Document;
 use std::alloc::Global;

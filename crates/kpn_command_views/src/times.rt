@@ -3,8 +3,8 @@ ghost use Rattle.std.specs.Prelude.{◌≡◌, count_by, IfOk};
 ghost use Rattle.kpn_audit.specs.Stored.{tables_for, history_in};
 ghost use Rattle.kpn_command_views.specs.Times.{is_move, AreTimes};
 
+use kpn_history::{Event, Trace};
 use kpn_net::Network;
-use kpn_run_history::{Event, Trace};
 use kpn_ticks::{Clocks, clocks_of, shares_of};
 use std::alloc::{AllocError, Global};
 

@@ -4,7 +4,7 @@ use Rattle.kpn_lang.specs.declared.talk.Said.{Said}
 use Rattle.kpn_lang.specs.Alone.{put_at}
 use Rattle.kpn_step.specs.declared.stop.AloneStop.{AloneStop}
 use Rattle.kpn_step.specs.declared.stop.AloneStop.TheVariants.{Faulted}
-use Rattle.kpn_run_history.specs.Talks.{how_of}
+use Rattle.kpn_history.specs.Talks.{how_of}
 use Rattle.kpn_text_items.specs.ItemFile.{item_text}
 use Rattle.kpn_command_base.specs.Faulted.{faulted_line}
 

@@ -1,7 +1,7 @@
 -- What `kpn audit` writes.
 use Rattle.std.specs.Prelude.{◌≡◌, ℕ, List}
 use Rattle.std.specs.declared.alloc.Global.{Global}
-use Rattle.kpn_run_history.specs.declared.stored.Trace.{Trace}
+use Rattle.kpn_history.specs.declared.stored.Trace.{Trace}
 use Rattle.kpn_audit.specs.declared.findings.Audit.{Audit}
 use Rattle.kpn_text.specs.Document.{Document}
 use Rattle.kpn_shelf.specs.Shelf.{Loads}

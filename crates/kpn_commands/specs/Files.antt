@@ -1,8 +1,8 @@
 -- The files that a run stores: the trace, and what the sinks received.
 use Rattle.std.specs.Prelude.{ℕ, suc, ℤ, List, [], ◌∷◌, ◌++◌, Option, Some, None}
 use Rattle.kpn_net.specs.Tables.{Tables}
-use Rattle.kpn_run_history.specs.declared.event.Event.{Event}
-use Rattle.kpn_run_history.specs.declared.stored.Version.TheVariants.{Two}
+use Rattle.kpn_history.specs.declared.event.Event.{Event}
+use Rattle.kpn_history.specs.declared.stored.Version.TheVariants.{Two}
 use Rattle.kpn_trace.specs.TraceText.{trace_text}
 use Rattle.kpn_text_items.specs.ItemFile.{item_text}
 use Rattle.kpn_book.specs.Reports.{events_of}

@@ -4,8 +4,8 @@ ghost use Rattle.kpn_command_base.specs.Added.{Adds};
 ghost use Rattle.kpn_commands.specs.AloneText.{alone_text, fault_text};
 
 use kpn_command_base::{Pushed, push_faulted};
+use kpn_history::How;
 use kpn_lang::Said;
-use kpn_run_history::How;
 use kpn_step::AloneStop;
 use std::alloc::{AllocError, Global};
 

@@ -6,9 +6,9 @@ ghost use Rattle.kpn_commands.specs.Files.{trace_files, sink_file, sink_files, f
 
 use crate::reporting::Reported;
 use kpn_command_base::{NamedEnd, OutputFile, Refusal, file_for, trace_of, wanted_of};
+use kpn_history::History;
 use kpn_lang::Sequence;
 use kpn_net::Network;
-use kpn_run_history::History;
 use kpn_text_items::write_items;
 use std::alloc::Global;
 

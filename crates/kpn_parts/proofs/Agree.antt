@@ -8,16 +8,16 @@ use Rattle.kpn_net.specs.Faults.{IsNetwork}
 use Rattle.kpn_net.specs.Process.{Family, IsFamilyPrefix}
 use Rattle.kpn_net.specs.Iteration.{iterate, IsPrefixOnSources, AgreeOnSources, IsLeast}
 use Rattle.kpn_net.proofs.Monotone.{iterate-grows}
-use Rattle.kpn_run_history.specs.declared.event.Event.{Event}
-use Rattle.kpn_run_history.specs.Channels.{written_on, read_on, fed}
-use Rattle.kpn_run_history.specs.Legal.{Legal}
-use Rattle.kpn_run_history.specs.Ends.{IsQuiet}
-use Rattle.kpn_run_history.specs.Complete.{IsComplete, IsFedFrom}
-use Rattle.kpn_run_history.proofs.Journals.{reads_begin_writes}
-use Rattle.kpn_run_history.proofs.Below.{IsBelowIterate}
-use Rattle.kpn_run_history.proofs.Kahn as kahn
-use Rattle.kpn_run_history.proofs.Kahn.{take-prefix}
-use Rattle.kpn_run_history.proofs.Complete as one
+use Rattle.kpn_history.specs.declared.event.Event.{Event}
+use Rattle.kpn_history.specs.Channels.{written_on, read_on, fed}
+use Rattle.kpn_history.specs.Legal.{Legal}
+use Rattle.kpn_history.specs.Ends.{IsQuiet}
+use Rattle.kpn_history.specs.Complete.{IsComplete, IsFedFrom}
+use Rattle.kpn_history.proofs.Journals.{reads_begin_writes}
+use Rattle.kpn_history.proofs.Below.{IsBelowIterate}
+use Rattle.kpn_history.proofs.Kahn as kahn
+use Rattle.kpn_history.proofs.Kahn.{take-prefix}
+use Rattle.kpn_history.proofs.Complete as one
 use Rattle.kpn_parts.specs.declared.order.PartEvent.{PartEvent}
 use Rattle.kpn_parts.specs.Cut.{Part, IsCut}
 use Rattle.kpn_parts.specs.Joined.{whole_history, IsJoined}

@@ -9,9 +9,9 @@ use Rattle.kpn_net.specs.Tables.{Tables}
 use Rattle.kpn_net.specs.Faults.{IsNetwork}
 use Rattle.kpn_net.specs.Process.{Family}
 use Rattle.kpn_net.specs.Iteration.{iterate, IsPrefixOnSources, IsBelowLeast}
-use Rattle.kpn_run_history.specs.declared.event.Event.{Event}
-use Rattle.kpn_run_history.specs.Channels.{written_in, written_on, fed}
-use Rattle.kpn_run_history.proofs.Below.{IsBelowIterate, fed_on_sources}
+use Rattle.kpn_history.specs.declared.event.Event.{Event}
+use Rattle.kpn_history.specs.Channels.{written_in, written_on, fed}
+use Rattle.kpn_history.proofs.Below.{IsBelowIterate, fed_on_sources}
 use Rattle.kpn_parts.specs.declared.order.PartEvent.{PartEvent}
 use Rattle.kpn_parts.specs.Cut.{Part, whole_channel, part_at, IsCut}
 use Rattle.kpn_parts.specs.Joined.{events_of, in_whole, is_of_whole, whole_event, whole_history, IsJoined}

@@ -14,13 +14,13 @@ use Rattle.kpn_net.specs.Process.{Family, IsFamilyPrefix, talk_on}
 use Rattle.kpn_net.specs.Iteration.{written_by, round, iterate, IsLeast}
 use Rattle.kpn_net.proofs.Monotone.{talk_on-grows, round-grows, iterate-grows, IsPrefixOnSources-refl}
 use Rattle.kpn_net.proofs.Networks.{writer_of-source, Writes-writer_of}
-use Rattle.kpn_run_history.specs.declared.event.Event.{Event}
-use Rattle.kpn_run_history.specs.Talks.{talk_of, last_event}
-use Rattle.kpn_run_history.specs.Channels.{written_on, read_on, is_closed}
-use Rattle.kpn_run_history.specs.Complete.{PutsNoMore, IsFinished, IsComplete, IsFedFrom}
-use Rattle.kpn_run_history.proofs.Below.{IsBelowIterate, round-source}
-use Rattle.kpn_run_history.proofs.Above.{empty_wait}
-use Rattle.kpn_run_history.proofs.Finished.{finished_cases, complete-process}
+use Rattle.kpn_history.specs.declared.event.Event.{Event}
+use Rattle.kpn_history.specs.Talks.{talk_of, last_event}
+use Rattle.kpn_history.specs.Channels.{written_on, read_on, is_closed}
+use Rattle.kpn_history.specs.Complete.{PutsNoMore, IsFinished, IsComplete, IsFedFrom}
+use Rattle.kpn_history.proofs.Below.{IsBelowIterate, round-source}
+use Rattle.kpn_history.proofs.Above.{empty_wait}
+use Rattle.kpn_history.proofs.Finished.{finished_cases, complete-process}
 use Rattle.kpn_parts.proofs.Spoken.{SaysAll, written_on-put}
 use Rattle.kpn_parts.proofs.Rest.{all_read}
 

@@ -13,13 +13,13 @@ use Rattle.kpn_net.specs.Process.{Family, IsFamilyPrefix, AgreeOnIns, at_channel
 use Rattle.kpn_net.proofs.Monotone.{map-prefix}
 use Rattle.kpn_net.proofs.OwnIns.{ran_on-own_ins}
 use Rattle.kpn_net.proofs.Networks.{Reads, reader_of-Reads, Reads-reader_of, sink-reader_of, reader_of-sink, reader_is_no_source}
-use Rattle.kpn_run_history.specs.declared.event.Event.{Event}
-use Rattle.kpn_run_history.specs.declared.event.Event.TheVariants.{Get, Put, WaitEmpty, WaitFull, Ended}
-use Rattle.kpn_run_history.specs.Talks.{is_of, talk_of, last_event, is_end_of, has_ended}
-use Rattle.kpn_run_history.specs.Channels.{read_on}
-use Rattle.kpn_run_history.proofs.Ownership.{Owns}
-use Rattle.kpn_run_history.proofs.Journals.{read_on-outside}
-use Rattle.kpn_run_history.proofs.Above.{HasSaidAll, HasSaidAll-ended, IsStarved, IsStarved-last}
+use Rattle.kpn_history.specs.declared.event.Event.{Event}
+use Rattle.kpn_history.specs.declared.event.Event.TheVariants.{Get, Put, WaitEmpty, WaitFull, Ended}
+use Rattle.kpn_history.specs.Talks.{is_of, talk_of, last_event, is_end_of, has_ended}
+use Rattle.kpn_history.specs.Channels.{read_on}
+use Rattle.kpn_history.proofs.Ownership.{Owns}
+use Rattle.kpn_history.proofs.Journals.{read_on-outside}
+use Rattle.kpn_history.proofs.Above.{HasSaidAll, HasSaidAll-ended, IsStarved, IsStarved-last}
 use Rattle.kpn_parts.specs.declared.order.PartEvent.{PartEvent}
 use Rattle.kpn_parts.specs.Cut.{Part, whole_process, whole_channel, part_at, IsCut}
 use Rattle.kpn_parts.specs.Joined.{events_of, in_whole, counted, whole_history, AreLegal, IsJoined}

@@ -12,14 +12,14 @@ use Rattle.kpn_net.specs.Process.{Family, IsFamilyPrefix, CanSay, talk_on, out_o
 use Rattle.kpn_net.specs.Iteration.{round, iterate, IsPrefixOnSources}
 use Rattle.kpn_net.proofs.Monotone.{out_of-grows, round-grows, iterate-grows, IsPrefixOnSources-refl}
 use Rattle.kpn_net.proofs.Networks.{Writes, writer_of-Writes, source_if_not_written}
-use Rattle.kpn_run_history.specs.declared.event.Event.{Event}
-use Rattle.kpn_run_history.specs.declared.event.Event.TheVariants.{Put, Feed}
-use Rattle.kpn_run_history.specs.Talks.{talk_of}
-use Rattle.kpn_run_history.specs.Channels.{written_in, written_on, read_on}
-use Rattle.kpn_run_history.proofs.Events.{written_on-same, read_on-same}
-use Rattle.kpn_run_history.proofs.Ownership.{Owns}
-use Rattle.kpn_run_history.proofs.Journals.{none_elsewhere}
-use Rattle.kpn_run_history.proofs.Below.{IsBelowIterate, round-source, round-process}
+use Rattle.kpn_history.specs.declared.event.Event.{Event}
+use Rattle.kpn_history.specs.declared.event.Event.TheVariants.{Put, Feed}
+use Rattle.kpn_history.specs.Talks.{talk_of}
+use Rattle.kpn_history.specs.Channels.{written_in, written_on, read_on}
+use Rattle.kpn_history.proofs.Events.{written_on-same, read_on-same}
+use Rattle.kpn_history.proofs.Ownership.{Owns}
+use Rattle.kpn_history.proofs.Journals.{none_elsewhere}
+use Rattle.kpn_history.proofs.Below.{IsBelowIterate, round-source, round-process}
 use Rattle.kpn_parts.proofs.Spoken.{IsSpoken, written_on-put}
 
 module _ (t : Tables) (network : IsNetwork t) (given : Family) where

@@ -5,9 +5,9 @@ use Rattle.kpn_lang.proofs.Prefixes.{IsPrefix-trans, IsPrefix-same, rest_of_pref
 use Rattle.kpn_net.specs.Tables.{Tables}
 use Rattle.kpn_net.specs.Faults.{IsNetwork}
 use Rattle.kpn_net.proofs.Networks.{sink_there}
-use Rattle.kpn_run_history.specs.declared.event.Event.{Event}
-use Rattle.kpn_run_history.specs.Legal.{Legal}
-use Rattle.kpn_run_history.specs.Channels.{written_on}
+use Rattle.kpn_history.specs.declared.event.Event.{Event}
+use Rattle.kpn_history.specs.Legal.{Legal}
+use Rattle.kpn_history.specs.Channels.{written_on}
 use Rattle.kpn_parts.specs.declared.order.PartEvent.{PartEvent}
 use Rattle.kpn_parts.specs.declared.link.Link.{Link}
 use Rattle.kpn_parts.specs.Cut.{Part, whole_channel, part_at, IsCut}

@@ -8,11 +8,11 @@ use Rattle.kpn_lang.specs.Prefix.{IsPrefix}
 use Rattle.kpn_lang.proofs.Prefixes.{IsPrefix-trans, IsPrefix-append}
 use Rattle.kpn_net.specs.Tables.{Tables}
 use Rattle.kpn_net.specs.Faults.{IsNetwork}
-use Rattle.kpn_run_history.specs.declared.event.Event.{Event}
-use Rattle.kpn_run_history.specs.Legal.{Legal}
-use Rattle.kpn_run_history.proofs.Events.{flat_map-push}
-use Rattle.kpn_run_history.proofs.Legality.{Legal-prefix}
-use Rattle.kpn_run_history.proofs.Ownership.{Owns, Owns-last}
+use Rattle.kpn_history.specs.declared.event.Event.{Event}
+use Rattle.kpn_history.specs.Legal.{Legal}
+use Rattle.kpn_history.proofs.Events.{flat_map-push}
+use Rattle.kpn_history.proofs.Legality.{Legal-prefix}
+use Rattle.kpn_history.proofs.Ownership.{Owns, Owns-last}
 use Rattle.kpn_parts.specs.declared.order.PartEvent.{PartEvent}
 use Rattle.kpn_parts.specs.Cut.{Part, part_at, IsCut}
 use Rattle.kpn_parts.specs.Joined.{event_of, events_of, whole_event, whole_history, AreLegal, IsJoined}

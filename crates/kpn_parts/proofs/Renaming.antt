@@ -10,7 +10,7 @@ use Rattle.kpn_net.specs.Tables.{Tables, instance_at, program_of}
 use Rattle.kpn_net.specs.Process.{Family, at_channel, ran_on, talk_on}
 use Rattle.kpn_net.proofs.Networks.{StandsAt, Reads, Writes}
 use Rattle.kpn_net.proofs.Ports.{TalkNames}
-use Rattle.kpn_run_history.proofs.Running.{ran_on-names}
+use Rattle.kpn_history.proofs.Running.{ran_on-names}
 use Rattle.kpn_parts.specs.Cut.{Part, whole_process, whole_channel, IsPart}
 
 -- what is said in a part, with the number of the channel in the whole

@@ -16,13 +16,13 @@ use Rattle.kpn_net.specs.Process.{Family, talk_on}
 use Rattle.kpn_net.specs.Iteration.{written_by, iterate, AgreeOnSources, IsClosed, IsLeast}
 use Rattle.kpn_net.proofs.Monotone.{closed_below-IsLeast, IsPrefixOnSources-refl, IsPrefixOnSources-agree, round-depends_on_sources}
 use Rattle.kpn_net.proofs.Networks.{Writes-writer_of, Reads-below}
-use Rattle.kpn_run_history.specs.declared.event.Event.{Event}
-use Rattle.kpn_run_history.specs.Talks.{talk_of, last_event, has_ended}
-use Rattle.kpn_run_history.specs.Channels.{written_on, read_on, unread_on, fed, is_empty}
-use Rattle.kpn_run_history.specs.Waiting.{wait_of, wait_of_last}
-use Rattle.kpn_run_history.specs.Ends.{WaitsOnEmpty, IsQuiet}
-use Rattle.kpn_run_history.proofs.Below.{fed-source}
-use Rattle.kpn_run_history.proofs.Above.{empty_wait, IsStarved-last}
+use Rattle.kpn_history.specs.declared.event.Event.{Event}
+use Rattle.kpn_history.specs.Talks.{talk_of, last_event, has_ended}
+use Rattle.kpn_history.specs.Channels.{written_on, read_on, unread_on, fed, is_empty}
+use Rattle.kpn_history.specs.Waiting.{wait_of, wait_of_last}
+use Rattle.kpn_history.specs.Ends.{WaitsOnEmpty, IsQuiet}
+use Rattle.kpn_history.proofs.Below.{fed-source}
+use Rattle.kpn_history.proofs.Above.{empty_wait, IsStarved-last}
 use Rattle.kpn_parts.specs.declared.order.PartEvent.{PartEvent}
 use Rattle.kpn_parts.specs.Cut.{Part, whole_process, whole_channel, part_at, IsCut, IsCutSource}
 use Rattle.kpn_parts.specs.Joined.{events_of, in_whole, whole_history, IsJoined, HasAll, IsDelivered, AreQuiet}

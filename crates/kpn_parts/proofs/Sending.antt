@@ -5,7 +5,7 @@ use Rattle.std.proofs.lemmas.List.{append-nil}
 use Rattle.std.proofs.lemmas.List.Concat.{flat_map-append}
 use Rattle.kpn_lang.specs.Prefix.{IsPrefix}
 use Rattle.kpn_lang.proofs.Prefixes.{IsPrefix-refl, IsPrefix-trans, IsPrefix-append, prefix_of_push, nil_from_prefix}
-use Rattle.kpn_run_history.specs.Channels.{written_in, written_on}
+use Rattle.kpn_history.specs.Channels.{written_in, written_on}
 use Rattle.kpn_parts.specs.declared.order.PartEvent.{PartEvent}
 use Rattle.kpn_parts.specs.declared.link.Link.{Link}
 use Rattle.kpn_parts.specs.Joined.{event_of, events_of}

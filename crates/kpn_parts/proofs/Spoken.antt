@@ -10,13 +10,13 @@ use Rattle.kpn_net.specs.Tables.{Tables, writer_of}
 use Rattle.kpn_net.specs.Faults.{IsNetwork}
 use Rattle.kpn_net.specs.Process.{IsFamilyPrefix, CanSay}
 use Rattle.kpn_net.proofs.Networks.{Reads-below, sink_there}
-use Rattle.kpn_run_history.specs.declared.event.Event.{Event}
-use Rattle.kpn_run_history.specs.declared.event.Event.TheVariants.{Get, Put, WaitEmpty, Feed, Take}
-use Rattle.kpn_run_history.specs.Talks.{said_in, talk_of, last_event, has_ended}
-use Rattle.kpn_run_history.specs.Channels.{written_in, read_in, written_on, read_on}
-use Rattle.kpn_run_history.proofs.Ownership.{Owns}
-use Rattle.kpn_run_history.proofs.Journals.{writer_is, no_source, none_elsewhere}
-use Rattle.kpn_run_history.proofs.Above.{HasSaidAll, IsStarved}
+use Rattle.kpn_history.specs.declared.event.Event.{Event}
+use Rattle.kpn_history.specs.declared.event.Event.TheVariants.{Get, Put, WaitEmpty, Feed, Take}
+use Rattle.kpn_history.specs.Talks.{said_in, talk_of, last_event, has_ended}
+use Rattle.kpn_history.specs.Channels.{written_in, read_in, written_on, read_on}
+use Rattle.kpn_history.proofs.Ownership.{Owns}
+use Rattle.kpn_history.proofs.Journals.{writer_is, no_source, none_elsewhere}
+use Rattle.kpn_history.proofs.Above.{HasSaidAll, IsStarved}
 
 -- each event belongs to whatever made it
 abbrev pub AreOwn : Tables → List Event → Type 0

@@ -15,13 +15,13 @@ use Rattle.kpn_net.specs.Process.{IsFamilyPrefix, AgreeOnIns, CanSay, talk_on}
 use Rattle.kpn_net.proofs.Monotone.{map-prefix}
 use Rattle.kpn_net.proofs.OwnIns.{CanSay-own_ins}
 use Rattle.kpn_net.proofs.Networks.{Reads, Reads-below, Writes-below, source_there, sink_there}
-use Rattle.kpn_run_history.specs.declared.event.Event.{Event}
-use Rattle.kpn_run_history.specs.declared.event.Event.TheVariants.{Get, Put, WaitEmpty, WaitFull, Ended, Feed, Close, Take, Leave, Grow}
-use Rattle.kpn_run_history.specs.Talks.{said_in, talk_of}
-use Rattle.kpn_run_history.specs.Channels.{written_in, read_in, written_on, read_on}
-use Rattle.kpn_run_history.proofs.Legality.{Legal-consistent}
-use Rattle.kpn_run_history.proofs.Ownership.{Owns}
-use Rattle.kpn_run_history.proofs.Journals.{none_elsewhere, reads_begin_writes}
+use Rattle.kpn_history.specs.declared.event.Event.{Event}
+use Rattle.kpn_history.specs.declared.event.Event.TheVariants.{Get, Put, WaitEmpty, WaitFull, Ended, Feed, Close, Take, Leave, Grow}
+use Rattle.kpn_history.specs.Talks.{said_in, talk_of}
+use Rattle.kpn_history.specs.Channels.{written_in, read_in, written_on, read_on}
+use Rattle.kpn_history.proofs.Legality.{Legal-consistent}
+use Rattle.kpn_history.proofs.Ownership.{Owns}
+use Rattle.kpn_history.proofs.Journals.{none_elsewhere, reads_begin_writes}
 use Rattle.kpn_parts.specs.declared.order.PartEvent.{PartEvent}
 use Rattle.kpn_parts.specs.Cut.{Part, whole_process, whole_channel, part_at, IsCut, IsCutSource}
 use Rattle.kpn_parts.specs.Joined.{events_of, in_whole, is_of_whole, counted, whole_event, whole_history, IsSent, AreLegal, IsJoined}

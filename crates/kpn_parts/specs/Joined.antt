@@ -5,11 +5,11 @@ use Rattle.std.specs.Prelude.{◌≡◌, ℕ, Bool, true, nat_eq, if◌then◌el
 use Rattle.std.specs.List.{flat_map}
 use Rattle.kpn_lang.specs.Prefix.{IsPrefix}
 use Rattle.kpn_net.specs.Tables.{Tables, channel_at, is_source, is_sink}
-use Rattle.kpn_run_history.specs.declared.event.Event.{Event}
-use Rattle.kpn_run_history.specs.declared.event.Event.TheVariants.{Get, Put, WaitEmpty, WaitFull, Ended, Feed, Close, Take, Leave, Grow}
-use Rattle.kpn_run_history.specs.Channels.{written_on}
-use Rattle.kpn_run_history.specs.Legal.{Legal}
-use Rattle.kpn_run_history.specs.Ends.{IsQuiet}
+use Rattle.kpn_history.specs.declared.event.Event.{Event}
+use Rattle.kpn_history.specs.declared.event.Event.TheVariants.{Get, Put, WaitEmpty, WaitFull, Ended, Feed, Close, Take, Leave, Grow}
+use Rattle.kpn_history.specs.Channels.{written_on}
+use Rattle.kpn_history.specs.Legal.{Legal}
+use Rattle.kpn_history.specs.Ends.{IsQuiet}
 use Rattle.kpn_parts.specs.declared.order.PartEvent.{PartEvent}
 use Rattle.kpn_parts.specs.Cut.{Part, whole_process, whole_channel, part_at, IsCutSource}
 

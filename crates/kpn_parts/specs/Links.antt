@@ -3,8 +3,8 @@ use Rattle.std.specs.Prelude.{◌≡◌, ℕ, ◌+◌, ◌<◌, ◌≤◌, true,
 use Rattle.std.specs.List.{flat_map}
 use Rattle.kpn_lang.specs.Prefix.{IsPrefix}
 use Rattle.kpn_net.specs.Tables.{Tables, channel_at, is_sink}
-use Rattle.kpn_run_history.specs.declared.event.Event.{Event}
-use Rattle.kpn_run_history.specs.Channels.{written_in, written_on}
+use Rattle.kpn_history.specs.declared.event.Event.{Event}
+use Rattle.kpn_history.specs.Channels.{written_in, written_on}
 use Rattle.kpn_parts.specs.declared.order.PartEvent.{PartEvent}
 use Rattle.kpn_parts.specs.declared.link.Link.{Link}
 use Rattle.kpn_parts.specs.declared.joining.Carried.{Carried}

@@ -1,10 +1,10 @@
 //! The items that events put on channels and feed to them.
 ghost use Rattle.std.specs.Prelude.{◌≡◌, ◌++◌, ◌∷◌, if◌then◌else◌, [], OnOk};
-ghost use Rattle.kpn_run_history.specs.Channels.{written_in};
+ghost use Rattle.kpn_history.specs.Channels.{written_in};
 ghost use Rattle.kpn_parts.specs.Links.{items_of, items_on};
 
 use crate::order::PartEvent;
-use kpn_run_history::Event;
+use kpn_history::Event;
 use std::alloc::AllocError;
 
 /// The item that an event puts on channel `c` of part `r` or feeds to it, if it does.

@@ -1,7 +1,7 @@
 //! Joins the histories of parts into one order of all events, after the fact.
 ghost use Rattle.std.specs.Prelude.{◌≡◌, ◌↔◌, ◌≢◌, ◌≤◌, ◌<◌, ◌^◌, ◌++◌, ◌∷◌, ℕ, true, false, [], IfOk, OnOk, IfSome, IfNone, List, length, take, replicate, slice_get, slice_index_or, Some};
 ghost use Rattle.kpn_lang.specs.Prefix.{IsPrefix};
-ghost use Rattle.kpn_run_history.specs.declared.event.Event.{Event};
+ghost use Rattle.kpn_history.specs.declared.event.Event.{Event};
 ghost use Rattle.kpn_parts.specs.declared.order.PartEvent.{PartEvent};
 ghost use Rattle.kpn_parts.specs.Joined.{events_of};
 ghost use Rattle.kpn_parts.specs.Links.{IsSentOn, IsJoinOf, history_at, items_of, fed_after, IsNext, IsCarried, AreCarried, CarryNothing, CarryMore, FedAtMost, MayCome, SoFar, IsStuck, UsesAll, LacksOne};
@@ -9,8 +9,8 @@ ghost use Rattle.kpn_parts.specs.Links.{IsSentOn, IsJoinOf, history_at, items_of
 use crate::items::{item_of, push_item};
 use crate::link::Link;
 use crate::order::PartEvent;
+use kpn_history::Event;
 use kpn_lang::Sequence;
-use kpn_run_history::Event;
 use std::alloc::{AllocError, Global};
 
 /// What a link carries: the items that were put on it, and how many of them were fed.

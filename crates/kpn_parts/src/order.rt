@@ -1,5 +1,5 @@
 //! The order of the events of all parts.
-use kpn_run_history::Event;
+use kpn_history::Event;
 
 /// An event of a part, with the part's own numbers of processes and channels.
 #[derive(Clone, Copy, Debug, PartialEq, Eq)]

@@ -5,9 +5,9 @@ use Rattle.kpn_net.specs.Iteration.{AgreeOnSources, given_by}
 use Rattle.kpn_net.proofs.Monotone.{IsPrefixOnSources-agree}
 use Rattle.kpn_net.proofs.Networks.{source_there}
 use Rattle.kpn_net.proofs.RoundLemmas.{list_of}
-use Rattle.kpn_run_history.specs.Channels.{written_on, is_closed}
-use Rattle.kpn_run_state.specs.Book.{Book, held_count}
-use Rattle.kpn_run_state.specs.Kept.{IsBook}
+use Rattle.kpn_history.specs.Channels.{written_on, is_closed}
+use Rattle.kpn_book.specs.Book.{Book, held_count}
+use Rattle.kpn_book.specs.Kept.{IsBook}
 use Rattle.kpn_book.specs.declared.outcome.Limits.{Limits}
 use Rattle.kpn_book.specs.declared.outcome.Outcome.{Outcome}
 use Rattle.kpn_book.specs.declared.report.Report.{Report}

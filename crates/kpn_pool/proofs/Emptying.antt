@@ -1,8 +1,8 @@
 -- What is taken from a sink keeps the network and the processes that are held.
 use Rattle.std.proofs.Common.{◌≡◌, ℕ, ℤ, Option, Some, None, ap, ◌∙◌}
-use Rattle.kpn_run_state.specs.Book.{Book}
-use Rattle.kpn_run_state.specs.Kept.{IsBook}
-use Rattle.kpn_run_state.specs.Refusals.{Takes, takes_item}
+use Rattle.kpn_book.specs.Book.{Book}
+use Rattle.kpn_book.specs.Kept.{IsBook}
+use Rattle.kpn_book.specs.Refusals.{Takes, takes_item}
 use Rattle.kpn_book.proofs.Happening.{happens_tables}
 use Rattle.kpn_book.proofs.Held.{held_after_take}
 use Rattle.kpn_pool.specs.Ending.{KeepsHeld}

@@ -3,10 +3,10 @@ use Rattle.std.proofs.Common.{◌≡◌, ℕ, ◌+◌, true, false, ℤ, List, i
 use Rattle.std.proofs.lemmas.Bool.{cases_eq, both_ways}
 use Rattle.kpn_net.specs.Tables.{Tables, channel_at, is_source}
 use Rattle.kpn_net.specs.Iteration.{given_by}
-use Rattle.kpn_run_history.specs.declared.state.View.{View}
-use Rattle.kpn_run_state.specs.Snapshot.{shown_on}
-use Rattle.kpn_run_history.specs.declared.event.Event.{Event}
-use Rattle.kpn_run_history.specs.Channels.{is_closed}
+use Rattle.kpn_history.specs.declared.state.View.{View}
+use Rattle.kpn_book.specs.Snapshot.{shown_on}
+use Rattle.kpn_history.specs.declared.event.Event.{Event}
+use Rattle.kpn_history.specs.Channels.{is_closed}
 use Rattle.kpn_pool.specs.Fed.{AreFedBelow, AreClosedBelow}
 
 module _ {A : Type 0} (t : Tables) (lists : List (List ℤ)) (view : View A) where

@@ -12,7 +12,7 @@ use Rattle.std.specs.declared.sync.ledger.Ledger as ledger
 use Rattle.circular_buffer.proofs.cells.Base.TheSendSync as base
 use Rattle.circular_buffer.proofs.cells.Cells.TheSendSync as cells
 use Rattle.circular_buffer.proofs.cells.Deed.TheSendSync as deed
-use Rattle.kpn_past.proofs.past.Past.TheSendSync as past
+use Rattle.kpn_chan.proofs.past.Past.TheSendSync as past
 use Rattle.kpn_lang.proofs.syntax.Op.TheSendSync as op
 use Rattle.kpn_lang.proofs.start.Start.TheSendSync as start
 use Rattle.kpn_lang.proofs.link.Link.TheSendSync as link
@@ -34,10 +34,10 @@ use Rattle.kpn_lang.specs.contracts.program.Program as Program
 use Rattle.kpn_net.specs.contracts.network.Network as Network
 use Rattle.kpn_step.specs.contracts.frame.Frame as Frame
 use Rattle.kpn_chan.specs.contracts.channel.Channel as Channel
-use Rattle.kpn_run_history.specs.contracts.history.History as History
-use Rattle.kpn_run_configuration.specs.contracts.configuration.Configuration as Configuration
-use Rattle.kpn_run_state.specs.contracts.schedule.Schedule as Schedule
-use Rattle.kpn_run_state.specs.contracts.book.Book as Book
+use Rattle.kpn_history.specs.contracts.history.History as History
+use Rattle.kpn_machine.specs.contracts.machine.Machine as Machine
+use Rattle.kpn_book.specs.contracts.schedule.Schedule as Schedule
+use Rattle.kpn_book.specs.contracts.book.Book as Book
 use Rattle.kpn_pool_desk.specs.contracts.desk.Desk as Desk
 use Rattle.kpn_pool_desk.specs.contracts.seat.WorkerSeat as WorkerSeat
 use Rattle.kpn_pool.specs.contracts.shared.Shared as Shared
@@ -106,8 +106,8 @@ frame_send = search (crosses, sendable) depth 40
 channel_send : IsSend (Channel.the_field heap.the_row ghosts).row
 channel_send = search (past.the_send, base.the_field_send, cells.the_send, deed.the_send, crosses, sendable) depth 40
 
-configuration_send : IsSend (Configuration.the_field heap.the_row ghosts).row
-configuration_send = let frame = frame_send in let channel = channel_send in search (crosses, sendable) depth 40
+machine_send : IsSend (Machine.the_field heap.the_row ghosts).row
+machine_send = let frame = frame_send in let channel = channel_send in search (crosses, sendable) depth 40
 
 schedule_send : IsSend (Schedule.the_field heap.the_row ghosts).row
 schedule_send = search (crosses, sendable) depth 40
@@ -116,7 +116,7 @@ pub book_send : (κ : NamedLft) → IsSend (Book.the_field κ heap.the_row ghost
 book_send κ =
     let network = network_sync in
     let history = history_send in
-    let configuration = configuration_send in
+    let machine = machine_send in
     let schedule = schedule_send in
     search (crosses, sendable) depth 40
 

@@ -1,6 +1,6 @@
 -- What is kept while a run is ended. A reader of the public contracts needs none of it.
 use Rattle.std.specs.Prelude.{◌≡◌}
-use Rattle.kpn_run_state.specs.Book.{Book, held_count}
+use Rattle.kpn_book.specs.Book.{Book, held_count}
 
 -- the network is the same, and as many processes are held
 pub record KeepsHeld (before after : Book) : Type 0 where

@@ -2,10 +2,10 @@
 use Rattle.std.specs.Prelude.{◌≡◌, ℕ, ◌<◌, true, ℤ, List}
 use Rattle.kpn_net.specs.Tables.{Tables, channel_at, is_source}
 use Rattle.kpn_net.specs.Iteration.{given_by}
-use Rattle.kpn_run_history.specs.declared.event.Event.{Event}
-use Rattle.kpn_run_history.specs.declared.state.View.{View}
-use Rattle.kpn_run_history.specs.Channels.{is_closed}
-use Rattle.kpn_run_state.specs.Snapshot.{shown_on}
+use Rattle.kpn_history.specs.declared.event.Event.{Event}
+use Rattle.kpn_history.specs.declared.state.View.{View}
+use Rattle.kpn_history.specs.Channels.{is_closed}
+use Rattle.kpn_book.specs.Snapshot.{shown_on}
 
 -- the journal of each source with a number below k, as a view shows it, is its list
 abbrev pub AreFedBelow : {A : Type 0} → Tables → (lists : List (List ℤ)) → View A → (k : ℕ) → Type 0

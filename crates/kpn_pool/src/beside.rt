@@ -1,17 +1,16 @@
 //! A run whose workers have threads of their own, beside what its caller does: feed, take and look.
 ghost use Rattle.std.specs.Prelude.{◌≡◌, ◌<◌, ◌≤◌, Bool, [], length, map, IfOk, vec_len, vec_capacity};
 ghost use Rattle.std.specs.List.{sum_by};
-ghost use Rattle.kpn_run_state.specs.Kept.{IsBook};
+ghost use Rattle.kpn_book.specs.Kept.{IsBook};
 ghost use Rattle.kpn_pool.specs.Causes.{worked_of, is_out_of_memory, is_abandoned, ran_out, all_abandoned, cause_of};
 
 use crate::fault::RunFault;
 use crate::shared::{Opened, Shared, gather};
 use crate::threads::{Ended, work_side_by_side};
-use kpn_book::Limits;
+use kpn_book::{Book, Keeping, Limits};
 use kpn_limits::MAX_WORKERS;
 use kpn_net::Network;
 use kpn_pool_desk::{EndSeats, Gate, Job, SourceSeat, Why, WorkerSeat};
-use kpn_run_state::{Book, Keeping};
 use std::alloc::{AllocError, Global};
 use std::marker::Brand;
 use std::sync::Wait;

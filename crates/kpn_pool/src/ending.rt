@@ -7,10 +7,9 @@ ghost use Rattle.kpn_pool.specs.Ending.{KeepsHeld};
 
 use crate::fault::RunFault;
 use crate::fed::{are_closed, were_fed};
-use kpn_book::{Limits, Report, outcome_of, put_back_held, report_of};
+use kpn_book::{Book, Limits, Report, outcome_of, put_back_held, report_of};
 use kpn_lang::Sequence;
 use kpn_pool_desk::Refused;
-use kpn_run_state::Book;
 use std::alloc::Global;
 
 /// The report of a run whose workers have ended, by the rule of a run on one thread. `abandoned` says whether the gate

@@ -3,10 +3,10 @@ ghost use Rattle.std.specs.Prelude.{◌≡◌, length, IsTrue};
 ghost use Rattle.kpn_net.specs.Iteration.{sources};
 ghost use Rattle.kpn_pool.specs.Fed.{AreFedBelow, AreClosedBelow};
 
+use kpn_book::Book;
+use kpn_history::View;
 use kpn_lang::Sequence;
 use kpn_net::Network;
-use kpn_run_history::View;
-use kpn_run_state::Book;
 
 /// Whether the journal of each source is kept, and is its list.
 pub(crate) fn were_fed(network: &Network, lists: &[Sequence<i64>], view: &View) -> bool

@@ -3,12 +3,12 @@ ghost use Rattle.std.specs.Prelude.{◌≡◌, ◌≢◌, ◌<◌, ◌≤◌, �
 ghost use Rattle.kpn_lang.specs.Prefix.{IsPrefix};
 ghost use Rattle.kpn_net.specs.Tables.{channel_at, is_source, is_sink};
 ghost use Rattle.kpn_chan.specs.Channel.{unread};
-ghost use Rattle.kpn_run_configuration.specs.Configuration.{channel_in};
+ghost use Rattle.kpn_machine.specs.Machine.{channel_in};
 ghost use Rattle.kpn_pool_desk.specs.declared.crew.Awaited.TheVariants.{There};
 ghost use Rattle.kpn_pool_desk.specs.OutsideSeats.{with_item, with_taken, HaveTaken, TakesMore, FeedsUntil, MayRefuseFeed, MayRefuseEnd, MayRefuseTake, MayRefuseTakes, MayRefuseSnapshot, AreSinks};
-ghost use Rattle.kpn_run_state.specs.declared.answers.Refused.TheVariants.{Full};
+ghost use Rattle.kpn_book.specs.declared.answers.Refused.TheVariants.{Full};
 ghost use Rattle.std.specs.Sync.Mutex.{mutex_guard_value};
-ghost use Rattle.kpn_run_state.specs.Snapshot.{ShowsARun, shown_on, IsBelowKahn, IsKahnAtRest};
+ghost use Rattle.kpn_book.specs.Snapshot.{ShowsARun, shown_on, IsBelowKahn, IsKahnAtRest};
 
 use crate::shared::Shared;
 use kpn_pool_desk::{
@@ -174,7 +174,7 @@ fn take_from<'l, 'n, J: Job, A: Allocator, B: Allocator>(
     ensures there { IfOk result (λ found. (found ≡ Some There)
         → length seat.old.items < length seat.new.items) }
     ensures all { OnOk result (seat.new.items ≡ seat.old.items
-        ++ unread (channel_in (mutex_guard_value desk.entry).book.configuration seat.old.channel)) }
+        ++ unread (channel_in (mutex_guard_value desk.entry).book.machine seat.old.channel)) }
     ensures sink { OnOk result (is_sink (channel_at J.network seat.old.channel) ≡ true) }
     ensures refused { IfErr result (λ cause.
         MayRefuseTake (is_sink (channel_at J.network seat.old.channel)) cause) }

@@ -3,20 +3,20 @@ ghost use Rattle.std.specs.Prelude.{◌≡◌, ◌<◌, ◌≤◌, length, IfOk,
 ghost use Rattle.std.specs.List.{sum_by};
 ghost use Rattle.kpn_net.specs.Tables.{is_source, is_sink};
 ghost use Rattle.kpn_pool_desk.specs.OutsideSeats.{new_ends};
-ghost use Rattle.kpn_run_state.specs.Kept.{IsBook};
-ghost use Rattle.kpn_run_state.specs.Snapshot.{ShowsARun, IsBelowKahn, IsKahnAtRest};
+ghost use Rattle.kpn_book.specs.Kept.{IsBook};
+ghost use Rattle.kpn_book.specs.Snapshot.{ShowsARun, IsBelowKahn, IsKahnAtRest};
 ghost use Rattle.kpn_pool_desk.specs.declared.crew.Awaited.TheVariants.{There, Ended};
 ghost use Rattle.kpn_pool_desk.specs.Seat.{AreNewSeats};
 ghost use Rattle.kpn_pool_desk.specs.Waiting.{IsMet};
 ghost use Rattle.std.specs.Sync.Mutex.{mutex_guard_value};
 
+use kpn_book::{Book, Keeping, View};
 use kpn_limits::MAX_WORKERS;
 use kpn_net::Network;
 use kpn_pool_desk::{
     Awaited, Desk, EndSeats, Job, Need, Notices, SinkSeat, SourceSeat, WorkerSeat, Workers,
     end_seats,
 };
-use kpn_run_state::{Book, Keeping, View};
 use std::alloc::{AllocError, Allocator, Global};
 use std::sync::ledger::Blank;
 use std::sync::{Condvar, Mutex, MutexGuard, Wait};

@@ -6,7 +6,7 @@ use Rattle.std.proofs.lemmas.List.{take_more, take_more_set}
 use Rattle.kpn_lang.specs.Parts.{Parts}
 use Rattle.kpn_step.specs.declared.stop.Stop.{Stop}
 use Rattle.kpn_step.specs.Stops.{advanced_of}
-use Rattle.kpn_run_state.specs.Book.{Book}
+use Rattle.kpn_book.specs.Book.{Book}
 use Rattle.kpn_pool_desk.specs.declared.seat.Why.{Why}
 use Rattle.kpn_pool_desk.specs.declared.turn.Stepped.{Stepped}
 use Rattle.kpn_pool_desk.specs.Desk.{Desk, with_book, with_commit, with_total}

@@ -2,13 +2,13 @@
 use Rattle.std.proofs.Common.{◌≡◌, ℕ, ◌+◌, ◌≤◌, Bool, true, false, Option, Some, None, refl, sym, ap, ◌∙◌, subst, arith}
 use Rattle.kpn_step.specs.declared.stop.Stop.{Stop}
 use Rattle.kpn_region.specs.Batch.{Batch}
-use Rattle.kpn_run_state.specs.declared.answers.Done.{Done}
-use Rattle.kpn_run_state.specs.Book.{Book, counted}
-use Rattle.kpn_run_state.specs.Commits.{HandlesStop, ready_if_paused}
-use Rattle.kpn_run_state.specs.Regions.{commits_or_not, goes_to, settles_if, has_part, Settles, SettleBelow, none_yet, one_more}
-use Rattle.kpn_run_state.specs.RegionCalls.{CommitsRegion}
-use Rattle.kpn_run_state.specs.RegionClaims.{IsSameBook, ClaimsRegion}
-use Rattle.kpn_run_state.proofs.Appended.{base_tables, base_commits, commits_stay, tables_stay}
+use Rattle.kpn_book.specs.declared.answers.Done.{Done}
+use Rattle.kpn_book.specs.Book.{Book, counted}
+use Rattle.kpn_book.specs.Commits.{HandlesStop, ready_if_paused}
+use Rattle.kpn_book.specs.Regions.{commits_or_not, goes_to, settles_if, has_part, Settles, SettleBelow, none_yet, one_more}
+use Rattle.kpn_book.specs.RegionCalls.{CommitsRegion}
+use Rattle.kpn_book.specs.RegionClaims.{IsSameBook, ClaimsRegion}
+use Rattle.kpn_book.proofs.Appended.{base_tables, base_commits, commits_stay, tables_stay}
 use Rattle.kpn_region.specs.Batch.{stop_of}
 use Rattle.kpn_pool_desk.proofs.InARow.{IsFurther}
 

@@ -1,10 +1,10 @@
 -- Rows of turns and takes keep the network, and commits are only added.
 use Rattle.std.proofs.Common.{◌≡◌, ℕ, ◌+◌, ◌≤◌, min, max, Option, Some, None, ℤ, Result, Ok, Err, IfOk, OnErr, inl, inr, refl, sym, ap, ◌∙◌, subst, arith}
 use Rattle.std.specs.Result.{result_unwrap_or}
-use Rattle.kpn_run_state.specs.Book.{Book}
-use Rattle.kpn_run_state.specs.InARow.{StepsInRow, no_step, one_step_more, ends_row, RunsOn, RunsInVain}
-use Rattle.kpn_run_state.specs.Refusals.{Takes}
-use Rattle.kpn_run_state.proofs.FirstOfQueue.{refused_tables}
+use Rattle.kpn_book.specs.Book.{Book}
+use Rattle.kpn_book.specs.InARow.{StepsInRow, no_step, one_step_more, ends_row, RunsOn, RunsInVain}
+use Rattle.kpn_book.specs.Refusals.{Takes}
+use Rattle.kpn_book.proofs.FirstOfQueue.{refused_tables}
 use Rattle.kpn_book.proofs.Stepped.{step_tables, step_commits}
 use Rattle.kpn_pool_desk.specs.declared.gate.Go.{Go}
 use Rattle.kpn_pool_desk.specs.declared.rows.Takers.{Takers}

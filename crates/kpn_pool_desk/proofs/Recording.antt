@@ -8,13 +8,13 @@ use Rattle.kpn_net.specs.Tables.{Tables}
 use Rattle.kpn_net.proofs.Networks.{sink_there}
 use Rattle.kpn_chan.specs.Channel.{ChannelState, next_item, unread}
 use Rattle.kpn_chan.proofs.Reading.{given, drop-given}
-use Rattle.kpn_run_history.specs.declared.event.Event.{Event}
-use Rattle.kpn_run_history.specs.declared.event.Event.TheVariants as event
-use Rattle.kpn_run_history.proofs.OneMore.{item_here}
-use Rattle.kpn_run_configuration.specs.Configuration.{channel_in}
-use Rattle.kpn_run_state.specs.Book.{Book}
-use Rattle.kpn_run_state.specs.Appending.{Appends, AppendsAll, IsGrowthOwed, AllHappen}
-use Rattle.kpn_run_state.specs.Refusals.{Takes}
+use Rattle.kpn_history.specs.declared.event.Event.{Event}
+use Rattle.kpn_history.specs.declared.event.Event.TheVariants as event
+use Rattle.kpn_history.proofs.OneMore.{item_here}
+use Rattle.kpn_machine.specs.Machine.{channel_in}
+use Rattle.kpn_book.specs.Book.{Book}
+use Rattle.kpn_book.specs.Appending.{Appends, AppendsAll, IsGrowthOwed, AllHappen}
+use Rattle.kpn_book.specs.Refusals.{Takes}
 use Rattle.kpn_pool_desk.specs.Desk.{Desk}
 use Rattle.kpn_pool_desk.specs.OutsideSeats.{EndSeat, with_item, with_taken, AreRecorded, FeedsUntil, TakesFirst, TakesAll, TakeInTurn}
 
@@ -78,12 +78,12 @@ fed_until items r s t k v refuses d e there is channel so_far seat desk refused 
 
 -- an item that is taken was the first unread one
 taken_first : (c : ℕ) (v : ℤ) (a b : Book) → c < length a.tables.channels
-    → next_item (channel_in a.configuration c) ≡ Some v → Appends (event.Take c v) a b
-    → unread (channel_in a.configuration c) ≡ v ∷ unread (channel_in b.configuration c)
+    → next_item (channel_in a.machine c) ≡ Some v → Appends (event.Take c v) a b
+    → unread (channel_in a.machine c) ≡ v ∷ unread (channel_in b.machine c)
 taken_first c v a b there next appends =
-    let was : ChannelState = channel_in a.configuration c in
-    let is : ChannelState = channel_in b.configuration c in
-    let after = appends.configuration.channels c there in
+    let was : ChannelState = channel_in a.machine c in
+    let is : ChannelState = channel_in b.machine c in
+    let after = appends.machine.channels c there in
     let one = ap length (item_here c v) in
     let read = after.read in
     let more : is.read ≡ was.read + 1 = omega arith in
@@ -95,22 +95,22 @@ taken_first c v a b there next appends =
 -- a growth leaves what is unread as it is
 still_unread : (t : Tables) (H : List Event) (c : ℕ) (growth : List Event) (a b : Book) → IsGrowthOwed t H growth
     → c < length a.tables.channels → AppendsAll growth a b
-    → unread (channel_in b.configuration c) ≡ unread (channel_in a.configuration c)
-still_unread t H c [] a b owed there none = ap (λ (x : Book). unread (channel_in x.configuration c)) none
+    → unread (channel_in b.machine c) ≡ unread (channel_in a.machine c)
+still_unread t H c [] a b owed there none = ap (λ (x : Book). unread (channel_in x.machine c)) none
 still_unread t H c (event.Grow p d n ∷ []) a b owed there grows =
-    let was : ChannelState = channel_in a.configuration c in
-    let is : ChannelState = channel_in grows.0.configuration c in
-    let after = grows.1.configuration.channels c there in
+    let was : ChannelState = channel_in a.machine c in
+    let is : ChannelState = channel_in grows.0.machine c in
+    let after = grows.1.machine.channels c there in
     let read = after.read in
     let same : is.read ≡ was.read = omega arith in
     let journal : is.journal ≡ was.journal = after.journal ∙ append-nil was.journal in
-    ap (λ (x : Book). unread (channel_in x.configuration c)) grows.2
+    ap (λ (x : Book). unread (channel_in x.machine c)) grows.2
     ∙ ap (λ n. drop n is.journal) same ∙ ap (λ xs. drop was.read xs) journal
 still_unread t H c growth a b owed there grows = absurd owed
 
 -- what is taken was the first unread item
 first_unread : (c : ℕ) (v : ℤ) (a b : Book) → Takes c (Some v) a b
-    → unread (channel_in a.configuration c) ≡ v ∷ unread (channel_in b.configuration c)
+    → unread (channel_in a.machine c) ≡ v ∷ unread (channel_in b.machine c)
 first_unread c v a b takes =
     let there = sink_there a.tables c takes.sink.sink in
     let happens = takes.takes.1 in
@@ -164,9 +164,9 @@ taken_then r s t a b c first rest =
       first =
           first.first
           ∙ ap (λ zs. xs ++ zs)
-          (subst (λ n. unread (channel_in b.configuration n) ≡ ys ++ unread (channel_in c.configuration n))
+          (subst (λ n. unread (channel_in b.machine n) ≡ ys ++ unread (channel_in c.machine n))
           first.channel rest.first)
-          ∙ sym (append_assoc xs ys (unread (channel_in c.configuration r.channel)));
+          ∙ sym (append_assoc xs ys (unread (channel_in c.machine r.channel)));
     }
 
 -- one call more, which takes an item or finds none
@@ -176,29 +176,29 @@ takes_on item r s t a b c so_far is takes = taken_then r s t a b c so_far (taken
 
 -- if an item was taken, less is left of the channel
 pub less_left : (item : Option ℤ) (c : ℕ) (a b : Book) → Takes c item a b → is_some item ≡ true
-    → length (unread (channel_in b.configuration c)) < length (unread (channel_in a.configuration c))
+    → length (unread (channel_in b.machine c)) < length (unread (channel_in a.machine c))
 less_left (Some v) c a b takes some = let long = ap length (first_unread c v a b takes) in omega arith
 less_left None c a b takes some = absurd (false≢true some)
 
 -- the same, whatever seat names the channel
 pub taken_less : (item : Option ℤ) (s t : EndSeat) (a b : Book) → t ≡ with_taken item s → Takes s.channel item a b
     → is_some item ≡ true
-    → length (unread (channel_in b.configuration t.channel)) < length (unread (channel_in a.configuration s.channel))
+    → length (unread (channel_in b.machine t.channel)) < length (unread (channel_in a.machine s.channel))
 taken_less item s t a b is takes some =
-    subst (λ n. length (unread (channel_in b.configuration n)) < length (unread (channel_in a.configuration s.channel)))
+    subst (λ n. length (unread (channel_in b.machine n)) < length (unread (channel_in a.machine s.channel)))
     (sym (taken_once item s t a b is takes).channel) (less_left item s.channel a b takes some)
 
 -- if none was taken, none is left
 pub taken_last : (item : Option ℤ) (r s : EndSeat) (a b : Book) → s.channel ≡ r.channel → Takes s.channel item a b
-    → is_some item ≡ false → unread (channel_in b.configuration r.channel) ≡ []
+    → is_some item ≡ false → unread (channel_in b.machine r.channel) ≡ []
 taken_last None r s a b channel takes none =
-    subst (λ n. unread (channel_in b.configuration n) ≡ []) channel
-    (ap (λ (x : Book). unread (channel_in x.configuration s.channel)) takes.takes.1 ∙ takes.takes.0)
+    subst (λ n. unread (channel_in b.machine n) ≡ []) channel
+    (ap (λ (x : Book). unread (channel_in x.machine s.channel)) takes.takes.1 ∙ takes.takes.0)
 taken_last (Some v) r s a b channel takes none = absurd (false≢true (sym none))
 
 -- nothing is left: all that was unread was taken
-pub took_all : (r t : EndSeat) (a b : Book) → TakesFirst r t a b → unread (channel_in b.configuration r.channel) ≡ []
-    → t.items ≡ r.items ++ unread (channel_in a.configuration r.channel)
+pub took_all : (r t : EndSeat) (a b : Book) → TakesFirst r t a b → unread (channel_in b.machine r.channel) ≡ []
+    → t.items ≡ r.items ++ unread (channel_in a.machine r.channel)
 took_all r t a b takes none =
     takes.recorded.items
     ∙ ap (λ xs. r.items ++ xs)

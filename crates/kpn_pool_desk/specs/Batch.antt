@@ -4,10 +4,10 @@ use Rattle.kpn_lang.specs.Parts.{Parts}
 use Rattle.kpn_step.specs.declared.stop.Stop.{Stop}
 use Rattle.kpn_step.specs.Frame.{Frame, fits}
 use Rattle.kpn_step.specs.Stops.{Advanced, advanced_of, IsAdvance, IsAtPort}
-use Rattle.kpn_run_configuration.specs.Configuration.{frame_in}
-use Rattle.kpn_run_state.specs.declared.answers.Done.{Done}
-use Rattle.kpn_run_state.specs.Book.{Book, IsHeld, IsClaimed, put_back}
-use Rattle.kpn_run_state.specs.Commits.{IsOwnAdvance, Commits}
+use Rattle.kpn_machine.specs.Machine.{frame_in}
+use Rattle.kpn_book.specs.declared.answers.Done.{Done}
+use Rattle.kpn_book.specs.Book.{Book, IsHeld, IsClaimed, put_back}
+use Rattle.kpn_book.specs.Commits.{IsOwnAdvance, Commits}
 use Rattle.kpn_pool_desk.specs.declared.turn.Stepped.{Stepped}
 use Rattle.kpn_pool_desk.specs.declared.seat.Why.{Why}
 use Rattle.kpn_pool_desk.specs.declared.seat.Why.TheVariants.{Abandoned, NoMemory}
@@ -61,7 +61,7 @@ claimed_by turns = map (λ (turn : Turn). turn.process) turns
 -- its process is the first of the queue, and is held from then on; its frame is where the process stands
 pub record Claims (turn : Turn) (before after : Book) : Type 0 where
   pub held : IsClaimed turn.process before after
-  pub frame : turn.frame ≡ Some (frame_in before.configuration turn.process)
+  pub frame : turn.frame ≡ Some (frame_in before.machine turn.process)
 
 -- its process is held, and its steps are those of this process from where it stands
 abbrev pub MayCommit : Turn → Book → Type 0

@@ -2,10 +2,10 @@
 use Rattle.std.specs.Prelude.{◌≡◌, ◌≤◌, ◌<◌, ◌+◌, ◌-◌, ℕ, Bool, true, false, [], min, max, count_by, Option, Some, None}
 use Rattle.std.specs.Int.{div_ceil}
 use Rattle.kpn_net.specs.Tables.{Tables}
-use Rattle.kpn_run_history.specs.Ends.{IsSettled}
-use Rattle.kpn_run_history.specs.Views.{is_ready}
-use Rattle.kpn_run_state.specs.Book.{Book}
-use Rattle.kpn_run_state.specs.Kept.{IsBook}
+use Rattle.kpn_history.specs.Ends.{IsSettled}
+use Rattle.kpn_history.specs.Views.{is_ready}
+use Rattle.kpn_book.specs.Book.{Book}
+use Rattle.kpn_book.specs.Kept.{IsBook}
 use Rattle.kpn_pool_desk.specs.declared.phases.Next.{Next}
 use Rattle.kpn_pool_desk.specs.declared.phases.Next.TheVariants as next
 use Rattle.kpn_pool_desk.specs.declared.rows.Takers.{Takers}

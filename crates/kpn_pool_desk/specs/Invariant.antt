@@ -4,20 +4,20 @@ use Rattle.kpn_net.specs.declared.tables.Policy.TheVariants.{All}
 use Rattle.kpn_net.specs.declared.wait.Wait.TheVariants.{Full}
 use Rattle.kpn_net.specs.Iteration.{IsBelowLeast, IsLeast}
 use Rattle.kpn_chan.specs.Channel.{ChannelState, unread}
-use Rattle.kpn_run_history.specs.declared.event.Event.{Event}
-use Rattle.kpn_run_history.specs.declared.event.Event.TheVariants.{Grow}
-use Rattle.kpn_run_history.specs.declared.state.Counts.{Counts}
-use Rattle.kpn_run_history.specs.Channels.{read_on, fed, capacity_after}
-use Rattle.kpn_run_history.specs.Waiting.{wait_of, waits_of}
-use Rattle.kpn_run_history.specs.Legal.{OwesGrowth}
-use Rattle.kpn_run_history.specs.Ends.{IsQuiet, IsSettled}
-use Rattle.kpn_run_history.specs.Stops.{CanGrow}
-use Rattle.kpn_run_configuration.specs.Configuration.{channel_in, is_empty_wait, is_full_wait}
-use Rattle.kpn_run_state.specs.Book.{Book}
+use Rattle.kpn_history.specs.declared.event.Event.{Event}
+use Rattle.kpn_history.specs.declared.event.Event.TheVariants.{Grow}
+use Rattle.kpn_history.specs.declared.state.Counts.{Counts}
+use Rattle.kpn_history.specs.Channels.{read_on, fed, capacity_after}
+use Rattle.kpn_history.specs.Waiting.{wait_of, waits_of}
+use Rattle.kpn_history.specs.Legal.{OwesGrowth}
+use Rattle.kpn_history.specs.Ends.{IsQuiet, IsSettled}
+use Rattle.kpn_history.specs.Stops.{CanGrow}
+use Rattle.kpn_machine.specs.Machine.{channel_in, is_empty_wait, is_full_wait}
+use Rattle.kpn_book.specs.Book.{Book}
 
 -- a channel of the run, as it is held
 abbrev pub channel_of : Book → ℕ → ChannelState
-channel_of b c = channel_in b.configuration c
+channel_of b c = channel_in b.machine c
 
 -- each journal is a prefix of Kahn's least solution for the items fed so far
 abbrev pub AreBelowLeast : Book → Type 0

@@ -8,17 +8,17 @@ use Rattle.kpn_net.specs.Faults.{channel_numbers}
 use Rattle.kpn_chan.specs.Channel.{unread}
 use Rattle.kpn_chan.specs.declared.unread.Unread.{Unread}
 use Rattle.kpn_chan.specs.declared.unread.Unread.TheVariants as unread_as
-use Rattle.kpn_run_history.specs.declared.event.Event.{Event}
-use Rattle.kpn_run_history.specs.declared.event.Event.TheVariants as event
-use Rattle.kpn_run_configuration.specs.Configuration.{channel_in, AreKept}
-use Rattle.kpn_run_state.specs.Book.{Book}
-use Rattle.kpn_run_state.specs.Appending.{AllHappen}
-use Rattle.kpn_run_state.specs.Refusals.{RefusesTake}
+use Rattle.kpn_history.specs.declared.event.Event.{Event}
+use Rattle.kpn_history.specs.declared.event.Event.TheVariants as event
+use Rattle.kpn_machine.specs.Machine.{channel_in, AreKept}
+use Rattle.kpn_book.specs.Book.{Book}
+use Rattle.kpn_book.specs.Appending.{AllHappen}
+use Rattle.kpn_book.specs.Refusals.{RefusesTake}
 use Rattle.kpn_pool_desk.specs.declared.outside_seats.SnapFault.{SnapFault}
 use Rattle.kpn_pool_desk.specs.declared.outside_seats.SnapFault.TheVariants as snap_fault
 use Rattle.kpn_pool_desk.specs.declared.outside_seats.SnapFault.TheVariants.{Foreign, Forgotten}
-use Rattle.kpn_run_state.specs.declared.answers.Refused.{Refused}
-use Rattle.kpn_run_state.specs.declared.answers.Refused.TheVariants.{NoMemory, NoSuchEnd, SourceClosed, Full, SinkLeft}
+use Rattle.kpn_book.specs.declared.answers.Refused.{Refused}
+use Rattle.kpn_book.specs.declared.answers.Refused.TheVariants.{NoMemory, NoSuchEnd, SourceClosed, Full, SinkLeft}
 
 -- ---- a seat
 
@@ -94,8 +94,8 @@ pub record TakesFirst (before after : EndSeat) (b b_after : Book) : Type 0 where
   pub channel : after.channel ≡ before.channel
   pub forgotten : after.forgotten ≡ before.forgotten
   pub recorded : AreRecorded AllHappen event.Take before after b b_after
-  pub first : unread (channel_in b.configuration before.channel)
-      ≡ recorded.more ++ unread (channel_in b_after.configuration before.channel)
+  pub first : unread (channel_in b.machine before.channel)
+      ≡ recorded.more ++ unread (channel_in b_after.machine before.channel)
 
 -- the same seats, each with the items that it had and perhaps more
 abbrev pub HaveTaken : (before after : List EndSeat) → Type 0
@@ -106,7 +106,7 @@ HaveTaken xs ys = ⊥
 -- the seat took all that was unread at its sink
 pub record TakesAll (before after : EndSeat) (b b_after : Book) : Type 0 where
   pub first : TakesFirst before after b b_after
-  pub none_left : unread (channel_in b_after.configuration before.channel) ≡ []
+  pub none_left : unread (channel_in b_after.machine before.channel) ≡ []
 
 -- so many of these seats, one after the other, took all that was unread at their sinks, and nothing else has happened
 abbrev pub TakeInTurn : (count : ℕ) → (before after : List EndSeat) → Book → Book → Type 0
@@ -166,7 +166,7 @@ pub record MayRefuseTakes (t : Tables) (seats : List EndSeat) (cause : Refused) 
 -- the journal of the channel of a seat is kept, and begins with what the seat fed
 abbrev pub HasFed : EndSeat → Book → Type 0
 HasFed seat b =
-    let channel = channel_in b.configuration seat.channel in
+    let channel = channel_in b.machine seat.channel in
     IsTrue channel.is_kept × IsPrefix seat.items channel.journal
 
 -- a snapshot for a seat that has fed these items to a source: if the seat is of another run, it has fed something, or
@@ -183,4 +183,4 @@ fault_of unread_as.NoMemory = snap_fault.NoMemory
 
 -- the seat has forgotten something, or the journal of a channel is not kept
 abbrev pub IsForgotten : EndSeat → Book → Type 0
-IsForgotten seat b = (0 < seat.forgotten) ⊎ (¬ AreKept b.configuration)
+IsForgotten seat b = (0 < seat.forgotten) ⊎ (¬ AreKept b.machine)

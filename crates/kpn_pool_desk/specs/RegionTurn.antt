@@ -1,12 +1,12 @@
 -- What a worker does with a region between two holds of the lock.
 use Rattle.std.specs.Prelude.{◌≡◌, ℕ, ◌⊎◌, Bool, true, false, List, Option, Some, None}
 use Rattle.kpn_region.specs.Batch.{Batch, RunsOn}
-use Rattle.kpn_run_state.specs.declared.answers.Refused.{Refused}
-use Rattle.kpn_run_state.specs.declared.answers.Refused.TheVariants as refused
-use Rattle.kpn_run_state.specs.Book.{Book}
-use Rattle.kpn_run_state.specs.RegionClaims.{ClaimsRegion}
-use Rattle.kpn_run_state.specs.RegionCalls.{CommitsRegion, RefusesRegion}
-use Rattle.kpn_run_state.specs.Regions.{batch_put_back}
+use Rattle.kpn_book.specs.declared.answers.Refused.{Refused}
+use Rattle.kpn_book.specs.declared.answers.Refused.TheVariants as refused
+use Rattle.kpn_book.specs.Book.{Book}
+use Rattle.kpn_book.specs.RegionClaims.{ClaimsRegion}
+use Rattle.kpn_book.specs.RegionCalls.{CommitsRegion, RefusesRegion}
+use Rattle.kpn_book.specs.Regions.{batch_put_back}
 use Rattle.kpn_pool_desk.specs.declared.phases.Next.{Next}
 use Rattle.kpn_pool_desk.specs.declared.phases.Next.TheVariants as next
 use Rattle.kpn_pool_desk.specs.declared.rows.Takers.{Takers}

@@ -1,8 +1,8 @@
 -- What a worker does while it has the lock, beside its batch: turns in a row, and takes from the sinks.
 use Rattle.std.specs.Prelude.{◌≡◌, ℕ, ◌+◌, ◌≤◌, min, max, ◌⊎◌, ℤ, Option, Some, None}
-use Rattle.kpn_run_state.specs.Book.{Book}
-use Rattle.kpn_run_state.specs.InARow.{RunsOn, RunsInVain}
-use Rattle.kpn_run_state.specs.Refusals.{Takes}
+use Rattle.kpn_book.specs.Book.{Book}
+use Rattle.kpn_book.specs.InARow.{RunsOn, RunsInVain}
+use Rattle.kpn_book.specs.Refusals.{Takes}
 use Rattle.kpn_pool_desk.specs.declared.gate.Go.{Go}
 use Rattle.kpn_pool_desk.specs.declared.rows.Takers.{Takers}
 use Rattle.kpn_pool_desk.specs.declared.rows.Takers.TheVariants.{Workers}

@@ -1,6 +1,6 @@
 //! The turns that a worker makes between two holds of the lock, in the order of their claims.
 ghost use Rattle.std.specs.Prelude.{◌≡◌, ◌↔◌, ◌+◌, ◌<◌, ◌≤◌, IsTrue, IfOk, OnErr, take, length};
-ghost use Rattle.kpn_run_state.specs.Stepping.{ClaimsNobody};
+ghost use Rattle.kpn_book.specs.Stepping.{ClaimsNobody};
 ghost use Rattle.kpn_pool_desk.specs.Batch.{InTurn, Claims, ClaimsInVain, CommitsOrDrops, PutsBack, Settles, claimed_by, ComesBack};
 ghost use Rattle.kpn_pool_desk.specs.Gate.{LetsThrough, LetsAll};
 ghost use Rattle.kpn_pool_desk.specs.Desk.{share_in, with_book, with_total};

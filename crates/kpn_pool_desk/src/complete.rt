@@ -1,6 +1,6 @@
 //! Which channels of a run get nothing more, as the desk knows it.
 ghost use Rattle.std.specs.Prelude.{◌↔◌, ◌<◌, length, IsTrue};
-ghost use Rattle.kpn_run_history.specs.Complete.{IsComplete};
+ghost use Rattle.kpn_history.specs.Complete.{IsComplete};
 
 use crate::desk::Desk;
 use crate::job::Job;

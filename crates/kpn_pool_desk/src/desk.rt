@@ -2,16 +2,16 @@
 ghost use Rattle.std.specs.Prelude.{◌≡◌, ◌<◌, true, false, length, IfOk, IfErr, IfSome};
 ghost use Rattle.std.specs.List.{sum_by};
 ghost use Rattle.kpn_chan.specs.declared.unread.Unread.TheVariants.{Forgotten};
-ghost use Rattle.kpn_run_configuration.specs.Configuration.{AreKept};
-ghost use Rattle.kpn_run_history.specs.declared.state.Counts.{Counts as Tally};
-ghost use Rattle.kpn_run_history.specs.Views.{Agrees, AreCounts};
-ghost use Rattle.kpn_run_state.specs.Kept.{IsBook};
+ghost use Rattle.kpn_machine.specs.Machine.{AreKept};
+ghost use Rattle.kpn_history.specs.declared.state.Counts.{Counts as Tally};
+ghost use Rattle.kpn_history.specs.Views.{Agrees, AreCounts};
+ghost use Rattle.kpn_book.specs.Kept.{IsBook};
 ghost use Rattle.kpn_pool_desk.specs.declared.crew.Awaited.TheVariants.{There, Ended};
 ghost use Rattle.kpn_pool_desk.specs.declared.crew.Need.TheVariants.{Item, Room};
 ghost use Rattle.kpn_pool_desk.specs.Desk.{halted, IsOpened, IsReason, ready_in, share_in};
 ghost use Rattle.kpn_pool_desk.specs.Seat.{AreNewSeats};
 ghost use Rattle.kpn_pool_desk.specs.Waiting.{IsMet};
-ghost use Rattle.kpn_run_state.specs.Snapshot.{ShowsARun, ShowsJournals, IsBelowKahn, IsKahnAtRest};
+ghost use Rattle.kpn_book.specs.Snapshot.{ShowsARun, ShowsJournals, IsBelowKahn, IsKahnAtRest};
 ghost use Rattle.kpn_pool_desk.specs.Invariant.{AreBelowLeast, AreReadThenQueued, AreWithinCapacity, AreBlockedCounts, AreOwedGrowths, AreLeastWhenQuiet, HasNoneLeftToGrow, HasNoneLeftAtStop};
 
 use crate::crew::{Awaited, Crew, Need, share};
@@ -20,10 +20,10 @@ use crate::job::Job;
 use crate::outside_seats::SinkSeat;
 use crate::rows::Takers;
 use crate::seat::{Why, WorkerSeat};
+use kpn_book::laws::{a_quiet_book, growths, journals, the_history};
+use kpn_book::{Book, Counts, Done, Event, Keeping, Refused, View};
 use kpn_chan::Unread;
 use kpn_net::Network;
-use kpn_run_state::laws::{a_quiet_book, growths, journals, the_history};
-use kpn_run_state::{Book, Counts, Done, Event, Keeping, Refused, View};
 use std::alloc::{AllocError, Allocator, Global};
 use std::marker::Model;
 use std::sync::ledger;
@@ -170,7 +170,7 @@ impl<'n, J: Job, A: Allocator> Desk<'n, J, A> {
     /// The run as it is seen at this moment: a legal history that owes no growth agrees with it; each journal is a
     /// prefix of the least solution for what was fed, and is that solution if each process has ended or waits on an
     /// empty channel. A journal that is not kept is an error.
-    #[tactic(auto, using(kpn_run_state::proofs::Snapshots::run_of, kpn_run_state::proofs::Snapshots::below_of, kpn_run_state::proofs::Snapshots::shows_journals))]
+    #[tactic(auto, using(kpn_book::proofs::Snapshots::run_of, kpn_book::proofs::Snapshots::below_of, kpn_book::proofs::Snapshots::shows_journals))]
     pub fn snapshot<B: Allocator + Copy>(&self, alloc: B) -> Result<View<B>, Unread>
         ensures agrees { IfOk result (λ view.
             Agrees self.now.book.tables self.now.book.history view) }
@@ -180,7 +180,7 @@ impl<'n, J: Job, A: Allocator> Desk<'n, J, A> {
         ensures below { IfOk result (λ view. IsBelowKahn J.network view) }
         ensures quiet { IfOk result (λ view. IsKahnAtRest J.network view) }
         ensures forgotten { IfErr result (λ why.
-            why ≡ Forgotten → ¬ AreKept self.now.book.configuration) }
+            why ≡ Forgotten → ¬ AreKept self.now.book.machine) }
     {
         the_history();
         journals();

@@ -10,8 +10,8 @@
 //! batch lost, which is put back then.
 ghost use Rattle.std.specs.Prelude.{◌≡◌, ◌<◌, true, false, IfOk, IfSome, OnErr};
 ghost use Rattle.std.specs.List.{All};
-ghost use Rattle.kpn_run_state.specs.RegionClaims.{IsSameBook};
-ghost use Rattle.kpn_run_state.specs.Regions.{batch_put_back};
+ghost use Rattle.kpn_book.specs.RegionClaims.{IsSameBook};
+ghost use Rattle.kpn_book.specs.Regions.{batch_put_back};
 ghost use Rattle.kpn_pool_desk.specs.Desk.{with_book};
 ghost use Rattle.kpn_pool_desk.specs.RegionTurn.{DrainsFor, ClaimsFor};
 
@@ -19,9 +19,9 @@ use crate::desk::Desk;
 use crate::job::Job;
 use crate::regions::Regions;
 use crate::rows::Takers;
+use kpn_book::Book;
+use kpn_history::State;
 use kpn_region::Batch;
-use kpn_run_history::State;
-use kpn_run_state::Book;
 use std::alloc::{AllocError, Allocator};
 
 // Before so many commits the workers make single turns, which are timed.

@@ -26,7 +26,7 @@ pub use crew::{Awaited, Need};
 pub use desk::Desk;
 pub use gate::{CommitsAll, Gate, Go};
 pub use job::Job;
-pub use kpn_run_state::{Refused, View};
+pub use kpn_book::{Refused, View};
 pub use opening::{EndSeats, end_seats};
 pub use outside_seats::{SinkSeat, SnapFault, SourceSeat, take_from_each};
 pub use phases::{Next, Notices, Stay, Workers};

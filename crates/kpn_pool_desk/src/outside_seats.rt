@@ -3,14 +3,14 @@ ghost use Rattle.std.specs.Prelude.{◌≡◌, ◌≢◌, ◌<◌, ◌≤◌, �
 ghost use Rattle.kpn_lang.specs.Prefix.{IsPrefix};
 ghost use Rattle.kpn_net.specs.Tables.{channel_at, is_source, is_sink};
 ghost use Rattle.kpn_chan.specs.Channel.{unread};
-ghost use Rattle.kpn_run_history.specs.declared.event.Event.TheVariants as event;
-ghost use Rattle.kpn_run_history.specs.Views.{Agrees};
-ghost use Rattle.kpn_run_configuration.specs.Configuration.{channel_in};
-ghost use Rattle.kpn_run_state.specs.Appending.{AppendsAll};
-ghost use Rattle.kpn_run_state.specs.Refusals.{RefusesFeed, RefusesClose, RefusesTake, RefusesLeave, Feeds, Closes, Takes, Leaves};
+ghost use Rattle.kpn_history.specs.declared.event.Event.TheVariants as event;
+ghost use Rattle.kpn_history.specs.Views.{Agrees};
+ghost use Rattle.kpn_machine.specs.Machine.{channel_in};
+ghost use Rattle.kpn_book.specs.Appending.{AppendsAll};
+ghost use Rattle.kpn_book.specs.Refusals.{RefusesFeed, RefusesClose, RefusesTake, RefusesLeave, Feeds, Closes, Takes, Leaves};
 ghost use Rattle.kpn_pool_desk.specs.Desk.{with_book};
-ghost use Rattle.kpn_run_state.specs.Snapshot.{ShowsARun, shown_on, IsBelowKahn, IsKahnAtRest};
-ghost use Rattle.kpn_run_state.specs.declared.answers.Refused.TheVariants.{Full};
+ghost use Rattle.kpn_book.specs.Snapshot.{ShowsARun, shown_on, IsBelowKahn, IsKahnAtRest};
+ghost use Rattle.kpn_book.specs.declared.answers.Refused.TheVariants.{Full};
 ghost use Rattle.kpn_pool_desk.specs.declared.crew.Awaited.TheVariants.{There, Ended};
 ghost use Rattle.kpn_pool_desk.specs.declared.outside_seats.SnapFault.TheVariants.{Foreign, Forgotten, NoMemory};
 ghost use Rattle.kpn_pool_desk.specs.Waiting.{IsFullSource};
@@ -20,8 +20,8 @@ use crate::crew::Awaited;
 use crate::desk::Desk;
 use crate::job::Job;
 use crate::recent::Recent;
+use kpn_book::{Refused, View};
 use kpn_chan::Unread;
-use kpn_run_state::{Refused, View};
 use std::alloc::{Allocator, Global};
 use std::marker::Model;
 use thiserror::Error;
@@ -349,9 +349,9 @@ impl<A: Allocator> SinkSeat<A> {
         ensures channel { self.new.channel ≡ self.old.channel }
         ensures taken { IsPrefix self.old.items self.new.items }
         ensures all { OnOk result (self.new.items ≡ self.old.items
-            ++ unread (channel_in desk.old.book.configuration self.old.channel)) }
+            ++ unread (channel_in desk.old.book.machine self.old.channel)) }
         ensures none_left { OnOk result
-            (unread (channel_in desk.new.book.configuration self.old.channel) ≡ []) }
+            (unread (channel_in desk.new.book.machine self.old.channel) ≡ []) }
         ensures first { TakesFirst self.old self.new desk.old.book desk.new.book }
         ensures sink { OnOk result (is_sink (channel_at J.network self.old.channel) ≡ true) }
         ensures desk { desk.new ≡ with_book desk.new.book desk.old }
@@ -372,12 +372,12 @@ impl<A: Allocator> SinkSeat<A> {
     ) -> Result<Option<Awaited>, Refused>
         ensures taken { TakesMore self.old self.new }
         ensures all { OnOk result (self.new.items ≡ self.old.items
-            ++ unread (channel_in desk.old.book.configuration self.old.channel)) }
+            ++ unread (channel_in desk.old.book.machine self.old.channel)) }
         ensures there { IfOk result (λ found. (found ≡ Some There)
             → length self.old.items < length self.new.items) }
         ensures ended { IfOk result (λ found. (found ≡ Some Ended) → desk.new.working ≡ 0) }
         ensures none_left { OnOk result
-            (unread (channel_in desk.new.book.configuration self.old.channel) ≡ []) }
+            (unread (channel_in desk.new.book.machine self.old.channel) ≡ []) }
         ensures first { TakesFirst self.old self.new desk.old.book desk.new.book }
         ensures sink { OnOk result (is_sink (channel_at J.network self.old.channel) ≡ true) }
         ensures desk { desk.new ≡ with_book desk.new.book desk.old }

@@ -2,7 +2,7 @@
 ghost use Rattle.std.specs.Prelude.{◌≡◌, ◌≤◌, length, drop, nat_lt, IsTrue, OnOk};
 ghost use Rattle.kpn_pool_desk.specs.Recent.{none_yet, with_room, one_more, forgetful};
 
-use kpn_past::Past;
+use kpn_chan::Past;
 use std::alloc::{AllocError, Allocator};
 use std::marker::Model;
 use std::mem;

@@ -1,6 +1,6 @@
 //! What a worker does with a region between two holds of the lock: its claim, its run, and its commit.
 ghost use Rattle.std.specs.Prelude.{◌≡◌, ◌≤◌, true, false, Some, None, IsSome, IfOk, OnErr, IsTrue, ◌↔◌};
-ghost use Rattle.kpn_run_state.specs.RegionClaims.{IsSameBook};
+ghost use Rattle.kpn_book.specs.RegionClaims.{IsSameBook};
 ghost use Rattle.kpn_pool_desk.specs.Gate.{LetsAll};
 ghost use Rattle.kpn_pool_desk.specs.Desk.{with_book};
 ghost use Rattle.kpn_pool_desk.specs.RegionTurn.{ClaimsOne, Runs, SettlesRegion, ComesBackFromRegion};
@@ -11,9 +11,9 @@ use crate::gate::Gate;
 use crate::job::Job;
 use crate::phases::Next;
 use crate::seat::{Why, WorkerSeat};
+use kpn_book::Refused;
 use kpn_net::Network;
 use kpn_region::Batch;
-use kpn_run_state::Refused;
 use std::alloc::{AllocError, Allocator, Global};
 use std::marker::{Model, PhantomData};
 use std::time::Duration;

@@ -2,7 +2,7 @@
 //! also takes what comes to the sinks, if the workers take that.
 ghost use Rattle.std.specs.Prelude.{◌≡◌, ◌≤◌, ◌<◌, ◌↔◌, ℤ, true, false, Option, Some, IsTrue};
 ghost use Rattle.kpn_book.specs.Outcomes.{IsEnough};
-ghost use Rattle.kpn_run_state.specs.Refusals.{Takes};
+ghost use Rattle.kpn_book.specs.Refusals.{Takes};
 ghost use Rattle.kpn_pool_desk.specs.declared.rows.Takers.TheVariants.{Workers};
 ghost use Rattle.kpn_pool_desk.specs.Gate.{LetsAll};
 ghost use Rattle.kpn_pool_desk.specs.Desk.{with_book, taken_by, EndsFor};

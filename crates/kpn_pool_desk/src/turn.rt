@@ -1,6 +1,6 @@
 //! What a worker does with one process between two holds of the lock: its claim, its steps, and their commit.
 ghost use Rattle.std.specs.Prelude.{◌≡◌, ◌+◌, ◌≤◌, ◌⊎◌, true, false, None, IfOk, OnErr};
-ghost use Rattle.kpn_run_state.specs.Stepping.{ClaimsNobody};
+ghost use Rattle.kpn_book.specs.Stepping.{ClaimsNobody};
 ghost use Rattle.kpn_pool_desk.specs.Desk.{with_book, with_total};
 ghost use Rattle.kpn_pool_desk.specs.Batch.{Claims, MayCommit, CommitsOrDrops, PutsBack};
 
@@ -8,7 +8,7 @@ use crate::desk::Desk;
 use crate::job::Job;
 use crate::seat::WorkerSeat;
 use crate::watch::Watch;
-use kpn_run_state::{Claim, Refused};
+use kpn_book::{Claim, Refused};
 use kpn_step::{Frame, Stop};
 use std::alloc::{AllocError, Allocator};
 use std::marker::{Model, PhantomData};

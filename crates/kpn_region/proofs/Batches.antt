@@ -6,9 +6,9 @@ use Rattle.std.proofs.lemmas.List.Sums.{sum_by-append}
 use Rattle.kpn_net.specs.Tables.{Tables, program_of}
 use Rattle.kpn_step.specs.declared.stop.Stop.{Stop}
 use Rattle.kpn_step.specs.Frame.{Frame, fits}
-use Rattle.kpn_run_history.specs.declared.event.Event.{Event}
-use Rattle.kpn_run_history.specs.Talks.{is_of_process, process_events}
-use Rattle.kpn_run_configuration.specs.Configuration.{no_frame}
+use Rattle.kpn_history.specs.declared.event.Event.{Event}
+use Rattle.kpn_history.specs.Talks.{is_of_process, process_events}
+use Rattle.kpn_machine.specs.Machine.{no_frame}
 use Rattle.kpn_region.specs.Local.{SideState, no_side, claimed_with, as_claimed, Local, frame_at, with_side, IsLocal, Plays, no_event}
 use Rattle.kpn_region.specs.Batch.{Batch, batch_of, IsStuckAt, IsBatch, IsFresh, IsEmpty}
 use Rattle.kpn_region.specs.Turn.{GoesOn}

@@ -159,7 +159,7 @@ module _ (t : Tables) (c : ℕ) (side : SideState) (channel : ChannelState) (non
     (claimed : side.claimed ≡ 0) (taken : side.taken ≡ 0) (room : side.room ≡ 0) (drained : side.is_drained ≡ false)
     (most : channel.is_retired ≡ false → length (unread channel) ≤ channel.most)
     (within : (cap : ℕ) → channel.capacity ≡ Some cap → channel.most ≤ cap) where
-  -- it agrees with every channel of a configuration
+  -- it agrees with every channel of a machine
   pub unseen_agrees : ChannelAgrees t c side channel
   unseen_agrees =
       record {

@@ -1,4 +1,4 @@
--- The law of a batch: the history with its events leads to the joined configuration, and nothing is owed after it.
+-- The law of a batch: the history with its events leads to the joined machine, and nothing is owed after it.
 use Rattle.std.proofs.Common.{◌≡◌, ℕ, ◌<◌, ◌≤◌, true, false, IsTrue, List, ◌++◌, length, get_or, None, is_some, sym, ap, ◌∙◌, subst}
 use Rattle.std.proofs.lemmas.List.{get_or-map}
 use Rattle.kpn_net.specs.declared.wait.Wait.TheVariants.{Full}
@@ -6,20 +6,20 @@ use Rattle.kpn_net.specs.Tables.{Tables, program_of}
 use Rattle.kpn_net.specs.Faults.{IsNetwork}
 use Rattle.kpn_net.specs.Waits.{IsOwnWait}
 use Rattle.kpn_step.specs.Frame.{fits}
-use Rattle.kpn_run_history.specs.declared.event.Event.{Event}
-use Rattle.kpn_run_history.specs.Stops.{OwesNothing}
-use Rattle.kpn_run_configuration.specs.Configuration.{Configuration, channel_in, wait_in, end_in, frame_in}
-use Rattle.kpn_run_configuration.specs.Run.{IsEndOf, StandsAfter, IsRun}
+use Rattle.kpn_history.specs.declared.event.Event.{Event}
+use Rattle.kpn_history.specs.Stops.{OwesNothing}
+use Rattle.kpn_machine.specs.Machine.{Machine, channel_in, wait_in, end_in, frame_in}
+use Rattle.kpn_machine.specs.Run.{IsEndOf, StandsAfter, IsRun}
 use Rattle.kpn_region.specs.Local.{SideState, no_side, as_claimed, is_within, frame_at, side_at, IsLocal, Plays}
 use Rattle.kpn_region.specs.Batch.{Batch, IsBatch}
 use Rattle.kpn_region.specs.Joining.{IsClaimOf, put_on, AgreesWith, Joins}
 use Rattle.kpn_region.proofs.OnTheWay.{put_so_far}
 use Rattle.kpn_region.proofs.Playing.{IsUnused, IsReached, within_there, sound, reaches}
 
--- ---- a configuration that differs only in what is reserved
+-- ---- a machine that differs only in what is reserved
 
 -- the second is the first, except for what is reserved; where a process waits as full, an item is
-pub record IsAlike (t : Tables) (s other : Configuration) : Type 0 where
+pub record IsAlike (t : Tables) (s other : Machine) : Type 0 where
   pub channels : length other.channels ≡ length s.channels
   pub closed : other.closed ≡ s.closed
   pub ends : other.ends ≡ s.ends
@@ -35,7 +35,7 @@ pub record IsAlike (t : Tables) (s other : Configuration) : Type 0 where
   pub reserved : (p c : ℕ) → p < length t.instances → c < length t.channels → wait_in s p ≡ Full c
       → IsTrue (channel_in other c).is_reserved
 
-run_of_alike : (t : Tables) (H : List Event) (s other : Configuration) → IsAlike t s other → IsRun t H s
+run_of_alike : (t : Tables) (H : List Event) (s other : Machine) → IsAlike t s other → IsRun t H s
     → IsRun t H other
 run_of_alike t H s other same run =
     record {
@@ -77,7 +77,7 @@ run_of_alike t H s other same run =
 -- ---- the law
 
 module _ (t : Tables) (network : IsNetwork t) (b : Batch) (tables : b.tables ≡ t) (is : IsBatch b) (H : List Event)
-    (before after : Configuration) (run : IsRun t H before) (owes : OwesNothing t H) (agrees : AgreesWith b before)
+    (before after : Machine) (run : IsRun t H before) (owes : OwesNothing t H) (agrees : AgreesWith b before)
   where
     claim_is : (c : ℕ) → c < length t.channels → side_at b.first c ≡ as_claimed (side_at b.now c)
     claim_is c below =

@@ -6,7 +6,7 @@ use Rattle.kpn_net.specs.Tables.{Tables, instance_at}
 use Rattle.kpn_net.specs.Faults.{IsNetwork}
 use Rattle.kpn_net.proofs.Networks.{sizes}
 use Rattle.kpn_net.proofs.PortsApart.{in_is_there, out_is_there}
-use Rattle.kpn_run_configuration.specs.Changes.{IsChannelAt}
+use Rattle.kpn_machine.specs.Changes.{IsChannelAt}
 
 among : (ports : List ℕ) (port c : ℕ) → IsChannelAt ports port c → Contains ports c
 among ports port c at = subst (λ x. Contains ports x) at.1 (Contains-get_or ports port 0 at.0)

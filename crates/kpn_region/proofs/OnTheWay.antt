@@ -1,4 +1,4 @@
--- What stands of one channel while a batch is played on a configuration: the next get finds its item there, the next
+-- What stands of one channel while a batch is played on a machine: the next get finds its item there, the next
 -- put finds room, and both keep what stands.
 use Rattle.std.proofs.Common.{◌≡◌, ℕ, zero, suc, ◌+◌, ◌-◌, ◌<◌, ◌≤◌, ◌&&◌, Bool, true, false, not, ℤ, cond, max, IsTrue, List, [], ◌∷◌, ◌++◌, length, take, drop, get_or, Option, Some, None, slice_get, refl, sym, ap, ◌∙◌, inl, inr, arith, append-nil, append_assoc, add-zero, length-append}
 use Rattle.std.proofs.Math.Seq.{drop-append_seam}

@@ -7,8 +7,8 @@ use Rattle.kpn_net.specs.declared.wait.Wait.{Wait}
 use Rattle.kpn_net.specs.declared.wait.Wait.TheVariants.{Nobody, Empty, Full}
 use Rattle.kpn_net.specs.Waits.{wait_at, AreWaits}
 use Rattle.kpn_chan.specs.Channel.{ChannelState, unread, opened}
-use Rattle.kpn_run_configuration.specs.Configuration.{Configuration, channel_in, wait_in, frame_in, no_frame, with_channel, with_frame}
-use Rattle.kpn_run_configuration.specs.Woken.{ends_by_batch}
+use Rattle.kpn_machine.specs.Machine.{Machine, channel_in, wait_in, frame_in, no_frame, with_channel, with_frame}
+use Rattle.kpn_machine.specs.Woken.{ends_by_batch}
 use Rattle.kpn_region.specs.Local.{SideState, no_side, is_within, frame_at, side_at}
 use Rattle.kpn_region.specs.Turn.{side_in}
 use Rattle.kpn_region.specs.Batch.{Batch, IsBatch}
@@ -22,7 +22,7 @@ none_of_either : (gone : Bool) (n : ℕ) → cond gone n n ≡ n
 none_of_either true n = refl
 none_of_either false n = refl
 
-module _ (b : Batch) (c : ℕ) (s : Configuration) (waits : AreWaits b.tables s.waits)
+module _ (b : Batch) (c : ℕ) (s : Machine) (waits : AreWaits b.tables s.waits)
     (taken : (side_at b.now c).taken ≡ 0) (put : put_on (side_at b.now c) ≡ [])
     (kept : IsSideKept (side_at b.now c)) where
   abbrev side : SideState
@@ -63,7 +63,7 @@ module _ (b : Batch) (c : ℕ) (s : Configuration) (waits : AreWaits b.tables s.
       let no_put : has_put side ≡ false = grind (arith, nat_tests) in
       ap (λ x. ends_by_batch c x (has_put side) wait) no_take ∙ ap (λ x. ends_by_batch c false x wait) no_put
 
-  -- the configuration stays
+  -- the machine stays
   pub nothing_joined : JoinsChannel b c s s
   nothing_joined =
       record {
@@ -211,7 +211,7 @@ all_waits_joined sides (Full c) =
 
 -- ---- the channels in turn
 
-module _ (b : Batch) (before : Configuration) where
+module _ (b : Batch) (before : Machine) where
   pub none_joined : AreWaits b.tables before.waits → JoinsChannels b 0 before before
   none_joined waits =
       record {
@@ -225,14 +225,14 @@ module _ (b : Batch) (before : Configuration) where
         each_wait = λ p. no_wait_joined b.now.sides (wait_in before p);
       }
 
-  module _ (n : ℕ) (between after : Configuration) (so_far : JoinsChannels b n before between)
+  module _ (n : ℕ) (between after : Machine) (so_far : JoinsChannels b n before between)
       (there : n < length before.channels) (next : JoinsChannel b n between after) where
     here_too : n < length between.channels
     here_too = subst (λ k. n < k) (sym so_far.channels) there
 
     channels_are : after.channels
         ≡ (with_channel n (channel_in after n) between).channels
-    channels_are = ap (λ (s : Configuration). s.channels) next.rest
+    channels_are = ap (λ (s : Machine). s.channels) next.rest
 
     same_channel : (c : ℕ) → c ≢ n → channel_in after c ≡ channel_in between c
     same_channel c differ =
@@ -244,9 +244,9 @@ module _ (b : Batch) (before : Configuration) where
         record {
           channels = ap length channels_are ∙ length-set between.channels n (channel_in after n) ∙ so_far.channels;
           waits = next.waits;
-          closed = ap (λ (s : Configuration). s.closed) next.rest ∙ so_far.closed;
-          ends = ap (λ (s : Configuration). s.ends) next.rest ∙ so_far.ends;
-          frames = ap (λ (s : Configuration). s.frames) next.rest ∙ so_far.frames;
+          closed = ap (λ (s : Machine). s.closed) next.rest ∙ so_far.closed;
+          ends = ap (λ (s : Machine). s.ends) next.rest ∙ so_far.ends;
+          frames = ap (λ (s : Machine). s.frames) next.rest ∙ so_far.frames;
           joined = λ c below.
               elim (cases_eq c n) [
                 | inl same ↦
@@ -266,7 +266,7 @@ module _ (b : Batch) (before : Configuration) where
 
 -- ---- the frames in turn
 
-module _ (b : Batch) (before : Configuration) where
+module _ (b : Batch) (before : Machine) where
   pub no_frames_joined : JoinsFrames b 0 before before
   no_frames_joined =
       record {
@@ -276,7 +276,7 @@ module _ (b : Batch) (before : Configuration) where
         others = λ p past. refl;
       }
 
-  module _ (n : ℕ) (between : Configuration) (so_far : JoinsFrames b n before between)
+  module _ (n : ℕ) (between : Machine) (so_far : JoinsFrames b n before between)
       (there : n < length before.frames) where
     at_n : frame_in between n ≡ frame_in before n
     at_n = so_far.others n (omega arith)
@@ -285,7 +285,7 @@ module _ (b : Batch) (before : Configuration) where
         → JoinsFrames b (n + 1) before (cond w (with_frame n (frame_at b.now n) between) between)
     frame_joined true is =
         record {
-          rest = ap (λ (s : Configuration). with_frame n (frame_at b.now n) s) so_far.rest;
+          rest = ap (λ (s : Machine). with_frame n (frame_at b.now n) s) so_far.rest;
           frames = length-set between.frames n (frame_at b.now n) ∙ so_far.frames;
           each_frame = λ p below.
               elim (cases_eq p n) [
@@ -319,32 +319,32 @@ module _ (b : Batch) (before : Configuration) where
           others = λ p past. so_far.others p (omega (arith, past));
         }
 
-    pub one_more_frame : (after : Configuration)
+    pub one_more_frame : (after : Machine)
         → after ≡ cond (is_within b.now n) (with_frame n (frame_at b.now n) between) between
         → JoinsFrames b (n + 1) before after
     one_more_frame after is = subst (JoinsFrames b (n + 1) before) (sym is) (frame_joined (is_within b.now n) refl)
 
 -- ---- all of it
 
-pub all_joined : (b : Batch) → IsBatch b → (before between after : Configuration)
+pub all_joined : (b : Batch) → IsBatch b → (before between after : Machine)
     → JoinsChannels b (length b.tables.channels) before between
     → JoinsFrames b (length b.tables.instances) between after → AreWaits b.tables before.waits
     → Joins b before after
 all_joined b is before between after channels frames waits =
     let whole = frames.rest in
     record {
-      channels = ap (λ (s : Configuration). length s.channels) whole ∙ channels.channels;
+      channels = ap (λ (s : Machine). length s.channels) whole ∙ channels.channels;
       waits =
-          ap (λ (s : Configuration). length s.waits) whole
+          ap (λ (s : Machine). length s.waits) whole
           ∙ channels.waits.one_each ∙ sym waits.one_each;
       frames = frames.frames ∙ ap length channels.frames;
-      closed = ap (λ (s : Configuration). s.closed) whole ∙ channels.closed;
-      ends = ap (λ (s : Configuration). s.ends) whole ∙ channels.ends;
+      closed = ap (λ (s : Machine). s.closed) whole ∙ channels.closed;
+      ends = ap (λ (s : Machine). s.ends) whole ∙ channels.ends;
       each_channel = λ c below.
           subst (λ x. IsChannelJoined (side_at b.now c) (channel_in before c) x)
-          (sym (ap (λ (s : Configuration). channel_in s c) whole)) (channels.joined c below);
+          (sym (ap (λ (s : Machine). channel_in s c) whole)) (channels.joined c below);
       each_wait = λ p there.
-          ap (λ (s : Configuration). wait_in s p) whole
+          ap (λ (s : Machine). wait_in s p) whole
           ∙ channels.each_wait p
           ∙ ap (λ n. wait_joined_below n b.now.sides (wait_in before p)) (sym is.is.sides)
           ∙ all_waits_joined b.now.sides (wait_in before p);

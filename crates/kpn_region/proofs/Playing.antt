@@ -1,4 +1,4 @@
--- A batch played on a configuration with which it agrees, event by event: each event is due, and what stands after it
+-- A batch played on a machine with which it agrees, event by event: each event is due, and what stands after it
 -- agrees with what stands in the region.
 use Rattle.std.proofs.Common.{◌≡◌, ◌≢◌, ℕ, ◌+◌, ◌<◌, ◌≤◌, ◌||◌, Bool, true, false, not, ℤ, cond, eqb, eq-eqb, ltb, lt-ltb, le-ltb, List, [], ◌∷◌, ◌++◌, length, get_or, slice_set, Option, Some, None, refl, sym, ap, ◌∙◌, subst, inl, inr, ◌⊎◌, arith, append-nil, append_assoc, length-append, length-set}
 use Rattle.std.proofs.lemmas.Bool.{cases_eq, cases_lt, ne_eqb, eqb-true, false≢true}
@@ -13,28 +13,28 @@ use Rattle.kpn_net.specs.Faults.{IsNetwork}
 use Rattle.kpn_step.specs.Frame.{Frame}
 use Rattle.kpn_step.specs.Stops.{advanced_of}
 use Rattle.kpn_chan.specs.Channel.{ChannelState, opened, is_full, next_item, after_put, after_get}
-use Rattle.kpn_run_history.specs.declared.event.Event.{Event}
-use Rattle.kpn_run_history.specs.declared.event.Event.TheVariants.{Get, Put, Take}
-use Rattle.kpn_run_history.specs.Talks.{is_of}
-use Rattle.kpn_run_history.specs.Channels.{written_on, read_on, lives}
-use Rattle.kpn_run_history.specs.WaitsAfter.{wait_made}
-use Rattle.kpn_run_history.specs.Waking.{wakes_reader, wakes_writer, wakes, wait_then}
-use Rattle.kpn_run_history.specs.Legal.{HasNumbers, waiter}
-use Rattle.kpn_run_history.specs.Stops.{OwesNothing}
-use Rattle.kpn_run_history.proofs.Growth.{last_waiter-push}
-use Rattle.kpn_run_history.proofs.Journals.{reads_begin_writes}
-use Rattle.kpn_run_history.proofs.Stops.{is_blocked}
-use Rattle.kpn_run_configuration.specs.Configuration.{Configuration, channel_in, wait_in, end_in, frame_in, no_frame, IsFree}
-use Rattle.kpn_run_configuration.specs.Changes.{PassesRead, PassesWrite}
-use Rattle.kpn_run_configuration.specs.Due.{ReadsFrom, WritesTo, IsDueNow}
-use Rattle.kpn_run_configuration.specs.Run.{IsEndOf, IsRun}
-use Rattle.kpn_run_configuration.specs.Woken.{is_wait, woken_at}
-use Rattle.kpn_run_configuration.proofs.Calls.{Made, Made-put, Made-got, Made-taken}
-use Rattle.kpn_run_configuration.proofs.Due.{Legal-due}
-use Rattle.kpn_run_configuration.proofs.Going.{reader_is_awake, writer_is_awake}
-use Rattle.kpn_run_configuration.proofs.Moving.{IsRun-moved}
-use Rattle.kpn_run_configuration.proofs.Ports.{reads_own, writes_own}
-use Rattle.kpn_run_configuration.proofs.Running.{IsRun-next}
+use Rattle.kpn_history.specs.declared.event.Event.{Event}
+use Rattle.kpn_history.specs.declared.event.Event.TheVariants.{Get, Put, Take}
+use Rattle.kpn_history.specs.Talks.{is_of}
+use Rattle.kpn_history.specs.Channels.{written_on, read_on, lives}
+use Rattle.kpn_history.specs.WaitsAfter.{wait_made}
+use Rattle.kpn_history.specs.Waking.{wakes_reader, wakes_writer, wakes, wait_then}
+use Rattle.kpn_history.specs.Legal.{HasNumbers, waiter}
+use Rattle.kpn_history.specs.Stops.{OwesNothing}
+use Rattle.kpn_history.proofs.Growth.{last_waiter-push}
+use Rattle.kpn_history.proofs.Journals.{reads_begin_writes}
+use Rattle.kpn_history.proofs.Stops.{is_blocked}
+use Rattle.kpn_machine.specs.Machine.{Machine, channel_in, wait_in, end_in, frame_in, no_frame, IsFree}
+use Rattle.kpn_machine.specs.Changes.{PassesRead, PassesWrite}
+use Rattle.kpn_machine.specs.Due.{ReadsFrom, WritesTo, IsDueNow}
+use Rattle.kpn_machine.specs.Run.{IsEndOf, IsRun}
+use Rattle.kpn_machine.specs.Woken.{is_wait, woken_at}
+use Rattle.kpn_machine.proofs.Calls.{Made, Made-put, Made-got, Made-taken}
+use Rattle.kpn_machine.proofs.Due.{Legal-due}
+use Rattle.kpn_machine.proofs.Going.{reader_is_awake, writer_is_awake}
+use Rattle.kpn_machine.proofs.Moving.{IsRun-moved}
+use Rattle.kpn_machine.proofs.Ports.{reads_own, writes_own}
+use Rattle.kpn_machine.proofs.Running.{IsRun-next}
 use Rattle.kpn_region.specs.Local.{SideState, no_side, with_next_taken, with_item, Local, is_within, frame_at, side_at, with_frame, IsLocal, Advances, Gets, Puts, Takes, LocalStep, Plays, no_event, steps_on, one_event_more}
 use Rattle.kpn_region.specs.Turn.{side_in}
 use Rattle.kpn_region.specs.Joining.{IsClaimOf, IsOpenSink, TakesInOrder, has_put, has_taken, wait_joined}
@@ -42,7 +42,7 @@ use Rattle.kpn_region.proofs.OnTheWay.{IsOnTheWay, starts, got, gives, has_room,
 
 -- ---- frames and waits after one event
 
--- the frames of the configuration are those of the region, if one of each becomes another
+-- the frames of the machine are those of the region, if one of each becomes another
 frames_step : (within : List Bool) (of_region of_run of_start : List Frame) (p : ℕ) (g : Frame) → p < length of_region
     → p < length of_run → get_or within p false ≡ true
     → ((q : ℕ) → get_or of_run q no_frame
@@ -144,7 +144,7 @@ or_same false b is = sym is
 
 -- ---- nothing is owed where a process is free and the last event is no wait
 
-pub nothing_owed : (t : Tables) (B : List Event) (e : Event) → waiter e ≡ None → (s : Configuration)
+pub nothing_owed : (t : Tables) (B : List Event) (e : Event) → waiter e ≡ None → (s : Machine)
     → IsRun t (B ++ e ∷ []) s → (p : ℕ) → p < length t.instances → IsFree s p → OwesNothing t (B ++ e ∷ [])
 nothing_owed t B e none s run p there free q d owed =
     elim owed [
@@ -167,7 +167,7 @@ within_there t l shape p in_it =
     ]
 
 -- no more was read from a channel than was written there
-pub sound : (t : Tables) (H : List Event) (s : Configuration) → IsRun t H s → (c : ℕ) → c < length t.channels
+pub sound : (t : Tables) (H : List Event) (s : Machine) → IsRun t H s → (c : ℕ) → c < length t.channels
     → (channel_in s c).read ≤ length (channel_in s c).journal
 sound t H s run c below =
     let holds = run.leads.channels c below in
@@ -181,13 +181,13 @@ pub record IsUnused (claim : SideState) : Type 0 where
   pub most : claim.most ≡ 0
 
 -- the order in which items were taken from the channels
-abbrev pub InOrder : Tables → Configuration → Local → Type 0
+abbrev pub InOrder : Tables → Machine → Local → Type 0
 InOrder t s l = (c : ℕ) → c < length t.channels → TakesInOrder (side_at l c) (channel_in s c)
 
--- the configuration after these events, by what stands in the region after them
-pub record IsReached (t : Tables) (H : List Event) (s : Configuration) (first : Local) (events : List Event) (l : Local)
+-- the machine after these events, by what stands in the region after them
+pub record IsReached (t : Tables) (H : List Event) (s : Machine) (first : Local) (events : List Event) (l : Local)
     : Type 0 where
-  pub to : Configuration
+  pub to : Machine
   pub run : IsRun t (H ++ events) to
   pub owes : OwesNothing t (H ++ events)
   pub within : l.within ≡ first.within
@@ -201,7 +201,7 @@ pub record IsReached (t : Tables) (H : List Event) (s : Configuration) (first : 
   pub each_frame : (p : ℕ) → frame_in to p ≡ cond (is_within l p) (frame_at l p) (frame_in s p)
   pub begun : ((events ≡ []) × (l.sides ≡ first.sides)) ⊎ ((p : ℕ) × (p < length t.instances) × IsFree to p)
 
-module _ (t : Tables) (network : IsNetwork t) (H : List Event) (s : Configuration) (run : IsRun t H s)
+module _ (t : Tables) (network : IsNetwork t) (H : List Event) (s : Machine) (run : IsRun t H s)
     (owes : OwesNothing t H) (first : Local) (shape : IsLocal t first)
     (frames : (p : ℕ) → is_within first p ≡ true → frame_in s p ≡ frame_at first p)
     (not_ended : (p : ℕ) → is_within first p ≡ true → end_in s p ≡ None)
@@ -317,9 +317,9 @@ module _ (t : Tables) (network : IsNetwork t) (H : List Event) (s : Configuratio
   -- ---- one event
 
   module _ (events : List Event) (l : Local) (r : Reached events l) where
-    -- the configuration after an event on channel c, which becomes ch, and its side this one
+    -- the machine after an event on channel c, which becomes ch, and its side this one
     module _ (e : Event) (c : ℕ) (below : c < length t.channels) (side : SideState) (ch : ChannelState)
-        (to : Configuration) (region_frames : List Frame) where
+        (to : Machine) (region_frames : List Frame) where
       there : c < length l.sides
       there = subst (λ n. c < n) (sym r.sides) below
 
@@ -490,7 +490,7 @@ module _ (t : Tables) (network : IsNetwork t) (H : List Event) (s : Configuratio
         ch : ChannelState
         ch = after_get (Some v) now.is_reserved now
 
-        to : Configuration
+        to : Machine
         to =
             record r.to {
               channels = slice_set r.to.channels c ch;
@@ -561,7 +561,7 @@ module _ (t : Tables) (network : IsNetwork t) (H : List Event) (s : Configuratio
         ch : ChannelState
         ch = after_put v false now
 
-        to : Configuration
+        to : Machine
         to =
             record r.to {
               channels = slice_set r.to.channels c ch;
@@ -637,7 +637,7 @@ module _ (t : Tables) (network : IsNetwork t) (H : List Event) (s : Configuratio
         ch : ChannelState
         ch = after_get (Some v) now.is_reserved now
 
-        to : Configuration
+        to : Machine
         to =
             record r.to {
               channels = slice_set r.to.channels c ch;

@@ -8,8 +8,8 @@ use Rattle.std.proofs.lemmas.Option.{slice_get_within}
 use Rattle.kpn_net.specs.Tables.{Tables}
 use Rattle.kpn_chan.specs.Channel.{ChannelState, unread, MayJoin, joined, readable}
 use Rattle.kpn_chan.proofs.Places.{places_are}
-use Rattle.kpn_run_history.specs.declared.event.Event.{Event}
-use Rattle.kpn_run_history.specs.declared.event.Event.TheVariants.{Get, Put, Take}
+use Rattle.kpn_history.specs.declared.event.Event.{Event}
+use Rattle.kpn_history.specs.declared.event.Event.TheVariants.{Get, Put, Take}
 use Rattle.kpn_region.specs.Local.{SideState, no_side, untaken, next_of, with_next_taken, with_item, as_claimed, Local, side_at, with_side, LocalStep, Plays, no_event, steps_on, one_event_more}
 use Rattle.kpn_region.specs.Batch.{Batch, IsBatch}
 use Rattle.kpn_region.specs.Joining.{ChannelAgrees, put_on, most_with, IsChannelJoined}

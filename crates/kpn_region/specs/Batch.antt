@@ -4,8 +4,8 @@ use Rattle.kpn_net.specs.Tables.{Tables, program_of}
 use Rattle.kpn_step.specs.declared.stop.Stop.{Stop}
 use Rattle.kpn_step.specs.Frame.{Frame}
 use Rattle.kpn_step.specs.Stops.{StandsAt, IsAtPort}
-use Rattle.kpn_run_history.specs.declared.event.Event.{Event}
-use Rattle.kpn_run_history.specs.Talks.{process_events}
+use Rattle.kpn_history.specs.declared.event.Event.{Event}
+use Rattle.kpn_history.specs.Talks.{process_events}
 use Rattle.kpn_region.specs.Local.{SideState, as_claimed, no_side, Local, is_within, frame_at, side_at, IsLocal, Plays}
 
 pub record Batch : Type 0 where

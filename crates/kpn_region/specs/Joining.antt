@@ -1,16 +1,16 @@
--- When a batch of a region may be joined to a configuration, and to which one that leads. The configuration may be a
+-- When a batch of a region may be joined to a machine, and to which one that leads. The machine may be a
 -- later one than that of the claim: others may have moved between. What was claimed still has to agree with it.
 use Rattle.std.specs.Prelude.{◌≡◌, ℕ, zero, suc, ◌+◌, ◌-◌, ◌<◌, ◌≤◌, ◌⊎◌, Bool, true, false, nat_lt, if◌then◌else◌, max, ℤ, IsTrue, List, [], ◌++◌, length, take, drop, Some, None}
 use Rattle.kpn_net.specs.declared.wait.Wait.{Wait}
 use Rattle.kpn_net.specs.declared.wait.Wait.TheVariants.{Nobody, Empty, Full}
 use Rattle.kpn_net.specs.Tables.{Tables, channel_at, is_sink}
 use Rattle.kpn_chan.specs.Channel.{ChannelState, unread, readable, has_places_for}
-use Rattle.kpn_run_configuration.specs.Configuration.{Configuration, channel_in, wait_in, end_in, frame_in}
+use Rattle.kpn_machine.specs.Machine.{Machine, channel_in, wait_in, end_in, frame_in}
 use Rattle.kpn_region.specs.Local.{SideState, as_claimed, Local, is_within, frame_at, side_at}
 use Rattle.kpn_region.specs.Turn.{side_in}
 use Rattle.kpn_region.specs.Batch.{Batch}
 
--- ---- what was claimed agrees with a configuration
+-- ---- what was claimed agrees with a machine
 
 -- a sink that nobody has left, of which nothing was claimed
 pub record IsOpenSink (t : Tables) (c : ℕ) (claim : SideState) (channel : ChannelState) : Type 0 where
@@ -47,22 +47,22 @@ pub record ChannelAgrees (t : Tables) (c : ℕ) (side : SideState) (channel : Ch
   pub places : has_places_for (length (put_on side)) channel ≡ true
 
 -- if the process is in the region, it has not ended, and is where it was claimed
-abbrev pub ProcessAgrees : (claim : Local) → Configuration → (p : ℕ) → Type 0
+abbrev pub ProcessAgrees : (claim : Local) → Machine → (p : ℕ) → Type 0
 ProcessAgrees claim s p = is_within claim p ≡ true → (end_in s p ≡ None) × (frame_in s p ≡ frame_at claim p)
 
-abbrev pub ProcessesAgree : Batch → Configuration → Type 0
+abbrev pub ProcessesAgree : Batch → Machine → Type 0
 ProcessesAgree b s = (p : ℕ) → p < length b.tables.instances → ProcessAgrees b.first s p
 
-abbrev pub ChannelsAgree : Batch → Configuration → Type 0
+abbrev pub ChannelsAgree : Batch → Machine → Type 0
 ChannelsAgree b s =
     (c : ℕ) → c < length b.tables.channels → ChannelAgrees b.tables c (side_at b.now c) (channel_in s c)
 
--- what was claimed agrees with the configuration
-pub record AgreesWith (b : Batch) (s : Configuration) : Type 0 where
+-- what was claimed agrees with the machine
+pub record AgreesWith (b : Batch) (s : Machine) : Type 0 where
   pub processes : ProcessesAgree b s
   pub channels : ChannelsAgree b s
 
--- ---- the configuration with the batch
+-- ---- the machine with the batch
 
 abbrev pub has_put : SideState → Bool
 has_put side = nat_lt side.claimed (length side.items)
@@ -100,8 +100,8 @@ wait_joined sides Nobody = Nobody
 wait_joined sides (Empty c) = if has_put (side_in sides c) then Nobody else Empty c
 wait_joined sides (Full c) = if has_taken (side_in sides c) then Nobody else Full c
 
--- the second configuration is the first with the batch
-pub record Joins (b : Batch) (before after : Configuration) : Type 0 where
+-- the second machine is the first with the batch
+pub record Joins (b : Batch) (before after : Machine) : Type 0 where
   pub channels : length after.channels ≡ length before.channels
   pub waits : length after.waits ≡ length before.waits
   pub frames : length after.frames ≡ length before.frames

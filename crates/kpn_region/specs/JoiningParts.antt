@@ -5,8 +5,8 @@ use Rattle.kpn_net.specs.declared.wait.Wait.{Wait}
 use Rattle.kpn_net.specs.declared.wait.Wait.TheVariants.{Nobody, Empty, Full}
 use Rattle.kpn_net.specs.Waits.{AreWaits}
 use Rattle.kpn_chan.specs.Channel.{ChannelState, unread}
-use Rattle.kpn_run_configuration.specs.Configuration.{Configuration, channel_in, wait_in, frame_in, with_channel, with_waits}
-use Rattle.kpn_run_configuration.specs.Woken.{AreWoken, ends_by_batch}
+use Rattle.kpn_machine.specs.Machine.{Machine, channel_in, wait_in, frame_in, with_channel, with_waits}
+use Rattle.kpn_machine.specs.Woken.{AreWoken, ends_by_batch}
 use Rattle.kpn_region.specs.Local.{SideState, is_within, frame_at, side_at}
 use Rattle.kpn_region.specs.Turn.{side_in}
 use Rattle.kpn_region.specs.Batch.{Batch}
@@ -18,7 +18,7 @@ most_seen side channel =
     if channel.is_retired || nat_eq side.most 0 then 0 else length (unread channel) - side.claimed + side.most
 
 -- channel c is joined
-pub record JoinsChannel (b : Batch) (c : ℕ) (before after : Configuration) : Type 0 where
+pub record JoinsChannel (b : Batch) (c : ℕ) (before after : Machine) : Type 0 where
   pub rest : after ≡ with_waits after.waits (with_channel c (channel_in after c) before)
   pub channel : IsChannelJoined (side_at b.now c) (channel_in before c) (channel_in after c)
   pub woken : AreWoken (ends_by_batch c (has_taken (side_at b.now c)) (has_put (side_at b.now c)))
@@ -32,7 +32,7 @@ wait_joined_below n sides (Empty c) = if nat_lt c n && has_put (side_in sides c)
 wait_joined_below n sides (Full c) = if nat_lt c n && has_taken (side_in sides c) then Nobody else Full c
 
 -- the first n channels are joined
-pub record JoinsChannels (b : Batch) (n : ℕ) (before after : Configuration) : Type 0 where
+pub record JoinsChannels (b : Batch) (n : ℕ) (before after : Machine) : Type 0 where
   pub channels : length after.channels ≡ length before.channels
   pub waits : AreWaits b.tables after.waits
   pub closed : after.closed ≡ before.closed
@@ -43,7 +43,7 @@ pub record JoinsChannels (b : Batch) (n : ℕ) (before after : Configuration) : 
   pub each_wait : (p : ℕ) → wait_in after p ≡ wait_joined_below n b.now.sides (wait_in before p)
 
 -- the first n processes, if they are in the region, are where they stand in it
-pub record JoinsFrames (b : Batch) (n : ℕ) (before after : Configuration) : Type 0 where
+pub record JoinsFrames (b : Batch) (n : ℕ) (before after : Machine) : Type 0 where
   pub rest : after ≡ record before { frames = after.frames }
   pub frames : length after.frames ≡ length before.frames
   pub each_frame : (p : ℕ) → p < n

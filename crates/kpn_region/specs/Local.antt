@@ -5,10 +5,10 @@ use Rattle.kpn_net.specs.Tables.{Tables, program_of}
 use Rattle.kpn_step.specs.declared.stop.Stop.{Stop}
 use Rattle.kpn_step.specs.Frame.{Frame, fits}
 use Rattle.kpn_step.specs.Stops.{IsAdvance, advanced_of}
-use Rattle.kpn_run_history.specs.declared.event.Event.{Event}
-use Rattle.kpn_run_history.specs.declared.event.Event.TheVariants.{Get, Put, Take}
-use Rattle.kpn_run_configuration.specs.Configuration.{no_frame}
-use Rattle.kpn_run_configuration.specs.Changes.{PassesRead, PassesWrite}
+use Rattle.kpn_history.specs.declared.event.Event.{Event}
+use Rattle.kpn_history.specs.declared.event.Event.TheVariants.{Get, Put, Take}
+use Rattle.kpn_machine.specs.Machine.{no_frame}
+use Rattle.kpn_machine.specs.Changes.{PassesRead, PassesWrite}
 
 -- ---- a side
 

@@ -3,9 +3,9 @@
 use Rattle.std.specs.Prelude.{◌≡◌, ℕ, ◌*◌, ◌<◌, ◌≤◌, true, ℤ, IsTrue, List, [], ◌∷◌, ◌++◌, length, map, slice_index_or, slice_set, Option, Some, None}
 use Rattle.kpn_net.specs.Tables.{Tables, program_of}
 use Rattle.kpn_step.specs.Frame.{Frame, fits}
-use Rattle.kpn_run_history.specs.declared.event.Event.{Event}
-use Rattle.kpn_run_history.specs.declared.event.Event.TheVariants.{Get, Put, Take}
-use Rattle.kpn_run_history.specs.Talks.{process_events}
+use Rattle.kpn_history.specs.declared.event.Event.{Event}
+use Rattle.kpn_history.specs.declared.event.Event.TheVariants.{Get, Put, Take}
+use Rattle.kpn_history.specs.Talks.{process_events}
 use Rattle.kpn_region.specs.declared.traffic.Passed.{Passed}
 use Rattle.kpn_region.specs.declared.traffic.Passed.TheVariants.{On}
 use Rattle.kpn_region.specs.declared.traffic.Halt.{Halt}

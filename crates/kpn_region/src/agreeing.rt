@@ -1,8 +1,8 @@
-//! Whether what was claimed of a region agrees with a configuration, which may be a later one than that of the claim.
+//! Whether what was claimed of a region agrees with a machine, which may be a later one than that of the claim.
 ghost use Rattle.std.specs.Prelude.{◌≡◌, ◌↔◌, ℕ, ◌<◌, length, take, IsTrue};
 ghost use Rattle.kpn_net.specs.Tables.{Tables, channel_at, is_sink};
 ghost use Rattle.kpn_chan.specs.Channel.{readable};
-ghost use Rattle.kpn_run_configuration.specs.Configuration.{channel_in, IsConfiguration};
+ghost use Rattle.kpn_machine.specs.Machine.{channel_in, IsMachine};
 ghost use Rattle.kpn_region.specs.Local.{side_at};
 ghost use Rattle.kpn_region.specs.Joining.{ChannelAgrees, ProcessAgrees, ProcessesAgree, ChannelsAgree, AgreesWith};
 ghost use Rattle.kpn_region.specs.Agreeing.{is_within_capacity, keeps_capacity, empties_a_sink, takes_in_order, has_places, rest_agrees};
@@ -10,31 +10,31 @@ ghost use Rattle.kpn_region.specs.Agreeing.{is_within_capacity, keeps_capacity, 
 use crate::batch::Batch;
 use crate::side::Side;
 use kpn_chan::Channel;
+use kpn_machine::Machine;
 use kpn_net::Network;
-use kpn_run_configuration::Configuration;
 use kpn_step::Frame;
 use std::alloc::Allocator;
 
 impl<'n, A: Allocator> Batch<'n, A> {
-    /// Whether what was claimed agrees with a configuration. If it does, the batch may be joined to it.
-    pub fn agrees_with<B: Allocator>(&self, configuration: &Configuration<B>) -> bool
-        requires { IsConfiguration self.now.tables configuration.now }
-        ensures { IsTrue result ↔ AgreesWith self.now configuration.now }
+    /// Whether what was claimed agrees with a machine. If it does, the batch may be joined to it.
+    pub fn agrees_with<B: Allocator>(&self, machine: &Machine<B>) -> bool
+        requires { IsMachine self.now.tables machine.now }
+        ensures { IsTrue result ↔ AgreesWith self.now machine.now }
     {
-        if !self.processes_agree(configuration) {
+        if !self.processes_agree(machine) {
             return false;
         }
-        self.channels_agree(configuration)
+        self.channels_agree(machine)
     }
 
     /// Whether no process of the region has ended, and each is where it was claimed.
-    fn processes_agree<B: Allocator>(&self, configuration: &Configuration<B>) -> bool
-        requires { IsConfiguration self.now.tables configuration.now }
-        ensures { IsTrue result ↔ ProcessesAgree self.now configuration.now }
+    fn processes_agree<B: Allocator>(&self, machine: &Machine<B>) -> bool
+        requires { IsMachine self.now.tables machine.now }
+        ensures { IsTrue result ↔ ProcessesAgree self.now machine.now }
     {
         let network = self.network();
         'processes: for p in 0..network.instances() {
-            if !self.process_agrees(p, configuration) {
+            if !self.process_agrees(p, machine) {
                 return false;
             }
         }
@@ -42,29 +42,29 @@ impl<'n, A: Allocator> Batch<'n, A> {
     }
 
     /// Whether process `p` is not in the region, or has not ended and is where it was claimed.
-    fn process_agrees<B: Allocator>(&self, p: usize, configuration: &Configuration<B>) -> bool
-        requires shape { IsConfiguration self.now.tables configuration.now }
+    fn process_agrees<B: Allocator>(&self, p: usize, machine: &Machine<B>) -> bool
+        requires shape { IsMachine self.now.tables machine.now }
         requires process { p < length self.now.tables.instances }
-        ensures { IsTrue result ↔ ProcessAgrees self.now.first configuration.now p }
+        ensures { IsTrue result ↔ ProcessAgrees self.now.first machine.now p }
     {
         self.known();
         if !self.is_within(p) {
             return true;
         }
-        if configuration.end_of(p).is_some() {
+        if machine.end_of(p).is_some() {
             return false;
         }
-        same_frame(configuration.frame(p), self.first_frame(p))
+        same_frame(machine.frame(p), self.first_frame(p))
     }
 
     /// Whether what the region sees of each channel agrees with it.
-    fn channels_agree<B: Allocator>(&self, configuration: &Configuration<B>) -> bool
-        requires { IsConfiguration self.now.tables configuration.now }
-        ensures { IsTrue result ↔ ChannelsAgree self.now configuration.now }
+    fn channels_agree<B: Allocator>(&self, machine: &Machine<B>) -> bool
+        requires { IsMachine self.now.tables machine.now }
+        ensures { IsTrue result ↔ ChannelsAgree self.now machine.now }
     {
         let network = self.network();
         'channels: for c in 0..network.channels() {
-            if !self.channel_agrees(network, c, configuration) {
+            if !self.channel_agrees(network, c, machine) {
                 return false;
             }
         }
@@ -76,16 +76,16 @@ impl<'n, A: Allocator> Batch<'n, A> {
         &self,
         network: &Network,
         c: usize,
-        configuration: &Configuration<B>,
+        machine: &Machine<B>,
     ) -> bool
         requires tables { network.now ≡ self.now.tables }
-        requires shape { IsConfiguration self.now.tables configuration.now }
+        requires shape { IsMachine self.now.tables machine.now }
         requires channel { c < length self.now.tables.channels }
         ensures { IsTrue result ↔ ChannelAgrees self.now.tables c
-            (side_at self.now.now c) (channel_in configuration.now c) }
+            (side_at self.now.now c) (channel_in machine.now c) }
     {
         let side = self.side(c);
-        let channel = configuration.channel(c);
+        let channel = machine.channel(c);
         if side.is_unseen() {
             channel.known();
             return true;

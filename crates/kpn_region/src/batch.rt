@@ -3,8 +3,8 @@ ghost use Rattle.std.specs.Prelude.{◌≡◌, ℕ, ◌<◌, ◌≤◌, length, 
 ghost use Rattle.kpn_net.specs.Tables.{program_of};
 ghost use Rattle.kpn_chan.specs.Channel.{readable};
 ghost use Rattle.kpn_step.specs.Frame.{fits};
-ghost use Rattle.kpn_run_history.specs.Talks.{process_events};
-ghost use Rattle.kpn_run_configuration.specs.Configuration.{no_frame};
+ghost use Rattle.kpn_history.specs.Talks.{process_events};
+ghost use Rattle.kpn_machine.specs.Machine.{no_frame};
 ghost use Rattle.kpn_region.specs.Local.{claimed_with, no_side, is_within, frame_at, side_at, with_side};
 ghost use Rattle.kpn_region.specs.Batch.{stop_of, IsBatch, IsFresh, IsEmpty, with_process, RunsOn};
 
@@ -12,9 +12,9 @@ use crate::ready::Ready;
 use crate::side::Side;
 use crate::traffic::{Halt, SHORT_TURN, Traffic, turn_with};
 use kpn_chan::Channel;
+use kpn_history::Event;
+use kpn_machine::frames_at_start;
 use kpn_net::Network;
-use kpn_run_configuration::frames_at_start;
-use kpn_run_history::Event;
 use kpn_step::{Frame, Stop};
 use std::alloc::{AllocError, Allocator, Global};
 use std::marker::Model;
@@ -40,7 +40,7 @@ impl<'n, A: Allocator> Model for Batch<'n, A> {
     ghost use Rattle.std.specs.Coded.{codes};
     ghost use Rattle.kpn_lang.specs.Codes.{parts_code};
     ghost use Rattle.kpn_step.specs.Frame.{frame_code};
-    ghost use Rattle.kpn_run_history.specs.Talks.{process_events};
+    ghost use Rattle.kpn_history.specs.Talks.{process_events};
     ghost use Rattle.kpn_region.specs.Batch.{Batch as Seen, IsBatch, batch_of};
 
     ghost Value = { Seen };

@@ -8,9 +8,9 @@ ghost use Rattle.kpn_region.specs.Turn.{IsGot, puts_by, IsTaken, GoesOn, passes_
 
 use crate::ready::Ready;
 use crate::side::Side;
+use kpn_history::Event;
+use kpn_machine::{in_channel, out_channel};
 use kpn_net::Network;
-use kpn_run_configuration::{in_channel, out_channel};
-use kpn_run_history::Event;
 use kpn_step::{Frame, Stop};
 use std::alloc::{AllocError, Allocator};
 

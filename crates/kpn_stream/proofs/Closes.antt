@@ -2,13 +2,13 @@
 use Rattle.std.proofs.Common.{◌≡◌, ℕ, ◌+◌, Bool, true, false, List, [], ◌∷◌, ◌++◌, refl, sym, ap, ◌∙◌, subst, inl, inr, append-nil, append_assoc, arith}
 use Rattle.std.proofs.lemmas.Bool.{cases_eq, both_ways}
 use Rattle.kpn_net.specs.Tables.{Tables, channel_at, is_source}
-use Rattle.kpn_run_history.specs.declared.event.Event.{Event}
-use Rattle.kpn_run_history.specs.declared.event.Event.TheVariants as event
-use Rattle.kpn_run_history.specs.Channels.{is_closed}
-use Rattle.kpn_run_configuration.specs.Configuration.{closed_in}
-use Rattle.kpn_run_state.specs.Book.{Book}
-use Rattle.kpn_run_state.specs.Kept.{IsBook}
-use Rattle.kpn_run_state.specs.Refusals.{Closes, closes_by}
+use Rattle.kpn_history.specs.declared.event.Event.{Event}
+use Rattle.kpn_history.specs.declared.event.Event.TheVariants as event
+use Rattle.kpn_history.specs.Channels.{is_closed}
+use Rattle.kpn_machine.specs.Machine.{closed_in}
+use Rattle.kpn_book.specs.Book.{Book}
+use Rattle.kpn_book.specs.Kept.{IsBook}
+use Rattle.kpn_book.specs.Refusals.{Closes, closes_by}
 use Rattle.kpn_book.proofs.Ends.{closed_next}
 use Rattle.kpn_book.proofs.Supplying.{closed_then}
 use Rattle.kpn_stream.specs.Streaming.{HappensBesides}
@@ -39,7 +39,7 @@ none_closed b = record {
 pub one_more : (c : ℕ) (before after : Book) → IsBook before → Closes c before after → (first : Book)
     → AreClosedBelow c first before → AreClosedBelow (c + 1) first after
 one_more c before after book closes first so_far =
-    let alone = closes_alone (closed_in before.configuration c) c before after closes.closes in
+    let alone = closes_alone (closed_in before.machine c) c before after closes.closes in
     record {
       besides = besides-trans is_no_close first before after so_far.besides alone;
       closed = λ d below source. elim (cases_eq d c) [

@@ -4,18 +4,18 @@ use Rattle.std.proofs.lemmas.Bool.{false≢true}
 use Rattle.kpn_net.specs.Tables.{Tables, channel_at, is_sink}
 use Rattle.kpn_step.specs.declared.stop.Stop.{Stop}
 use Rattle.kpn_step.specs.Frame.{Frame}
-use Rattle.kpn_run_history.specs.declared.event.Event.{Event}
-use Rattle.kpn_run_history.specs.declared.event.Event.TheVariants as event
-use Rattle.kpn_run_history.specs.Channels.{is_closed, is_close_of}
-use Rattle.kpn_run_history.specs.Ends.{HaveStopped}
-use Rattle.kpn_run_history.proofs.AfterEvent.{is_closed-next}
-use Rattle.kpn_run_state.specs.declared.answers.Done.{Done}
-use Rattle.kpn_run_state.specs.declared.answers.Done.TheVariants as done
-use Rattle.kpn_run_state.specs.Book.{Book, standing_at}
-use Rattle.kpn_run_state.specs.Appending.{IsGrowthOwed, Happens}
-use Rattle.kpn_run_state.specs.Commits.{HasToWait, IsAnswer}
-use Rattle.kpn_run_state.specs.Stepping.{StepsNext}
-use Rattle.kpn_run_state.specs.InARow.{StepsInRow, no_step, one_step_more, ends_row, RunsOn, RunsInVain}
+use Rattle.kpn_history.specs.declared.event.Event.{Event}
+use Rattle.kpn_history.specs.declared.event.Event.TheVariants as event
+use Rattle.kpn_history.specs.Channels.{is_closed, is_close_of}
+use Rattle.kpn_history.specs.Ends.{HaveStopped}
+use Rattle.kpn_history.proofs.AfterEvent.{is_closed-next}
+use Rattle.kpn_book.specs.declared.answers.Done.{Done}
+use Rattle.kpn_book.specs.declared.answers.Done.TheVariants as done
+use Rattle.kpn_book.specs.Book.{Book, standing_at}
+use Rattle.kpn_book.specs.Appending.{IsGrowthOwed, Happens}
+use Rattle.kpn_book.specs.Commits.{HasToWait, IsAnswer}
+use Rattle.kpn_book.specs.Stepping.{StepsNext}
+use Rattle.kpn_book.specs.InARow.{StepsInRow, no_step, one_step_more, ends_row, RunsOn, RunsInVain}
 use Rattle.kpn_book.specs.declared.outcome.Limits.{Limits}
 use Rattle.kpn_book.proofs.Happening.{happens_tables, happens_history}
 use Rattle.kpn_book.proofs.Stepped.{step_tables, step_history}

@@ -5,24 +5,24 @@ use Rattle.std.proofs.lemmas.Bool.{cases_lt, false≢true}
 use Rattle.std.proofs.lemmas.List.{get_or_default}
 use Rattle.std.proofs.lemmas.List.Elements.{filter-append}
 use Rattle.std.proofs.lemmas.List.FromFn.{length-range_with_len, get_or-range_with_len}
-use Rattle.kpn_run_state.proofs.Queueing.{range_next}
+use Rattle.kpn_book.proofs.Queueing.{range_next}
 use Rattle.kpn_net.specs.declared.tables.ChannelSpec.{ChannelSpec}
 use Rattle.kpn_net.specs.declared.tables.ChannelSpec.TheVariants as channel
 use Rattle.kpn_net.specs.Tables.{Tables, channel_at, is_source, is_sink}
 use Rattle.kpn_net.specs.Faults.{channel_numbers}
 use Rattle.kpn_chan.specs.Channel.{ChannelState, unread, next_item}
-use Rattle.kpn_run_history.specs.declared.event.Event.{Event}
-use Rattle.kpn_run_history.specs.declared.event.Event.TheVariants as event
-use Rattle.kpn_run_history.specs.Channels.{written_in, is_left}
-use Rattle.kpn_run_history.proofs.Journals.{none_elsewhere}
-use Rattle.kpn_run_configuration.specs.Configuration.{channel_in}
-use Rattle.kpn_run_state.specs.Book.{Book}
-use Rattle.kpn_run_state.specs.Appending.{Happens}
-use Rattle.kpn_run_state.specs.Refusals.{Takes, Leaves, leaves_by}
+use Rattle.kpn_history.specs.declared.event.Event.{Event}
+use Rattle.kpn_history.specs.declared.event.Event.TheVariants as event
+use Rattle.kpn_history.specs.Channels.{written_in, is_left}
+use Rattle.kpn_history.proofs.Journals.{none_elsewhere}
+use Rattle.kpn_machine.specs.Machine.{channel_in}
+use Rattle.kpn_book.specs.Book.{Book}
+use Rattle.kpn_book.specs.Appending.{Happens}
+use Rattle.kpn_book.specs.Refusals.{Takes, Leaves, leaves_by}
 use Rattle.kpn_book.specs.declared.outcome.Limits.{Limits}
 use Rattle.kpn_book.proofs.Happening.{happens_tables, happens_commits, happens_history}
 use Rattle.kpn_book.proofs.Parts.{kept_member}
-use Rattle.kpn_run_state.proofs.Agreeing.{number_below}
+use Rattle.kpn_book.proofs.Agreeing.{number_below}
 use Rattle.kpn_stream.specs.declared.faults.SourceFault.{SourceFault}
 use Rattle.kpn_stream.specs.declared.faults.SourceFault.TheVariants as source_fault
 use Rattle.kpn_stream.specs.declared.faults.SinkFault.{SinkFault}
@@ -157,7 +157,7 @@ is_there ch v = by ch.is_retired refl
     by false is next = is
 
 -- what is taken is the next item
-pub takes_next : (c : ℕ) (v w : ℤ) (before after : Book) → next_item (channel_in before.configuration c) ≡ Some v
+pub takes_next : (c : ℕ) (v w : ℤ) (before after : Book) → next_item (channel_in before.machine c) ≡ Some v
     → Takes c (Some w) before after → Happens (event.Take c v) before after
 takes_next c v w before after next takes =
     let is = takes.takes.0 in
@@ -165,7 +165,7 @@ takes_next c v w before after next takes =
     subst (λ x. Happens (event.Take c x) before after) same takes.takes.1
 
 -- a sink that was not left is left now
-pub leaves_open : (c : ℕ) (before after : Book) → (channel_in before.configuration c).is_retired ≡ false
+pub leaves_open : (c : ℕ) (before after : Book) → (channel_in before.machine c).is_retired ≡ false
     → Leaves c before after → Happens (event.Leave c) before after
 leaves_open c before after not_left is = subst (λ b. leaves_by b c before after) not_left is.leaves
 

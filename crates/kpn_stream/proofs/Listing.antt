@@ -9,19 +9,19 @@ use Rattle.kpn_net.specs.Faults.{IsNetwork}
 use Rattle.kpn_net.specs.Process.{Family}
 use Rattle.kpn_net.specs.Iteration.{iterate, IsBelowLeast, IsLeast}
 use Rattle.kpn_net.proofs.Networks.{sink_there}
-use Rattle.kpn_run_history.specs.declared.event.Event.{Event}
-use Rattle.kpn_run_history.specs.declared.event.Event.TheVariants as event
-use Rattle.kpn_run_history.specs.Channels.{written_in, written_on, read_in, read_on, unread_on, is_closed, is_close_of, is_left}
-use Rattle.kpn_run_history.specs.Legal.{Legal}
-use Rattle.kpn_run_history.specs.Complete.{IsComplete, IsFedFrom}
-use Rattle.kpn_run_history.proofs.AfterEvent.{is_closed-next}
-use Rattle.kpn_run_history.proofs.Events.{written_on-push, written_on-same, read_on-push, read_on-same}
-use Rattle.kpn_run_history.proofs.Journals.{no_source, no_sink, none_elsewhere, reads_begin_writes}
-use Rattle.kpn_run_history.proofs.Kahn.{below_least}
-use Rattle.kpn_run_history.proofs.Complete.{least_if_complete}
-use Rattle.kpn_run_history.proofs.Legality.{Legal-before}
-use Rattle.kpn_run_history.proofs.OneMore.{unread_length}
-use Rattle.kpn_run_history.proofs.Ownership.{IsOwn-last}
+use Rattle.kpn_history.specs.declared.event.Event.{Event}
+use Rattle.kpn_history.specs.declared.event.Event.TheVariants as event
+use Rattle.kpn_history.specs.Channels.{written_in, written_on, read_in, read_on, unread_on, is_closed, is_close_of, is_left}
+use Rattle.kpn_history.specs.Legal.{Legal}
+use Rattle.kpn_history.specs.Complete.{IsComplete, IsFedFrom}
+use Rattle.kpn_history.proofs.AfterEvent.{is_closed-next}
+use Rattle.kpn_history.proofs.Events.{written_on-push, written_on-same, read_on-push, read_on-same}
+use Rattle.kpn_history.proofs.Journals.{no_source, no_sink, none_elsewhere, reads_begin_writes}
+use Rattle.kpn_history.proofs.Kahn.{below_least}
+use Rattle.kpn_history.proofs.Complete.{least_if_complete}
+use Rattle.kpn_history.proofs.Legality.{Legal-before}
+use Rattle.kpn_history.proofs.OneMore.{unread_length}
+use Rattle.kpn_history.proofs.Ownership.{IsOwn-last}
 use Rattle.kpn_book.specs.Outcomes.{IsEnough}
 use Rattle.kpn_stream.specs.declared.faults.SourceFault.{SourceFault}
 use Rattle.kpn_stream.specs.declared.faults.SourceFault.TheVariants as source_fault

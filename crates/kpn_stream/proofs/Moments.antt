@@ -4,27 +4,27 @@ use Rattle.std.proofs.lemmas.Bool.{eqb-true, eq-eqb, false≢true, or_left, or_r
 use Rattle.kpn_net.specs.Tables.{Tables, channel_at, is_sink}
 use Rattle.kpn_net.proofs.Networks.{reader_of-sink, sink_there}
 use Rattle.kpn_chan.specs.Channel.{ChannelState, unread, next_item}
-use Rattle.kpn_run_state.specs.Schedule.{state_at}
-use Rattle.kpn_run_state.proofs.Tallies.{not_counted}
-use Rattle.kpn_run_history.specs.declared.event.Event.{Event}
-use Rattle.kpn_run_history.specs.declared.event.Event.TheVariants as event
-use Rattle.kpn_run_history.specs.declared.state.State.{State}
-use Rattle.kpn_run_history.specs.declared.state.State.TheVariants.{Ready, Held}
-use Rattle.kpn_run_history.specs.declared.state.Counts.{Counts}
-use Rattle.kpn_run_history.specs.Channels.{written_in, read_in, read_on, unread_on, is_left, is_leave_of, lives}
-use Rattle.kpn_run_history.specs.Ends.{HaveStopped}
-use Rattle.kpn_run_history.specs.Views.{is_ready, is_held, is_stopped, AreCounts}
-use Rattle.kpn_run_history.proofs.AfterEvent.{is_left-next}
-use Rattle.kpn_run_history.proofs.Events.{written_on-same, read_on-push}
-use Rattle.kpn_run_history.proofs.OneMore.{unread_length, unread_length-push}
-use Rattle.kpn_run_history.proofs.States.{stopped_state}
-use Rattle.kpn_run_configuration.specs.Configuration.{channel_in}
-use Rattle.kpn_run_configuration.specs.Woken.{waiting_reader}
-use Rattle.kpn_run_configuration.proofs.Waking.{who_reads}
-use Rattle.kpn_run_state.specs.Book.{Book}
-use Rattle.kpn_run_state.specs.Kept.{IsBook}
-use Rattle.kpn_run_state.specs.Appending.{IsGrowthOwed, Happens}
-use Rattle.kpn_run_state.proofs.Standing.{states_now}
+use Rattle.kpn_book.specs.Schedule.{state_at}
+use Rattle.kpn_book.proofs.Tallies.{not_counted}
+use Rattle.kpn_history.specs.declared.event.Event.{Event}
+use Rattle.kpn_history.specs.declared.event.Event.TheVariants as event
+use Rattle.kpn_history.specs.declared.state.State.{State}
+use Rattle.kpn_history.specs.declared.state.State.TheVariants.{Ready, Held}
+use Rattle.kpn_history.specs.declared.state.Counts.{Counts}
+use Rattle.kpn_history.specs.Channels.{written_in, read_in, read_on, unread_on, is_left, is_leave_of, lives}
+use Rattle.kpn_history.specs.Ends.{HaveStopped}
+use Rattle.kpn_history.specs.Views.{is_ready, is_held, is_stopped, AreCounts}
+use Rattle.kpn_history.proofs.AfterEvent.{is_left-next}
+use Rattle.kpn_history.proofs.Events.{written_on-same, read_on-push}
+use Rattle.kpn_history.proofs.OneMore.{unread_length, unread_length-push}
+use Rattle.kpn_history.proofs.States.{stopped_state}
+use Rattle.kpn_machine.specs.Machine.{channel_in}
+use Rattle.kpn_machine.specs.Woken.{waiting_reader}
+use Rattle.kpn_machine.proofs.Waking.{who_reads}
+use Rattle.kpn_book.specs.Book.{Book}
+use Rattle.kpn_book.specs.Kept.{IsBook}
+use Rattle.kpn_book.specs.Appending.{IsGrowthOwed, Happens}
+use Rattle.kpn_book.proofs.Standing.{states_now}
 use Rattle.kpn_book.proofs.Ends.{AddNothing}
 use Rattle.kpn_book.proofs.Happening.{happens_history, happens_written, happens_read}
 use Rattle.kpn_stream.specs.Devices.{IsAwaited}
@@ -33,16 +33,16 @@ use Rattle.kpn_stream.specs.Ending.{AreLeft, IsTaken, AreTaken}
 -- ---- who waits
 
 -- the reader of a channel that waits for its item is a process of the network
-pub awaits : (b : Book) → IsBook b → (c : ℕ) → is_some (waiting_reader b.tables b.configuration.waits c) ≡ true
+pub awaits : (b : Book) → IsBook b → (c : ℕ) → is_some (waiting_reader b.tables b.machine.waits c) ≡ true
     → IsAwaited b.tables b.history c
-awaits b book c = by (waiting_reader b.tables b.configuration.waits c) refl
+awaits b book c = by (waiting_reader b.tables b.machine.waits c) refl
   where
-    by : (o : Option ℕ) → waiting_reader b.tables b.configuration.waits c ≡ o → is_some o ≡ true
+    by : (o : Option ℕ) → waiting_reader b.tables b.machine.waits c ≡ o → is_some o ≡ true
         → IsAwaited b.tables b.history c
     by None at some = absurd cc
     by (Some q) at some =
         let run = book.kept.in_step.run in
-        let waits = (who_reads b.tables b.configuration.waits run.shape.waits c q).0 at in
+        let waits = (who_reads b.tables b.machine.waits run.shape.waits c q).0 at in
         record { reader = q; there = waits.0; waits = sym (run.leads.waits q waits.0) ∙ waits.1 }
 
 -- ---- whether all have stopped
@@ -65,14 +65,14 @@ stopped_if_none b book counts are ready held p below =
 
 -- what is unread in the book is what is unread in the history
 pub unread_now : (b : Book) → IsBook b → (c : ℕ) → c < length b.tables.channels
-    → unread (channel_in b.configuration c) ≡ unread_on b.history c
+    → unread (channel_in b.machine c) ≡ unread_on b.history c
 unread_now b book c below =
     let holds = book.kept.in_step.run.leads.channels c below in
-    ap (λ n. drop n (channel_in b.configuration c).journal) holds.read
+    ap (λ n. drop n (channel_in b.machine c).journal) holds.read
     ∙ ap (drop (length (read_on b.history c))) holds.journal
 
 pub left_if_retired : (b : Book) → IsBook b → (c : ℕ) → is_sink (channel_at b.tables c) ≡ true
-    → (channel_in b.configuration c).is_retired ≡ true → is_left b.history c ≡ true
+    → (channel_in b.machine c).is_retired ≡ true → is_left b.history c ≡ true
 left_if_retired b book c sink retired =
     let holds = book.kept.in_step.run.leads.channels c (sink_there b.tables c sink) in
     both (is_left b.history c)
@@ -83,7 +83,7 @@ left_if_retired b book c sink retired =
     both false is = absurd (false≢true is)
 
 pub taken_if_retired : (b : Book) → IsBook b → (c : ℕ) → is_sink (channel_at b.tables c) ≡ true
-    → (channel_in b.configuration c).is_retired ≡ true → IsTaken b.history c
+    → (channel_in b.machine c).is_retired ≡ true → IsTaken b.history c
 taken_if_retired b book c sink retired = inr (left_if_retired b book c sink retired)
 
 pub taken_if_left : (t : Tables) (H : List Event) → AreLeft t H → AreTaken t H
@@ -95,11 +95,11 @@ none_unread (x ∷ xs) is = absurd cc
 
 -- there is no next item: the sink is empty, or it was left
 pub taken_if_none : (b : Book) → IsBook b → (c : ℕ) → is_sink (channel_at b.tables c) ≡ true
-    → next_item (channel_in b.configuration c) ≡ None → IsTaken b.history c
+    → next_item (channel_in b.machine c) ≡ None → IsTaken b.history c
 taken_if_none b book c sink = by ch.is_retired refl
   where
     ch : ChannelState
-    ch = channel_in b.configuration c
+    ch = channel_in b.machine c
 
     by : (r : Bool) → ch.is_retired ≡ r → cond r None (slice_get (unread ch) 0) ≡ None → IsTaken b.history c
     by true is none = taken_if_retired b book c sink is
@@ -110,11 +110,11 @@ taken_if_none b book c sink = by ch.is_retired refl
 
 -- there is a next item
 pub some_unread : (b : Book) → IsBook b → (c : ℕ) (v : ℤ) → is_sink (channel_at b.tables c) ≡ true
-    → next_item (channel_in b.configuration c) ≡ Some v → 0 < length (unread_on b.history c)
+    → next_item (channel_in b.machine c) ≡ Some v → 0 < length (unread_on b.history c)
 some_unread b book c v sink = by ch.is_retired
   where
     ch : ChannelState
-    ch = channel_in b.configuration c
+    ch = channel_in b.machine c
 
     some : (xs : List ℤ) → slice_get xs 0 ≡ Some v → 0 < length xs
     some [] is = absurd cc

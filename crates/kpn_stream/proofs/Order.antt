@@ -6,9 +6,9 @@ use Rattle.std.proofs.lemmas.List.{same_from_push}
 use Rattle.kpn_lang.specs.Prefix.{IsPrefix}
 use Rattle.kpn_lang.proofs.Prefixes.{prefix_of_push}
 use Rattle.kpn_net.specs.Tables.{Tables}
-use Rattle.kpn_run_history.specs.declared.event.Event.{Event}
-use Rattle.kpn_run_history.specs.declared.event.Event.TheVariants as event
-use Rattle.kpn_run_history.specs.Ends.{HaveStopped}
+use Rattle.kpn_history.specs.declared.event.Event.{Event}
+use Rattle.kpn_history.specs.declared.event.Event.TheVariants as event
+use Rattle.kpn_history.specs.Ends.{HaveStopped}
 use Rattle.kpn_stream.specs.declared.faults.SourceFault.{SourceFault}
 use Rattle.kpn_stream.specs.declared.faults.SinkFault.{SinkFault}
 use Rattle.kpn_stream.specs.Devices.{is_of_source, is_elsewhere, is_no_growth, NoneIs, IsFlushed, AreFlushed, answered, Follows, Called, at_start, by_process, by_sinks, looked, read_at_once, waited_for}

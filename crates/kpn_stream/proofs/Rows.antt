@@ -6,7 +6,7 @@ use Rattle.kpn_net.specs.declared.tables.Policy.TheVariants.{Cycles, All}
 use Rattle.kpn_net.specs.declared.tables.Growth.TheVariants.{One}
 use Rattle.kpn_net.specs.declared.wait.Wait.TheVariants.{Nobody, Empty}
 use Rattle.kpn_net.specs.Tables.{Tables}
-use Rattle.kpn_run_history.specs.declared.event.Event.TheVariants.{WaitEmpty, Feed, Close}
+use Rattle.kpn_history.specs.declared.event.Event.TheVariants.{WaitEmpty, Feed, Close}
 use Rattle.kpn_stream.specs.declared.faults.SourceFault.{SourceFault}
 use Rattle.kpn_stream.specs.declared.faults.SinkFault.{SinkFault}
 use Rattle.kpn_stream.specs.Devices.{MayRead, Fed, at_first, by_others, by_item, by_end, Called}

@@ -1,10 +1,10 @@
 -- How the sources of a stream that rests are closed.
 use Rattle.std.specs.Prelude.{◌≡◌, ℕ, ◌<◌, Bool, true, false, length}
 use Rattle.kpn_net.specs.Tables.{channel_at, is_source}
-use Rattle.kpn_run_history.specs.declared.event.Event.{Event}
-use Rattle.kpn_run_history.specs.declared.event.Event.TheVariants.{Close, Grow}
-use Rattle.kpn_run_history.specs.Channels.{is_closed}
-use Rattle.kpn_run_state.specs.Book.{Book}
+use Rattle.kpn_history.specs.declared.event.Event.{Event}
+use Rattle.kpn_history.specs.declared.event.Event.TheVariants.{Close, Grow}
+use Rattle.kpn_history.specs.Channels.{is_closed}
+use Rattle.kpn_book.specs.Book.{Book}
 use Rattle.kpn_stream.specs.Streaming.{HappensBesides}
 
 -- an event that is neither the close of a source nor a growth

@@ -5,12 +5,12 @@ use Rattle.std.specs.Prelude.{◌≡◌, ℕ, ◌<◌, ◌⊎◌, ◌||◌, Bool
 use Rattle.kpn_net.specs.declared.tables.Policy.TheVariants.{All}
 use Rattle.kpn_net.specs.declared.wait.Wait.TheVariants.{Empty}
 use Rattle.kpn_net.specs.Tables.{Tables, is_sink}
-use Rattle.kpn_run_history.specs.declared.event.Event.{Event}
-use Rattle.kpn_run_history.specs.declared.event.Event.TheVariants.{Feed, Close, Take, Leave, Grow}
-use Rattle.kpn_run_history.specs.Channels.{read_on, is_left}
-use Rattle.kpn_run_history.specs.Ends.{HaveStopped}
-use Rattle.kpn_run_history.specs.Legal.{MayFeed}
-use Rattle.kpn_run_history.specs.Waiting.{wait_of}
+use Rattle.kpn_history.specs.declared.event.Event.{Event}
+use Rattle.kpn_history.specs.declared.event.Event.TheVariants.{Feed, Close, Take, Leave, Grow}
+use Rattle.kpn_history.specs.Channels.{read_on, is_left}
+use Rattle.kpn_history.specs.Ends.{HaveStopped}
+use Rattle.kpn_history.specs.Legal.{MayFeed}
+use Rattle.kpn_history.specs.Waiting.{wait_of}
 use Rattle.kpn_stream.specs.declared.faults.SourceFault.{SourceFault}
 use Rattle.kpn_stream.specs.declared.faults.SourceFault.TheVariants as source_fault
 use Rattle.kpn_stream.specs.declared.faults.SinkFault.{SinkFault}

@@ -4,12 +4,12 @@ use Rattle.std.specs.List.{filter}
 use Rattle.kpn_net.specs.declared.tables.ChannelSpec.{ChannelSpec}
 use Rattle.kpn_net.specs.Tables.{Tables, channel_at, is_source, is_sink}
 use Rattle.kpn_net.specs.Faults.{channel_numbers}
-use Rattle.kpn_run_history.specs.declared.event.Event.{Event}
-use Rattle.kpn_run_history.specs.Views.{is_ready}
-use Rattle.kpn_run_history.specs.Channels.{is_closed, is_empty, is_left}
-use Rattle.kpn_run_history.specs.Ends.{HaveStopped, IsSettled}
-use Rattle.kpn_run_configuration.specs.Woken.{waiting_reader}
-use Rattle.kpn_run_state.specs.Book.{Book}
+use Rattle.kpn_history.specs.declared.event.Event.{Event}
+use Rattle.kpn_history.specs.Views.{is_ready}
+use Rattle.kpn_history.specs.Channels.{is_closed, is_empty, is_left}
+use Rattle.kpn_history.specs.Ends.{HaveStopped, IsSettled}
+use Rattle.kpn_machine.specs.Woken.{waiting_reader}
+use Rattle.kpn_book.specs.Book.{Book}
 use Rattle.kpn_book.specs.declared.outcome.Limits.{Limits}
 use Rattle.kpn_book.specs.Outcomes.{IsOutcome}
 use Rattle.kpn_stream.specs.declared.faults.SourceFault.{SourceFault}
@@ -24,7 +24,7 @@ end_numbers is_end t = filter (λ c. is_end (channel_at t c)) (channel_numbers t
 -- a source is closed, or no process waits for its item
 abbrev pub IsUnwanted : Book → (c : ℕ) → Type 0
 IsUnwanted b c =
-    (is_closed b.history c ≡ true) ⊎ (is_some (waiting_reader b.tables b.configuration.waits c) ≡ false)
+    (is_closed b.history c ≡ true) ⊎ (is_some (waiting_reader b.tables b.machine.waits c) ≡ false)
 
 -- no process is ready, and each has ended or waits, but none for an item of an open source. The run has not stopped,
 -- since some source is open

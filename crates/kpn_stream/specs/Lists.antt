@@ -1,8 +1,8 @@
 -- Which items the device of one source gave, and which that of one sink took, whatever was asked of the others.
 use Rattle.std.specs.Prelude.{◌≡◌, ◌≢◌, ◌⊎◌, ℕ, Bool, true, false, ℤ, List, [], ◌∷◌, ◌++◌, Option, Some, None, Result, Ok, Err}
 use Rattle.kpn_lang.specs.Prefix.{IsPrefix}
-use Rattle.kpn_run_history.specs.declared.event.Event.{Event}
-use Rattle.kpn_run_history.specs.Channels.{written_on, read_on, is_closed}
+use Rattle.kpn_history.specs.declared.event.Event.{Event}
+use Rattle.kpn_history.specs.Channels.{written_on, read_on, is_closed}
 use Rattle.kpn_stream.specs.declared.faults.SourceFault.{SourceFault}
 use Rattle.kpn_stream.specs.declared.faults.SourceFault.TheVariants as source_fault
 use Rattle.kpn_stream.specs.declared.faults.SinkFault.{SinkFault}

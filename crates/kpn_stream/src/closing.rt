@@ -1,9 +1,9 @@
 //! The end of a stream that rests: nobody reads from its sources any more.
 ghost use Rattle.std.specs.Prelude.{◌+◌, IfOk};
-ghost use Rattle.kpn_run_state.specs.Book.{Book as Seen};
+ghost use Rattle.kpn_book.specs.Book.{Book as Seen};
 ghost use Rattle.kpn_stream.specs.Closing.{AreClosed, AreClosedBelow};
 
-use kpn_run_state::Book;
+use kpn_book::Book;
 use std::alloc::AllocError;
 
 /// Closes each source that is open. The error is that memory ran out.

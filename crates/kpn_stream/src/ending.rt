@@ -1,8 +1,7 @@
 //! How a stream has ended.
 
 use crate::faults::{SinkFault, SourceFault};
-use kpn_book::Outcome;
-use kpn_run_state::Book;
+use kpn_book::{Book, Outcome};
 
 /// Why a stream goes on no more.
 #[derive(Clone, Copy, Debug, PartialEq, Eq)]

@@ -11,8 +11,7 @@ use crate::ending::Ending;
 use crate::ends::EndNumbers;
 use crate::reading::{is_due, read};
 use crate::taking::flush_all;
-use kpn_book::Limits;
-use kpn_run_state::Book;
+use kpn_book::{Book, Limits};
 
 // ---- processes are ready
 

@@ -1,10 +1,10 @@
 //! A source is read.
 ghost use Rattle.std.specs.Prelude.{◌≡◌, ◌<◌, ℕ, true, false, length, IfSome, IfNone, IsTrue};
 ghost use Rattle.kpn_net.specs.Tables.{channel_at, is_source, is_sink};
-ghost use Rattle.kpn_run_history.specs.declared.event.Event.TheVariants as event;
-ghost use Rattle.kpn_run_history.specs.Channels.{is_closed};
-ghost use Rattle.kpn_run_history.specs.Legal.{MayFeed};
-ghost use Rattle.kpn_run_state.specs.Appending.{Happens};
+ghost use Rattle.kpn_history.specs.declared.event.Event.TheVariants as event;
+ghost use Rattle.kpn_history.specs.Channels.{is_closed};
+ghost use Rattle.kpn_history.specs.Legal.{MayFeed};
+ghost use Rattle.kpn_book.specs.Appending.{Happens};
 ghost use Rattle.kpn_stream.specs.Devices.{IsAwaited, IsStuck, MayRead};
 ghost use Rattle.kpn_stream.specs.Ending.{end_numbers, IsUnwanted, AreTaken};
 ghost use Rattle.kpn_stream.specs.Streaming.{GoesOn, IsUnfed, MayEndWell, Reads, Serves};
@@ -17,9 +17,8 @@ use crate::looking::first_to_come;
 use crate::running::ending_of;
 use crate::stepping::is_idle;
 use crate::taking::flush_all;
-use kpn_book::Limits;
+use kpn_book::{Book, Limits};
 use kpn_net::Policy;
-use kpn_run_state::Book;
 
 /// Reads one item of a source that is due, and feeds it, or closes the source at the end of its input. No process is
 /// ready. Before it waits for the device of a source, those of the sinks hand on all that they kept.

@@ -1,8 +1,8 @@
 //! The run of a network over devices.
 ghost use Rattle.std.specs.Prelude.{◌≡◌, ◌≤◌, [], Some, None, IfOk, OnErr, IfNone};
 ghost use Rattle.kpn_net.specs.Tables.{is_source, is_sink};
-ghost use Rattle.kpn_run_history.specs.Ends.{IsSettled};
-ghost use Rattle.kpn_run_state.specs.Kept.{IsBook};
+ghost use Rattle.kpn_history.specs.Ends.{IsSettled};
+ghost use Rattle.kpn_book.specs.Kept.{IsBook};
 ghost use Rattle.kpn_stream.specs.Devices.{Fed, Served, EndsFlushed, Called};
 ghost use Rattle.kpn_stream.specs.Ending.{end_numbers, failed_source, failed_sink, IsEnding, HasNoOutcome, AreTaken, LeavesNothing};
 ghost use Rattle.kpn_stream.specs.Streaming.{GoesOn, MayEndWell, Serves};
@@ -14,9 +14,8 @@ use crate::looking::end_stretch;
 use crate::reading::read_one;
 use crate::stepping::{STRETCH, is_idle, step_stretch};
 use crate::taking::{flush_all, take_all};
-use kpn_book::{Limits, outcome_of};
+use kpn_book::{Book, Keeping, Limits, outcome_of};
 use kpn_net::Network;
-use kpn_run_state::{Book, Keeping};
 use std::alloc::{AllocError, Global};
 
 /// Runs a network over devices until there is an ending. The book keeps what it is told to keep.

@@ -1,12 +1,11 @@
 //! The processes make steps.
 ghost use Rattle.std.specs.Prelude.{◌≡◌, ◌+◌, ◌<◌, ◌≤◌, ◌^◌, count_by, IsTrue};
-ghost use Rattle.kpn_run_history.specs.Ends.{HaveStopped};
-ghost use Rattle.kpn_run_history.specs.Views.{is_ready};
-ghost use Rattle.kpn_run_state.specs.Book.{held_count};
+ghost use Rattle.kpn_history.specs.Ends.{HaveStopped};
+ghost use Rattle.kpn_history.specs.Views.{is_ready};
+ghost use Rattle.kpn_book.specs.Book.{held_count};
 ghost use Rattle.kpn_stream.specs.Streaming.{IsStepped};
 
-use kpn_book::Limits;
-use kpn_run_state::Book;
+use kpn_book::{Book, Limits};
 use std::alloc::AllocError;
 
 /// The most commits in a stretch, and in a turn.

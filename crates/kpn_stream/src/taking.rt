@@ -2,9 +2,9 @@
 ghost use Rattle.std.specs.Prelude.{◌≡◌, ◌↔◌, ◌⊎◌, ◌<◌, ℤ, true, false, length, is_some, Some, None, IfOk, OnErr, IsTrue};
 ghost use Rattle.kpn_net.specs.Tables.{channel_at, is_sink};
 ghost use Rattle.kpn_chan.specs.Channel.{next_item};
-ghost use Rattle.kpn_run_history.specs.declared.event.Event.TheVariants as event;
-ghost use Rattle.kpn_run_configuration.specs.Configuration.{channel_in};
-ghost use Rattle.kpn_run_state.specs.Appending.{Happens};
+ghost use Rattle.kpn_history.specs.declared.event.Event.TheVariants as event;
+ghost use Rattle.kpn_machine.specs.Machine.{channel_in};
+ghost use Rattle.kpn_book.specs.Appending.{Happens};
 ghost use Rattle.kpn_stream.specs.Devices.{HasGiven, IsFlushed, AreFlushed};
 ghost use Rattle.kpn_stream.specs.Ending.{end_numbers, HasSink, AreLeft, IsTaken, AreTaken};
 ghost use Rattle.kpn_stream.specs.Streaming.{IsHandled, IsLeaving, MayEndWell, Serves};
@@ -13,8 +13,7 @@ use crate::devices::Sinks;
 use crate::ending::Ending;
 use crate::ends::EndNumbers;
 use crate::faults::SinkFault;
-use kpn_book::{Limits, outcome_of};
-use kpn_run_state::Book;
+use kpn_book::{Book, Limits, outcome_of};
 use std::alloc::AllocError;
 
 /// Takes all that is unread from the sinks, and hands it to their devices.
@@ -121,7 +120,7 @@ fn finish<K: Sinks>(
 
 /// Takes the next item of a sink. The error is that memory ran out.
 fn take(book: &mut Book<'_>, c: usize) -> Result<(), AllocError>
-    ensures took { (v : ℤ) → next_item (channel_in book.old.configuration c) ≡ Some v
+    ensures took { (v : ℤ) → next_item (channel_in book.old.machine c) ≡ Some v
         → IfOk result (λ _. Happens (event.Take c v) book.old book.new) }
     ensures as_before { OnErr result (book.new ≡ book.old) }
 {
@@ -151,7 +150,7 @@ fn handle(
     fault: SinkFault,
 ) -> Option<Ending>
     requires ends { ends.now.sinks.items ≡ end_numbers is_sink book.old.tables }
-    requires not_left { (channel_in book.old.configuration c).is_retired ≡ false }
+    requires not_left { (channel_in book.old.machine c).is_retired ≡ false }
     ensures { IsHandled limits.now c fault result book.old book.new }
 {
     match fault {
@@ -163,7 +162,7 @@ fn handle(
 /// Leaves sink `c`. If it was the last one, or memory runs out, the stream has ended.
 fn leave(book: &mut Book<'_>, ends: &EndNumbers, limits: &Limits, c: usize) -> Option<Ending>
     requires ends { ends.now.sinks.items ≡ end_numbers is_sink book.old.tables }
-    requires not_left { (channel_in book.old.configuration c).is_retired ≡ false }
+    requires not_left { (channel_in book.old.machine c).is_retired ≡ false }
     ensures { IsLeaving limits.now c result book.old book.new }
 {
     match book.leave_sink(c) {

@@ -3,15 +3,15 @@ use Rattle.std.proofs.Common.{◌≡◌, ◌≢◌, ℕ, suc, ◌+◌, true, fal
 use Rattle.std.proofs.lemmas.Bool.{cases_eq, false≢true}
 use Rattle.kpn_net.specs.Tables.{Tables, channel_at, is_source}
 use Rattle.kpn_net.specs.Faults.{IsNetwork}
-use Rattle.kpn_run_history.specs.declared.event.Event.{Event}
-use Rattle.kpn_run_history.specs.declared.event.Event.TheVariants as event
-use Rattle.kpn_run_history.specs.Channels.{written_in, written_on}
-use Rattle.kpn_run_history.specs.Legal.{Legal}
-use Rattle.kpn_run_history.proofs.Events.{written_on-push, written_on-same}
-use Rattle.kpn_run_history.proofs.Journals.{no_source, none_elsewhere}
-use Rattle.kpn_run_history.proofs.Legality.{Legal-before}
-use Rattle.kpn_run_history.proofs.OneMore.{item_here}
-use Rattle.kpn_run_history.proofs.Ownership.{IsOwn-last}
+use Rattle.kpn_history.specs.declared.event.Event.{Event}
+use Rattle.kpn_history.specs.declared.event.Event.TheVariants as event
+use Rattle.kpn_history.specs.Channels.{written_in, written_on}
+use Rattle.kpn_history.specs.Legal.{Legal}
+use Rattle.kpn_history.proofs.Events.{written_on-push, written_on-same}
+use Rattle.kpn_history.proofs.Journals.{no_source, none_elsewhere}
+use Rattle.kpn_history.proofs.Legality.{Legal-before}
+use Rattle.kpn_history.proofs.OneMore.{item_here}
+use Rattle.kpn_history.proofs.Ownership.{IsOwn-last}
 use Rattle.kpn_stream.specs.declared.faults.SourceFault.{SourceFault}
 use Rattle.kpn_stream.specs.declared.faults.SourceFault.TheVariants.{Read, BadItem, CutSample, BadHead, NoMemory}
 use Rattle.kpn_stream.specs.Devices.{is_of_source, Fed, at_first, by_others, by_look, by_item, by_end, by_fault, by_no_memory}

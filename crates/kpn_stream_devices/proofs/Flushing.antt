@@ -7,14 +7,14 @@ use Rattle.std.proofs.lemmas.List.Folds.{list_any-append}
 use Rattle.std.proofs.lemmas.Grind.{flat_map-append}
 use Rattle.kpn_net.specs.Tables.{Tables, channel_at, is_sink}
 use Rattle.kpn_net.specs.Faults.{IsNetwork}
-use Rattle.kpn_run_history.specs.declared.event.Event.{Event}
-use Rattle.kpn_run_history.specs.declared.event.Event.TheVariants as event
-use Rattle.kpn_run_history.specs.Channels.{read_in, read_on, is_left, is_leave_of}
+use Rattle.kpn_history.specs.declared.event.Event.{Event}
+use Rattle.kpn_history.specs.declared.event.Event.TheVariants as event
+use Rattle.kpn_history.specs.Channels.{read_in, read_on, is_left, is_leave_of}
 use Rattle.kpn_stream.specs.declared.faults.SinkFault.{SinkFault}
 use Rattle.kpn_stream.specs.declared.faults.SinkFault.TheVariants as sink_fault
 use Rattle.kpn_stream.specs.Devices.{is_no_growth, NoneIs, IsFlushed, AreFlushed, AreFlushedLast}
 use Rattle.kpn_stream.specs.Ending.{end_numbers}
-use Rattle.kpn_run_history.specs.Legal.{Legal}
+use Rattle.kpn_history.specs.Legal.{Legal}
 use Rattle.kpn_stream_devices.specs.declared.outputs.Output.{Output}
 use Rattle.kpn_stream_devices.specs.declared.outputs.Outputs.{Outputs}
 use Rattle.kpn_stream_devices.specs.Out.{HasOwnDevice, IsServed, text_of_all}

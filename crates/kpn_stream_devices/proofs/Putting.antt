@@ -6,16 +6,16 @@ use Rattle.std.proofs.lemmas.Bool.{cases_eq, eq-eqb, false≢true}
 use Rattle.std.proofs.lemmas.List.{length-set}
 use Rattle.kpn_net.specs.Tables.{Tables, channel_at, is_sink}
 use Rattle.kpn_net.specs.Faults.{IsNetwork}
-use Rattle.kpn_run_history.specs.declared.event.Event.{Event}
-use Rattle.kpn_run_history.specs.declared.event.Event.TheVariants as event
-use Rattle.kpn_run_history.specs.Channels.{read_in, read_on}
-use Rattle.kpn_run_history.specs.Legal.{Legal}
-use Rattle.kpn_run_history.proofs.AfterEvent.{is_left-next}
-use Rattle.kpn_run_history.proofs.Events.{flat_map-push, read_on-push, read_on-same}
-use Rattle.kpn_run_history.proofs.Journals.{no_sink, none_elsewhere}
-use Rattle.kpn_run_history.proofs.Legality.{Legal-before}
-use Rattle.kpn_run_history.proofs.OneMore.{item_here}
-use Rattle.kpn_run_history.proofs.Ownership.{IsOwn-last}
+use Rattle.kpn_history.specs.declared.event.Event.{Event}
+use Rattle.kpn_history.specs.declared.event.Event.TheVariants as event
+use Rattle.kpn_history.specs.Channels.{read_in, read_on}
+use Rattle.kpn_history.specs.Legal.{Legal}
+use Rattle.kpn_history.proofs.AfterEvent.{is_left-next}
+use Rattle.kpn_history.proofs.Events.{flat_map-push, read_on-push, read_on-same}
+use Rattle.kpn_history.proofs.Journals.{no_sink, none_elsewhere}
+use Rattle.kpn_history.proofs.Legality.{Legal-before}
+use Rattle.kpn_history.proofs.OneMore.{item_here}
+use Rattle.kpn_history.proofs.Ownership.{IsOwn-last}
 use Rattle.kpn_stream.specs.declared.faults.SinkFault.{SinkFault}
 use Rattle.kpn_stream.specs.declared.faults.SinkFault.TheVariants as sink_fault
 use Rattle.kpn_stream.specs.Devices.{is_of_sink, Served, none_yet, meanwhile, took, took_not, flushed, flushed_not}

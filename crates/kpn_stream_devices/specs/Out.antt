@@ -1,7 +1,7 @@
 -- What has gone out: what the output of a sink was put, beside what was taken from the sink.
 use Rattle.std.specs.Prelude.{◌≡◌, ◌≢◌, ◌⊎◌, ℕ, ◌<◌, false, ℤ, List, length, get_or, flat_map, IsSome, Option, Some}
-use Rattle.kpn_run_history.specs.declared.event.Event.{Event}
-use Rattle.kpn_run_history.specs.Channels.{is_left}
+use Rattle.kpn_history.specs.declared.event.Event.{Event}
+use Rattle.kpn_history.specs.Channels.{is_left}
 use Rattle.kpn_stream.specs.declared.faults.SinkFault.{SinkFault}
 use Rattle.kpn_stream_devices.specs.declared.formats.OutputFormat.{OutputFormat}
 use Rattle.kpn_stream_devices.specs.declared.outputs.Output.{Output}

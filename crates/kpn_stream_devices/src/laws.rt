@@ -3,9 +3,9 @@ ghost use Rattle.std.specs.Prelude.{◌≡◌, ℕ, ℤ, ◌+◌, IsSome, true, 
 ghost use Rattle.std.specs.Io.KnownBytes.{Appends};
 ghost use Rattle.kpn_net.specs.Tables.{Tables, channel_at, is_source, is_sink};
 ghost use Rattle.kpn_net.specs.Faults.{IsNetwork};
-ghost use Rattle.kpn_run_history.specs.declared.event.Event.{Event};
-ghost use Rattle.kpn_run_history.specs.Channels.{written_on, read_on, is_left};
-ghost use Rattle.kpn_run_history.specs.Legal.{Legal};
+ghost use Rattle.kpn_history.specs.declared.event.Event.{Event};
+ghost use Rattle.kpn_history.specs.Channels.{written_on, read_on, is_left};
+ghost use Rattle.kpn_history.specs.Legal.{Legal};
 ghost use Rattle.kpn_stream.specs.declared.faults.SinkFault.{SinkFault};
 ghost use Rattle.kpn_stream.specs.declared.faults.SourceFault.TheVariants.{BadItem};
 ghost use Rattle.kpn_stream.specs.Devices.{AreFlushedLast, Fed, Served};

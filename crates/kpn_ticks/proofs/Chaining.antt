@@ -10,13 +10,13 @@ use Rattle.kpn_net.specs.declared.tables.End.{End}
 use Rattle.kpn_net.specs.declared.tables.End.TheVariants.{Process, Source, Sink}
 use Rattle.kpn_net.specs.Tables.{Tables, writer_of, reader_of}
 use Rattle.kpn_net.specs.Faults.{IsNetwork}
-use Rattle.kpn_run_history.specs.declared.event.Event.{Event}
-use Rattle.kpn_run_history.specs.declared.event.Event.TheVariants.{Get, Put, Feed, Take}
-use Rattle.kpn_run_history.specs.Legal.{HasNumbers, Legal}
-use Rattle.kpn_run_history.specs.OneMore.{IsOwn}
-use Rattle.kpn_run_history.proofs.Journals.{no_sink}
-use Rattle.kpn_run_history.proofs.Legality.{Legal-nil, Legal-before, Legal-last, by_events}
-use Rattle.kpn_run_history.proofs.Ownership.{IsOwn-last}
+use Rattle.kpn_history.specs.declared.event.Event.{Event}
+use Rattle.kpn_history.specs.declared.event.Event.TheVariants.{Get, Put, Feed, Take}
+use Rattle.kpn_history.specs.Legal.{HasNumbers, Legal}
+use Rattle.kpn_history.specs.OneMore.{IsOwn}
+use Rattle.kpn_history.proofs.Journals.{no_sink}
+use Rattle.kpn_history.proofs.Legality.{Legal-nil, Legal-before, Legal-last, by_events}
+use Rattle.kpn_history.proofs.Ownership.{IsOwn-last}
 use Rattle.kpn_ticks.specs.declared.moves.Cause.{Cause}
 use Rattle.kpn_ticks.specs.declared.moves.Cause.TheVariants.{Own, Item, Room}
 use Rattle.kpn_ticks.specs.declared.moves.Move.{Move}

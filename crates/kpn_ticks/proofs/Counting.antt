@@ -9,8 +9,8 @@ use Rattle.std.proofs.lemmas.List.FromFn.{length-map-range_with_len, map-range_w
 use Rattle.kpn_net.specs.Tables.{Tables, channel_at, capacity, reader_of}
 use Rattle.kpn_net.specs.declared.tables.End.{End}
 use Rattle.kpn_net.specs.declared.tables.End.TheVariants.{Process, Source, Sink}
-use Rattle.kpn_run_history.specs.declared.event.Event.{Event}
-use Rattle.kpn_run_history.specs.declared.event.Event.TheVariants.{Get, Put, Feed, Take, Grow}
+use Rattle.kpn_history.specs.declared.event.Event.{Event}
+use Rattle.kpn_history.specs.declared.event.Event.TheVariants.{Get, Put, Feed, Take, Grow}
 use Rattle.kpn_ticks.specs.Ticks.{Clocks, written_of, read_of, item_there, room_there, latest_at, get_tick, put_tick, with_tick, after_get, after_put, grown_from, after, start, clocks_after}
 use Rattle.kpn_ticks.specs.Shown.{AreClocks}
 

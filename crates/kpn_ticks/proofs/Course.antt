@@ -3,7 +3,7 @@ use Rattle.std.proofs.Common.{◌≡◌, ℕ, ◌+◌, ◌-◌, ◌<◌, ◌≤�
 use Rattle.std.specs.List.{fold}
 use Rattle.std.proofs.lemmas.List.{drop_more}
 use Rattle.kpn_net.specs.Tables.{Tables}
-use Rattle.kpn_run_history.specs.declared.event.Event.{Event}
+use Rattle.kpn_history.specs.declared.event.Event.{Event}
 use Rattle.kpn_ticks.specs.declared.moves.Move.{Move}
 use Rattle.kpn_ticks.specs.Ticks.{after, clocks_after}
 use Rattle.kpn_ticks.specs.Chain.{Course, course_then, course_of, Walk, walk_then, walk_back}

@@ -5,9 +5,9 @@ use Rattle.std.proofs.lemmas.Bool.{ltb-false}
 use Rattle.std.proofs.lemmas.Bool.Decides.{eqb_tells}
 use Rattle.std.proofs.lemmas.List.{get_or-set_other, set_comm, get_or_append_left, get_or_default}
 use Rattle.kpn_net.specs.Tables.{Tables, reader_of}
-use Rattle.kpn_run_history.specs.declared.event.Event.{Event}
-use Rattle.kpn_run_history.specs.declared.event.Event.TheVariants.{Get, Put, WaitEmpty, WaitFull, Ended, Feed, Close, Take, Leave, Grow}
-use Rattle.kpn_run_history.specs.Talks.{process_of}
+use Rattle.kpn_history.specs.declared.event.Event.{Event}
+use Rattle.kpn_history.specs.declared.event.Event.TheVariants.{Get, Put, WaitEmpty, WaitFull, Ended, Feed, Close, Take, Leave, Grow}
+use Rattle.kpn_history.specs.Talks.{process_of}
 use Rattle.kpn_ticks.specs.Ticks.{Clocks, latest_of, latest_at, written_of, read_of, item_there, room_there, get_tick, put_tick, with_tick, after_get, after_put, after, start, clocks_after}
 use Rattle.kpn_ticks.specs.Reordered.{HasItem, HasRoom, CanBegin, adds_to, takes_from, Differ, AreApart, CanChange, IsIdle, AreReordered, same, changed, with_idle, without_idle}
 use Rattle.kpn_ticks.proofs.Counting.{set_cases}

@@ -2,8 +2,8 @@
 use Rattle.std.proofs.Common.{◌≡◌, ℕ, zero, suc, ◌≤◌, Bool, true, false, cond, eqb, eq-eqb, List, [], ◌∷◌, ◌++◌, get_or, refl, sym, subst, arith}
 use Rattle.std.specs.List.{fold}
 use Rattle.kpn_net.specs.Tables.{Tables}
-use Rattle.kpn_run_history.specs.declared.event.Event.{Event}
-use Rattle.kpn_run_history.specs.declared.event.Event.TheVariants.{Get, Put}
+use Rattle.kpn_history.specs.declared.event.Event.{Event}
+use Rattle.kpn_history.specs.declared.event.Event.TheVariants.{Get, Put}
 use Rattle.kpn_ticks.specs.Ticks.{Clocks, get_tick, put_tick, after, start, clocks_after}
 use Rattle.kpn_ticks.specs.Schedules.{seen_from, tick_in, ticks_of}
 

@@ -13,20 +13,20 @@ use Rattle.kpn_net.specs.declared.tables.End.{End}
 use Rattle.kpn_net.specs.declared.tables.End.TheVariants.{Process, Source, Sink}
 use Rattle.kpn_net.specs.Tables.{Tables, channel_at, capacity, larger_capacity, writer_of, reader_of}
 use Rattle.kpn_net.specs.Faults.{IsNetwork}
-use Rattle.kpn_run_history.specs.declared.event.Event.{Event}
-use Rattle.kpn_run_history.specs.declared.event.Event.TheVariants.{Get, Put, Feed, Take, Grow}
-use Rattle.kpn_run_history.specs.Talks.{is_of, said_in, talk_of, is_end_of, has_ended}
-use Rattle.kpn_run_history.specs.Channels.{written_in, read_in, written_on, read_on, unread_on, lives, reader_lives, after_growths, capacity_after, reaches}
-use Rattle.kpn_run_history.specs.Legal.{Legal}
-use Rattle.kpn_run_history.specs.OneMore.{IsOwn}
-use Rattle.kpn_run_history.proofs.Events.{talk_of-other, written_on-push}
-use Rattle.kpn_run_history.proofs.Legality.{Legal-nil, Legal-before, Legal-last, by_events, onward}
-use Rattle.kpn_run_history.proofs.Ownership.{IsOwn-last}
-use Rattle.kpn_run_history.proofs.Journals.{no_source, none_elsewhere, written_on-put, read_on-got}
-use Rattle.kpn_run_history.proofs.Capacities.{capacity_after-same, capacity_of_growth, below_limit}
-use Rattle.kpn_run_history.proofs.OneMore.{KeepsConsistent-last, unread_length}
-use Rattle.kpn_run_history.proofs.AfterEvent.{has_ended-next}
-use Rattle.kpn_run_history.proofs.WaitsAfter.{alive_before}
+use Rattle.kpn_history.specs.declared.event.Event.{Event}
+use Rattle.kpn_history.specs.declared.event.Event.TheVariants.{Get, Put, Feed, Take, Grow}
+use Rattle.kpn_history.specs.Talks.{is_of, said_in, talk_of, is_end_of, has_ended}
+use Rattle.kpn_history.specs.Channels.{written_in, read_in, written_on, read_on, unread_on, lives, reader_lives, after_growths, capacity_after, reaches}
+use Rattle.kpn_history.specs.Legal.{Legal}
+use Rattle.kpn_history.specs.OneMore.{IsOwn}
+use Rattle.kpn_history.proofs.Events.{talk_of-other, written_on-push}
+use Rattle.kpn_history.proofs.Legality.{Legal-nil, Legal-before, Legal-last, by_events, onward}
+use Rattle.kpn_history.proofs.Ownership.{IsOwn-last}
+use Rattle.kpn_history.proofs.Journals.{no_source, none_elsewhere, written_on-put, read_on-got}
+use Rattle.kpn_history.proofs.Capacities.{capacity_after-same, capacity_of_growth, below_limit}
+use Rattle.kpn_history.proofs.OneMore.{KeepsConsistent-last, unread_length}
+use Rattle.kpn_history.proofs.AfterEvent.{has_ended-next}
+use Rattle.kpn_history.proofs.WaitsAfter.{alive_before}
 use Rattle.kpn_ticks.specs.Ticks.{Clocks, latest_of, written_of, read_of, item_there, get_tick, put_tick, grown_from, after, start, clocks_after}
 use Rattle.kpn_ticks.specs.Schedules.{tick_in, capacity_in, capacities_of}
 use Rattle.kpn_ticks.proofs.Counting.{all_alike, pushed_cases}

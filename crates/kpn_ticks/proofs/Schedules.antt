@@ -12,15 +12,15 @@ use Rattle.kpn_net.specs.declared.tables.End.{End}
 use Rattle.kpn_net.specs.declared.tables.End.TheVariants.{Process, Source, Sink}
 use Rattle.kpn_net.specs.Tables.{Tables, writer_of, reader_of}
 use Rattle.kpn_net.specs.Faults.{IsNetwork}
-use Rattle.kpn_run_history.specs.declared.event.Event.{Event}
-use Rattle.kpn_run_history.specs.declared.event.Event.TheVariants.{Get, Put, Feed, Take}
-use Rattle.kpn_run_history.specs.Talks.{said_in, talk_of, has_ended}
-use Rattle.kpn_run_history.specs.Legal.{Legal}
-use Rattle.kpn_run_history.specs.OneMore.{IsOwn}
-use Rattle.kpn_run_history.proofs.Events.{talk_of-push}
-use Rattle.kpn_run_history.proofs.Legality.{Legal-prefix, Legal-before, by_events}
-use Rattle.kpn_run_history.proofs.Ownership.{IsOwn-last, said_by}
-use Rattle.kpn_run_history.proofs.Journals.{no_source, no_sink}
+use Rattle.kpn_history.specs.declared.event.Event.{Event}
+use Rattle.kpn_history.specs.declared.event.Event.TheVariants.{Get, Put, Feed, Take}
+use Rattle.kpn_history.specs.Talks.{said_in, talk_of, has_ended}
+use Rattle.kpn_history.specs.Legal.{Legal}
+use Rattle.kpn_history.specs.OneMore.{IsOwn}
+use Rattle.kpn_history.proofs.Events.{talk_of-push}
+use Rattle.kpn_history.proofs.Legality.{Legal-prefix, Legal-before, by_events}
+use Rattle.kpn_history.proofs.Ownership.{IsOwn-last, said_by}
+use Rattle.kpn_history.proofs.Journals.{no_source, no_sink}
 use Rattle.kpn_ticks.specs.Ticks.{Clocks, latest_of, latest_at, written_of, read_of, item_there, room_there, get_tick, put_tick, start, clocks_after}
 use Rattle.kpn_ticks.specs.Schedules.{tick_in, ticks_of, capacity_in, capacities_of, DifferBySchedule}
 use Rattle.kpn_ticks.proofs.Counting.{room_from}

@@ -6,10 +6,10 @@ use Rattle.std.proofs.lemmas.List.{append_assoc, append-nil, length-append, leng
 use Rattle.kpn_lang.specs.Prefix.{IsPrefix}
 use Rattle.kpn_lang.proofs.Prefixes.{IsPrefix-append, rest_of_prefix}
 use Rattle.kpn_net.specs.Tables.{Tables}
-use Rattle.kpn_run_history.specs.declared.event.Event.{Event}
-use Rattle.kpn_run_history.specs.declared.event.Event.TheVariants.{Get, Put, Feed, Take, Grow}
-use Rattle.kpn_run_history.specs.Legal.{HasNumbers, Legal}
-use Rattle.kpn_run_history.proofs.Legality.{Legal-last, by_events}
+use Rattle.kpn_history.specs.declared.event.Event.{Event}
+use Rattle.kpn_history.specs.declared.event.Event.TheVariants.{Get, Put, Feed, Take, Grow}
+use Rattle.kpn_history.specs.Legal.{HasNumbers, Legal}
+use Rattle.kpn_history.proofs.Legality.{Legal-last, by_events}
 use Rattle.kpn_ticks.specs.Ticks.{Clocks, latest_of, written_of, read_of, item_there, get_tick, put_tick, with_tick, after, start, clocks_after}
 use Rattle.kpn_ticks.specs.Schedules.{seen_from, tick_in, ticks_of}
 use Rattle.kpn_ticks.proofs.Counting.{all_alike}

@@ -9,15 +9,15 @@ use Rattle.kpn_net.specs.declared.tables.End.{End}
 use Rattle.kpn_net.specs.declared.tables.End.TheVariants.{Process, Source, Sink}
 use Rattle.kpn_net.specs.Tables.{Tables, writer_of}
 use Rattle.kpn_net.specs.Faults.{IsNetwork}
-use Rattle.kpn_run_history.specs.declared.event.Event.{Event}
-use Rattle.kpn_run_history.specs.declared.event.Event.TheVariants.{Put, Grow}
-use Rattle.kpn_run_history.specs.Talks.{talk_of}
-use Rattle.kpn_run_history.specs.Channels.{is_growth_of}
-use Rattle.kpn_run_history.specs.Legal.{Legal}
-use Rattle.kpn_run_history.specs.OneMore.{IsOwn}
-use Rattle.kpn_run_history.proofs.Legality.{by_events}
-use Rattle.kpn_run_history.proofs.Ownership.{IsOwn-last}
-use Rattle.kpn_run_history.proofs.Journals.{written_on-put}
+use Rattle.kpn_history.specs.declared.event.Event.{Event}
+use Rattle.kpn_history.specs.declared.event.Event.TheVariants.{Put, Grow}
+use Rattle.kpn_history.specs.Talks.{talk_of}
+use Rattle.kpn_history.specs.Channels.{is_growth_of}
+use Rattle.kpn_history.specs.Legal.{Legal}
+use Rattle.kpn_history.specs.OneMore.{IsOwn}
+use Rattle.kpn_history.proofs.Legality.{by_events}
+use Rattle.kpn_history.proofs.Ownership.{IsOwn-last}
+use Rattle.kpn_history.proofs.Journals.{written_on-put}
 use Rattle.kpn_ticks.specs.Ticks.{Clocks, grown_from, after, start, clocks_after}
 use Rattle.kpn_ticks.specs.Schedules.{seen_from, capacity_in, capacities_of, GrowsNothing, DifferBySchedule}
 use Rattle.kpn_ticks.proofs.Counting.{all_alike}

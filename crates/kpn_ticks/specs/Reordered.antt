@@ -1,9 +1,9 @@
 -- Histories whose events come in another order, as they do under another schedule.
 use Rattle.std.specs.Prelude.{◌≡◌, ◌≢◌, ⊤, ℕ, ◌+◌, ◌<◌, Bool, List, ◌∷◌, ◌++◌, length, Option, Some, None, slice_index_or}
 use Rattle.kpn_net.specs.Tables.{Tables}
-use Rattle.kpn_run_history.specs.declared.event.Event.{Event}
-use Rattle.kpn_run_history.specs.declared.event.Event.TheVariants.{Get, Put, Feed, Take, Grow}
-use Rattle.kpn_run_history.specs.Talks.{process_of}
+use Rattle.kpn_history.specs.declared.event.Event.{Event}
+use Rattle.kpn_history.specs.declared.event.Event.TheVariants.{Get, Put, Feed, Take, Grow}
+use Rattle.kpn_history.specs.Talks.{process_of}
 use Rattle.kpn_ticks.specs.Ticks.{Clocks, written_of, read_of, clocks_after}
 
 -- ---- what could come next

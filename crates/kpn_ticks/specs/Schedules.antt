@@ -2,10 +2,10 @@
 use Rattle.std.specs.Prelude.{◌≡◌, ℕ, Bool, false, nat_eq, if◌then◌else◌, List, [], ◌∷◌, ◌++◌, Option, None, slice_index_or}
 use Rattle.std.specs.List.{list_any}
 use Rattle.kpn_net.specs.Tables.{Tables}
-use Rattle.kpn_run_history.specs.declared.event.Event.{Event}
-use Rattle.kpn_run_history.specs.declared.event.Event.TheVariants.{Get, Put}
-use Rattle.kpn_run_history.specs.Talks.{talk_of}
-use Rattle.kpn_run_history.specs.Channels.{is_growth_of}
+use Rattle.kpn_history.specs.declared.event.Event.{Event}
+use Rattle.kpn_history.specs.declared.event.Event.TheVariants.{Get, Put}
+use Rattle.kpn_history.specs.Talks.{talk_of}
+use Rattle.kpn_history.specs.Channels.{is_growth_of}
 use Rattle.kpn_ticks.specs.Ticks.{Clocks, get_tick, put_tick, after, start}
 
 -- what each of these events shows, behind those before it

@@ -6,8 +6,8 @@ use Rattle.kpn_net.specs.declared.tables.End.{End}
 use Rattle.kpn_net.specs.declared.tables.End.TheVariants.{Process, Source, Sink}
 use Rattle.kpn_net.specs.Tables.{Tables, channel_at, capacity, larger_capacity, reader_of}
 use Rattle.kpn_net.specs.Faults.{channel_numbers}
-use Rattle.kpn_run_history.specs.declared.event.Event.{Event}
-use Rattle.kpn_run_history.specs.declared.event.Event.TheVariants.{Get, Put, Feed, Take, Grow}
+use Rattle.kpn_history.specs.declared.event.Event.{Event}
+use Rattle.kpn_history.specs.declared.event.Event.TheVariants.{Get, Put, Feed, Take, Grow}
 
 -- what is known of time after a history: the tick of the latest get or put of each process, 0 before the first; the
 -- ticks of the items that were written on each channel and of those that were read from it, oldest first; the capacity

@@ -6,9 +6,9 @@ ghost use Rattle.kpn_ticks.specs.Ticks.{item_there, room_there, latest_at, lates
 ghost use Rattle.kpn_ticks.specs.Shown.{shown, AreClocks};
 ghost use Rattle.kpn_ticks.specs.Chain.{last_process};
 
+use kpn_history::Event;
 use kpn_lang::Sequence;
 use kpn_net::{End, Network};
-use kpn_run_history::Event;
 use std::alloc::{AllocError, Global};
 
 /// What is known of time after some events of a network.

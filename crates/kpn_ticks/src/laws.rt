@@ -2,9 +2,9 @@
 ghost use Rattle.std.specs.Prelude.{◌≡◌, ℕ, Bool, true, false, List, sum};
 ghost use Rattle.kpn_net.specs.Tables.{Tables};
 ghost use Rattle.kpn_net.specs.Faults.{IsNetwork};
-ghost use Rattle.kpn_run_history.specs.declared.event.Event.{Event};
-ghost use Rattle.kpn_run_history.specs.Talks.{talk_of};
-ghost use Rattle.kpn_run_history.specs.Legal.{Legal};
+ghost use Rattle.kpn_history.specs.declared.event.Event.{Event};
+ghost use Rattle.kpn_history.specs.Talks.{talk_of};
+ghost use Rattle.kpn_history.specs.Legal.{Legal};
 ghost use Rattle.kpn_ticks.specs.Ticks.{clocks_after};
 ghost use Rattle.kpn_ticks.specs.Chain.{shares_of};
 ghost use Rattle.kpn_ticks.specs.Reordered.{AreReordered};

@@ -5,8 +5,8 @@ ghost use Rattle.kpn_ticks.specs.Chain.{cause_of, move_at, move_of, with_move, c
 ghost use Rattle.kpn_ticks.specs.ChainShown.{logged};
 
 use crate::clocks::Clocks;
+use kpn_history::Event;
 use kpn_net::Network;
-use kpn_run_history::Event;
 use std::alloc::{AllocError, Global};
 
 /// What a get or put waited for: it could begin no earlier.

@@ -5,8 +5,8 @@ ghost use Rattle.kpn_ticks.specs.Ticks.{clocks_after};
 ghost use Rattle.kpn_ticks.specs.Shown.{shown};
 
 use crate::clocks::{Clocks, clocks_after};
+use kpn_history::{Event, Trace, Version};
 use kpn_net::{Growth, Network, Policy};
-use kpn_run_history::{Event, Trace, Version};
 use std::alloc::{AllocError, Global};
 
 /// What is known of time after the history of a trace, under the rules of growth of its version.

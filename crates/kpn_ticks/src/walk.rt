@@ -7,8 +7,8 @@ ghost use Rattle.kpn_ticks.specs.ChainShown.{walked};
 
 use crate::clocks::{Clocks, zeros};
 use crate::moves::{Cause, Log, Move};
+use kpn_history::{Event, Trace, Version};
 use kpn_net::{End, Growth, Network, Policy};
-use kpn_run_history::{Event, Trace, Version};
 use std::alloc::{AllocError, Global};
 
 /// For how many ticks of a longest chain each process makes the get or put, in the history of a trace under the rules

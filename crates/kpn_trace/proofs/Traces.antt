@@ -9,13 +9,13 @@ use Rattle.std.proofs.lemmas.Option.{slice_get_within, get_or_from_slice_get}
 use Rattle.std.proofs.lemmas.List.{take_more}
 use Rattle.std.proofs.lemmas.List.Concat.{flat_map-append}
 use Rattle.std.proofs.lemmas.List.Elements.{All-head, All-tail}
-use Rattle.kpn_run_history.specs.declared.event.Event.{Event}
+use Rattle.kpn_history.specs.declared.event.Event.{Event}
 use Rattle.kpn_net.specs.declared.tables.Policy.{Policy}
 use Rattle.kpn_net.specs.declared.tables.Policy.TheVariants as policies
 use Rattle.kpn_net.specs.declared.tables.Growth.{Growth}
 use Rattle.kpn_net.specs.declared.tables.Growth.TheVariants as growths
-use Rattle.kpn_run_history.specs.declared.stored.Version.{Version}
-use Rattle.kpn_run_history.specs.declared.stored.Version.TheVariants.{One, Two}
+use Rattle.kpn_history.specs.declared.stored.Version.{Version}
+use Rattle.kpn_history.specs.declared.stored.Version.TheVariants.{One, Two}
 use Rattle.kpn_trace.specs.declared.fault.TraceFault.TheVariants.{BadHead, BadEvent, NoMemory}
 use Rattle.kpn_trace.specs.EventLine.{line_of, IsInRange, SpellsEvent, LacksByte}
 use Rattle.kpn_trace.specs.TraceText.{version_line, rules_line, head_text, IsHead, head_lines, event_text, events_text, trace_text, HasBadHead}

@@ -1,8 +1,8 @@
 -- The laws of traces as texts.
 use Rattle.std.specs.Prelude.{◌≡◌, ℕ, List}
-use Rattle.kpn_run_history.specs.declared.event.Event.{Event}
-use Rattle.kpn_run_history.specs.declared.stored.Version.{Version}
-use Rattle.kpn_run_history.specs.declared.stored.Trace.{Trace}
+use Rattle.kpn_history.specs.declared.event.Event.{Event}
+use Rattle.kpn_history.specs.declared.stored.Version.{Version}
+use Rattle.kpn_history.specs.declared.stored.Trace.{Trace}
 use Rattle.kpn_trace.specs.declared.fault.TraceFault.{TraceFault}
 use Rattle.kpn_trace.specs.declared.fault.TraceFault.TheVariants.{NoMemory}
 use Rattle.kpn_trace.specs.EventLine.{SpellsEvent}

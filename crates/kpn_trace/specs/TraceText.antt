@@ -5,10 +5,10 @@ use Rattle.kpn_net.specs.declared.tables.Policy.{Policy}
 use Rattle.kpn_net.specs.declared.tables.Policy.TheVariants as policies
 use Rattle.kpn_net.specs.declared.tables.Growth.{Growth}
 use Rattle.kpn_net.specs.declared.tables.Growth.TheVariants as growths
-use Rattle.kpn_run_history.specs.declared.event.Event.{Event}
-use Rattle.kpn_run_history.specs.declared.stored.Version.{Version}
-use Rattle.kpn_run_history.specs.declared.stored.Version.TheVariants.{One, Two}
-use Rattle.kpn_run_history.specs.declared.stored.Trace.{Trace}
+use Rattle.kpn_history.specs.declared.event.Event.{Event}
+use Rattle.kpn_history.specs.declared.stored.Version.{Version}
+use Rattle.kpn_history.specs.declared.stored.Version.TheVariants.{One, Two}
+use Rattle.kpn_history.specs.declared.stored.Trace.{Trace}
 use Rattle.kpn_trace.specs.declared.fault.TraceFault.{TraceFault}
 use Rattle.kpn_trace.specs.declared.fault.TraceFault.TheVariants.{BadHead, BadEvent, NoMemory}
 use Rattle.kpn_trace.specs.EventLine.{line_of, IsInRange}

@@ -2,12 +2,12 @@
 ghost use Rattle.std.specs.Prelude.{◌≡◌, ◌≢◌, ◌++◌, ◌∷◌, [], ◌↔◌, IsTrue, MatchOption};
 ghost use Rattle.kpn_net.specs.declared.tables.Policy.{Policy};
 ghost use Rattle.kpn_net.specs.declared.tables.Growth.{Growth};
-ghost use Rattle.kpn_run_history.specs.declared.stored.Version.{Version};
+ghost use Rattle.kpn_history.specs.declared.stored.Version.{Version};
 ghost use Rattle.kpn_trace.specs.TraceText.{version_line, rules_line, head_text, IsHead, head_lines, HasBadHead};
 
 use crate::words::parted;
+use kpn_history::Version;
 use kpn_net::{Growth, Policy};
-use kpn_run_history::Version;
 
 /// What the first lines of a trace say.
 #[derive(Clone, Copy)]

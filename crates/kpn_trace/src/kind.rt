@@ -1,9 +1,9 @@
 //! The kinds of events, and the word for each.
 ghost use Rattle.std.specs.Prelude.{◌≡◌, ◌≢◌, MatchOption};
-ghost use Rattle.kpn_run_history.specs.declared.event.How.{How};
+ghost use Rattle.kpn_history.specs.declared.event.How.{How};
 ghost use Rattle.kpn_trace.specs.EventLine.{kind_word, kind_named, how_word};
 
-use kpn_run_history::How;
+use kpn_history::How;
 
 /// The kind of an event: the first word of its line.
 #[derive(Clone, Copy, PartialEq, Eq)]

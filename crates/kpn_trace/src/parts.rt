@@ -2,13 +2,13 @@
 ghost use Rattle.std.specs.Prelude.{◌≡◌, ◌≢◌, ℕ, ℤ, ◌<◌, ◌≤◌, ◌^◌, [], ◌∷◌, MatchOption, FitsSigned};
 ghost use Rattle.std.specs.Int.{w64};
 ghost use Rattle.std.specs.Fmt.{decimal, signed_decimal};
-ghost use Rattle.kpn_run_history.specs.declared.event.How.{How};
+ghost use Rattle.kpn_history.specs.declared.event.How.{How};
 ghost use Rattle.kpn_trace.specs.EventLine.{spaced, how_word};
 
 use crate::kind::how_named;
 use crate::words::{canonical_item, capacity, number, number_before};
+use kpn_history::How;
 use kpn_limits::MAX_CAPACITY;
-use kpn_run_history::How;
 
 /// Two numbers.
 pub fn two_numbers(parts: &[u8]) -> Option<(u16, u16)>

@@ -1,6 +1,6 @@
 //! Events and traces read from their text.
 ghost use Rattle.std.specs.Prelude.{◌≡◌, ◌≢◌, List, ℕ, ◌++◌, MatchOption, MatchResult, IfOk, IfErr};
-ghost use Rattle.kpn_run_history.specs.declared.event.Event.{Event};
+ghost use Rattle.kpn_history.specs.declared.event.Event.{Event};
 ghost use Rattle.kpn_trace.specs.declared.kind.Kind.TheVariants as kind;
 ghost use Rattle.kpn_trace.specs.EventLine.{SpellsEvent, IsInRange, kind_of, arguments_of, spaced};
 ghost use Rattle.kpn_trace.specs.TraceText.{Spells, Refuses, event_text};
@@ -12,8 +12,8 @@ use crate::parts::{
     number_and_how, number_and_item, two_numbers, two_numbers_and_capacity, two_numbers_and_item,
 };
 use crate::words::{number, parted};
+use kpn_history::{Event, Trace, Version};
 use kpn_lang::Sequence;
-use kpn_run_history::{Event, Trace, Version};
 use std::alloc::Allocator;
 
 /// The event that a line without its line feed spells in this version. It takes no memory.

@@ -7,8 +7,8 @@ ghost use Rattle.kpn_trace.specs.declared.unwritten.Unwritten.TheVariants.{Forgo
 use crate::head::head;
 use crate::kind::how_word;
 use crate::unwritten::Unwritten;
+use kpn_history::{Event, History, Version};
 use kpn_net::{Growth, Policy};
-use kpn_run_history::{Event, History, Version};
 use kpn_text_items::WriteFault;
 use std::alloc::Allocator;
 use std::io::{self, Write};

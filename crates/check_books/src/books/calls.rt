@@ -1,9 +1,9 @@
 //! The calls of a book. Each function returns the call's answer as text.
 use crate::books::words::Call;
 use anyhow::{Result, bail, ensure};
+use kpn_book::{Book, Claim, View};
 use kpn_lang::Program;
 use kpn_net::Network;
-use kpn_run_state::{Book, Claim, View};
 use kpn_step::{Advance, Frame, try_advance};
 use linked_list_allocator::LocalHeap;
 use std::alloc::{Allocator, Global};

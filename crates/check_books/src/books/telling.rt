@@ -1,6 +1,6 @@
 //! What a call has made of a book, written as lines.
 use anyhow::Result;
-use kpn_run_state::Book;
+use kpn_book::Book;
 use std::alloc::Allocator;
 use std::io::Write;
 

@@ -1,15 +1,15 @@
 //! Events made by their calls, each after a check whether it may follow.
 ghost use Rattle.std.specs.Prelude.{◌≡◌, ◌↔◌, ◌<◌, length, IfOk, IfSome, OnOk, IsTrue};
-ghost use Rattle.kpn_run_configuration.specs.Configuration.{IsConfiguration, IsFree};
-ghost use Rattle.kpn_run_configuration.specs.Owed.{IsAwaitedBelowLimit};
-ghost use Rattle.kpn_run_configuration.specs.Due.{Stands, ReadsFrom, WritesTo, stop_of};
+ghost use Rattle.kpn_machine.specs.Machine.{IsMachine, IsFree};
+ghost use Rattle.kpn_machine.specs.Owed.{IsAwaitedBelowLimit};
+ghost use Rattle.kpn_machine.specs.Due.{Stands, ReadsFrom, WritesTo, stop_of};
 
 use anyhow::{Result, bail, ensure};
 use arrayvec::ArrayVec;
+use kpn_history::{Event, How};
 use kpn_limits::MAX_PORTS;
+use kpn_machine::{Machine, stop_of};
 use kpn_net::{Network, Wait};
-use kpn_run_configuration::{Configuration, stop_of};
-use kpn_run_history::{Event, How};
 use kpn_step::Stop;
 
 /// The processes that an event woke, in the order in which the call returns them.
@@ -25,9 +25,9 @@ fn woken(process: Option<usize>) -> Woken {
 }
 
 /// Steps process `p`, which has to be able to go, to its next stop.
-fn come_to_stop(state: &mut Configuration, network: &Network, p: usize) -> Result<Stop>
-    requires { IsConfiguration network.now state.old }
-    ensures shape { IsConfiguration network.now state.new }
+fn come_to_stop(state: &mut Machine, network: &Network, p: usize) -> Result<Stop>
+    requires { IsMachine network.now state.old }
+    ensures shape { IsMachine network.now state.new }
     ensures process { OnOk result (p < length network.now.instances) }
     ensures free { OnOk result (IsFree state.new p) }
     ensures stands { IfOk result (Stands network.now state.new p) }
@@ -40,9 +40,9 @@ fn come_to_stop(state: &mut Configuration, network: &Network, p: usize) -> Resul
 }
 
 /// Steps process `p` to its next stop, which has to be a read from channel `c`.
-fn to_read(state: &mut Configuration, network: &Network, p: usize, c: usize) -> Result<()>
-    requires { IsConfiguration network.now state.old }
-    ensures shape { IsConfiguration network.now state.new }
+fn to_read(state: &mut Machine, network: &Network, p: usize, c: usize) -> Result<()>
+    requires { IsMachine network.now state.old }
+    ensures shape { IsMachine network.now state.new }
     ensures process { OnOk result (p < length network.now.instances) }
     ensures channel { OnOk result (c < length network.now.channels) }
     ensures free { OnOk result (IsFree state.new p) }
@@ -60,9 +60,9 @@ fn to_read(state: &mut Configuration, network: &Network, p: usize, c: usize) -> 
 }
 
 /// Steps process `p` to its next stop, which has to be a write to channel `c`, and returns the item.
-fn to_write(state: &mut Configuration, network: &Network, p: usize, c: usize) -> Result<i64>
-    requires { IsConfiguration network.now state.old }
-    ensures shape { IsConfiguration network.now state.new }
+fn to_write(state: &mut Machine, network: &Network, p: usize, c: usize) -> Result<i64>
+    requires { IsMachine network.now state.old }
+    ensures shape { IsMachine network.now state.new }
     ensures process { OnOk result (p < length network.now.instances) }
     ensures channel { OnOk result (c < length network.now.channels) }
     ensures free { OnOk result (IsFree state.new p) }
@@ -79,9 +79,9 @@ fn to_write(state: &mut Configuration, network: &Network, p: usize, c: usize) ->
     Ok(item)
 }
 
-fn get(state: &mut Configuration, network: &Network, p: usize, c: usize, item: i64) -> Woken
-    requires { IsConfiguration network.now state.old }
-    ensures { IsConfiguration network.now state.new }
+fn get(state: &mut Machine, network: &Network, p: usize, c: usize, item: i64) -> Woken
+    requires { IsMachine network.now state.old }
+    ensures { IsMachine network.now state.new }
 {
     to_read(state, network, p, c)?;
     ensure!(state.has_item(c), "there is no item");
@@ -90,9 +90,9 @@ fn get(state: &mut Configuration, network: &Network, p: usize, c: usize, item: i
     woken(got.woken)
 }
 
-fn put(state: &mut Configuration, network: &Network, p: usize, c: usize, item: i64) -> Woken
-    requires { IsConfiguration network.now state.old }
-    ensures { IsConfiguration network.now state.new }
+fn put(state: &mut Machine, network: &Network, p: usize, c: usize, item: i64) -> Woken
+    requires { IsMachine network.now state.old }
+    ensures { IsMachine network.now state.new }
 {
     ensure!(c < network.channels(), "there is no such channel");
     state.reserve_one(c)?;
@@ -103,9 +103,9 @@ fn put(state: &mut Configuration, network: &Network, p: usize, c: usize, item: i
     woken(state.put(network, p, c, written))
 }
 
-fn wait_on_empty(state: &mut Configuration, network: &Network, p: usize, c: usize) -> Woken
-    requires { IsConfiguration network.now state.old }
-    ensures { IsConfiguration network.now state.new }
+fn wait_on_empty(state: &mut Machine, network: &Network, p: usize, c: usize) -> Woken
+    requires { IsMachine network.now state.old }
+    ensures { IsMachine network.now state.new }
 {
     to_read(state, network, p, c)?;
     ensure!(state.channel(c).is_empty(), "the channel is not empty");
@@ -113,9 +113,9 @@ fn wait_on_empty(state: &mut Configuration, network: &Network, p: usize, c: usiz
     woken(None)
 }
 
-fn wait_on_full(state: &mut Configuration, network: &Network, p: usize, c: usize) -> Woken
-    requires { IsConfiguration network.now state.old }
-    ensures { IsConfiguration network.now state.new }
+fn wait_on_full(state: &mut Machine, network: &Network, p: usize, c: usize) -> Woken
+    requires { IsMachine network.now state.old }
+    ensures { IsMachine network.now state.new }
 {
     ensure!(c < network.channels(), "there is no such channel");
     state.reserve_one(c)?;
@@ -132,18 +132,18 @@ fn is_end(how: How, stop: Stop) -> bool
     stop == stop_of(how)
 }
 
-fn end(state: &mut Configuration, network: &Network, p: usize, how: How) -> Woken
-    requires { IsConfiguration network.now state.old }
-    ensures { IsConfiguration network.now state.new }
+fn end(state: &mut Machine, network: &Network, p: usize, how: How) -> Woken
+    requires { IsMachine network.now state.old }
+    ensures { IsMachine network.now state.new }
 {
     let stop = come_to_stop(state, network, p)?;
     ensure!(is_end(how, stop), "the process does not end so");
     Ok(state.end(network, p, how))
 }
 
-fn feed(state: &mut Configuration, network: &Network, c: usize, item: i64) -> Woken
-    requires { IsConfiguration network.now state.old }
-    ensures { IsConfiguration network.now state.new }
+fn feed(state: &mut Machine, network: &Network, c: usize, item: i64) -> Woken
+    requires { IsMachine network.now state.old }
+    ensures { IsMachine network.now state.new }
 {
     ensure!(c < network.channels(), "there is no such channel");
     ensure!(network.is_source(c), "the channel is no source");
@@ -153,9 +153,9 @@ fn feed(state: &mut Configuration, network: &Network, c: usize, item: i64) -> Wo
     woken(state.feed(network, c, item))
 }
 
-fn close(state: &mut Configuration, network: &Network, c: usize) -> Woken
-    requires { IsConfiguration network.now state.old }
-    ensures { IsConfiguration network.now state.new }
+fn close(state: &mut Machine, network: &Network, c: usize) -> Woken
+    requires { IsMachine network.now state.old }
+    ensures { IsMachine network.now state.new }
 {
     ensure!(c < network.channels(), "there is no such channel");
     ensure!(network.is_source(c), "the channel is no source");
@@ -164,9 +164,9 @@ fn close(state: &mut Configuration, network: &Network, c: usize) -> Woken
     woken(None)
 }
 
-fn take(state: &mut Configuration, network: &Network, c: usize, item: i64) -> Woken
-    requires { IsConfiguration network.now state.old }
-    ensures { IsConfiguration network.now state.new }
+fn take(state: &mut Machine, network: &Network, c: usize, item: i64) -> Woken
+    requires { IsMachine network.now state.old }
+    ensures { IsMachine network.now state.new }
 {
     ensure!(c < network.channels(), "there is no such channel");
     ensure!(network.is_sink(c), "the channel is no sink");
@@ -176,9 +176,9 @@ fn take(state: &mut Configuration, network: &Network, c: usize, item: i64) -> Wo
     woken(got.woken)
 }
 
-fn leave(state: &mut Configuration, network: &Network, c: usize) -> Woken
-    requires { IsConfiguration network.now state.old }
-    ensures { IsConfiguration network.now state.new }
+fn leave(state: &mut Machine, network: &Network, c: usize) -> Woken
+    requires { IsMachine network.now state.old }
+    ensures { IsMachine network.now state.new }
 {
     ensure!(c < network.channels(), "there is no such channel");
     ensure!(network.is_sink(c), "the channel is no sink");
@@ -187,8 +187,8 @@ fn leave(state: &mut Configuration, network: &Network, c: usize) -> Woken
 }
 
 /// The channel whose growth is owed for process `p`: for a cycle, or else for a stop.
-fn owed(state: &Configuration, network: &Network, p: usize) -> Option<usize>
-    requires shape { IsConfiguration network.now state.now }
+fn owed(state: &Machine, network: &Network, p: usize) -> Option<usize>
+    requires shape { IsMachine network.now state.now }
     requires process { p < length network.now.instances }
     ensures { IfSome result (IsAwaitedBelowLimit network.now state.now) }
 {
@@ -201,9 +201,9 @@ fn owed(state: &Configuration, network: &Network, p: usize) -> Option<usize>
     }
 }
 
-fn grow(state: &mut Configuration, network: &Network, p: usize, c: usize) -> Woken
-    requires { IsConfiguration network.now state.old }
-    ensures { IsConfiguration network.now state.new }
+fn grow(state: &mut Machine, network: &Network, p: usize, c: usize) -> Woken
+    requires { IsMachine network.now state.old }
+    ensures { IsMachine network.now state.new }
 {
     ensure!(p < network.instances(), "there is no such process");
     ensure!(
@@ -214,9 +214,9 @@ fn grow(state: &mut Configuration, network: &Network, p: usize, c: usize) -> Wok
 }
 
 /// Makes the call for an event, and returns which processes it woke.
-pub(crate) fn happen(state: &mut Configuration, network: &Network, event: Event) -> Woken
-    requires { IsConfiguration network.now state.old }
-    ensures { IsConfiguration network.now state.new }
+pub(crate) fn happen(state: &mut Machine, network: &Network, event: Event) -> Woken
+    requires { IsMachine network.now state.old }
+    ensures { IsMachine network.now state.new }
 {
     match event {
         Event::Get(p, c, item) => get(state, network, p.into(), c.into(), item),

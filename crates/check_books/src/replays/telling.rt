@@ -1,10 +1,10 @@
-//! All that a configuration shows, written as lines.
+//! All that a machine shows, written as lines.
 ghost use Rattle.std.specs.Prelude.{◌<◌, length};
-ghost use Rattle.kpn_run_configuration.specs.Configuration.{IsConfiguration};
+ghost use Rattle.kpn_machine.specs.Machine.{IsMachine};
 
 use anyhow::{Result, bail};
+use kpn_machine::Machine;
 use kpn_net::{Network, Policy};
-use kpn_run_configuration::Configuration;
 use std::alloc::Global;
 use std::io::Write;
 
@@ -13,11 +13,11 @@ use std::io::Write;
 fn write_channel<O: Write>(
     alloc: Global,
     network: &Network,
-    state: &Configuration,
+    state: &Machine,
     c: usize,
     out: &mut O,
 ) -> Result<()>
-    requires shape { IsConfiguration network.now state.now }
+    requires shape { IsMachine network.now state.now }
     requires channel { c < length network.now.channels }
 {
     let channel = state.channel(c);
@@ -34,13 +34,8 @@ fn write_channel<O: Write>(
 }
 
 /// What a process waits for, how it ended, and which channel has to grow if it has just come to wait.
-fn write_process<O: Write>(
-    network: &Network,
-    state: &Configuration,
-    p: usize,
-    out: &mut O,
-) -> Result<()>
-    requires shape { IsConfiguration network.now state.now }
+fn write_process<O: Write>(network: &Network, state: &Machine, p: usize, out: &mut O) -> Result<()>
+    requires shape { IsMachine network.now state.now }
     requires process { p < length network.now.instances }
 {
     let (wait, end, owed) = (state.wait(p), state.end_of(p), state.owed(network, p));
@@ -54,10 +49,10 @@ fn write_process<O: Write>(
 fn write_channels<O: Write>(
     alloc: Global,
     network: &Network,
-    state: &Configuration,
+    state: &Machine,
     out: &mut O,
 ) -> Result<()>
-    requires { IsConfiguration network.now state.now }
+    requires { IsMachine network.now state.now }
 {
     for c in 0..network.channels() {
         write_channel(alloc, network, state, c, out)?;
@@ -65,8 +60,8 @@ fn write_channels<O: Write>(
     Ok(())
 }
 
-fn write_processes<O: Write>(network: &Network, state: &Configuration, out: &mut O) -> Result<()>
-    requires { IsConfiguration network.now state.now }
+fn write_processes<O: Write>(network: &Network, state: &Machine, out: &mut O) -> Result<()>
+    requires { IsMachine network.now state.now }
 {
     for p in 0..network.instances() {
         write_process(network, state, p, out)?;
@@ -75,12 +70,8 @@ fn write_processes<O: Write>(network: &Network, state: &Configuration, out: &mut
 }
 
 /// Under the policy `all`, the growth that is owed for a stop.
-fn write_growth_at_stop<O: Write>(
-    network: &Network,
-    state: &Configuration,
-    out: &mut O,
-) -> Result<()>
-    requires { IsConfiguration network.now state.now }
+fn write_growth_at_stop<O: Write>(network: &Network, state: &Machine, out: &mut O) -> Result<()>
+    requires { IsMachine network.now state.now }
 {
     if network.policy() == Policy::All {
         let owed = state.owed_at_stop(network);
@@ -94,10 +85,10 @@ fn write_growth_at_stop<O: Write>(
 pub(crate) fn write_state<O: Write>(
     alloc: Global,
     network: &Network,
-    state: &Configuration,
+    state: &Machine,
     out: &mut O,
 ) -> Result<()>
-    requires { IsConfiguration network.now state.now }
+    requires { IsMachine network.now state.now }
 {
     write_channels(alloc, network, state, out)?;
     write_processes(network, state, out)?;

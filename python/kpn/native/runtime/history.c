@@ -5,7 +5,7 @@
 
 #include "network.h"
 
-bool kpn_history_add_slowly(struct kpn_run_history *history, struct kpn_event event) {
+bool kpn_history_add_slowly(struct kpn_history *history, struct kpn_event event) {
   if (history->count >= history->most) {
     history->count++;
     return true;
@@ -37,7 +37,7 @@ static void free_pieces(struct kpn_piece *piece) {
   }
 }
 
-void kpn_history_cut(struct kpn_run_history *history, struct kpn_history_mark mark) {
+void kpn_history_cut(struct kpn_history *history, struct kpn_history_mark mark) {
   free_pieces(mark.last ? mark.last->next : history->first);
   if (mark.last) {
     mark.last->next = NULL;
@@ -49,7 +49,7 @@ void kpn_history_cut(struct kpn_run_history *history, struct kpn_history_mark ma
   history->count = mark.count;
 }
 
-void kpn_history_free(struct kpn_run_history *history) {
+void kpn_history_free(struct kpn_history *history) {
   free_pieces(history->first);
   history->first = history->last = NULL;
 }
@@ -110,7 +110,7 @@ static char *line_of(char *to, const struct kpn_event *event) {
   return to;
 }
 
-bool kpn_history_write(const struct kpn_run_history *history, bool is_policy_all, bool is_growth_double,
+bool kpn_history_write(const struct kpn_history *history, bool is_policy_all, bool is_growth_double,
                        kpn_writer *writer, void *to) {
   enum { BUFFER = 65536, LINE = 64 };
   static const char head[] = "kpn-trace 2\npolicy ";

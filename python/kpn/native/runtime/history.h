@@ -23,16 +23,16 @@ struct kpn_piece {
   struct kpn_event events[KPN_PIECE];
 };
 
-struct kpn_run_history {
+struct kpn_history {
   struct kpn_piece *first, *last;
   size_t used;             /* events in the last piece */
   uint64_t count, most;    /* of the events, and how many are kept at most */
 };
 
-bool kpn_history_add_slowly(struct kpn_run_history *history, struct kpn_event event);
+bool kpn_history_add_slowly(struct kpn_history *history, struct kpn_event event);
 
 /* Adds an event, or says that memory was refused. */
-static inline bool kpn_history_add(struct kpn_run_history *history, enum kpn_event_kind kind, unsigned process,
+static inline bool kpn_history_add(struct kpn_history *history, enum kpn_event_kind kind, unsigned process,
                                    unsigned channel, int64_t item) {
   struct kpn_event event = {(uint16_t)kind, (uint16_t)process, (uint16_t)channel, item};
   if (history->last && history->used < KPN_PIECE && history->count < history->most) {
@@ -50,18 +50,18 @@ struct kpn_history_mark {
   uint64_t count;
 };
 
-static inline struct kpn_history_mark kpn_history_mark(const struct kpn_run_history *history) {
+static inline struct kpn_history_mark kpn_history_mark(const struct kpn_history *history) {
   return (struct kpn_history_mark){history->last, history->used, history->count};
 }
 
-void kpn_history_cut(struct kpn_run_history *history, struct kpn_history_mark mark);
-void kpn_history_free(struct kpn_run_history *history);
+void kpn_history_cut(struct kpn_history *history, struct kpn_history_mark mark);
+void kpn_history_free(struct kpn_history *history);
 
 /* Takes a text in pieces; false says that it could not. */
 typedef bool kpn_writer(void *to, const char *text, size_t length);
 
 /* Writes a history as a trace of version 2. */
-bool kpn_history_write(const struct kpn_run_history *history, bool is_policy_all, bool is_growth_double,
+bool kpn_history_write(const struct kpn_history *history, bool is_policy_all, bool is_growth_double,
                        kpn_writer *writer, void *to);
 
 /* Writes a number without leading zeros, and gives its end. It takes 20 bytes at most. */

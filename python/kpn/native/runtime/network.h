@@ -158,7 +158,7 @@ struct kpn_network {
   uint64_t commits;
   kpn_taker *taker;            /* who takes from the sinks at once; null if the owner does so when it likes */
   void *owner;
-  struct kpn_run_history *history; /* null without a trace */
+  struct kpn_history *history; /* null without a trace */
   bool lacks_memory;
   bool has_differed;           /* a loop without checks has given other items than the periods one by one */
 };

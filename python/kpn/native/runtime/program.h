@@ -43,7 +43,7 @@ struct kpn_run_sink {
 
 struct kpn_run {
   struct kpn_network network;
-  struct kpn_run_history history;
+  struct kpn_history history;
   struct kpn_words words;
   const char *program;         /* the program `kpn` that judges runs */
   struct kpn_text_items *lists;     /* of each channel: what a source is fed */

@@ -9,7 +9,7 @@
 
 struct kpn_own_session {
   struct kpn_network network;
-  struct kpn_run_history history;
+  struct kpn_history history;
   bool has_begun, has_lost_events;
 };
 

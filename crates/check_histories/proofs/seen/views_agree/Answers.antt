@@ -1,10 +1,10 @@
 use Rattle.std.specs.Prelude.{slice_index_or}
 use Rattle.std.proofs.Common.{ℕ, zero, suc, ◌<◌, take, refl, lit<, arith}
 use Rattle.std.proofs.lemmas.List.Elements.{Contains-get_or}
-use Rattle.kpn_run_history.specs.declared.event.How.TheVariants as how
-use Rattle.kpn_run_history.specs.declared.event.Event.TheVariants as event
-use Rattle.kpn_run_history.specs.declared.state.State.TheVariants.{Ready}
-use Rattle.kpn_run_history.specs.Views.{IsStateOf}
+use Rattle.kpn_history.specs.declared.event.How.TheVariants as how
+use Rattle.kpn_history.specs.declared.event.Event.TheVariants as event
+use Rattle.kpn_history.specs.declared.state.State.TheVariants.{Ready}
+use Rattle.kpn_history.specs.Views.{IsStateOf}
 use Rattle.check_histories.specs.Networks.{copy_network, two_network}
 use Rattle.check_histories.specs.Runs.{two_run}
 use Rattle.check_histories.specs.Views.{fed_closed_left, fed_closed_left_view, two_waiting_view, two_ended_view}

@@ -1,8 +1,8 @@
-use Rattle.kpn_run_configuration.specs.Configuration.{IsConfiguration}
+use Rattle.kpn_machine.specs.Machine.{IsMachine}
 use Rattle.check_networks.proofs.regions.make_ready.Given as goal
 
 abbrev pub invariant-channels : goal.invariant-channels
-invariant-channels g l = IsConfiguration l.network l.configuration
+invariant-channels g l = IsMachine l.network l.machine
 
 abbrev pub invariant-items : goal.invariant-items
-invariant-items g l = IsConfiguration l.network l.configuration
+invariant-items g l = IsMachine l.network l.machine

@@ -1,9 +1,9 @@
 -- A legal list has no event that is illegal, and if it is quiet its journals are the least solution.
 use Rattle.std.proofs.Common.{◌≡◌, ◌⊎◌, ℕ, List, inl, inr, refl}
 use Rattle.std.proofs.lemmas.Result.{err_from_is_err_and}
-use Rattle.kpn_run_history.specs.Legal.{Legal}
+use Rattle.kpn_history.specs.Legal.{Legal}
 use Rattle.kpn_net.specs.Tables.{Tables}
-use Rattle.kpn_run_history.specs.declared.event.Event.{Event}
+use Rattle.kpn_history.specs.declared.event.Event.{Event}
 use Rattle.kpn_audit.specs.Audit.{IsFault}
 use Rattle.kpn_audit.specs.Stored.{history_of}
 use Rattle.kpn_audit.specs.declared.findings.AuditFault.{AuditFault}

@@ -1,9 +1,9 @@
 -- What is found of an event is said of the events before it, and of the place where it stands.
 use Rattle.std.proofs.Common.{◌≡◌, pos, take, subst, arith}
 use Rattle.std.proofs.lemmas.List.{take_all}
-use Rattle.kpn_run_history.specs.declared.event.Event.TheVariants.{Get}
-use Rattle.kpn_run_history.proofs.Growth.{none_owed_at_first}
-use Rattle.kpn_run_configuration.specs.Run.{IsRun}
+use Rattle.kpn_history.specs.declared.event.Event.TheVariants.{Get}
+use Rattle.kpn_history.proofs.Growth.{none_owed_at_first}
+use Rattle.kpn_machine.specs.Run.{IsRun}
 use Rattle.kpn_audit.specs.declared.judged.Judged.{Judged}
 use Rattle.kpn_audit.specs.declared.judged.Judged.TheVariants.{Follows, Illegal, Budget}
 use Rattle.kpn_audit.specs.Judged.{ArePlaces, Owes}
@@ -16,14 +16,14 @@ use Rattle.kpn_audit.proofs.auditor.replay.Goals.{In_ok-growth}
 
 leads : (g : given.Over) (c : In_ok-growth g) (found : Judged) → c.in_ok-growth.field-0 ≡ found
     → LeadsTo c.args.network.now (history_of c.args.version c.args.network.now c.args.events.now) c.args.quota c.events.k
-    c.judge.new.configuration found
+    c.judge.new.machine found
 leads g c found is =
     let t = c.args.network.now in
     let v = c.args.version in
     let H = history_of v t c.args.events.now in
     let k = c.events.k in
-    let s = c.events.configuration in
-    let after = c.judge.new.configuration in
+    let s = c.events.machine in
+    let after = c.judge.new.machine in
     let now = c.events.invariant in
     let e = c.told-event.result in
     let before : IsReplayed t H c.args.quota k s c.events.owed =
@@ -59,9 +59,9 @@ events-preserved g c =
 pub events-init : goal.events-init
 events-init g c =
     record {
-      run = c.in_ok-configuration.ensures.run;
+      run = c.in_ok-machine.ensures.run;
       owes = none_owed_at_first c.args.network.now;
-      places = c.in_ok-configuration.ensures.frames;
+      places = c.in_ok-machine.ensures.frames;
       within = none_within c.args.network.now
           (history_of c.args.version c.args.network.now c.args.events.now) c.args.quota;
     }
@@ -75,7 +75,7 @@ told-event-requires g c =
 pub returns : goal.returns
 returns g c =
     let t = c.args.network.now in
-    let s = c.events.configuration in
+    let s = c.events.machine in
     let same = history_of-length c.args.version t c.args.events.now in
     let all = take_all c.events.k (history_of c.args.version t c.args.events.now) (omega (arith, same)) in
     record {

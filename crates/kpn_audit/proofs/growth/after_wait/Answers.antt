@@ -20,7 +20,7 @@ returns-in-None g c H event before waits run goes =
       run = run;
       goes = goes;
       owes =
-          owes_at_stop c.args.network.now (H ++ event ∷ []) c.args.configuration.now c.owed_at_stop.result run
+          owes_at_stop c.args.network.now (H ++ event ∷ []) c.args.machine.now c.owed_at_stop.result run
           (c.owed.ensures.nothing H event waits run c.in-None.is) c.owed_at_stop.ensures.now
           c.owed_at_stop.ensures.growth c.owed_at_stop.ensures.nothing c.owed_at_stop.ensures.awaited;
     }

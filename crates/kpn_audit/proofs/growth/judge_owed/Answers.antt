@@ -1,8 +1,8 @@
 -- The growth that is owed is made, and nothing else may follow.
 use Rattle.std.proofs.Common.{◌≡◌, None, refl, subst}
 use Rattle.kpn_net.specs.Tables.{larger_capacity}
-use Rattle.kpn_run_history.specs.Channels.{capacity_or_zero}
-use Rattle.kpn_run_history.specs.declared.event.Event.TheVariants.{Grow}
+use Rattle.kpn_history.specs.Channels.{capacity_or_zero}
+use Rattle.kpn_history.specs.declared.event.Event.TheVariants.{Grow}
 use Rattle.kpn_audit.specs.Judged.{IsFollowed}
 use Rattle.kpn_audit.proofs.Refused.{only_growth}
 use Rattle.kpn_audit.proofs.Followed.{followed, goes_outside}
@@ -34,7 +34,7 @@ returns-then-grown-capacity-clause-judged g c H run owing =
     let t = c.args.network.now in
     let growth = Grow c.args.owed.process c.args.owed.channel c.grow-grown.result.capacity in
     let same : growth ≡ c.args.event = cc in
-    let s = c.args.configuration.now in
+    let s = c.args.machine.now in
     subst (λ e. IsFollowed t H e s c.grow-grown.new.self None) same
     (followed t c.known.ensures H growth s c.grow-grown.new.self refl refl
     (c.grow-grown.ensures.run H run owing.owed)

@@ -9,8 +9,8 @@ judge_owed-requires-clause-process g c = (c.requires.owed c.in-Some.growth c.in-
 
 pub returns-in-Some-clause-judged : goal.returns-in-Some-clause-judged
 returns-in-Some-clause-judged g c H run owes =
-    judged_if_made c.args.network.now H c.args.event c.args.quota c.args.configuration.now
-    c.judge_owed.new.configuration
+    judged_if_made c.args.network.now H c.args.event c.args.quota c.args.machine.now
+    c.judge_owed.new.machine
     c.judge_owed.result
     (c.judge_owed.ensures.judged H run
-    (subst (λ o. Owes c.args.network.now H c.args.configuration.now o) c.in-Some.is owes))
+    (subst (λ o. Owes c.args.network.now H c.args.machine.now o) c.in-Some.is owes))

@@ -1,8 +1,8 @@
 -- Each arm says of its event what the call for it says.
 use Rattle.std.proofs.Common.{◌≡◌, IfOk, to_z, of_z, w64, rules, sym, ap, ◌∙◌, subst}
 use Rattle.std.proofs.lemmas.Bool.{eq-eqb}
-use Rattle.kpn_run_history.specs.Talks.{is_of}
-use Rattle.kpn_run_history.specs.declared.event.Event.TheVariants.{Get, Put, WaitEmpty, WaitFull, Ended}
+use Rattle.kpn_history.specs.Talks.{is_of}
+use Rattle.kpn_history.specs.declared.event.Event.TheVariants.{Get, Put, WaitEmpty, WaitFull, Ended}
 use Rattle.kpn_audit.specs.Judged.{IsFound}
 use Rattle.kpn_audit.proofs.judging.judge_at_stop.Goals as goal
 
@@ -38,7 +38,7 @@ pub returns-in-Get-clause-judged : goal.returns-in-Get-clause-judged
 returns-in-Get-clause-judged g c own =
     let item : to_z w64 (of_z w64 c.in-Get.item) ≡ c.in-Get.item = search rules in
     let same : Get c.into.result c.into-in-Get.result (to_z w64 (of_z w64 c.in-Get.item)) ≡ c.args.event = cc in
-    subst (λ e. IsFound c.args.network.now e c.args.configuration.now c.get.new.configuration c.get.result) same
+    subst (λ e. IsFound c.args.network.now e c.args.machine.now c.get.new.machine c.get.result) same
     c.get.ensures.judged
 
 pub returns-in-Put-clause-judged : goal.returns-in-Put-clause-judged
@@ -46,13 +46,13 @@ returns-in-Put-clause-judged g c own =
     let item : to_z w64 (of_z w64 c.in-Put.item) ≡ c.in-Put.item = search rules in
     let same : Put c.into-in-Put.result c.into-in-Put-2.result (to_z w64 (of_z w64 c.in-Put.item)) ≡ c.args.event =
     cc in
-    subst (λ e. IfOk c.put.result (IsFound c.args.network.now e c.args.configuration.now c.put.new.configuration)) same
+    subst (λ e. IfOk c.put.result (IsFound c.args.network.now e c.args.machine.now c.put.new.machine)) same
     c.put.ensures.judged
 
 pub returns-in-WaitEmpty-clause-judged : goal.returns-in-WaitEmpty-clause-judged
 returns-in-WaitEmpty-clause-judged g c own =
     let same : WaitEmpty c.into-in-WaitEmpty.result c.into-in-WaitEmpty-2.result ≡ c.args.event = cc in
-    subst (λ e. IsFound c.args.network.now e c.args.configuration.now c.wait_on_empty.new.configuration
+    subst (λ e. IsFound c.args.network.now e c.args.machine.now c.wait_on_empty.new.machine
     c.wait_on_empty.result) same c.wait_on_empty.ensures.judged
 
 pub returns-in-WaitFull-clause-judged : goal.returns-in-WaitFull-clause-judged
@@ -60,11 +60,11 @@ returns-in-WaitFull-clause-judged g c own =
     let same : WaitFull c.into-in-WaitFull.result c.into-in-WaitFull-2.result ≡ c.args.event = cc in
     subst
     (λ e.
-    IfOk c.wait_on_full.result (IsFound c.args.network.now e c.args.configuration.now c.wait_on_full.new.configuration))
+    IfOk c.wait_on_full.result (IsFound c.args.network.now e c.args.machine.now c.wait_on_full.new.machine))
     same c.wait_on_full.ensures.judged
 
 pub returns-in-Ended-clause-judged : goal.returns-in-Ended-clause-judged
 returns-in-Ended-clause-judged g c own =
     let same : Ended c.into-in-Ended.result c.in-Ended.how ≡ c.args.event = cc in
-    subst (λ e. IsFound c.args.network.now e c.args.configuration.now c.end.new.configuration c.end.result) same
+    subst (λ e. IsFound c.args.network.now e c.args.machine.now c.end.new.machine c.end.result) same
     c.end.ensures.judged

@@ -13,6 +13,6 @@ returns-then-not-has_numbers-clause-judged g c H run owes legal =
 pub returns-in-None-clause-judged : goal.returns-in-None-clause-judged
 returns-in-None-clause-judged g c H run owes =
     IfOk-weaker c.judge_outside.result _ _
-    (λ found made. judged_if_made c.args.network.now H c.args.event c.args.quota c.args.configuration.now
-    c.judge_outside.new.configuration found (made H run owes))
+    (λ found made. judged_if_made c.args.network.now H c.args.event c.args.quota c.args.machine.now
+    c.judge_outside.new.machine found (made H run owes))
     c.judge_outside.ensures.judged

@@ -2,8 +2,8 @@
 use Rattle.std.proofs.Common.{is_ok, refl, sym, ◌∙◌, ap}
 use Rattle.std.proofs.lemmas.Bool.{both_ways, eq-eqb}
 use Rattle.kpn_chan.specs.Channel.{is_full, with_room}
-use Rattle.kpn_run_configuration.specs.Configuration.{channel_in}
-use Rattle.kpn_run_history.specs.declared.event.Event.TheVariants.{WaitFull}
+use Rattle.kpn_machine.specs.Machine.{channel_in}
+use Rattle.kpn_history.specs.declared.event.Event.TheVariants.{WaitFull}
 use Rattle.kpn_audit.proofs.Followed.{goes_made, frames_kept, frames_from}
 use Rattle.kpn_audit.proofs.Refused.{full_elsewhere, not_full}
 use Rattle.kpn_audit.proofs.processes.wait_on_full.Goals as goal
@@ -13,17 +13,17 @@ pub returns-then-not-is_write_to-clause-judged : goal.returns-then-not-is_write_
 returns-then-not-is_write_to-clause-judged g c H run owes legal =
     elim c.then-not-is_write_to.branch [
       | then-not-is_write_to-via-then-not-is_write_to w ↦ full_elsewhere c.args.network.now c.known.ensures H
-          c.args.configuration.now run c.args.p c.args.stop c.requires.stopped c.args.c
+          c.args.machine.now run c.args.p c.args.stop c.requires.stopped c.args.c
           (λ write. both_ways _ w.if-not-is_write_to.true (c.is_write_to.ensures.1 write)) legal
       | then-not-is_write_to-via-else-not-is_write_to+then-not-is_full w ↦ not_full c.args.network.now
-          c.known.ensures H c.args.configuration.now run c.args.p c.args.stop c.requires.stopped c.args.c
+          c.known.ensures H c.args.machine.now run c.args.p c.args.stop c.requires.stopped c.args.c
           (sym (w.is_full.ensures ∙ ap is_full w.channel.ensures) ∙ w.if-not-is_full.true) legal
     ]
 
 pub returns-clause-judged : goal.returns-clause-judged
 returns-clause-judged g c H run owes =
     let t = c.args.network.now in
-    let s = c.args.configuration.now in
+    let s = c.args.machine.now in
     let e = WaitFull c.args.p c.args.c in
     let kept =
     frames_kept (is_ok c.reserve_one.result) s c.reserve_one.new.self c.args.c (with_room (channel_in s c.args.c))

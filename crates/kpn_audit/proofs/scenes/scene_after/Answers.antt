@@ -9,4 +9,4 @@ returns-in-Some-clause-scene g c =
     let t = c.args.network.now in
     let H = history_of c.args.version t c.args.before.now in
     c.growth_owed.ensures H c.in_ok-replayed.ensures.run
-    (subst (λ owed. Owes t H c.in_ok-replayed.replayed.configuration owed) c.in-Some.is c.in_ok-replayed.ensures.owes)
+    (subst (λ owed. Owes t H c.in_ok-replayed.replayed.machine owed) c.in-Some.is c.in_ok-replayed.ensures.owes)

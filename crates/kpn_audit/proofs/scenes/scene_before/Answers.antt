@@ -1,9 +1,9 @@
 -- What stands before the event under the rules of the trace stands before it in the trace.
 use Rattle.std.proofs.Common.{pos, ◌<◌, List, length, take, refl, sym, subst}
 use Rattle.std.proofs.lemmas.Result.{IfOk-weaker, IfErr-weaker}
-use Rattle.kpn_run_history.specs.declared.event.Event.{Event}
-use Rattle.kpn_run_history.specs.declared.event.Event.TheVariants.{Get}
-use Rattle.kpn_run_history.specs.declared.stored.Version.TheVariants.{One, Two}
+use Rattle.kpn_history.specs.declared.event.Event.{Event}
+use Rattle.kpn_history.specs.declared.event.Event.TheVariants.{Get}
+use Rattle.kpn_history.specs.declared.stored.Version.TheVariants.{One, Two}
 use Rattle.kpn_audit.specs.Audit.{IsFault}
 use Rattle.kpn_audit.specs.Scene.{IsSceneAt}
 use Rattle.kpn_audit.proofs.Telling.{of_trace}

@@ -7,7 +7,7 @@ returns-in-Some g c H run owes places =
     record {
       by_itself = record { nothing_owed = owes; numbers = numbers };
       own = own;
-      seen = c.doing.new.configuration;
+      seen = c.doing.new.machine;
       run = c.doing.ensures.run H run;
       is_doing = c.doing.ensures.doing H c.args.event run owes places own numbers;
     }

@@ -1,25 +1,25 @@
 -- The port is one of the process, and its channel one of the network.
 use Rattle.std.proofs.Common.{ap, ◌∙◌, rules, arith}
 use Rattle.kpn_chan.specs.Channel.{is_full}
-use Rattle.kpn_run_configuration.proofs.Ports.{writes_below}
+use Rattle.kpn_machine.proofs.Ports.{writes_below}
 use Rattle.kpn_audit.proofs.Asked.{out_port, writes_there}
 use Rattle.kpn_audit.proofs.seeing.writes.Goals as goal
 
 pub out_channel-c-requires-clause-port : goal.out_channel-c-requires-clause-port
 out_channel-c-requires-clause-port g c =
-    out_port c.args.network.now c.known.ensures c.args.configuration.now c.args.p c.requires.process c.args.port
+    out_port c.args.network.now c.known.ensures c.args.machine.now c.args.p c.requires.process c.args.port
     c.args.item c.requires.stands
 
 pub channel-requires : goal.channel-requires
 channel-requires g c =
     let below =
-    writes_below c.args.network.now c.known.ensures c.args.configuration.now c.args.p c.requires.process
+    writes_below c.args.network.now c.known.ensures c.args.machine.now c.args.p c.requires.process
     c.out_channel-c.result c.args.item
     (record { port = c.args.port; channel = c.out_channel-c.ensures; stands = c.requires.stands }) in
     omega (arith, below, c.requires.shape.channels)
 
 pub returns : goal.returns
 returns g c H event quota =
-    writes_there c.args.network.now H event quota c.args.configuration.now c.args.p c.out_channel-c.result
+    writes_there c.args.network.now H event quota c.args.machine.now c.args.p c.out_channel-c.result
     c.requires.free c.args.port c.out_channel-c.ensures _ c.args.item (search rules) c.requires.stands _
     (c.is_full.ensures ∙ ap is_full c.channel.ensures)

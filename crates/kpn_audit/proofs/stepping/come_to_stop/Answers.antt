@@ -1,7 +1,7 @@
 -- A process that has ended or waits makes no event.
 use Rattle.std.proofs.Common.{refl}
 use Rattle.std.proofs.lemmas.Bool.{both_ways}
-use Rattle.kpn_run_configuration.proofs.Exact.{must_be_free}
+use Rattle.kpn_machine.proofs.Exact.{must_be_free}
 use Rattle.kpn_audit.proofs.stepping.come_to_stop.Goals as goal
 
 pub returns-then-not-is_free-clause-moved : goal.returns-then-not-is_free-clause-moved
@@ -12,5 +12,5 @@ pub returns-then-not-is_free-clause-judged : goal.returns-then-not-is_free-claus
 returns-then-not-is_free-clause-judged g c H run owes event own numbers legal =
     both_ways _ c.if-not-is_free.true
     (c.is_free.ensures.1
-    (must_be_free c.args.network.now c.known.ensures H c.args.configuration.now run c.args.p c.requires.process event
+    (must_be_free c.args.network.now c.known.ensures H c.args.machine.now run c.args.p c.requires.process event
     own legal))

@@ -2,22 +2,22 @@
 use Rattle.std.proofs.Common.{◌≡◌, ◌≢◌, ℕ, ◌≤◌, ◌-◌, List}
 use Rattle.kpn_net.specs.Tables.{program_of}
 use Rattle.kpn_step.specs.Step.{Steps}
-use Rattle.kpn_run_history.specs.declared.event.Event.{Event}
-use Rattle.kpn_run_configuration.specs.Configuration.{frame_in, IsConfiguration, IsFree}
-use Rattle.kpn_run_configuration.specs.Run.{IsRun}
+use Rattle.kpn_history.specs.declared.event.Event.{Event}
+use Rattle.kpn_machine.specs.Machine.{frame_in, IsMachine, IsFree}
+use Rattle.kpn_machine.specs.Run.{IsRun}
 use Rattle.kpn_audit.proofs.stepping.step_on.Given as goal
 
 abbrev pub invariant-steps : goal.invariant-steps
 invariant-steps g l =
     let t = l.network in
     record {
-      shape : IsConfiguration t l.configuration;
-      free : IsFree l.fn.configuration l.p → IsFree l.configuration l.p;
-      run : (H : List Event) → IsRun t H l.fn.configuration → IsRun t H l.configuration;
+      shape : IsMachine t l.machine;
+      free : IsFree l.fn.machine l.p → IsFree l.machine l.p;
+      run : (H : List Event) → IsRun t H l.fn.machine → IsRun t H l.machine;
       remaining : l.remaining ≤ l.quota;
-      others : (q : ℕ) → q ≢ l.p → frame_in l.configuration q ≡ frame_in l.fn.configuration q;
-      stepped : Steps (program_of t l.p).blocks (l.quota - l.remaining) (frame_in l.fn.configuration l.p)
-          (frame_in l.configuration l.p);
+      others : (q : ℕ) → q ≢ l.p → frame_in l.machine q ≡ frame_in l.fn.machine q;
+      stepped : Steps (program_of t l.p).blocks (l.quota - l.remaining) (frame_in l.fn.machine l.p)
+          (frame_in l.machine l.p);
     }
 
 abbrev pub decreases-steps : goal.decreases-steps

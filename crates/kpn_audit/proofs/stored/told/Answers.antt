@@ -1,14 +1,14 @@
--- The capacity of the channel in the configuration is that of the history.
+-- The capacity of the channel in the machine is that of the history.
 use Rattle.std.proofs.Common.{ap, ◌∙◌}
-use Rattle.kpn_run_history.specs.declared.event.Event.TheVariants.{Grow}
-use Rattle.kpn_run_history.specs.Channels.{capacity_after}
+use Rattle.kpn_history.specs.declared.event.Event.TheVariants.{Grow}
+use Rattle.kpn_history.specs.Channels.{capacity_after}
 use Rattle.kpn_audit.specs.Stored.{told_capacity}
 use Rattle.kpn_audit.proofs.Telling.{has_room, same_capacity}
 use Rattle.kpn_audit.proofs.stored.told.Goals as goal
 
 pub told_capacity-requires-clause-room : goal.told_capacity-requires-clause-room
 told_capacity-requires-clause-room g c =
-    has_room c.args.network.now c.known.ensures c.requires.run.0 c.args.configuration.now c.requires.run.1
+    has_room c.args.network.now c.known.ensures c.requires.run.0 c.args.machine.now c.requires.run.1
     c.into.result
 
 pub returns-in-Grow : goal.returns-in-Grow
@@ -17,5 +17,5 @@ returns-in-Grow g c H run =
     let n = c.in-Grow.n in
     rw (c.in-One.is, c.in-Grow.is)
     (ap (λ m. Grow c.in-Grow.p c.in-Grow.c m)
-    (c.told_capacity.ensures ∙ same_capacity t H c.args.configuration.now run c.into.result n
+    (c.told_capacity.ensures ∙ same_capacity t H c.args.machine.now run c.into.result n
     ∙ ap (λ x. told_capacity t (capacity_after t H x) x n) c.into.ensures))

@@ -1,8 +1,8 @@
 use Rattle.std.proofs.Common.{◌≡◌, map}
 use Rattle.std.specs.List.{range_with_len}
-use Rattle.kpn_run_configuration.specs.Configuration.{channel_in}
+use Rattle.kpn_machine.specs.Machine.{channel_in}
 use Rattle.kpn_audit.proofs.summary.capacities.Given as goal
 
 abbrev pub invariant-loop-c : goal.invariant-loop-c
 invariant-loop-c g l =
-    l.caps.items ≡ map (λ c. (channel_in l.configuration c).capacity) (range_with_len 0 l.c)
+    l.caps.items ≡ map (λ c. (channel_in l.machine c).capacity) (range_with_len 0 l.c)

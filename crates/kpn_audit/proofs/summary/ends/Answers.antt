@@ -1,9 +1,9 @@
 use Rattle.std.proofs.Common.{[], ◌∷◌, ◌++◌, ap, ◌∙◌}
-use Rattle.kpn_run_configuration.specs.Configuration.{end_in}
-use Rattle.kpn_run_configuration.proofs.Numbered.{one_more}
+use Rattle.kpn_machine.specs.Machine.{end_in}
+use Rattle.kpn_machine.proofs.Numbered.{one_more}
 use Rattle.kpn_audit.proofs.summary.ends.Goals as goal
 
 pub loop-p-preserved : goal.loop-p-preserved
 loop-p-preserved g c =
-    one_more (end_in c.args.configuration.now) c.loop-p.p c.loop-p.ends.items c.push.new.self.items c.loop-p.invariant
+    one_more (end_in c.args.machine.now) c.loop-p.p c.loop-p.ends.items c.push.new.self.items c.loop-p.invariant
     (c.in_ok-push.ensures.items ∙ ap (λ x. c.loop-p.ends.items ++ x ∷ []) c.end_of.ensures)

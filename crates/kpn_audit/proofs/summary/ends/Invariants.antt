@@ -1,7 +1,7 @@
 use Rattle.std.proofs.Common.{◌≡◌, map}
 use Rattle.std.specs.List.{range_with_len}
-use Rattle.kpn_run_configuration.specs.Configuration.{end_in}
+use Rattle.kpn_machine.specs.Machine.{end_in}
 use Rattle.kpn_audit.proofs.summary.ends.Given as goal
 
 abbrev pub invariant-loop-p : goal.invariant-loop-p
-invariant-loop-p g l = l.ends.items ≡ map (end_in l.configuration) (range_with_len 0 l.p)
+invariant-loop-p g l = l.ends.items ≡ map (end_in l.machine) (range_with_len 0 l.p)

@@ -1,8 +1,8 @@
 use Rattle.std.proofs.Common.{ℤ, pos, [], ◌∷◌, ◌++◌, map, take, get_or, subst, sym, ap, ◌∙◌, rules, w64, SFits}
 use Rattle.std.proofs.lemmas.Int.{to_z-of_z}
 use Rattle.std.proofs.lemmas.List.{map-append, take_more}
-use Rattle.kpn_run_history.specs.declared.event.Event.TheVariants.{Feed}
-use Rattle.kpn_run_state.specs.Appending.{AllHappen}
+use Rattle.kpn_history.specs.declared.event.Event.TheVariants.{Feed}
+use Rattle.kpn_book.specs.Appending.{AllHappen}
 use Rattle.kpn_book.specs.Running.{IsSupplied}
 use Rattle.kpn_book.proofs.Supplying.{IsSupplied-fed}
 use Rattle.kpn_book.proofs.Happening.{happens_alone, join, one}

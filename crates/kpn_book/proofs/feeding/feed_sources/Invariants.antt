@@ -2,7 +2,7 @@ use Rattle.std.proofs.Common.{◌≡◌, count_by, take}
 use Rattle.std.specs.List.{flat_map, range_with_len}
 use Rattle.kpn_net.specs.Tables.{is_source}
 use Rattle.kpn_net.specs.Iteration.{given_by}
-use Rattle.kpn_run_state.specs.Appending.{AllHappen}
+use Rattle.kpn_book.specs.Appending.{AllHappen}
 use Rattle.kpn_book.specs.RunHere.{supply_of}
 use Rattle.kpn_book.specs.Running.{IsFedBelow}
 use Rattle.kpn_book.proofs.feeding.feed_sources.Given as goal

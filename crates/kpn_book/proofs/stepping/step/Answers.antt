@@ -1,7 +1,7 @@
 use Rattle.std.proofs.Common.{◌≡◌, ◌-◌, ◌<◌, ◌^◌, [], ap, subst, arith, inl, rules}
 use Rattle.std.proofs.lemmas.Result.{IfOk-weaker}
-use Rattle.kpn_run_state.specs.InARow.{RunsOn}
-use Rattle.kpn_book.proofs.Settling.{somebody}
+use Rattle.kpn_book.specs.InARow.{RunsOn}
+use Rattle.kpn_book.proofs.SettledReports.{somebody}
 use Rattle.kpn_book.proofs.InARow.{row_ends, last_to_itself, last_few, last_turn, last_put, row_and_take}
 use Rattle.kpn_book.proofs.stepping.step.Goals as goal
 

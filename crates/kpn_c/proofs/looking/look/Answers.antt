@@ -2,7 +2,7 @@ use Rattle.std.proofs.Common.{◌≡◌, ℤ, ◌+◌, ◌<◌, take, drop, leng
 use Rattle.std.proofs.lemmas.Int.{to_z-of_z}
 use Rattle.std.proofs.lemmas.List.{length-set}
 use Rattle.kpn_chan.specs.Channel.{next_at}
-use Rattle.kpn_run_configuration.specs.Configuration.{channel_in}
+use Rattle.kpn_machine.specs.Machine.{channel_in}
 use Rattle.kpn_c.specs.States.{next_items}
 use Rattle.kpn_c.proofs.OneMore.{rest_then}
 use Rattle.kpn_c.proofs.Shown.{shown_more, there_is}
@@ -10,7 +10,7 @@ use Rattle.kpn_c.proofs.looking.look.Goals as goal
 
 pub places-preserved : goal.places-preserved
 places-preserved c =
-    let channel = channel_in c.args.book.now.configuration c.args.channel in
+    let channel = channel_in c.args.book.now.machine c.args.channel in
     let item : ℤ = c.in-Some.item in
     let fits : SFits w64 item = search rules in
     let put : ℤ = to_z w64 (of_z w64 item) in

@@ -1,5 +1,5 @@
 use Rattle.std.proofs.Common.{map, take}
-use Rattle.kpn_run_state.specs.Appending.{AllHappen}
+use Rattle.kpn_book.specs.Appending.{AllHappen}
 use Rattle.kpn_c.specs.Moving.{feed_of}
 use Rattle.kpn_c.proofs.moving.feed_items.Given as goal
 

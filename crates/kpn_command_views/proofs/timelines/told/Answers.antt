@@ -2,7 +2,7 @@
 use Rattle.std.proofs.Common.{List, refl, ap₂, ◌∙◌, subst}
 use Rattle.std.specs.Io.KnownBytes.{Appends}
 use Rattle.kpn_net.specs.declared.wait.Wait.{Wait}
-use Rattle.kpn_run_history.specs.declared.event.Event.{Event}
+use Rattle.kpn_history.specs.declared.event.Event.{Event}
 use Rattle.kpn_audit.specs.Stored.{tables_for}
 use Rattle.kpn_command_views.specs.TimelineText.{timeline}
 use Rattle.kpn_command_views.proofs.TimelineTold.{of_history}

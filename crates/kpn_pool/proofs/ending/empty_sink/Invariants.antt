@@ -1,7 +1,7 @@
 use Rattle.std.proofs.Common.{length}
 use Rattle.kpn_chan.specs.Channel.{unread}
-use Rattle.kpn_run_configuration.specs.Configuration.{channel_in}
-use Rattle.kpn_run_state.specs.Kept.{IsBook}
+use Rattle.kpn_machine.specs.Machine.{channel_in}
+use Rattle.kpn_book.specs.Kept.{IsBook}
 use Rattle.kpn_pool.specs.Ending.{KeepsHeld}
 use Rattle.kpn_pool.proofs.ending.empty_sink.Given as goal
 
@@ -9,4 +9,4 @@ abbrev pub invariant-items : goal.invariant-items
 invariant-items l = record { book : IsBook l.book; kept : KeepsHeld l.initial.book l.book }
 
 abbrev pub decreases-items : goal.decreases-items
-decreases-items l = length (unread (channel_in l.book.configuration l.sink))
+decreases-items l = length (unread (channel_in l.book.machine l.sink))

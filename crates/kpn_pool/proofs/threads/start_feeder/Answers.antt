@@ -2,7 +2,7 @@ use denote.Param.Send.{IsSend, sendable}
 use Rattle.std.proofs.Crossing.{crosses}
 use Rattle.std.specs.contracts.alloc.Global as heap
 use Rattle.std.specs.contracts.impls.GlobalAllocator.TheImpl.{ghosts}
-use Rattle.kpn_past.proofs.past.Past.TheSendSync as past
+use Rattle.kpn_chan.proofs.past.Past.TheSendSync as past
 use Rattle.kpn_pool_desk.specs.contracts.outside_seats.SourceSeat as SourceSeat
 use Rattle.kpn_pool.proofs.Sharing.{shared_sync}
 use Rattle.kpn_pool.proofs.threads.start_feeder.Goals as goal

@@ -1,5 +1,5 @@
 use Rattle.std.proofs.Common.{refl, inl}
-use Rattle.kpn_run_state.proofs.Committing.{source_there}
+use Rattle.kpn_book.proofs.Committing.{source_there}
 use Rattle.kpn_stream.specs.Devices.{not_yet}
 use Rattle.kpn_stream.specs.Streaming.{not_read, is_read}
 use Rattle.kpn_stream.proofs.looking.read_at_hand.Goals as goal

@@ -1,7 +1,7 @@
 use Rattle.std.proofs.Common.{rules, Ok, Err, Some, None, subst, w64, SFits, IfNone}
 use Rattle.std.proofs.lemmas.Int.{to_z-of_z}
-use Rattle.kpn_run_history.specs.declared.event.Event.TheVariants as event
-use Rattle.kpn_run_state.specs.Appending.{Happens}
+use Rattle.kpn_history.specs.declared.event.Event.TheVariants as event
+use Rattle.kpn_book.specs.Appending.{Happens}
 use Rattle.kpn_stream.proofs.Handling.{reads_item, reads_end, reads_fault}
 use Rattle.kpn_stream.proofs.reading.read.Goals as goal
 

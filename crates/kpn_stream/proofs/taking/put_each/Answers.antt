@@ -1,10 +1,10 @@
 use Rattle.std.proofs.Common.{rules, ◌≡◌, true, Ok, Err, Some, None, sym, ap, ◌∙◌, subst, inl}
 use Rattle.std.proofs.lemmas.Bool.{both_ways}
 use Rattle.kpn_net.specs.Tables.{channel_at, is_sink}
-use Rattle.kpn_run_history.specs.declared.event.Event.TheVariants as event
+use Rattle.kpn_history.specs.declared.event.Event.TheVariants as event
 use Rattle.kpn_chan.specs.Channel.{next_item}
-use Rattle.kpn_run_configuration.specs.Configuration.{channel_in}
-use Rattle.kpn_run_state.specs.Appending.{Happens}
+use Rattle.kpn_machine.specs.Machine.{channel_in}
+use Rattle.kpn_book.specs.Appending.{Happens}
 use Rattle.kpn_book.proofs.Happening.{happens_tables}
 use Rattle.kpn_stream.specs.declared.faults.SinkFault.TheVariants.{NoMemory}
 use Rattle.kpn_stream.specs.declared.ending.Ending.TheVariants.{SinkFailed}
@@ -75,5 +75,5 @@ items-smaller g c =
 
 pub returns-clause-all : goal.returns-clause-all
 returns-clause-all g c = λ _.
-    let none : next_item (channel_in c.items.book.configuration c.args.c) ≡ None = search rules in
+    let none : next_item (channel_in c.items.book.machine c.args.c) ≡ None = search rules in
     inl (taken_if_none c.items.book c.known-2.ensures c.args.c c.items.invariant.sink none)

@@ -1,6 +1,6 @@
 use Rattle.std.proofs.Common.{◌≡◌, length, true, None}
 use Rattle.kpn_net.specs.Tables.{channel_at, is_sink}
-use Rattle.kpn_run_history.specs.Channels.{unread_on}
+use Rattle.kpn_history.specs.Channels.{unread_on}
 use Rattle.kpn_stream.specs.Ending.{end_numbers}
 use Rattle.kpn_stream.specs.Streaming.{Serves}
 use Rattle.kpn_stream.proofs.taking.put_each.Given as goal

@@ -4,8 +4,8 @@ use Rattle.std.proofs.lemmas.List.{take_all}
 use Rattle.std.specs.Bool.{IsTrue}
 use Rattle.std.specs.Io.KnownBytes.{Appends}
 use Rattle.std.proofs.lemmas.Option.{slice_get-get_or}
-use Rattle.kpn_run_history.specs.declared.event.Event.TheVariants.{Close}
-use Rattle.kpn_run_history.specs.declared.stored.Version.TheVariants.{Two}
+use Rattle.kpn_history.specs.declared.event.Event.TheVariants.{Close}
+use Rattle.kpn_history.specs.declared.stored.Version.TheVariants.{Two}
 use Rattle.kpn_trace.specs.TraceText.{head_text, trace_text}
 use Rattle.kpn_trace.proofs.Traces.{one_more_written}
 use Rattle.kpn_trace.proofs.writing.write_trace.Goals as goal

@@ -1,7 +1,7 @@
 use Rattle.std.proofs.Common.{◌≡◌, length, sym, ◌∙◌, subst, arith}
 use Rattle.std.specs.List.{filter, range_with_len}
 use Rattle.kpn_net.specs.Tables.{channel_at, is_sink}
-use Rattle.kpn_run_history.specs.Complete.{IsComplete}
+use Rattle.kpn_history.specs.Complete.{IsComplete}
 use Rattle.kpn_book.specs.Reports.{events_of, TellsEach}
 use Rattle.kpn_book.proofs.Parts.{tells_next, tells_same}
 use Rattle.kpn_book.proofs.report.Report.complete_sinks.Goals.{then-is_sink+in_ok-push, else-is_sink}

@@ -1,5 +1,5 @@
 use Rattle.std.proofs.Common.{◌<◌, length}
-use Rattle.kpn_run_history.proofs.CompleteWalks.{Walked}
+use Rattle.kpn_history.proofs.CompleteWalks.{Walked}
 use Rattle.kpn_book.specs.Reports.{events_of}
 use Rattle.kpn_book.proofs.report.Report.is_complete.Given as goal
 

@@ -1,6 +1,6 @@
 use Rattle.std.proofs.Common.{◌≡◌}
 use Rattle.std.specs.Prelude.{OnOk, IfErr}
-use Rattle.kpn_run_state.specs.Refusals.{Leaves, RefusesLeave}
+use Rattle.kpn_book.specs.Refusals.{Leaves, RefusesLeave}
 use Rattle.kpn_c.proofs.Networks.{leave_tables}
 use Rattle.kpn_c.proofs.SessionLemmas.{book_after, of_session}
 use Rattle.kpn_c.proofs.session.Session.leave_sink.Goals as goal

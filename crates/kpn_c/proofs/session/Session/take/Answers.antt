@@ -1,5 +1,5 @@
 use Rattle.std.proofs.Common.{map, take}
-use Rattle.kpn_run_history.specs.declared.event.Event.TheVariants.{Take}
+use Rattle.kpn_history.specs.declared.event.Event.TheVariants.{Take}
 use Rattle.kpn_c.specs.Calls.{TakesEach}
 use Rattle.kpn_c.proofs.Networks.{all_tables}
 use Rattle.kpn_c.proofs.SessionLemmas.{book_after, of_session}

@@ -1,6 +1,6 @@
 use Rattle.std.proofs.Common.{◌≡◌, length, drop, sym, ◌∙◌, subst, rules, arith}
 use Rattle.std.proofs.lemmas.List.{take-append-le, take_all}
-use Rattle.kpn_run_state.proofs.FirstOfQueue.{refused_with}
+use Rattle.kpn_book.proofs.FirstOfQueue.{refused_with}
 use Rattle.std.specs.List.{refill}
 use Rattle.kpn_pool_desk.specs.Batch.{ClaimsInVain}
 use Rattle.kpn_pool_desk.proofs.batch.Batch.claim.Goals as goal

@@ -1,5 +1,5 @@
 use Rattle.std.proofs.Common.{◌↔◌, ◌<◌, IsTrue, length, sym, subst}
-use Rattle.kpn_run_history.specs.Complete.{IsComplete}
+use Rattle.kpn_history.specs.Complete.{IsComplete}
 use Rattle.kpn_pool_desk.specs.Desk.{Desk}
 use Rattle.kpn_pool_desk.proofs.desk.Desk.is_complete.Goals as goal
 

@@ -1,5 +1,5 @@
 use Rattle.std.proofs.Common.{subst}
-use Rattle.kpn_run_state.specs.Kept.{IsBook}
+use Rattle.kpn_book.specs.Kept.{IsBook}
 use Rattle.kpn_pool_desk.specs.Desk.{Desk}
 use Rattle.kpn_pool_desk.proofs.desk.Desk.known.Goals as goal
 

@@ -1,5 +1,5 @@
 use Rattle.std.proofs.Common.{sym, ap, subst}
-use Rattle.kpn_run_state.specs.Book.{Book}
+use Rattle.kpn_book.specs.Book.{Book}
 use Rattle.kpn_pool_desk.specs.Rows.{TakesOn, no_take}
 use Rattle.kpn_pool_desk.proofs.desk.Desk.serve.Goals as goal
 

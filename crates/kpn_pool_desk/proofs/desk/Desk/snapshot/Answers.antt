@@ -1,8 +1,8 @@
 use Rattle.std.proofs.Common.{◌≡◌, subst}
 use Rattle.kpn_chan.specs.declared.unread.Unread.TheVariants.{Forgotten}
-use Rattle.kpn_run_configuration.specs.Configuration.{AreKept}
-use Rattle.kpn_run_state.specs.Snapshot.{ShowsJournals}
-use Rattle.kpn_run_state.proofs.Snapshots.{run_of, below_of, at_rest_of, shows_journals}
+use Rattle.kpn_machine.specs.Machine.{AreKept}
+use Rattle.kpn_book.specs.Snapshot.{ShowsJournals}
+use Rattle.kpn_book.proofs.Snapshots.{run_of, below_of, at_rest_of, shows_journals}
 use Rattle.kpn_pool_desk.specs.Desk.{Desk}
 use Rattle.kpn_pool_desk.proofs.desk.Desk.snapshot.Goals as goal
 
@@ -33,5 +33,5 @@ returns-in-Ok-clause-quiet g c =
 
 pub returns-in-Err-clause-forgotten : goal.returns-in-Err-clause-forgotten
 returns-in-Err-clause-forgotten g c =
-    subst (λ (d : Desk). c.in-Err.why ≡ Forgotten → ¬ AreKept d.book.configuration) c.self.view_is
+    subst (λ (d : Desk). c.in-Err.why ≡ Forgotten → ¬ AreKept d.book.machine) c.self.view_is
     c.in-Err.ensures.forgotten

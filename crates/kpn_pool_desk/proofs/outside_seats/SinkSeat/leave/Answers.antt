@@ -1,5 +1,5 @@
 use Rattle.std.proofs.Common.{sym, ◌∙◌}
-use Rattle.kpn_run_configuration.specs.Configuration.{channel_in}
+use Rattle.kpn_machine.specs.Machine.{channel_in}
 use Rattle.kpn_pool_desk.proofs.Keeping.{leaves}
 use Rattle.kpn_pool_desk.proofs.outside_seats.SinkSeat.leave.Goals as goal
 
@@ -7,7 +7,7 @@ pub invariant_of-desk-2 : goal.invariant_of-desk-2
 invariant_of-desk-2 g c =
     let b = c.desk.inside.book in
     let same =
-    leaves (channel_in b.configuration c.self.inside.channel).is_retired c.self.inside.channel b c.leave_sink.new.self
+    leaves (channel_in b.machine c.self.inside.channel).is_retired c.self.inside.channel b c.leave_sink.new.self
     c.in_ok-leave_sink.ensures.done.leaves in
     record {
       network = same.tables ∙ c.desk.invariant.network;

@@ -1,8 +1,8 @@
 use Rattle.std.proofs.Common.{◌≡◌, true, sym, ap, ◌∙◌, subst}
 use Rattle.kpn_net.specs.Tables.{channel_at, is_sink}
 use Rattle.kpn_net.proofs.Networks.{sink_there}
-use Rattle.kpn_run_state.specs.Book.{Book}
-use Rattle.kpn_run_state.specs.Kept.{IsBook}
+use Rattle.kpn_book.specs.Book.{Book}
+use Rattle.kpn_book.specs.Kept.{IsBook}
 use Rattle.kpn_pool_desk.specs.Desk.{Desk, with_book}
 use Rattle.kpn_pool_desk.proofs.Keeping.{takes}
 use Rattle.kpn_pool_desk.proofs.outside_seats.SinkSeat.take.Goals as goal

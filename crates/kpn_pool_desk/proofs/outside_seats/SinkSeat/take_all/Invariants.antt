@@ -1,6 +1,6 @@
 use Rattle.std.proofs.Common.{◌≡◌, length}
 use Rattle.kpn_chan.specs.Channel.{unread}
-use Rattle.kpn_run_configuration.specs.Configuration.{channel_in}
+use Rattle.kpn_machine.specs.Machine.{channel_in}
 use Rattle.kpn_pool_desk.specs.Desk.{with_book}
 use Rattle.kpn_pool_desk.specs.OutsideSeats.{TakesFirst}
 use Rattle.kpn_pool_desk.proofs.outside_seats.SinkSeat.take_all.Given as goal
@@ -12,4 +12,4 @@ invariant-items g l = record {
 }
 
 abbrev pub decreases-items : goal.decreases-items
-decreases-items g l = length (unread (channel_in l.desk.book.configuration l.self.channel))
+decreases-items g l = length (unread (channel_in l.desk.book.machine l.self.channel))

@@ -1,6 +1,6 @@
 use Rattle.std.proofs.Common.{sym, ap, ◌∙◌, subst}
-use Rattle.kpn_run_state.specs.Book.{Book}
-use Rattle.kpn_run_state.specs.Kept.{IsBook}
+use Rattle.kpn_book.specs.Book.{Book}
+use Rattle.kpn_book.specs.Kept.{IsBook}
 use Rattle.kpn_pool_desk.specs.Desk.{Desk, with_book}
 use Rattle.kpn_pool_desk.proofs.Keeping.{appends}
 use Rattle.kpn_pool_desk.proofs.outside_seats.SourceSeat.feed.Goals as goal

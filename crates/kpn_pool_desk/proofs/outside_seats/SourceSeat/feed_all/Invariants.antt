@@ -1,7 +1,7 @@
 use Rattle.std.proofs.Common.{◌≡◌, ◌<◌, true, ◌++◌, take}
 use Rattle.kpn_net.specs.Tables.{channel_at, is_source}
-use Rattle.kpn_run_history.specs.declared.event.Event.TheVariants as event
-use Rattle.kpn_run_state.specs.Appending.{AppendsAll}
+use Rattle.kpn_history.specs.declared.event.Event.TheVariants as event
+use Rattle.kpn_book.specs.Appending.{AppendsAll}
 use Rattle.kpn_pool_desk.specs.Desk.{with_book}
 use Rattle.kpn_pool_desk.specs.OutsideSeats.{AreRecorded}
 use Rattle.kpn_pool_desk.proofs.outside_seats.SourceSeat.feed_all.Given as goal

@@ -3,9 +3,9 @@ use Rattle.std.specs.Bool.{IsTrue}
 use Rattle.std.proofs.lemmas.List.{nil_from_length}
 use Rattle.kpn_lang.specs.Prefix.{IsPrefix}
 use Rattle.kpn_net.specs.Tables.{channel_at, is_source}
-use Rattle.kpn_run_configuration.specs.Configuration.{channel_in}
-use Rattle.kpn_run_state.specs.Snapshot.{shown_on}
-use Rattle.kpn_run_state.proofs.Snapshots.{begins_shown}
+use Rattle.kpn_machine.specs.Machine.{channel_in}
+use Rattle.kpn_book.specs.Snapshot.{shown_on}
+use Rattle.kpn_book.proofs.Snapshots.{begins_shown}
 use Rattle.kpn_pool_desk.proofs.Seating.{kept_all}
 use Rattle.kpn_pool_desk.proofs.outside_seats.SourceSeat.snapshot.Goals as goal
 use Rattle.kpn_pool_desk.proofs.outside_seats.SourceSeat.snapshot.Goals.{else-not-is_empty-via-then-not-is_empty+else-not-journal_begins, else-not-is_empty-via-else-not-is_empty}
@@ -22,7 +22,7 @@ returns-clause-fresh g c =
           let source : is_source (channel_at b.tables seat.channel) ≡ true = search rules in
           let begun : IsTrue w.journal_begins.result = search rules in
           let told = w.journal_begins.ensures.0 begun in
-          let begins : IsPrefix seat.items (channel_in b.configuration seat.channel).journal = search rules in
+          let begins : IsPrefix seat.items (channel_in b.machine seat.channel).journal = search rules in
           begins_shown b c.in_ok-snapshot.field-0 c.in_ok-snapshot.ensures.journals seat.channel source seat.items begins
       | else-not-is_empty-via-else-not-is_empty w ↦
           let empty : c.is_empty.result ≡ true = search rules in

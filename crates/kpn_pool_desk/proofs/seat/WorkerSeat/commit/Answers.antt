@@ -2,9 +2,9 @@ use Rattle.std.proofs.Common.{◌≡◌, ◌+◌, ◌<◌, sym, ap, ◌∙◌, s
 use Rattle.std.proofs.lemmas.Result.{err_from_is_err_and}
 use Rattle.kpn_net.specs.Tables.{program_of}
 use Rattle.kpn_step.specs.Stops.{advanced_of}
-use Rattle.kpn_run_state.specs.Book.{held_count}
-use Rattle.kpn_run_state.specs.Commits.{Commits}
-use Rattle.kpn_run_state.specs.Refusals.{RefusesCommit}
+use Rattle.kpn_book.specs.Book.{held_count}
+use Rattle.kpn_book.specs.Commits.{Commits}
+use Rattle.kpn_book.specs.Refusals.{RefusesCommit}
 use Rattle.kpn_pool_desk.specs.Desk.{Desk}
 use Rattle.kpn_pool_desk.proofs.seat.WorkerSeat.commit.Goals as goal
 

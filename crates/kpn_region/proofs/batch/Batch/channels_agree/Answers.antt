@@ -1,6 +1,6 @@
 use Rattle.std.proofs.Common.{◌≡◌, ◌<◌, true, false, length, ap, subst, inl, inr, arith, rules}
 use Rattle.std.proofs.lemmas.Bool.{both_ways, cases_lt, false≢true}
-use Rattle.kpn_run_configuration.specs.Configuration.{channel_in}
+use Rattle.kpn_machine.specs.Machine.{channel_in}
 use Rattle.kpn_region.specs.Local.{side_at}
 use Rattle.kpn_region.specs.Joining.{ChannelAgrees}
 use Rattle.kpn_region.proofs.batch.Batch.channels_agree.Goals as goal
@@ -29,5 +29,5 @@ channels-preserved g c d below =
       | inl before ↦ c.channels.invariant d before
       | inr behind ↦
           subst (λ k. ChannelAgrees c.args.self.now.tables k (side_at c.args.self.now.now k)
-          (channel_in c.args.configuration.now k)) (omega (arith, below, behind)) (c.channel_agrees.ensures.0 so)
+          (channel_in c.args.machine.now k)) (omega (arith, below, behind)) (c.channel_agrees.ensures.0 so)
     ]

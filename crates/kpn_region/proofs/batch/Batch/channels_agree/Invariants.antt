@@ -1,9 +1,9 @@
 use Rattle.std.proofs.Common.{ℕ, ◌<◌}
-use Rattle.kpn_run_configuration.specs.Configuration.{channel_in}
+use Rattle.kpn_machine.specs.Machine.{channel_in}
 use Rattle.kpn_region.specs.Local.{side_at}
 use Rattle.kpn_region.specs.Joining.{ChannelAgrees}
 use Rattle.kpn_region.proofs.batch.Batch.channels_agree.Given as goal
 
 abbrev pub invariant-channels : goal.invariant-channels
 invariant-channels g l =
-    (d : ℕ) → d < l.c → ChannelAgrees l.self.tables d (side_at l.self.now d) (channel_in l.configuration d)
+    (d : ℕ) → d < l.c → ChannelAgrees l.self.tables d (side_at l.self.now d) (channel_in l.machine d)

@@ -1,8 +1,8 @@
 use Rattle.std.proofs.Common.{◌<◌, false, None, length, get_or, replicate, ◌∙◌, sym, ap, subst}
 use Rattle.kpn_net.specs.Tables.{program_of}
-use Rattle.kpn_run_history.specs.Talks.{process_events}
-use Rattle.kpn_run_configuration.specs.Configuration.{no_frame}
-use Rattle.kpn_run_configuration.proofs.Calls.{same_size}
+use Rattle.kpn_history.specs.Talks.{process_events}
+use Rattle.kpn_machine.specs.Machine.{no_frame}
+use Rattle.kpn_machine.proofs.Calls.{same_size}
 use Rattle.kpn_region.specs.Local.{no_side}
 use Rattle.kpn_region.specs.Batch.{batch_of}
 use Rattle.kpn_region.proofs.Batches.{IsNew, is_new}

@@ -1,7 +1,7 @@
 use Rattle.std.proofs.Common.{List, length, get_or, IsTrue, sym, ap, ◌∙◌, subst}
 use Rattle.kpn_net.specs.Tables.{program_of}
 use Rattle.kpn_step.specs.Frame.{Frame, fits}
-use Rattle.kpn_run_configuration.specs.Configuration.{no_frame}
+use Rattle.kpn_machine.specs.Machine.{no_frame}
 use Rattle.kpn_region.proofs.Piecewise.{all_joined}
 use Rattle.kpn_region.proofs.batch.Batch.join.Goals as goal
 
@@ -15,5 +15,5 @@ join_frames-requires-clause-fit g c p below =
 
 pub returns : goal.returns
 returns g c =
-    all_joined c.args.self.now c.known.ensures c.args.configuration.now c.join_channels.new.configuration
-    c.join_frames.new.configuration c.join_channels.ensures c.join_frames.ensures c.requires.shape.waits
+    all_joined c.args.self.now c.known.ensures c.args.machine.now c.join_channels.new.machine
+    c.join_frames.new.machine c.join_channels.ensures c.join_frames.ensures c.requires.shape.waits

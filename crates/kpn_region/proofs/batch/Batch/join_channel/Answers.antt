@@ -2,8 +2,8 @@ use Rattle.std.proofs.Common.{◌≡◌, ◌<◌, ◌+◌, ◌≤◌, ◌^◌, f
 use Rattle.std.proofs.lemmas.List.{nil_from_length}
 use Rattle.kpn_net.specs.Waits.{AreWaits}
 use Rattle.kpn_chan.specs.Channel.{unread, joined}
-use Rattle.kpn_run_configuration.specs.Configuration.{channel_in}
-use Rattle.kpn_run_configuration.specs.Woken.{AreWoken, ends_by_batch}
+use Rattle.kpn_machine.specs.Machine.{channel_in}
+use Rattle.kpn_machine.specs.Woken.{AreWoken, ends_by_batch}
 use Rattle.kpn_region.specs.Local.{SideState, side_at}
 use Rattle.kpn_region.specs.Joining.{put_on, has_put}
 use Rattle.kpn_region.proofs.Piecewise.{nothing_joined}
@@ -15,7 +15,7 @@ most_seen-most-requires-clause-bound g c =
     let b = c.args.self.now in
     let n = c.args.c in
     let side = side_at b.now n in
-    let channel = channel_in c.args.configuration.now n in
+    let channel = channel_in c.args.machine.now n in
     let at = c.channel-channel.ensures in
     subst (λ (s : SideState). length (unread c.channel-channel.result.now) + s.most < 2 ^ 64) (sym c.side-side.ensures)
     (subst (λ x. length (unread x) + side.most < 2 ^ 64) (sym at)
@@ -29,7 +29,7 @@ join_channel-requires-clause-joins g c =
     let b = c.args.self.now in
     let n = c.args.c in
     let side = side_at b.now n in
-    let channel = channel_in c.args.configuration.now n in
+    let channel = channel_in c.args.machine.now n in
     let at = c.channel-channel.ensures in
     let h =
     handed_on c.side-side.result.now side c.side-side.ensures c.channel-channel.result.now channel
@@ -45,7 +45,7 @@ pub returns-then-is_empty : goal.returns-then-is_empty
 returns-then-is_empty g c =
     let b = c.args.self.now in
     let n = c.args.c in
-    let s = c.args.configuration.now in
+    let s = c.args.machine.now in
     let none_taken : c.taken-taken.result ≡ 0 = search rules in
     let no_items : length c.split_at.result.1.now ≡ 0 = search rules in
     let none_put = nil_from_length c.split_at.result.1.now no_items in
@@ -60,7 +60,7 @@ returns g c =
     let b = c.args.self.now in
     let n = c.args.c in
     let side = side_at b.now n in
-    let before = c.args.configuration.now in
+    let before = c.args.machine.now in
     let after = c.join_channel.new.self in
     let now = channel_in after n in
     let channel = channel_in before n in

@@ -1,14 +1,14 @@
 use Rattle.std.proofs.Common.{◌≡◌, ◌<◌, length, sym, ap, ◌∙◌, subst, arith}
 use Rattle.kpn_net.specs.Tables.{program_of}
-use Rattle.kpn_run_configuration.specs.Configuration.{frame_in}
-use Rattle.kpn_run_configuration.proofs.Calls.{same_size}
+use Rattle.kpn_machine.specs.Machine.{frame_in}
+use Rattle.kpn_machine.proofs.Calls.{same_size}
 use Rattle.kpn_region.specs.Local.{frame_at}
 use Rattle.kpn_region.specs.JoiningParts.{JoinsFrames}
 use Rattle.kpn_region.proofs.Piecewise.{no_frames_joined, one_more_frame}
 use Rattle.kpn_region.proofs.batch.Batch.join_frames.Goals as goal
 
 pub processes-init : goal.processes-init
-processes-init g c = no_frames_joined c.args.self.now c.args.configuration.now
+processes-init g c = no_frames_joined c.args.self.now c.args.machine.now
 
 pub join_frame-requires-clause-frames : goal.join_frame-requires-clause-frames
 join_frame-requires-clause-frames g c = c.processes.invariant.frames ∙ c.requires.frames
@@ -20,19 +20,19 @@ join_frame-requires-clause-size g c =
     let same = ap (λ t. length t.instances) c.network-network.ensures in
     let there : p < length b.tables.instances =
     omega (arith, same, c.instances-p-end.ensures, c.processes-test.true) in
-    same_size (program_of b.tables p) (frame_at b.now p) (frame_in c.args.configuration.now p)
+    same_size (program_of b.tables p) (frame_at b.now p) (frame_in c.args.machine.now p)
     (c.known.ensures.is.fit p there) (c.requires.fit p there)
     ∙ ap (λ f. length f.variables) (sym (c.processes.invariant.others p (omega arith)))
 
 pub processes-preserved : goal.processes-preserved
 processes-preserved g c =
     let b = c.args.self.now in
-    let before = c.args.configuration.now in
+    let before = c.args.machine.now in
     let same = ap (λ t. length t.instances) c.network-network.ensures in
     let there : c.processes.p < length before.frames =
     omega (arith, same, c.instances-p-end.ensures, c.processes-test.true, c.requires.frames) in
-    one_more_frame b before c.processes.p c.processes.configuration c.processes.invariant there
-    c.join_frame.new.configuration c.join_frame.ensures
+    one_more_frame b before c.processes.p c.processes.machine c.processes.invariant there
+    c.join_frame.new.machine c.join_frame.ensures
 
 pub returns : goal.returns
 returns g c =
@@ -40,4 +40,4 @@ returns g c =
     let same = ap (λ t. length t.instances) c.network-network.ensures in
     let all : c.processes.p ≡ length b.tables.instances =
     omega (arith, same, c.instances-p-end.ensures, c.processes-test.false, c.processes.auto.p-end) in
-    subst (λ n. JoinsFrames b n c.args.configuration.now c.processes.configuration) all c.processes.invariant
+    subst (λ n. JoinsFrames b n c.args.machine.now c.processes.machine) all c.processes.invariant

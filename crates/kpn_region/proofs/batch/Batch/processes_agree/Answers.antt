@@ -26,6 +26,6 @@ processes-preserved g c q below =
     elim (cases_lt q c.processes.p) [
       | inl before ↦ c.processes.invariant q before
       | inr behind ↦
-          subst (λ k. ProcessAgrees c.args.self.now.first c.args.configuration.now k) (omega (arith, below, behind))
+          subst (λ k. ProcessAgrees c.args.self.now.first c.args.machine.now k) (omega (arith, below, behind))
           (c.process_agrees.ensures.0 so)
     ]

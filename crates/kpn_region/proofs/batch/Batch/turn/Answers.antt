@@ -1,7 +1,7 @@
 use Rattle.std.proofs.Common.{◌≡◌, ◌+◌, ◌<◌, sym, ap, ◌∙◌, subst, true, false, get_or, slice_set, length, rules}
 use Rattle.std.proofs.lemmas.List.{get_or_read}
-use Rattle.kpn_run_history.specs.Talks.{process_events}
-use Rattle.kpn_run_configuration.specs.Configuration.{no_frame}
+use Rattle.kpn_history.specs.Talks.{process_events}
+use Rattle.kpn_machine.specs.Machine.{no_frame}
 use Rattle.kpn_region.specs.Batch.{IsBatch, batch_of}
 use Rattle.kpn_region.proofs.Batches.{turned, counted}
 use Rattle.kpn_region.proofs.batch.Batch.turn.Given as given

@@ -1,0 +1,133 @@
+-- The book with the events of a batch is kept.
+use Rattle.std.proofs.Common.{◌≡◌, ◌⊎◌, ℕ, ◌+◌, ◌<◌, ◌^◌, Bool, true, false, cond, List, ◌++◌, length, get_or, None, refl, sym, ap, ◌∙◌, subst, inl, inr, arith}
+use Rattle.std.specs.List.{range_with_len}
+use Rattle.std.proofs.lemmas.Bool.{cases_lt, false≢true}
+use Rattle.std.proofs.lemmas.List.{get_or_past}
+use Rattle.std.proofs.lemmas.List.Sums.{sum_by-append}
+use Rattle.kpn_net.specs.declared.wait.Wait.{Wait}
+use Rattle.kpn_net.specs.declared.wait.Wait.TheVariants.{Nobody, Empty, Full}
+use Rattle.kpn_history.specs.declared.event.Event.{Event}
+use Rattle.kpn_history.specs.Talks.{is_of_process, process_events}
+use Rattle.kpn_history.specs.Stops.{OwesNothing}
+use Rattle.kpn_machine.specs.Machine.{Machine, end_in, wait_in, frame_in}
+use Rattle.kpn_machine.specs.Run.{IsRun}
+use Rattle.kpn_region.specs.Local.{SideState, is_within, frame_at}
+use Rattle.kpn_region.specs.Turn.{side_in}
+use Rattle.kpn_region.specs.Batch.{Batch, IsBatch}
+use Rattle.kpn_region.specs.Joining.{has_put, has_taken, wait_joined, Joins}
+use Rattle.kpn_book.specs.Schedule.{Schedule, state_at}
+use Rattle.kpn_book.specs.Regions.{region_woken}
+use Rattle.kpn_book.specs.Book.{Book}
+use Rattle.kpn_book.specs.Kept.{IsStateBy, IsKept}
+use Rattle.kpn_book.specs.BatchCommits.{with_batch}
+use Rattle.kpn_book.proofs.Queueing.{range_has}
+use Rattle.kpn_book.proofs.Regions.{length_woken, held_at_most, agrees_then, stands_so}
+
+-- a batch ends a wait, or leaves it
+wait_ends_or_stays : (sides : List SideState) (wait : Wait)
+    → (wait_joined sides wait ≡ Nobody) ⊎ (wait_joined sides wait ≡ wait)
+wait_ends_or_stays sides Nobody = inl refl
+wait_ends_or_stays sides (Empty c) = by_test (has_put (side_in sides c))
+  where
+    by_test : (b : Bool) → (cond b Nobody (Empty c) ≡ Nobody) ⊎ (cond b Nobody (Empty c) ≡ Empty c)
+    by_test true = inl refl
+    by_test false = inr refl
+wait_ends_or_stays sides (Full c) = by_test (has_taken (side_in sides c))
+  where
+    by_test : (b : Bool) → (cond b Nobody (Full c) ≡ Nobody) ⊎ (cond b Nobody (Full c) ≡ Full c)
+    by_test true = inl refl
+    by_test false = inr refl
+
+module _ (b : Batch) (book : Book) (s : Machine) (kept : IsKept book) (joins : Joins b book.machine s)
+    (network : b.tables ≡ book.tables) where
+  wait_now : (q : ℕ) → q < length book.tables.instances
+      → (wait_in s q ≡ Nobody) ⊎ (wait_in s q ≡ wait_in book.machine q)
+  wait_now q there =
+      let is = joins.each_wait q (subst (λ t. q < length t.instances) (sym network) there) in
+      elim (wait_ends_or_stays b.now.sides (wait_in book.machine q)) [
+        | inl none ↦ inl (is ∙ none)
+        | inr same ↦ inr (is ∙ same)
+      ]
+
+  states_joined : (q : ℕ) → q < length book.tables.instances
+      → IsStateBy (end_in s q) (wait_in s q) (state_at (with_batch b s book).schedule.states q)
+  states_joined q there =
+      let long : q < length book.schedule.states = let same = kept.in_step.processes in omega (arith, there, same) in
+      subst (λ e. IsStateBy e (wait_in s q) (state_at (with_batch b s book).schedule.states q))
+      (ap (λ ends. get_or ends q None) (sym joins.ends))
+      (agrees_then (is_within b.now) s.waits (end_in book.machine q) q
+      (range_with_len 0 (length book.schedule.states)) book.schedule long
+      (range_has (length book.schedule.states) q long)
+      (stands_so (end_in book.machine q) (wait_in book.machine q) (wait_in s q)
+      (state_at book.schedule.states q) (kept.in_step.states q there) (wait_now q there)))
+
+  pub kept_with_batch : IsRun book.tables (book.history ++ b.events) s
+      → OwesNothing book.tables (book.history ++ b.events)
+      → book.commits + process_events b.events + length book.tables.instances < 2 ^ 64
+      → IsKept (with_batch b s book)
+  kept_with_batch run nothing few =
+      let long =
+      length_woken (is_within b.now) s.waits (range_with_len 0 (length book.schedule.states)) book.schedule
+      ∙ kept.in_step.processes in
+      let most = held_at_most (with_batch b s book) long in
+      let events : process_events (book.history ++ b.events)
+      ≡ process_events book.history + process_events b.events =
+      sum_by-append (λ e. cond (is_of_process e) 1 0) book.history b.events in
+      let before = kept.committed in
+      record {
+        in_step = record { run = run; processes = long; states = states_joined };
+        nothing_owed = nothing;
+        committed = omega (arith, events, before);
+        countable = omega (arith, most, few);
+      }
+
+  -- the processes of the region are where the batch has brought them
+  pub frames_with_batch : IsBatch b → (q : ℕ) → is_within b.now q ≡ true → frame_in s q ≡ frame_at b.now q
+  frames_with_batch is q within =
+      elim (cases_lt q (length b.tables.instances)) [
+        | inl below ↦
+            joins.each_frame q below ∙ ap (λ w. cond w (frame_at b.now q) (frame_in book.machine q)) within
+        | inr past ↦
+            let long = is.is.within in
+            absurd (false≢true (sym (get_or_past b.now.within q false (omega (arith, past, long))) ∙ within))
+      ]
+
+-- a book with the events, the schedule and the count of a batch
+pub joined_book : (b : Batch) (s : Machine) (book : Book) (H : List Event) (order : Schedule) (n : ℕ)
+    → H ≡ book.history ++ b.events → order ≡ region_woken (is_within b.now) s.waits book.schedule
+    → n ≡ process_events b.events
+    → record {
+      tables = book.tables;
+      history = H;
+      machine = s;
+      schedule = order;
+      commits = book.commits + n;
+    } ≡ with_batch b s book
+joined_book b s book H order n history schedule count =
+    ap
+    (λ xs. record {
+      tables = book.tables;
+      history = xs;
+      machine = s;
+      schedule = order;
+      commits = book.commits + n;
+    })
+    history
+    ∙ ap
+    (λ x. record {
+      tables = book.tables;
+      history = book.history ++ b.events;
+      machine = s;
+      schedule = x;
+      commits = book.commits + n;
+    })
+    schedule
+    ∙ ap
+    (λ x. record {
+      tables = book.tables;
+      history = book.history ++ b.events;
+      machine = s;
+      schedule = region_woken (is_within b.now) s.waits book.schedule;
+      commits = book.commits + x;
+    })
+    count

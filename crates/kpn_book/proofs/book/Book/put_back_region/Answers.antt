@@ -1,0 +1,27 @@
+use Rattle.std.proofs.Common.{length, ap, sym, ◌∙◌, subst}
+use Rattle.std.specs.List.{range_with_len}
+use Rattle.kpn_region.specs.Local.{is_within}
+use Rattle.kpn_book.specs.Kept.{IsKept}
+use Rattle.kpn_book.specs.Open.{book_of}
+use Rattle.kpn_book.specs.Regions.{batch_put_back}
+use Rattle.kpn_book.proofs.Following.{recorded}
+use Rattle.kpn_book.proofs.Regions.{kept_all_put_back}
+use Rattle.kpn_book.proofs.book.Book.put_back_region.Goals as goal
+
+pub put_back_region-requires : goal.put_back_region-requires
+put_back_region-requires g c =
+    c.self.invariant.in_step.processes
+    ∙ ap (λ t. length t.instances) (ap (λ b. b.tables) c.self.view_is ∙ sym c.requires)
+
+pub invariant_of-self : goal.invariant_of-self
+invariant_of-self g c =
+    let b = book_of c.self.inside.parts in
+    subst IsKept (sym (ap (recorded b b.history b.machine) c.put_back_region.ensures))
+    (kept_all_put_back (is_within c.args.batch.now.now) (range_with_len 0 (length b.schedule.states)) b
+    c.self.invariant)
+
+pub returns : goal.returns
+returns g c =
+    let b = book_of c.self.inside.parts in
+    ap (recorded b b.history b.machine) c.put_back_region.ensures
+    ∙ ap (batch_put_back c.args.batch.now) c.self.view_is

@@ -1,5 +1,0 @@
-use Rattle.kpn_book.proofs.Agreement.{journal_least}
-use Rattle.kpn_book.proofs.laws.ended_is_least.Goals as goal
-
-pub returns : goal.returns
-returns c = journal_least

@@ -1,0 +1,10 @@
+use Rattle.std.proofs.Common.{rules}
+use Rattle.std.proofs.lemmas.Bool.{both_ways}
+use Rattle.kpn_book.specs.Open.{book_of}
+use Rattle.kpn_book.proofs.FirstOfQueue.{next_from}
+use Rattle.kpn_book.proofs.open_book.OpenBook.next.Goals as goal
+
+pub returns : goal.returns
+returns g c =
+    next_from c.next.result (book_of c.args.self.now) c.known.ensures.schedule c.requires.countable
+    (λ is. both_ways c.is_counted_out.result (search rules) (c.is_counted_out.ensures.1 is)) c.next.ensures

@@ -1,0 +1,6 @@
+use Rattle.std.proofs.Common.{take}
+use Rattle.kpn_book.specs.ClaimParts.{HasProcesses}
+use Rattle.kpn_book.proofs.open_book.claims.claim_processes.Given as goal
+
+abbrev pub invariant-processes : goal.invariant-processes
+invariant-processes g l = HasProcesses (take l.k l.of) l.fn.batch.tables l.machine l.batch

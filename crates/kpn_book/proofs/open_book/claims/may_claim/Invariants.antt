@@ -1,0 +1,10 @@
+use Rattle.std.proofs.Common.{◌≡◌, true, not, take}
+use Rattle.std.specs.List.{list_all, list_any}
+use Rattle.kpn_history.specs.Views.{is_ready, is_held}
+use Rattle.kpn_book.specs.Schedule.{state_at}
+use Rattle.kpn_book.proofs.open_book.claims.may_claim.Given as goal
+
+abbrev pub invariant-processes : goal.invariant-processes
+invariant-processes g l =
+    (list_all (λ p. not (is_held (state_at l.schedule.states p))) (take l.k l.of) ≡ true)
+    × (l.some_ready ≡ list_any (λ p. is_ready (state_at l.schedule.states p)) (take l.k l.of))

@@ -1,0 +1,113 @@
+//! What holds of every report, as contracts of functions that do nothing: Kahn's theorem on reports, whatever the
+//! schedules of the runs and however many workers stepped the processes.
+ghost use Rattle.std.specs.Prelude.{◌≡◌, ℕ, ◌<◌, ◌≤◌, ◌⊎◌, ℤ, List, length, take, Option, Some};
+ghost use Rattle.kpn_net.specs.declared.tables.Policy.TheVariants.{All};
+ghost use Rattle.kpn_net.specs.declared.wait.Wait.TheVariants.{Full};
+ghost use Rattle.kpn_net.specs.Tables.{Tables};
+ghost use Rattle.kpn_net.specs.Faults.{IsNetwork};
+ghost use Rattle.kpn_net.specs.Iteration.{iterate, given_by, lists_of, IsBelowLeast, IsLeast};
+ghost use Rattle.kpn_history.specs.declared.event.Event.{Event};
+ghost use Rattle.kpn_history.specs.Channels.{capacity_after};
+ghost use Rattle.kpn_history.specs.Ends.{WaitsOnFull, IsQuiet};
+ghost use Rattle.kpn_history.specs.Stops.{IsJammedAtLimit, WaitsForBlocked};
+ghost use Rattle.kpn_history.specs.Waiting.{wait_of, HasFullCycle};
+ghost use Rattle.kpn_book.specs.declared.outcome.Limits.{Limits};
+ghost use Rattle.kpn_book.specs.declared.outcome.Outcome.{Outcome};
+ghost use Rattle.kpn_book.specs.declared.outcome.Outcome.TheVariants.{Ended, Clogged, Jammed, Enough, Stopped};
+ghost use Rattle.kpn_book.specs.declared.report.Report.{Report};
+ghost use Rattle.kpn_book.specs.Outcomes.{IsOutcome};
+ghost use Rattle.kpn_book.specs.Reports.{events_of, journal_of, taken_of, IsReport};
+ghost use Rattle.kpn_book.specs.RunHere.{IsReportHere};
+
+// ---- Kahn's theorem on reports
+
+/// Under every outcome, each journal is a prefix of the least solution for the whole lists.
+pub fn journals_are_below()
+    ensures { (t : Tables) → IsNetwork t → (lists : List (List ℤ)) (limits : Limits)
+        (report : Report) → IsReport t lists limits report
+        → (c : ℕ) → c < length t.channels
+        → IsBelowLeast t (given_by t lists) c (journal_of report c) }
+{}
+
+/// Under `Ended` the journals are the least solution for the whole lists.
+pub fn ended_is_least()
+    ensures { (t : Tables) → IsNetwork t → (lists : List (List ℤ)) (limits : Limits)
+        (report : Report) → IsReport t lists limits report → report.outcome ≡ Ended
+        → (c : ℕ) → c < length t.channels → IsLeast t (given_by t lists) c (journal_of report c) }
+{}
+
+/// Two reports of the same network and lists that have ended have equal journals, and these are one iterate of Kahn's
+/// iteration.
+pub fn ended_reports_agree()
+    ensures journals { (t : Tables) → IsNetwork t → (lists : List (List ℤ)) (limits more : Limits)
+        (report other : Report) → IsReport t lists limits report → IsReport t lists more other
+        → report.outcome ≡ Ended → other.outcome ≡ Ended
+        → report.view.journals ≡ other.view.journals }
+    ensures iterate { (t : Tables) → IsNetwork t → (lists : List (List ℤ)) (limits more : Limits)
+        (report other : Report) → IsReport t lists limits report → IsReport t lists more other
+        → report.outcome ≡ Ended → other.outcome ≡ Ended
+        → ((n : ℕ) × (report.view.journals ≡ lists_of t (iterate t (given_by t lists) n))
+        × (other.view.journals ≡ lists_of t (iterate t (given_by t lists) n))) }
+{}
+
+/// The first items that two runs of the same network and lists have taken from a sink are the same. If both have
+/// enough, by the same number of items, so many were taken from each sink, and these are the same.
+pub fn first_items_agree()
+    ensures first { (t : Tables) → IsNetwork t → (lists : List (List ℤ)) (limits more : Limits)
+        (report other : Report) → IsReport t lists limits report → IsReport t lists more other
+        → (sink items : ℕ)
+        → items ≤ length (taken_of report sink) → items ≤ length (taken_of other sink)
+        → take items (taken_of report sink) ≡ take items (taken_of other sink) }
+    ensures enough { (t : Tables) (lists : List (List ℤ)) (limits : Limits) (report : Report)
+        → IsReport t lists limits report → report.outcome ≡ Enough
+        → (items : ℕ) → limits.take ≡ Some items
+        → (sink : ℕ) → sink < length report.taken → items ≤ length (taken_of report sink) }
+    ensures same { (t : Tables) → IsNetwork t → (lists : List (List ℤ)) (limits more : Limits)
+        (report other : Report) → IsReport t lists limits report → IsReport t lists more other
+        → report.outcome ≡ Enough → other.outcome ≡ Enough
+        → (items : ℕ) → limits.take ≡ Some items → more.take ≡ Some items
+        → (sink : ℕ) → take items (taken_of report sink) ≡ take items (taken_of other sink) }
+{}
+
+// ---- what an outcome means
+
+/// Of a history after so many commits there is one outcome at most.
+pub fn one_outcome()
+    ensures { (t : Tables) (H : List Event) (commits : ℕ) (limits : Limits)
+        (outcome other : Option Outcome) → IsOutcome t H commits limits outcome
+        → IsOutcome t H commits limits other → outcome ≡ other }
+{}
+
+/// What each verdict means. `Ended`: the history is quiet. `Jammed`: some blocked cycle has full channels, all at the
+/// limit. `Clogged`: each process that is blocked on a full channel waits for a blocked process, and no blocked cycle
+/// has a full channel. Under the policy `all`, if the outcome is `Jammed` or `Clogged`, each channel on which a process
+/// waits as full is at the limit.
+pub fn what_an_outcome_means()
+    ensures ended { (t : Tables) (lists : List (List ℤ)) (limits : Limits) (report : Report)
+        → IsReport t lists limits report → report.outcome ≡ Ended → IsQuiet t (events_of report) }
+    ensures jammed { (t : Tables) → IsNetwork t → (lists : List (List ℤ)) (limits : Limits)
+        (report : Report) → IsReport t lists limits report → report.outcome ≡ Jammed
+        → IsJammedAtLimit t (events_of report) }
+    ensures clogged { (t : Tables) → IsNetwork t → (lists : List (List ℤ)) (limits : Limits)
+        (report : Report) → IsReport t lists limits report → report.outcome ≡ Clogged
+        → (p : ℕ) → WaitsOnFull t (events_of report) p → WaitsForBlocked t (events_of report) p }
+    ensures no_cycle { (t : Tables) (lists : List (List ℤ)) (limits : Limits) (report : Report)
+        → IsReport t lists limits report → report.outcome ≡ Clogged
+        → ¬ HasFullCycle t (events_of report) }
+    ensures at_limit { (t : Tables) → IsNetwork t → (lists : List (List ℤ)) (limits : Limits)
+        (report : Report) → IsReport t lists limits report
+        → (report.outcome ≡ Clogged) ⊎ (report.outcome ≡ Jammed) → t.policy ≡ All
+        → (p c : ℕ) → p < length t.instances → wait_of t (events_of report) p ≡ Full c
+        → capacity_after t (events_of report) c ≡ Some t.limit }
+{}
+
+// ---- on one thread
+
+/// A run on one thread makes no more turns than its limit of commits. If it was stopped, it made exactly as many.
+pub fn turns_of_a_run_here()
+    ensures within { (t : Tables) (lists : List (List ℤ)) (limits : Limits) (report : Report)
+        → IsReportHere t lists limits report → report.commits ≤ limits.commits }
+    ensures stopped { (t : Tables) (lists : List (List ℤ)) (limits : Limits) (report : Report)
+        → IsReportHere t lists limits report → report.outcome ≡ Stopped
+        → report.commits ≡ limits.commits }
+{}

@@ -1,0 +1,24 @@
+-- What processes wait for, by their states.
+use Rattle.std.specs.Prelude.{◌≡◌, ℕ, ◌<◌, List, length, slice_index_or}
+use Rattle.kpn_net.specs.declared.wait.Wait.{Wait}
+use Rattle.kpn_net.specs.declared.wait.Wait.TheVariants.{Nobody, Empty, Full}
+use Rattle.kpn_net.specs.Tables.{Tables}
+use Rattle.kpn_history.specs.declared.event.Event.{Event}
+use Rattle.kpn_history.specs.declared.state.State.{State}
+use Rattle.kpn_history.specs.declared.state.State.TheVariants.{Ready, Held, WaitsEmpty, WaitsFull, Ended}
+use Rattle.kpn_history.specs.Views.{IsStateOf}
+
+-- the state of each process after a history
+pub record AreStatesOf (t : Tables) (H : List Event) (states : List State) : Type 0 where
+  pub one_each : length states ≡ length t.instances
+  pub each : (p : ℕ) → p < length t.instances → IsStateOf t H p (slice_index_or states p Ready)
+
+-- ---- scaffolding
+
+-- what a process in this state waits for
+abbrev pub wait_in : State → Wait
+wait_in Ready = Nobody
+wait_in Held = Nobody
+wait_in (WaitsEmpty c) = Empty c
+wait_in (WaitsFull c) = Full c
+wait_in (Ended how) = Nobody

@@ -1,0 +1,41 @@
+-- The channel that a process is about to read or write is one of the network, and its own.
+use Rattle.std.proofs.Common.{◌≡◌, ℕ, ◌<◌, ℤ, List, length, subst}
+use Rattle.std.specs.List.{Contains}
+use Rattle.std.proofs.lemmas.List.Elements.{Contains-get_or}
+use Rattle.kpn_net.specs.declared.tables.End.TheVariants.{Process}
+use Rattle.kpn_net.specs.Tables.{Tables, writer_of, reader_of, instance_at, program_of}
+use Rattle.kpn_net.specs.Faults.{IsNetwork}
+use Rattle.kpn_net.proofs.Networks.{IsProgram-of}
+use Rattle.kpn_net.proofs.PortsApart.{reads_its_ins, writes_its_outs, in_is_there, out_is_there}
+use Rattle.kpn_step.specs.declared.stop.Stop.TheVariants.{WantRead, WantWrite}
+use Rattle.kpn_step.specs.Stops.{StandsAtRead, StandsAtWrite}
+use Rattle.kpn_step.proofs.MayStep.{at_port}
+use Rattle.kpn_machine.specs.Machine.{Machine, frame_in}
+use Rattle.kpn_machine.specs.Changes.{IsChannelAt}
+use Rattle.kpn_machine.specs.Due.{ReadsFrom, WritesTo}
+
+among : (ports : List ℕ) (port c : ℕ) → IsChannelAt ports port c → Contains ports c
+among ports port c at = subst (λ x. Contains ports x) at.1 (Contains-get_or ports port 0 at.0)
+
+module _ (t : Tables) (network : IsNetwork t) (s : Machine) (p : ℕ) (there : p < length t.instances) (c : ℕ)
+  where
+    pub reads_below : ReadsFrom t s p c → c < length t.channels
+    reads_below reads = in_is_there t network p c (among (instance_at t p).ins reads.port c reads.channel)
+
+    pub reads_own : ReadsFrom t s p c → reader_of t c ≡ Process p
+    reads_own reads = (reads_its_ins t network p c).1 (among (instance_at t p).ins reads.port c reads.channel)
+
+    pub at_read : ReadsFrom t s p c → StandsAtRead (program_of t p).blocks (frame_in s p)
+    at_read reads =
+        (at_port (program_of t p) (IsProgram-of t network p there) (frame_in s p) (WantRead reads.port) reads.stands).1
+
+    pub writes_below : (v : ℤ) → WritesTo t s p c v → c < length t.channels
+    writes_below v writes = out_is_there t network p c (among (instance_at t p).outs writes.port c writes.channel)
+
+    pub writes_own : (v : ℤ) → WritesTo t s p c v → writer_of t c ≡ Process p
+    writes_own v writes = (writes_its_outs t network p c).1 (among (instance_at t p).outs writes.port c writes.channel)
+
+    pub at_write : (v : ℤ) → WritesTo t s p c v → StandsAtWrite (program_of t p).blocks (frame_in s p)
+    at_write v writes =
+        (at_port (program_of t p) (IsProgram-of t network p there) (frame_in s p) (WantWrite writes.port v)
+        writes.stands).1

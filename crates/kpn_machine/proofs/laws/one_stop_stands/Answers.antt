@@ -1,0 +1,7 @@
+use Rattle.kpn_net.specs.Tables.{program_of}
+use Rattle.kpn_machine.specs.Machine.{frame_in}
+use Rattle.kpn_machine.proofs.OneStop.{one_stop}
+use Rattle.kpn_machine.proofs.laws.one_stop_stands.Goals as goal
+
+pub returns : goal.returns
+returns c t s p = one_stop (program_of t p).blocks (frame_in s p)

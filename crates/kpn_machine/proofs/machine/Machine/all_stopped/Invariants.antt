@@ -1,0 +1,6 @@
+use Rattle.std.proofs.Common.{◌≡◌, ℕ, ◌<◌, true}
+use Rattle.kpn_machine.specs.Stopped.{has_stopped}
+use Rattle.kpn_machine.proofs.machine.Machine.all_stopped.Given as goal
+
+abbrev pub invariant-loop-p : goal.invariant-loop-p
+invariant-loop-p g l = (q : ℕ) → q < l.p → has_stopped l.self q ≡ true

@@ -1,0 +1,9 @@
+use Rattle.std.proofs.Common.{ℕ, ◌<◌}
+use Rattle.kpn_net.specs.Finding.{IsSmallestOfCycle}
+use Rattle.kpn_cycle.specs.Scan.{cap_in}
+use Rattle.kpn_machine.specs.Machine.{capacities}
+use Rattle.kpn_machine.proofs.machine.Machine.has_full_cycle.Given as goal
+
+abbrev pub invariant-loop-p : goal.invariant-loop-p
+invariant-loop-p g l = (q d : ℕ) → q < l.p
+    → ¬ IsSmallestOfCycle l.network l.self.waits (cap_in (capacities l.self)) q d

@@ -1,0 +1,6 @@
+use Rattle.std.proofs.Common.{◌≡◌, map}
+use Rattle.kpn_machine.specs.Machine.{all_put}
+use Rattle.kpn_machine.proofs.machine.moved_written.Given as goal
+
+abbrev pub invariant-channels : goal.invariant-channels
+invariant-channels g l = l.written.items ≡ map all_put l.yielded

@@ -1,0 +1,12 @@
+pub mod Machine
+pub mod Run
+pub mod Changes
+pub mod Due
+pub mod Woken
+pub mod EndSoFar
+pub mod Quiet
+pub mod Settled
+pub mod Owed
+pub mod Stopped
+pub mod Determined
+pub mod Marks

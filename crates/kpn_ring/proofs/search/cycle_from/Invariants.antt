@@ -1,5 +1,0 @@
-use Rattle.kpn_ring.proofs.Searching.{WalkedTo}
-use Rattle.kpn_ring.proofs.search.cycle_from.Given as goal
-
-abbrev pub invariant-loop-step : goal.invariant-loop-step
-invariant-loop-step g l = WalkedTo l.network l.waits l.p l._step l.at l.members.items

@@ -1,6 +1,0 @@
-use Rattle.std.proofs.Common.{◌≡◌, ℕ, ◌<◌, true}
-use Rattle.kpn_run_configuration.specs.Stopped.{has_stopped}
-use Rattle.kpn_run_configuration.proofs.configuration.Configuration.all_stopped.Given as goal
-
-abbrev pub invariant-loop-p : goal.invariant-loop-p
-invariant-loop-p g l = (q : ℕ) → q < l.p → has_stopped l.self q ≡ true

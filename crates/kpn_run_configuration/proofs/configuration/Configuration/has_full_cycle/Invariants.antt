@@ -1,9 +1,0 @@
-use Rattle.std.proofs.Common.{ℕ, ◌<◌}
-use Rattle.kpn_net.specs.Finding.{IsSmallestOfCycle}
-use Rattle.kpn_cycle.specs.Scan.{cap_in}
-use Rattle.kpn_run_configuration.specs.Configuration.{capacities}
-use Rattle.kpn_run_configuration.proofs.configuration.Configuration.has_full_cycle.Given as goal
-
-abbrev pub invariant-loop-p : goal.invariant-loop-p
-invariant-loop-p g l = (q d : ℕ) → q < l.p
-    → ¬ IsSmallestOfCycle l.network l.self.waits (cap_in (capacities l.self)) q d

@@ -1,6 +1,0 @@
-use Rattle.std.proofs.Common.{◌≡◌, ℕ, ◌<◌, true}
-use Rattle.kpn_run_configuration.specs.Stopped.{is_quiet_at}
-use Rattle.kpn_run_configuration.proofs.configuration.Configuration.is_quiet.Given as goal
-
-abbrev pub invariant-loop-p : goal.invariant-loop-p
-invariant-loop-p g l = (q : ℕ) → q < l.p → is_quiet_at l.self q ≡ true

@@ -1,7 +1,0 @@
-use Rattle.std.proofs.Common.{◌≡◌, ◌<◌, ℕ, false, get_or}
-use Rattle.kpn_run_configuration.specs.Marks.{is_marked}
-use Rattle.kpn_run_configuration.proofs.configuration.marked_waits.has_mark.Given as goal
-
--- none of the channels so far is marked
-abbrev pub invariant-channels : goal.invariant-channels
-invariant-channels l = (j : ℕ) → j < l.k → is_marked l.marks (get_or l.channels j 0) ≡ false

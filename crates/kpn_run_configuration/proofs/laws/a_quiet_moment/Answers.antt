@@ -1,8 +1,0 @@
-use Rattle.kpn_run_configuration.proofs.Moments.{quiet_now, least_when_quiet}
-use Rattle.kpn_run_configuration.proofs.laws.a_quiet_moment.Goals as goal
-
-pub returns-clause-quiet : goal.returns-clause-quiet
-returns-clause-quiet c = quiet_now
-
-pub returns-clause-least : goal.returns-clause-least
-returns-clause-least c = least_when_quiet

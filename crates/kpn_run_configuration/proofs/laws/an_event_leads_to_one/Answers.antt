@@ -1,5 +1,0 @@
-use Rattle.kpn_run_configuration.proofs.Determined.{determined}
-use Rattle.kpn_run_configuration.proofs.laws.an_event_leads_to_one.Goals as goal
-
-pub returns : goal.returns
-returns c = determined

@@ -1,5 +1,0 @@
-use Rattle.kpn_run_history.proofs.Complete.{least_if_complete}
-use Rattle.kpn_run_history.proofs.complete_laws.complete_is_least.Goals as goal
-
-pub returns : goal.returns
-returns c = least_if_complete

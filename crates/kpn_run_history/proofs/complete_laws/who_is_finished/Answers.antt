@@ -1,5 +1,0 @@
-use Rattle.kpn_run_history.proofs.Finished.{finished_exactly}
-use Rattle.kpn_run_history.proofs.complete_laws.who_is_finished.Goals as goal
-
-pub returns : goal.returns
-returns c = finished_exactly

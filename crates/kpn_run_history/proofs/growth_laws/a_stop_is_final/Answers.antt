@@ -1,5 +1,0 @@
-use Rattle.kpn_run_history.proofs.Stops.{only_a_leave}
-use Rattle.kpn_run_history.proofs.growth_laws.a_stop_is_final.Goals as goal
-
-pub returns : goal.returns
-returns c = only_a_leave

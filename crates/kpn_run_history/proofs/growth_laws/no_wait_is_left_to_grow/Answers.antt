@@ -1,5 +1,0 @@
-use Rattle.kpn_run_history.proofs.OwedGrowth.{no_wait_left}
-use Rattle.kpn_run_history.proofs.growth_laws.no_wait_is_left_to_grow.Goals as goal
-
-pub returns : goal.returns
-returns c = no_wait_left

@@ -1,5 +1,0 @@
-use Rattle.kpn_run_history.proofs.Ownership.{IsOwn-last}
-use Rattle.kpn_run_history.proofs.laws.channels_belong_to_events.Goals as goal
-
-pub returns : goal.returns
-returns c = IsOwn-last

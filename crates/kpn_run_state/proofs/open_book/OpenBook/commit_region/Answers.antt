@@ -1,8 +1,0 @@
-use Rattle.std.proofs.Common.{◌≡◌, false, rules}
-use Rattle.std.proofs.lemmas.Bool.{both_ways}
-use Rattle.kpn_run_state.proofs.open_book.OpenBook.commit_region.Goals as goal
-
-pub returns-then-not-can_join-clause-refused : goal.returns-then-not-can_join-clause-refused
-returns-then-not-can_join-clause-refused g c =
-    let not_so : c.can_join.result ≡ false = search rules in
-    λ can. both_ways c.can_join.result not_so (c.can_join.ensures.1 can)

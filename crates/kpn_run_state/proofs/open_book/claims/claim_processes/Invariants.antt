@@ -1,6 +1,0 @@
-use Rattle.std.proofs.Common.{take}
-use Rattle.kpn_run_state.specs.ClaimParts.{HasProcesses}
-use Rattle.kpn_run_state.proofs.open_book.claims.claim_processes.Given as goal
-
-abbrev pub invariant-processes : goal.invariant-processes
-invariant-processes g l = HasProcesses (take l.k l.of) l.fn.batch.tables l.configuration l.batch

@@ -1,6 +1,0 @@
-use Rattle.std.proofs.Common.{◌≡◌, take}
-use Rattle.kpn_run_state.specs.Appending.{all_made_ready}
-use Rattle.kpn_run_state.proofs.open_book.commits.wake_all.Given as goal
-
-abbrev pub invariant-processes : goal.invariant-processes
-invariant-processes g l = l.schedule ≡ all_made_ready (take l.i l.woken) l.fn.schedule

@@ -1,6 +1,0 @@
-use Rattle.kpn_region.specs.Local.{is_within}
-use Rattle.kpn_run_state.proofs.Regions.{HadTurns}
-use Rattle.kpn_run_state.proofs.open_book.regions.hold_region.Given as goal
-
-abbrev pub invariant-turns : goal.invariant-turns
-invariant-turns g l = HadTurns (is_within l.batch.now) l.fn.schedule l._turn l.schedule

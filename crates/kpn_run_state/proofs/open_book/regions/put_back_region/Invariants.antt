@@ -1,9 +1,0 @@
-use Rattle.std.proofs.Common.{◌≡◌}
-use Rattle.std.specs.List.{range_with_len}
-use Rattle.kpn_region.specs.Local.{is_within}
-use Rattle.kpn_run_state.specs.Regions.{all_put_back}
-use Rattle.kpn_run_state.proofs.open_book.regions.put_back_region.Given as goal
-
-abbrev pub invariant-processes : goal.invariant-processes
-invariant-processes g l =
-    l.schedule ≡ all_put_back (is_within l.batch.now) (range_with_len 0 l.p) l.fn.schedule

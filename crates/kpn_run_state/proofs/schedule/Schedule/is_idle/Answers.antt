@@ -1,7 +1,0 @@
-use Rattle.kpn_run_state.proofs.Tallies.{idle_is}
-use Rattle.kpn_run_state.proofs.schedule.Schedule.is_idle.Goals as goal
-
-pub returns : goal.returns
-returns g c =
-    rw (← c.self.view_is)
-    (idle_is c.self.inside.states.items c.self.inside.tally.going c.self.invariant.1.1.going)

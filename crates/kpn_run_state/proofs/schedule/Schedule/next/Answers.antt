@@ -1,8 +1,0 @@
-use Rattle.std.proofs.Common.{◌∙◌, sym}
-use Rattle.kpn_run_state.proofs.Waiting.{first_waits}
-use Rattle.kpn_run_state.proofs.schedule.Schedule.next.Goals as goal
-
-pub returns : goal.returns
-returns g c =
-    rw (← c.self.view_is)
-    (c.first.ensures ∙ sym (first_waits c.self.inside.queue.numbers.items c.self.inside.queue.taken))
