@@ -99,17 +99,17 @@ TYPES = {
     '&[usize]': ['const size_t *', 'size_t '], '&mut [u8]': ['uint8_t *', 'size_t '],
     '&mut [i64]': ['int64_t *', 'size_t '], '&mut [usize]': ['size_t *', 'size_t '], 'usize': ['size_t '],
     'u64': ['uint64_t '], '&mut usize': ['size_t *'], '&mut u64': ['uint64_t *'], '&mut u32': ['uint32_t *'],
-    '&mut bool': ['bool *'], '&Limits': ['const kpn_limits *'], '&mut Ran': ['kpn_ran *'],
-    '&[Item]': ['const kpn_item *', 'size_t '], '&mut [Wanted]': ['kpn_wanted *', 'size_t '],
-    '&mut Amounts': ['kpn_amounts *'], '&mut Place': ['kpn_place *'], 'Held': ['kpn_session '],
-    '&mut Held': ['kpn_session *'], '&mut Counts': ['kpn_counts *'], '&mut ChannelState': ['kpn_channel_state *'],
+    '&mut bool': ['bool *'], '&GivenLimits': ['const kpn_limits *'], '&mut RunSizes': ['kpn_ran *'],
+    '&[SourceItem]': ['const kpn_item *', 'size_t '], '&mut [Wanted]': ['kpn_wanted *', 'size_t '],
+    '&mut Amounts': ['kpn_amounts *'], '&mut FaultPlace': ['kpn_place *'], 'Held': ['kpn_session '],
+    '&mut Held': ['kpn_session *'], '&mut PartCounts': ['kpn_counts *'], '&mut ChannelStatus': ['kpn_channel_state *'],
     '&mut [ProcessState]': ['kpn_process_state *', 'size_t '],
 }
 FIELDS = {'u32': 'uint32_t', 'i64': 'int64_t', 'u64': 'uint64_t', 'usize': 'size_t', 'bool': 'bool',
           '*mut u8': 'void *'}
-STRUCTS = {'Limits': 'kpn_limits', 'Ran': 'kpn_ran', 'Place': 'kpn_place', 'Held': 'kpn_session', 'Item': 'kpn_item',
-           'Wanted': 'kpn_wanted', 'Amounts': 'kpn_amounts', 'Counts': 'kpn_counts',
-           'ChannelState': 'kpn_channel_state', 'ProcessState': 'kpn_process_state'}
+STRUCTS = {'GivenLimits': 'kpn_limits', 'RunSizes': 'kpn_ran', 'FaultPlace': 'kpn_place', 'Held': 'kpn_session',
+           'SourceItem': 'kpn_item', 'Wanted': 'kpn_wanted', 'Amounts': 'kpn_amounts', 'PartCounts': 'kpn_counts',
+           'ChannelStatus': 'kpn_channel_state', 'ProcessState': 'kpn_process_state'}
 
 
 def exports(text):

@@ -7,7 +7,7 @@ use kpn_book::{Keeping, Limits, Outcome, Report};
 use kpn_limits::MAX_WORKERS;
 use kpn_net::Network;
 use kpn_pool::{RunFault, run};
-use kpn_pool_desk::{Batch, Desk, Job};
+use kpn_pool_desk::{Desk, HeldTurns, Job};
 use kpn_text::read_network;
 use std::alloc::{AllocError, Global};
 use std::marker::Brand;
@@ -138,7 +138,7 @@ fn beside_batches<J: Job>(
     let Some(mut seat) = seats.pop() else {
         return Ok(0);
     };
-    let mut batch = Batch::new();
+    let mut batch = HeldTurns::new();
     let mut turns: u64 = 0;
     'batches: for _batch in 0..10 {
         if batch.claim(&mut desk)? {

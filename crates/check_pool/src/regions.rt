@@ -4,7 +4,7 @@ ghost use Rattle.std.specs.Prelude.{◌≡◌};
 use crate::abandoning::TestGate;
 use kpn_book::Keeping;
 use kpn_net::Network;
-use kpn_pool_desk::{Batch, Desk, Job, Next, RegionTurn, Why, WorkerSeat, end_seats};
+use kpn_pool_desk::{Desk, HeldTurns, Job, NextMove, RegionTurn, Why, WorkerSeat, end_seats};
 use kpn_text::read_network;
 use linked_list_allocator::LocalHeap;
 use std::alloc::AllocError;
@@ -66,7 +66,7 @@ impl<'n, 'a, J: Job> Worker<'n, 'a, J> {
 
     /// Makes turns until it holds a region, and returns whether it does, or why it ends before.
     fn claim_region(&mut self) -> Result<bool, Why> {
-        let mut batch = Batch::new();
+        let mut batch = HeldTurns::new();
         for _ in 0..100_000 {
             if self.region.is_held() {
                 return Ok(false);
@@ -81,7 +81,7 @@ impl<'n, 'a, J: Job> Worker<'n, 'a, J> {
             batch.step(&self.gate, 0, 1_000);
             let (desk, seat) = (&mut self.desk, &mut self.seat);
             let next = batch.come_back(desk, &self.gate, seat, u64::MAX, None, 1_000, self.most);
-            if let Next::End(why) = next {
+            if let NextMove::End(why) = next {
                 return Err(why);
             }
         }
@@ -97,7 +97,7 @@ impl<'n, 'a, J: Job> Worker<'n, 'a, J> {
         self.region.run(1_000);
         let (desk, seat) = (&mut self.desk, &mut self.seat);
         let why = match self.region.come_back(desk, seat, u64::MAX, None, self.most) {
-            Next::End(why) => Some(why),
+            NextMove::End(why) => Some(why),
             _ => None,
         };
         (why, self.seat.commits() - before)

@@ -3,7 +3,7 @@ use crate::abandoning::TestGate;
 use kpn_book::{Keeping, Limits};
 use kpn_net::Network;
 use kpn_pool::{
-    Client, Feeder, Outside, Ran, Shared, close, feed_when_room, run_beside, take_when_there,
+    Client, EndedRun, Feeder, Outside, Shared, close, feed_when_room, run_beside, take_when_there,
 };
 use kpn_pool_desk::{Awaited, Job, Refused, SinkSeat, SourceSeat, Why};
 use kpn_text::read_network;
@@ -118,7 +118,7 @@ fn is_copied<R: Threads + Wait + Clock + Sync>(
 }
 
 /// Whether all workers find the run settled, and all items came.
-fn has_copied(ran: &Ran<'_, Takes>) -> bool {
+fn has_copied(ran: &EndedRun<'_, Takes>) -> bool {
     let have_settled = ran
         .workers
         .iter()

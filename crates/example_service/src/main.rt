@@ -6,7 +6,7 @@ use anyhow::{Result, ensure};
 use kpn_book::{Keeping, Limits, Refused};
 use kpn_net::Network;
 use kpn_pool::{
-    Awaited, Client, CommitsAll, Feeder, Job, Outside, Ran, Shared, SinkSeat, SourceSeat, Why,
+    Awaited, Client, CommitsAll, EndedRun, Feeder, Job, Outside, Shared, SinkSeat, SourceSeat, Why,
     close, feed_when_room, run_beside, take_when_there,
 };
 use kpn_text::read_network;
@@ -142,7 +142,7 @@ fn shows<J: Job, R: Wait>(rt: &R, alloc: Global, shared: &Shared<'_, J>, items: 
 }
 
 /// What a run came to in which each worker ended because nothing more could happen.
-fn told_of(alloc: Global, ran: &Ran<'_, Taking>) -> Result<String> {
+fn told_of(alloc: Global, ran: &EndedRun<'_, Taking>) -> Result<String> {
     let have_settled = ran
         .workers
         .iter()

@@ -2,7 +2,7 @@
 use Rattle.std.proofs.Common.{◌≡◌, Option, Some, None, sym, ap, ◌∙◌, subst}
 use Rattle.kpn_c.specs.Session.{Session}
 use Rattle.kpn_c.specs.declared.slot.Slot.{Slot}
-use Rattle.kpn_c.specs.Sessions.{holding}
+use Rattle.kpn_c.specs.Sessions.{slot_with}
 use Rattle.kpn_c.specs.Exports.{Leads}
 
 abbrev session_or : Session → Option Session → Session
@@ -13,9 +13,9 @@ abbrev held_or : Session → Option Slot → Session
 held_or s None = s
 held_or s (Some slot) = session_or s slot.session
 
-the_session : (o : Option Slot) (r s : Session) → o ≡ holding r → o ≡ holding s → r ≡ s
+the_session : (o : Option Slot) (r s : Session) → o ≡ slot_with r → o ≡ slot_with s → r ≡ s
 the_session o r s is was = ap (held_or r) (sym is ∙ was)
 
-pub leads : (R : Session → Session → Type 0) (o after : Option Slot) (r u : Session) → o ≡ holding r
-    → after ≡ holding u → R r u → Leads R o after
+pub leads : (R : Session → Session → Type 0) (o after : Option Slot) (r u : Session) → o ≡ slot_with r
+    → after ≡ slot_with u → R r u → Leads R o after
 leads R o after r u was is holds = λ s e. (u, is, subst (λ x. R x u) (the_session o r s was e) holds)

@@ -11,13 +11,13 @@ use Rattle.kpn_book.specs.Appending.{Happens, AllHappen}
 use Rattle.kpn_book.specs.Refusals.{closes_by, Closes, leaves_by, Leaves, takes_item}
 use Rattle.kpn_book.specs.Stepping.{StepsNext, StepsInVain}
 use Rattle.kpn_book.proofs.Appended.{tables_stay, commit_tables}
-use Rattle.kpn_c.specs.Calls.{Turns, no_turn, one_turn_more, stops_by, StepsEach}
-use Rattle.kpn_c.specs.declared.stepping.Stepped.{Stepped}
+use Rattle.kpn_c.specs.Calls.{TurnsFrom, no_turn, one_turn_more, stops_by, StepsEach}
+use Rattle.kpn_c.specs.declared.stepping.StepCount.{StepCount}
 use Rattle.kpn_c.specs.declared.taking.Taken.{Taken}
-use Rattle.kpn_c.specs.declared.moving.Item.{Item}
+use Rattle.kpn_c.specs.declared.moving.SourceItem.{SourceItem}
 use Rattle.kpn_c.specs.declared.moving.Wanted.{Wanted}
 use Rattle.kpn_c.specs.declared.moving.Moved.{Moved}
-use Rattle.kpn_c.specs.Moving.{feed_of, TakesAll, no_take, one_take_more, steps_if, takes_if, has_fed, has_stepped, Moves}
+use Rattle.kpn_c.specs.Moving.{feed_of, TakesForEach, no_take, one_take_more, steps_if, takes_if, has_fed, has_stepped, Moves}
 
 happens_tables : (e : Event) (before after : Book) → Happens e before after → after.tables ≡ before.tables
 happens_tables e before after is = tables_stay (e ∷ is.growth) before after is.appends
@@ -56,7 +56,7 @@ step_tables quota answer before after steps =
     commit_tables steps.process steps.advance answer steps.between after steps.commits
     ∙ ap (λ b. b.tables) steps.steps.claimed.same
 
-turns_tables : (quota : ℕ) (first : Book) (n : ℕ) (after : Book) → Turns quota first n after
+turns_tables : (quota : ℕ) (first : Book) (n : ℕ) (after : Book) → TurnsFrom quota first n after
     → after.tables ≡ first.tables
 turns_tables quota first _ _ no_turn = refl
 turns_tables quota first _ _ (one_turn_more before after answer turns step) =
@@ -71,7 +71,7 @@ stops_tables : (is_refused : Bool) (quota most made : ℕ) (last after : Book)
 stops_tables false quota most made last after stops = ap (λ b. b.tables) stops.0
 stops_tables true quota most made last after stops = vain_tables quota last after stops
 
-pub steps_tables : (quota most : ℕ) (stepped : Stepped) (before after : Book)
+pub steps_tables : (quota most : ℕ) (stepped : StepCount) (before after : Book)
     → StepsEach quota most stepped before after → after.tables ≡ before.tables
 steps_tables quota most stepped before after steps =
     stops_tables stepped.is_refused quota most stepped.commits steps.last after steps.stops
@@ -82,13 +82,13 @@ taking_tables : (item : Option ℤ) (c : ℕ) (before after : Book) → takes_it
 taking_tables None c before after is = ap (λ b. b.tables) is.1
 taking_tables (Some v) c before after is = happens_tables (Take c v) before after is.1
 
-takes_tables : (first : Book) (asked kept : List Wanted) (last : Book) → TakesAll first asked kept last
+takes_tables : (first : Book) (asked kept : List Wanted) (last : Book) → TakesForEach first asked kept last
     → last.tables ≡ first.tables
 takes_tables first _ _ _ no_take = refl
 takes_tables first _ _ _ (one_take_more {asked} {kept} w item before after so_far next) =
     taking_tables item w.channel before after next.takes ∙ takes_tables first asked kept before so_far
 
-steps_if_tables : (goes_on : Bool) (quota most : ℕ) (stepped : Stepped) (before after : Book)
+steps_if_tables : (goes_on : Bool) (quota most : ℕ) (stepped : StepCount) (before after : Book)
     → steps_if goes_on quota most stepped before after → after.tables ≡ before.tables
 steps_if_tables false quota most stepped before after is = ap (λ b. b.tables) is.1
 steps_if_tables true quota most stepped before after is = steps_tables quota most stepped before after is
@@ -98,7 +98,7 @@ takes_if_tables : (goes_on : Bool) (taken : Taken) (asked kept : List Wanted) (b
 takes_if_tables false taken asked kept before after is = ap (λ b. b.tables) is.2
 takes_if_tables true taken asked kept before after is = takes_tables before _ _ after is.takes
 
-pub moves_tables : (items : List Item) (quota most : ℕ) (moved : Moved) (asked kept : List Wanted)
+pub moves_tables : (items : List SourceItem) (quota most : ℕ) (moved : Moved) (asked kept : List Wanted)
     (before after : Book) → Moves items quota most moved asked kept before after → after.tables ≡ before.tables
 moves_tables items quota most moved asked kept before after moves =
     takes_if_tables (has_stepped moved) moved.taken asked kept moves.stepped after moves.takes

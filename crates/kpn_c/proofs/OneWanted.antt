@@ -4,12 +4,12 @@ use Rattle.std.proofs.lemmas.List.{take_more, take_more_set, get_or-drop}
 use Rattle.kpn_book.specs.Book.{Book}
 use Rattle.kpn_book.specs.Appending.{Happens, AllHappen}
 use Rattle.kpn_book.specs.Refusals.{Takes}
-use Rattle.kpn_c.specs.declared.moving.Item.{Item}
+use Rattle.kpn_c.specs.declared.moving.SourceItem.{SourceItem}
 use Rattle.kpn_c.specs.declared.moving.Wanted.{Wanted}
-use Rattle.kpn_c.specs.Moving.{feed_of, item_at, wanted_at, filled, TakesAll, one_take_more}
+use Rattle.kpn_c.specs.Moving.{feed_of, item_at, wanted_at, filled, TakesForEach, one_take_more}
 use Rattle.kpn_c.proofs.OneMore.{one_more}
 
-pub feeds_more : (items : List Item) (count : ℕ) (a b c : Book) → count < length items
+pub feeds_more : (items : List SourceItem) (count : ℕ) (a b c : Book) → count < length items
     → AllHappen (map feed_of (take count items)) a b → Happens (feed_of (item_at items count)) b c
     → AllHappen (map feed_of (take (count + 1) items)) a c
 feeds_more items count a b c below so_far next =
@@ -29,17 +29,17 @@ place_is asked places count rest =
 
 pub wanted_more : (asked places : List Wanted) (count : ℕ) (item : Option ℤ) (got : Wanted) (first b c : Book)
     → count < length asked → length places ≡ length asked → drop count places ≡ drop count asked
-    → got ≡ filled item (wanted_at places count) → TakesAll first (take count asked) (take count places) b
+    → got ≡ filled item (wanted_at places count) → TakesForEach first (take count asked) (take count places) b
     → Takes (wanted_at places count).channel item b c
-    → TakesAll first (take (count + 1) asked) (take (count + 1) (set places count got)) c
+    → TakesForEach first (take (count + 1) asked) (take (count + 1) (set places count got)) c
 wanted_more asked places count item got first b c below long rest is so_far next =
     let w = wanted_at places count in
     let there = subst (λ n. count < n) (sym long) below in
-    subst (λ xs. TakesAll first xs (take (count + 1) (set places count got)) c)
+    subst (λ xs. TakesForEach first xs (take (count + 1) (set places count got)) c)
     (sym (take_more asked count _ below))
-    (subst (λ ys. TakesAll first (take count asked ++ wanted_at asked count ∷ []) ys c)
+    (subst (λ ys. TakesForEach first (take count asked ++ wanted_at asked count ∷ []) ys c)
     (sym (take_more_set places count got there))
-    (subst (λ g. TakesAll first (take count asked ++ wanted_at asked count ∷ []) (take count places ++ g ∷ []) c)
+    (subst (λ g. TakesForEach first (take count asked ++ wanted_at asked count ∷ []) (take count places ++ g ∷ []) c)
     (sym is)
-    (subst (λ v. TakesAll first (take count asked ++ v ∷ []) (take count places ++ filled item w ∷ []) c)
+    (subst (λ v. TakesForEach first (take count asked ++ v ∷ []) (take count places ++ filled item w ∷ []) c)
     (place_is asked places count rest) (one_take_more w item b c so_far next))))

@@ -32,7 +32,7 @@ use Rattle.kpn_c.specs.contracts.loose.Loose as loose
 use Rattle.kpn_c.specs.contracts.held.Held as held
 use Rattle.kpn_c.specs.contracts.slot.Slot as slot
 use Rattle.kpn_c.specs.declared.slot.Slot.{Slot}
-use Rattle.kpn_c.specs.Holding.{holds}
+use Rattle.kpn_c.specs.Holding.{owns_slot}
 
 abbrev pub both : Val → Val → Val
 both v w = vstruct (vcons v (vcons w vnil))
@@ -82,7 +82,7 @@ some_of (Some x) is = (x, refl)
 
 module _ {M : Type 1} {𝓤 : Ura M} {𝓛 : Logic 𝓤} {K : Type 0} {Γ : List (Item 𝓤)} {Q : Goal 𝓤 𝓛.H} where
   pub held_in : K → (p : Ptr) (h : Val) (a : Global) (s : Option Slot)
-      → Step K 𝓛 (‵ (held.the_row.own_val (record { at = p; alloc = a; slot = s }) (both (ptr_val p) h ∷ [])) ∷ Γ) Q (‵ (holds a p s) ∷ ‵ (G.own_val a (h ∷ [])) ∷ Γ) Q
+      → Step K 𝓛 (‵ (held.the_row.own_val (record { at = p; alloc = a; slot = s }) (both (ptr_val p) h ∷ [])) ∷ Γ) Q (‵ (owns_slot a p s) ∷ ‵ (G.own_val a (h ∷ [])) ∷ Γ) Q
   held_in t p h a s = step (λ next. let v : Val = both (ptr_val p) h in
       nothing t $ move t (2 ∷ 0 ∷ []) $ fjoin t $ feq_i t (List Val) (ptr_val p ∷ []) (ptr_val p ∷ []) refl $ fjoin t $ feq_i t (List Val) (v ∷ []) (v ∷ []) refl $ fjoin t $
       fpack t (Valss (RawPtr ∷ G ∷ [])) (within (shape held.the_type) (p, (heap.the_field.into a, tt)) (v ∷ [])) (ptr_val p ∷ [], (h ∷ [], tt)) $ fjoin t $ next)
@@ -92,7 +92,7 @@ module _ {M : Type 1} {𝓤 : Ura M} {𝓛 : Logic 𝓤} {K : Type 0} {Γ : List
       → Seq K 𝓛 (‵ (held.the_row.own_val d vs) ∷ Γ) Q
   held_out t d vs x there k =
       fsplit t $ fpick t (λ vss. fsplit t $ feq_l t (λ ev. fsplit t $ feq_l t (λ ep. fsplit t $ handle_tells (al slot.the_row G heap_laws.the_row_laws ghosts) t d.alloc vss.1.0 (λ h ea fits. move t (1 ∷ []) $ drop t $ move t (1 ∷ []) $
-      rewrite t 0 (λ (s : Option Slot). ‵ (holds d.alloc d.at s)) there refl $
+      rewrite t 0 (λ (s : Option Slot). ‵ (owns_slot d.alloc d.at s)) there refl $
       in_a_block t d.at (λ p. box_owns (ghosts.dealloc_token d.alloc) slot.the_row p x) (fst∗ 𝓤 (never 𝓤) (sem 𝓛 (ghosts.dealloc_token d.alloc (bare (lone slot.the_row.mir)) null_ptr))) (λ b o e. k b o h e
       (subst (λ (p : Ptr). vs ≡ vstruct (of_list (ptr_val p ∷ h ∷ [])) ∷ []) e
       (subst (λ (ws : List Val). vs ≡ vstruct (of_list (ptr_val d.at ∷ (ws ++ []))) ∷ []) ea (subst (λ (ps : List Val). vs ≡ vstruct (of_list (ps ++ (vss.1.0 ++ []))) ∷ []) ep ev))) fits)))))

@@ -10,8 +10,8 @@ use Rattle.kpn_book.specs.Book.{Book}
 use Rattle.kpn_book.specs.Appending.{AllHappen}
 use Rattle.kpn_book.specs.Refusals.{IsOpenSource, RefusesFeed, IsOpenSink, RefusesTake}
 use Rattle.kpn_book.specs.Stepping.{ClaimsNobody, StepsNext, StepsInVain}
-use Rattle.kpn_c.specs.declared.feeding.Fed.{Fed}
-use Rattle.kpn_c.specs.declared.stepping.Stepped.{Stepped}
+use Rattle.kpn_c.specs.declared.feeding.FedCount.{FedCount}
+use Rattle.kpn_c.specs.declared.stepping.StepCount.{StepCount}
 use Rattle.kpn_c.specs.declared.taking.Taken.{Taken}
 
 -- ---- feeding
@@ -23,7 +23,7 @@ feeds_all_unless (Some cause) source items count before after =
     RefusesFeed source (get_or items count (pos 0)) (2 ^ 64 - 1) after cause
 
 -- the first items, as many as are told, were fed to a source, and then the feed ended as is told
-pub record FeedsEach (source : ℕ) (items : List ℤ) (fed : Fed) (before after : Book) : Type 0 where
+pub record FeedsEach (source : ℕ) (items : List ℤ) (fed : FedCount) (before after : Book) : Type 0 where
   pub feeds : AllHappen (map (event.Feed source) (take fed.count items)) before after
   pub within : fed.count ≤ length items
   pub ends : feeds_all_unless fed.cause source items fed.count before after
@@ -32,10 +32,10 @@ pub record FeedsEach (source : ℕ) (items : List ℤ) (fed : Fed) (before after
 
 -- so many turns lead from the first book to this one. In each turn the front of the queue is claimed, makes no more
 -- steps than the quota, and is committed
-pub data Turns (quota : ℕ) (first : Book) : ℕ → Book → Type 0 where
-  no_turn : Turns quota first 0 first
-  one_turn_more : {n : ℕ} (before after : Book) (answer : Done) → Turns quota first n before
-      → StepsNext quota answer before after → Turns quota first (n + 1) after
+pub data TurnsFrom (quota : ℕ) (first : Book) : ℕ → Book → Type 0 where
+  no_turn : TurnsFrom quota first 0 first
+  one_turn_more : {n : ℕ} (before after : Book) (answer : Done) → TurnsFrom quota first n before
+      → StepsNext quota answer before after → TurnsFrom quota first (n + 1) after
 
 -- why no more turns were made: they were as many as they may be, or no process can be claimed. Or else memory ran out
 -- in the next turn
@@ -44,9 +44,9 @@ stops_by false quota most made last after = (after ≡ last) × ((made ≡ most)
 stops_by true quota most made last after = StepsInVain quota last after
 
 -- as many turns as are told were made, and no more than may be
-pub record StepsEach (quota most : ℕ) (stepped : Stepped) (before after : Book) : Type 0 where
+pub record StepsEach (quota most : ℕ) (stepped : StepCount) (before after : Book) : Type 0 where
   pub last : Book
-  pub turns : Turns quota before stepped.commits last
+  pub turns : TurnsFrom quota before stepped.commits last
   pub within : stepped.commits ≤ most
   pub stops : stops_by stepped.is_refused quota most stepped.commits last after
 
@@ -71,7 +71,7 @@ pub record TakesEach (sink : ℕ) (taken : Taken) (room kept : List ℤ) (before
 -- ---- complete channels
 
 -- whether the channel is complete, or that no channel has this number
-abbrev pub TellsComplete : (channel : ℕ) → Option Bool → Book → Type 0
-TellsComplete channel None b = length b.tables.channels ≤ channel
-TellsComplete channel (Some told) b =
+abbrev pub TellsCompleteness : (channel : ℕ) → Option Bool → Book → Type 0
+TellsCompleteness channel None b = length b.tables.channels ≤ channel
+TellsCompleteness channel (Some told) b =
     (channel < length b.tables.channels) × ((told ≡ true) ↔ IsComplete b.tables b.history channel)

@@ -8,32 +8,32 @@ use Rattle.kpn_net.specs.declared.fault.NetFault.TheVariants as net
 use Rattle.kpn_text.specs.declared.fault.TextFault.{TextFault}
 use Rattle.kpn_text.specs.declared.fault.TextFault.TheVariants as of_text
 use Rattle.kpn_text.specs.Phases.{Refuses}
-use Rattle.kpn_c.specs.declared.positions.Position.{Position}
-use Rattle.kpn_c.specs.declared.explaining.Kind.{Kind}
-use Rattle.kpn_c.specs.declared.explaining.Kind.TheVariants.{Byte, Process, Instance, Channel}
+use Rattle.kpn_c.specs.declared.positions.TextPosition.{TextPosition}
+use Rattle.kpn_c.specs.declared.explaining.PlaceKind.{PlaceKind}
+use Rattle.kpn_c.specs.declared.explaining.PlaceKind.TheVariants.{Byte, Process, Instance, Channel}
 use Rattle.kpn_c.specs.Faults.{fault_of_text}
-use Rattle.kpn_c.specs.Slices.{Puts}
+use Rattle.kpn_c.specs.Slices.{PutsToFront}
 use Rattle.kpn_c.specs.Texts.{IsText}
 
 -- if the call succeeded, the bytes stand behind the text as it was
-abbrev pub Adds : {T E Z : Type 0} → Result T E → (old new : String Z) → List ℕ → Type 0
-Adds result old new bytes = OnOk result (string_bytes new ≡ string_bytes old ++ bytes)
+abbrev pub AppendsWords : {T E Z : Type 0} → Result T E → (old new : String Z) → List ℕ → Type 0
+AppendsWords result old new bytes = OnOk result (string_bytes new ≡ string_bytes old ++ bytes)
 
 -- ---- lines and columns, from 1
 
-abbrev pub first_position : Position
+abbrev pub first_position : TextPosition
 first_position = record { line = 1; column = 1 }
 
 -- the position behind a byte: a line feed ends its line
-abbrev pub next_position : Position → (byte : ℕ) → Position
+abbrev pub next_position : TextPosition → (byte : ℕ) → TextPosition
 next_position p b =
     if b == 10 then record { line = p.line + 1; column = 1 } else record { line = p.line; column = p.column + 1 }
 
-abbrev pub position_behind : (text : List ℕ) → Position
+abbrev pub position_behind : (text : List ℕ) → TextPosition
 position_behind text = fold next_position first_position text
 
 -- the position of this byte of a text, or of its end
-abbrev pub position_at : (text : List ℕ) → (at : ℕ) → Position
+abbrev pub position_at : (text : List ℕ) → (at : ℕ) → TextPosition
 position_at text at = position_behind (take at text)
 
 -- ---- names
@@ -72,46 +72,46 @@ name_of_text of_text.NoMemory = codes "NoMemory"
 -- ---- places
 
 -- what the place of a fault counts, if it has one
-abbrev pub kind_of_net : NetFault → Kind
+abbrev pub kind_of_net : NetFault → PlaceKind
 kind_of_net (net.NoSuchProgram p) = Instance
 kind_of_net (net.PortCount p) = Instance
 kind_of_net (net.NoSuchChannel p) = Instance
 kind_of_net other = Channel
 
-abbrev pub kind_of_text : TextFault → Kind
+abbrev pub kind_of_text : TextFault → PlaceKind
 kind_of_text (of_text.Program i fault) = Process
 kind_of_text (of_text.Net fault) = kind_of_net fault
 kind_of_text other = Byte
 
-abbrev pub byte_words : (place : ℕ) → Position → List ℕ
+abbrev pub byte_words : (place : ℕ) → TextPosition → List ℕ
 byte_words place p =
     codes " at byte " ++ decimal place ++ codes ", line " ++ decimal p.line ++ codes ", column " ++ decimal p.column
 
-abbrev pub place_words : (text : List ℕ) → Kind → (place : ℕ) → List ℕ
+abbrev pub place_words : (text : List ℕ) → PlaceKind → (place : ℕ) → List ℕ
 place_words text Byte place = byte_words place (position_at text place)
 place_words text Process place = codes " at process " ++ decimal place
 place_words text Instance place = codes " at instance " ++ decimal place
 place_words text Channel place = codes " at channel " ++ decimal place
 
-abbrev pub place_words_if : (text : List ℕ) → Kind → Option ℕ → List ℕ
+abbrev pub place_words_if : (text : List ℕ) → PlaceKind → Option ℕ → List ℕ
 place_words_if text kind None = []
 place_words_if text kind (Some place) = place_words text kind place
 
 -- ---- the words
 
 -- the number and the name of a fault of a text, and its place if it has one
-abbrev pub words_of : (text : List ℕ) → TextFault → List ℕ
-words_of text fault =
+abbrev pub fault_words : (text : List ℕ) → TextFault → List ℕ
+fault_words text fault =
     decimal (fault_of_text fault).number ++ codes " " ++ name_of_text fault
     ++ place_words_if text (kind_of_text fault) (fault_of_text fault).place
 
 -- the words are put to the front of a slice, or memory ran out
-abbrev pub ExplainsFault : (text : List ℕ) → TextFault → (code told : ℕ) → (room kept : List ℕ) → Type 0
-ExplainsFault text fault code told room kept =
-    Puts (words_of text fault) code told room kept ⊎ ((code ≡ 42) × (kept ≡ room))
+abbrev pub ExplainsTextFault : (text : List ℕ) → TextFault → (code told : ℕ) → (room kept : List ℕ) → Type 0
+ExplainsTextFault text fault code told room kept =
+    PutsToFront (fault_words text fault) code told room kept ⊎ ((code ≡ 42) × (kept ≡ room))
 
 -- the text is a description, and there are no words; or it is refused, and they are those of the fault
-abbrev pub Explains : (text : List ℕ) → (code told : ℕ) → (room kept : List ℕ) → Type 0
-Explains text code told room kept =
-    (IsText text × Puts [] code told room kept)
-    ⊎ ((fault : TextFault) × Refuses text fault × ExplainsFault text fault code told room kept)
+abbrev pub ExplainsText : (text : List ℕ) → (code told : ℕ) → (room kept : List ℕ) → Type 0
+ExplainsText text code told room kept =
+    (IsText text × PutsToFront [] code told room kept)
+    ⊎ ((fault : TextFault) × Refuses text fault × ExplainsTextFault text fault code told room kept)

@@ -7,15 +7,15 @@ use Rattle.kpn_history.specs.Ends.{IsVerdict}
 use Rattle.kpn_book.specs.declared.answers.Refused.{Refused}
 use Rattle.kpn_book.specs.Refusals.{Closes, RefusesClose, Leaves, RefusesLeave}
 use Rattle.kpn_c.specs.Faults.{number_of_refusal}
-use Rattle.kpn_c.specs.Calls.{FeedsEach, StepsEach, TakesEach, TellsComplete}
-use Rattle.kpn_c.specs.declared.moving.Item.{Item}
+use Rattle.kpn_c.specs.Calls.{FeedsEach, StepsEach, TakesEach, TellsCompleteness}
+use Rattle.kpn_c.specs.declared.moving.SourceItem.{SourceItem}
 use Rattle.kpn_c.specs.declared.moving.Wanted.{Wanted}
 use Rattle.kpn_c.specs.declared.moving.Moved.{Moved}
 use Rattle.kpn_c.specs.declared.sessions.Amounts.{Amounts}
 use Rattle.kpn_c.specs.Moving.{Moves, code_of_moved}
 use Rattle.kpn_c.specs.Session.{Session}
-use Rattle.kpn_c.specs.declared.ends.Counts.{Counts as Numbers}
-use Rattle.kpn_c.specs.declared.ends.ChannelState.{ChannelState}
+use Rattle.kpn_c.specs.declared.ends.PartCounts.{PartCounts}
+use Rattle.kpn_c.specs.declared.ends.ChannelStatus.{ChannelStatus}
 use Rattle.kpn_c.specs.Telling.{TellsState, counts_of}
 use Rattle.kpn_c.specs.declared.processes.ProcessState.{ProcessState}
 use Rattle.kpn_c.specs.States.{state_as}
@@ -27,15 +27,15 @@ use Rattle.kpn_text.specs.declared.fault.TextFault.{TextFault}
 use Rattle.kpn_text.specs.Spells.{Spells}
 use Rattle.kpn_text.specs.Phases.{Refuses}
 use Rattle.kpn_c.specs.Faults.{fault_of_text}
-use Rattle.kpn_c.specs.Slices.{Puts}
+use Rattle.kpn_c.specs.Slices.{PutsToFront}
 use Rattle.kpn_c.specs.Texts.{IsText}
-use Rattle.kpn_c.specs.declared.codes.Place.{Place}
+use Rattle.kpn_c.specs.declared.codes.FaultPlace.{FaultPlace}
 use Rattle.kpn_c.specs.declared.slot.Slot.{Slot}
-use Rattle.kpn_c.specs.Sessions.{Keeps, holding}
+use Rattle.kpn_c.specs.Sessions.{KeepsAllOrNothing, slot_with}
 
 -- the session that was handed in leads to the one that is handed back
 abbrev pub Leads : (Session → Session → Type 0) → (before after : Option Slot) → Type 0
-Leads R before after = (s : Session) → before ≡ holding s → (u : Session) × (after ≡ holding u) × R s u
+Leads R before after = (s : Session) → before ≡ slot_with s → (u : Session) × (after ≡ slot_with u) × R s u
 
 -- the number of the reason why a book refuses a call, or 0
 abbrev pub code_of_cause : Option Refused → ℕ
@@ -49,7 +49,7 @@ code_of_verdict (Some Clogged) = 2
 code_of_verdict (Some Jammed) = 3
 
 -- so many items were fed to a source, and the number says why no more
-pub record Feeds (source : ℕ) (items : List ℤ) (code count : ℕ) (before after : Session) : Type 0 where
+pub record FeedsSource (source : ℕ) (items : List ℤ) (code count : ℕ) (before after : Session) : Type 0 where
   pub document : after.document ≡ before.document
   pub keeps : after.keeps ≡ before.keeps
   pub cause : Option Refused
@@ -57,7 +57,7 @@ pub record Feeds (source : ℕ) (items : List ℤ) (code count : ℕ) (before af
   pub feeds : FeedsEach source items (record { count = count; cause = cause }) before.book after.book
 
 -- so many items were taken from a sink, and the number says why no more
-pub record Takes (sink : ℕ) (room kept : List ℤ) (code count : ℕ) (before after : Session) : Type 0 where
+pub record TakesFromSink (sink : ℕ) (room kept : List ℤ) (code count : ℕ) (before after : Session) : Type 0 where
   pub document : after.document ≡ before.document
   pub keeps : after.keeps ≡ before.keeps
   pub cause : Option Refused
@@ -65,7 +65,7 @@ pub record Takes (sink : ℕ) (room kept : List ℤ) (code count : ℕ) (before 
   pub takes : TakesEach sink (record { count = count; cause = cause }) room kept before.book after.book
 
 -- so many commits were made, and the number says whether memory ran out
-pub record Steps (most code commits : ℕ) (before after : Session) : Type 0 where
+pub record StepsProcesses (most code commits : ℕ) (before after : Session) : Type 0 where
   pub document : after.document ≡ before.document
   pub keeps : after.keeps ≡ before.keeps
   pub is_refused : Bool
@@ -78,7 +78,7 @@ amounts_of moved =
     record { fed = moved.fed.count; commits = moved.stepped.commits; served = moved.taken.count }
 
 -- items were fed, commits were made and places were served, as is told, and the number says why no more
-pub record MovesItems (items : List Item) (most code : ℕ) (told : Amounts) (asked kept : List Wanted)
+pub record MovesItems (items : List SourceItem) (most code : ℕ) (told : Amounts) (asked kept : List Wanted)
     (before after : Session) : Type 0 where
   pub document : after.document ≡ before.document
   pub keeps : after.keeps ≡ before.keeps
@@ -111,17 +111,17 @@ pub record Asks (Told : Session → Type 0) (before after : Session) : Type 0 wh
   pub told : Told before
 
 -- how many processes and channels there are
-abbrev pub Counts : (code : ℕ) → Numbers → Session → Type 0
-Counts code told s = (code ≡ 0) × (told ≡ counts_of s.document.tables)
+abbrev pub TellsCounts : (code : ℕ) → PartCounts → Session → Type 0
+TellsCounts code told s = (code ≡ 0) × (told ≡ counts_of s.document.tables)
 
 -- the state of a channel is told, or that there is none with this number
-abbrev pub TellsChannel : (channel code : ℕ) → ChannelState → Session → Type 0
+abbrev pub TellsChannel : (channel code : ℕ) → ChannelStatus → Session → Type 0
 TellsChannel channel code told s =
     ((code ≡ 0) × TellsState channel (Some told) s.book) ⊎ ((code ≡ 64) × TellsState channel None s.book)
 
 -- the states of all processes are put to the front of a slice if they fit
 abbrev pub TellsProcesses : (code told : ℕ) → (room kept : List ProcessState) → Session → Type 0
-TellsProcesses code told room kept s = Puts (map state_as s.book.schedule.states) code told room kept
+TellsProcesses code told room kept s = PutsToFront (map state_as s.book.schedule.states) code told room kept
 
 -- the verdict is told, and nothing changes
 pub record TellsVerdict (code told : ℕ) (before after : Session) : Type 0 where
@@ -134,8 +134,8 @@ pub record TellsVerdict (code told : ℕ) (before after : Session) : Type 0 wher
 -- whether a channel is complete is told, or that there is none with this number, and nothing changes
 pub record TellsIfComplete (channel code : ℕ) (told : Bool) (before after : Session) : Type 0 where
   pub same : after ≡ before
-  pub tells : ((code ≡ 0) × TellsComplete channel (Some told) before.book)
-      ⊎ ((code ≡ 64) × TellsComplete channel None before.book)
+  pub tells : ((code ≡ 0) × TellsCompleteness channel (Some told) before.book)
+      ⊎ ((code ≡ 64) × TellsCompleteness channel None before.book)
 
 -- the number of the channel with this name is told, or that there is none, and nothing changes
 pub record FindsChannel (name : List ℕ) (code number : ℕ) (before after : Session) : Type 0 where
@@ -152,39 +152,39 @@ trace_of s = trace_text Two s.book.tables.policy s.book.tables.growth s.book.his
 -- the trace is put to the front of a slice, or memory ran out, or the session keeps none
 abbrev pub TellsTrace : (code told : ℕ) → (room kept : List ℕ) → Session → Type 0
 TellsTrace code told room kept s =
-    ((s.keeps ≡ true) × (Puts (trace_of s) code told room kept ⊎ ((code ≡ 42) × (kept ≡ room))))
+    ((s.keeps ≡ true) × (PutsToFront (trace_of s) code told room kept ⊎ ((code ≡ 42) × (kept ≡ room))))
     ⊎ ((s.keeps ≡ false) × (code ≡ 66) × (kept ≡ room))
 
 -- ---- texts
 
 -- the place of a fault, as C has it
-abbrev pub place_as : Option ℕ → Place
+abbrev pub place_as : Option ℕ → FaultPlace
 place_as None = record { has_place = false; place = 0 }
 place_as (Some place) = record { has_place = true; place = place }
 
 -- the text is refused, and the fault is told by its number and its place
-pub record TellsFault (text : List ℕ) (code : ℕ) (place : Place) : Type 0 where
+pub record TellsTextFault (text : List ℕ) (code : ℕ) (place : FaultPlace) : Type 0 where
   pub fault : TextFault
   pub refuses : Refuses text fault
   pub number : code ≡ (fault_of_text fault).number
   pub place_is : place ≡ place_as (fault_of_text fault).place
 
 -- the text is a description, or its fault is told
-abbrev pub Checks : (text : List ℕ) → (code : ℕ) → Place → Type 0
-Checks text code place = ((code ≡ 0) × IsText text) ⊎ TellsFault text code place
+abbrev pub Checks : (text : List ℕ) → (code : ℕ) → FaultPlace → Type 0
+Checks text code place = ((code ≡ 0) × IsText text) ⊎ TellsTextFault text code place
 
 -- a session of the network that the text describes, where nothing has happened, and which keeps all of what will, or
 -- nothing
-pub record IsOpened (keeps : Bool) (text : List ℕ) (slot : Option Slot) : Type 0 where
+pub record IsNewSession (keeps : Bool) (text : List ℕ) (slot : Option Slot) : Type 0 where
   pub session : Session
-  pub held : slot ≡ holding session
+  pub held : slot ≡ slot_with session
   pub spelled : Spells text session.document
   pub first : IsFirst session.document.tables session.book
   pub keeps_so : session.keeps ≡ keeps
-  pub kept : Keeps keeps session.book
+  pub kept : KeepsAllOrNothing keeps session.book
 
 -- such a session is handed out, or what was there stays, and the fault is told or memory ran out
-abbrev pub Opens : (keeps : Bool) → (text : List ℕ) → (code : ℕ) → Place → (before after : Option Slot) → Type 0
+abbrev pub Opens : (keeps : Bool) → (text : List ℕ) → (code : ℕ) → FaultPlace → (before after : Option Slot) → Type 0
 Opens keeps text code place before after =
-    ((code ≡ 0) × IsOpened keeps text after)
-    ⊎ ((after ≡ before) × (TellsFault text code place ⊎ (code ≡ 42)))
+    ((code ≡ 0) × IsNewSession keeps text after)
+    ⊎ ((after ≡ before) × (TellsTextFault text code place ⊎ (code ≡ 42)))

@@ -8,14 +8,14 @@ use Rattle.kpn_text.specs.declared.fault.TextFault.{TextFault}
 use Rattle.kpn_text.specs.declared.fault.TextFault.TheVariants as text
 use Rattle.kpn_book.specs.declared.answers.Refused.{Refused}
 use Rattle.kpn_book.specs.declared.answers.Refused.TheVariants as refused
-use Rattle.kpn_c.specs.declared.fault.Fault.{Fault}
+use Rattle.kpn_c.specs.declared.fault.NumberedFault.{NumberedFault}
 
 -- a fault with this number, at this place
-abbrev pub fault_at : (number place : ℕ) → Fault
+abbrev pub fault_at : (number place : ℕ) → NumberedFault
 fault_at number place = record { number = number; place = Some place }
 
 -- a fault with this number, which has no place
-abbrev pub fault_alone : (number : ℕ) → Fault
+abbrev pub fault_alone : (number : ℕ) → NumberedFault
 fault_alone number = record { number = number; place = None }
 
 abbrev pub number_of_program : ProgramFault → ℕ
@@ -28,7 +28,7 @@ number_of_program program.TooDeep = 6
 number_of_program program.NoMemory = 7
 
 -- what breaks a rule of networks: an instance or a channel
-abbrev pub fault_of_net : NetFault → Fault
+abbrev pub fault_of_net : NetFault → NumberedFault
 fault_of_net net.TooMany = fault_alone 10
 fault_of_net (net.NoSuchProgram p) = fault_at 11 p
 fault_of_net (net.PortCount p) = fault_at 12 p
@@ -41,7 +41,7 @@ fault_of_net net.NoMemory = fault_alone 18
 fault_of_net (net.NoSuchChannel p) = fault_at 19 p
 
 -- the fault of a description: the place is a byte, or a process, an instance or a channel
-abbrev pub fault_of_text : TextFault → Fault
+abbrev pub fault_of_text : TextFault → NumberedFault
 fault_of_text (text.Token at) = fault_at 20 at
 fault_of_text (text.Grammar at) = fault_at 21 at
 fault_of_text (text.UnknownName at) = fault_at 22 at

@@ -9,6 +9,6 @@ use Rattle.kpn_c.specs.declared.slot.Slot.{Slot}
 use Rattle.kpn_c.specs.contracts.slot.Slot.{the_row}
 
 -- a box of this allocator with this slot, or nothing
-abbrev pub holds : Global → Ptr → Option Slot → Fml
-holds a p None = ftrue
-holds a p (Some slot) = box_owns (ghosts.dealloc_token a) the_row p slot
+abbrev pub owns_slot : Global → Ptr → Option Slot → Fml
+owns_slot a p None = ftrue
+owns_slot a p (Some slot) = box_owns (ghosts.dealloc_token a) the_row p slot

@@ -8,20 +8,20 @@ use Rattle.kpn_book.specs.declared.report.Report.{Report}
 use Rattle.kpn_book.specs.Reports.{events_of, AreSupplied, IsReport}
 use Rattle.kpn_book.specs.RunHere.{IsReportHere}
 use Rattle.kpn_trace.specs.TraceText.{trace_text}
-use Rattle.kpn_c.specs.declared.running.Ran.{Ran}
+use Rattle.kpn_c.specs.declared.running.RunResult.{RunResult}
 use Rattle.kpn_c.specs.declared.lists.CutFault.{CutFault}
 use Rattle.kpn_c.specs.declared.lists.CutFault.TheVariants.{Lengths, NoMemory}
-use Rattle.kpn_c.specs.Lists.{AreLists, wanted_of}
+use Rattle.kpn_c.specs.Lists.{AreLists, first_wanted}
 
 -- what is told is what the report of the run says, and of each sink as many items as are wanted at most
-pub record Tells (t : Tables) (wanted : Option ℕ) (report : Report) (ran : Ran) : Type 0 where
+pub record TellsReport (t : Tables) (wanted : Option ℕ) (report : Report) (ran : RunResult) : Type 0 where
   pub outcome : ran.outcome ≡ report.outcome
   pub commits : ran.commits ≡ report.commits
-  pub taken : AreLists ran.items.items ran.lengths.items (map (wanted_of wanted) report.taken)
+  pub taken : AreLists ran.items.items ran.lengths.items (map (first_wanted wanted) report.taken)
   pub trace : ran.trace.items ≡ trace_text Two t.policy t.growth (events_of report)
 
 -- it tells of a run of the network on these lists, which stand in one flat list and are one for each source
-pub record IsRunOn (t : Tables) (items : List ℤ) (lengths : List ℕ) (limits : Limits) (ran : Ran) : Type 0 where
+pub record IsRunOn (t : Tables) (items : List ℤ) (lengths : List ℕ) (limits : Limits) (ran : RunResult) : Type 0 where
   pub lists : List (List ℤ)
   pub stand : AreLists items lengths lists
   pub each : length lists ≡ sources t
@@ -29,7 +29,7 @@ pub record IsRunOn (t : Tables) (items : List ℤ) (lengths : List ℕ) (limits 
   pub is : IsReport t lists limits report
   pub here : IsReportHere t lists limits report
   pub supplied : AreSupplied t lists (events_of report)
-  pub tells : Tells t limits.take report ran
+  pub tells : TellsReport t limits.take report ran
 
 -- the lists do not fit: the lengths do not sum up to the number of items, or are not one for each source
 abbrev pub DoNotFit : Tables → (items : List ℤ) (lengths : List ℕ) → Type 0

@@ -11,10 +11,10 @@ IsOpen None = ⊥
 IsOpen (Some slot) = IsSome slot.session
 
 -- a box with this session
-abbrev pub holding : Session → Option Slot
-holding session = Some (record { session = Some session })
+abbrev pub slot_with : Session → Option Slot
+slot_with session = Some (record { session = Some session })
 
 -- the items of each channel are kept, or those of none
-abbrev pub Keeps : Bool → Book → Type 0
-Keeps keeps b =
+abbrev pub KeepsAllOrNothing : Bool → Book → Type 0
+KeepsAllOrNothing keeps b =
     (c : ℕ) → c < length b.machine.channels → (channel_in b.machine c).is_kept ≡ keeps

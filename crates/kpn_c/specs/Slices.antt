@@ -7,6 +7,6 @@ PutsIfFits true told before after = after ≡ told ++ drop (length told) before
 PutsIfFits false told before after = (length before < length told) × (after ≡ before)
 
 -- a list is put to the front of a slice if it fits, and its length is told. The number says whether it fits
-pub record Puts {A : Type 0} (list : List A) (code told : ℕ) (room kept : List A) : Type 0 where
+pub record PutsToFront {A : Type 0} (list : List A) (code told : ℕ) (room kept : List A) : Type 0 where
   pub long : told ≡ length list
   pub puts : ((code ≡ 0) × PutsIfFits true list room kept) ⊎ ((code ≡ 61) × PutsIfFits false list room kept)

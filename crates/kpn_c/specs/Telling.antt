@@ -8,13 +8,13 @@ use Rattle.kpn_chan.specs.Channel.{unread}
 use Rattle.kpn_history.specs.Channels.{read_on, is_closed}
 use Rattle.kpn_machine.specs.Machine.{channel_in}
 use Rattle.kpn_book.specs.Book.{Book}
-use Rattle.kpn_c.specs.declared.ends.Counts.{Counts}
-use Rattle.kpn_c.specs.declared.ends.ChannelState.{ChannelState}
+use Rattle.kpn_c.specs.declared.ends.PartCounts.{PartCounts}
+use Rattle.kpn_c.specs.declared.ends.ChannelStatus.{ChannelStatus}
 use Rattle.kpn_c.specs.Session.{Session}
-use Rattle.kpn_c.specs.Slices.{Puts}
+use Rattle.kpn_c.specs.Slices.{PutsToFront}
 
 -- how many processes and channels there are
-abbrev pub counts_of : Tables → Counts
+abbrev pub counts_of : Tables → PartCounts
 counts_of t = record { processes = length t.instances; channels = length t.channels }
 
 -- ---- names
@@ -23,7 +23,7 @@ counts_of t = record { processes = length t.instances; channels = length t.chann
 abbrev pub PutsName : (none : ℕ) → (count : ℕ) → (names : List (List ℕ)) → (k code told : ℕ) → (room kept : List ℕ)
     → Type 0
 PutsName none count names k code told room kept =
-    ((k < count) × Puts (name_at names k) code told room kept)
+    ((k < count) × PutsToFront (name_at names k) code told room kept)
     ⊎ ((count ≤ k) × (code ≡ none) × (kept ≡ room))
 
 abbrev pub PutsChannelName : (channel code told : ℕ) → (room kept : List ℕ) → Session → Type 0
@@ -44,7 +44,7 @@ number_of_end Sink = 2 ^ 64 - 1
 
 -- what is at the ends of a channel, how many items were got from it, how many are unread, whether it is a source that
 -- was closed, and whether its reader is gone
-abbrev pub channel_state_of : Book → (c : ℕ) → ChannelState
+abbrev pub channel_state_of : Book → (c : ℕ) → ChannelStatus
 channel_state_of b c =
     record {
       writer = number_of_end (writer_of b.tables c);
@@ -56,6 +56,6 @@ channel_state_of b c =
     }
 
 -- the state of the channel, or that no channel has this number
-abbrev pub TellsState : (channel : ℕ) → Option ChannelState → Book → Type 0
+abbrev pub TellsState : (channel : ℕ) → Option ChannelStatus → Book → Type 0
 TellsState channel None b = length b.tables.channels ≤ channel
 TellsState channel (Some told) b = (channel < length b.tables.channels) × (told ≡ channel_state_of b channel)

@@ -5,9 +5,9 @@ use Rattle.kpn_book.specs.declared.outcome.Limits.{Limits}
 use Rattle.kpn_text.specs.Document.{Document}
 use Rattle.kpn_text.specs.Spells.{Spells}
 use Rattle.kpn_text.specs.Phases.{Refuses}
-use Rattle.kpn_c.specs.declared.running.Ran.{Ran}
-use Rattle.kpn_c.specs.declared.texts.RunFault.{RunFault}
-use Rattle.kpn_c.specs.declared.texts.RunFault.TheVariants as fault
+use Rattle.kpn_c.specs.declared.running.RunResult.{RunResult}
+use Rattle.kpn_c.specs.declared.texts.TextRunFault.{TextRunFault}
+use Rattle.kpn_c.specs.declared.texts.TextRunFault.TheVariants as fault
 use Rattle.kpn_c.specs.Running.{IsRunOn, DoNotFit}
 
 -- the text is a description
@@ -15,16 +15,16 @@ abbrev pub IsText : List ℕ → Type 0
 IsText text = (d : Document) × Spells text d
 
 -- it tells of a run of the network that the text describes
-abbrev pub RunsText : List ℕ → List ℤ → List ℕ → Limits → Ran → Type 0
+abbrev pub RunsText : List ℕ → List ℤ → List ℕ → Limits → RunResult → Type 0
 RunsText text items lengths limits ran = (d : Document) × Spells text d × IsRunOn d.tables items lengths limits ran
 
 -- why a network is not run on these lists: they do not fit, or memory ran out
-abbrev pub RefusesRunOn : Tables → List ℤ → List ℕ → RunFault → Type 0
+abbrev pub RefusesRunOn : Tables → List ℤ → List ℕ → TextRunFault → Type 0
 RefusesRunOn t items lengths (fault.Text cause) = ⊥
 RefusesRunOn t items lengths fault.Lists = DoNotFit t items lengths
 RefusesRunOn t items lengths fault.NoMemory = Unit {0}
 
 -- why there is no run: the text is refused, or its network is not run on these lists
-abbrev pub RefusesRun : List ℕ → List ℤ → List ℕ → RunFault → Type 0
+abbrev pub RefusesRun : List ℕ → List ℤ → List ℕ → TextRunFault → Type 0
 RefusesRun text items lengths (fault.Text cause) = Refuses text cause
 RefusesRun text items lengths other = (d : Document) × Spells text d × RefusesRunOn d.tables items lengths other

@@ -4,7 +4,7 @@ ghost use Rattle.std.specs.Prelude.{◌≡◌};
 ghost use Rattle.kpn_c.specs.Exports.{code_of_cause, code_of_verdict, place_as};
 ghost use Rattle.kpn_c.specs.Runs.{code_of_outcome};
 
-use crate::fault::{Fault, number_of};
+use crate::fault::{NumberedFault, number_of};
 use kpn_book::{Outcome, Refused, Verdict};
 
 pub(crate) const OK: u32 = 0;
@@ -15,31 +15,31 @@ pub(crate) const LISTS: u32 = 60;
 
 pub(crate) const TOO_SMALL: u32 = 61;
 
-pub(crate) const NO_CHANNEL: u32 = 64;
+pub(crate) const NO_SUCH_CHANNEL: u32 = 64;
 
 pub(crate) const NO_TRACE: u32 = 66;
 
-pub(crate) const NO_PROCESS: u32 = 67;
+pub(crate) const NO_SUCH_PROCESS: u32 = 67;
 
 /// The place of a fault, as C has it.
 #[repr(C)]
 #[derive(Clone, Copy)]
-pub struct Place {
+pub struct FaultPlace {
     pub has_place: bool,
     pub place: usize,
 }
 
 /// Tells the place of a fault, and returns its number.
-pub(crate) fn tell(fault: Fault, place: &mut Place) -> u32
+pub(crate) fn tell(fault: NumberedFault, place: &mut FaultPlace) -> u32
     ensures number { result ≡ fault.number }
     ensures place { place.new ≡ place_as fault.place }
 {
     *place = match fault.place {
-        Some(place) => Place {
+        Some(place) => FaultPlace {
             has_place: true,
             place,
         },
-        None => Place {
+        None => FaultPlace {
             has_place: false,
             place: 0,
         },

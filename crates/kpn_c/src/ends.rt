@@ -8,7 +8,7 @@ use kpn_net::End;
 /// How many processes and channels a network has.
 #[repr(C)]
 #[derive(Clone, Copy)]
-pub struct Counts {
+pub struct PartCounts {
     pub processes: usize,
     pub channels: usize,
 }
@@ -16,7 +16,7 @@ pub struct Counts {
 /// The state of a channel.
 #[repr(C)]
 #[derive(Clone, Copy)]
-pub struct ChannelState {
+pub struct ChannelStatus {
     /// The process that writes it; the greatest number for a source.
     pub writer: usize,
     /// The process that reads it; the greatest number for a sink.
@@ -32,17 +32,17 @@ pub struct ChannelState {
 }
 
 /// The number at an end where the outside is.
-const OUTSIDE: usize = usize::MAX;
+const OUTSIDE_END: usize = usize::MAX;
 
 /// The state of a channel. `None` if no channel has this number.
-pub(crate) fn channel_state(book: &Book<'_>, channel: usize) -> Option<ChannelState>
+pub(crate) fn channel_state(book: &Book<'_>, channel: usize) -> Option<ChannelStatus>
     ensures { TellsState channel result book.now }
 {
     let network = book.network();
     if network.channels() <= channel {
         return None;
     }
-    Some(ChannelState {
+    Some(ChannelStatus {
         writer: number_of_end(network.writer_of(channel)),
         reader: number_of_end(network.reader_of(channel)),
         got: book.read_count(channel),
@@ -57,6 +57,6 @@ fn number_of_end(end: End) -> usize
 {
     match end {
         End::Process(process) => process,
-        End::Source | End::Sink => OUTSIDE,
+        End::Source | End::Sink => OUTSIDE_END,
     }
 }

@@ -1,6 +1,6 @@
 //! Why a text is no description, in words: the number and the name of the fault, and where it is.
 ghost use Rattle.std.specs.Prelude.{◌≡◌, IfOk, string_bytes};
-ghost use Rattle.kpn_c.specs.Explaining.{Adds, Explains, ExplainsFault, words_of, place_words, place_words_if, name_of_text, name_of_program, name_of_net, kind_of_text, kind_of_net};
+ghost use Rattle.kpn_c.specs.Explaining.{AppendsWords, ExplainsText, ExplainsTextFault, fault_words, place_words, place_words_if, name_of_text, name_of_program, name_of_net, kind_of_text, kind_of_net};
 
 use crate::codes::NO_MEMORY;
 use crate::fault::fault_of;
@@ -14,7 +14,7 @@ use std::alloc::{AllocError, Global};
 
 /// What the place of a fault counts.
 #[derive(Clone, Copy)]
-pub enum Kind {
+pub enum PlaceKind {
     Byte,
     Process,
     Instance,
@@ -29,7 +29,7 @@ pub extern "C" fn kpn_c_explain(
     room: &mut [u8],
     length: &mut usize,
 ) -> u32
-    ensures { Explains text.now result length.new room.old room.new }
+    ensures { ExplainsText text.now result length.new room.old room.new }
 {
     match check(alloc, text) {
         Ok(()) => put_text(room, length, b""),
@@ -45,17 +45,17 @@ fn put_words(
     room: &mut [u8],
     length: &mut usize,
 ) -> u32
-    ensures { ExplainsFault text.now fault result length.new room.old room.new }
+    ensures { ExplainsTextFault text.now fault result length.new room.old room.new }
 {
-    match words_of(alloc, text, fault) {
+    match fault_words(alloc, text, fault) {
         Ok(words) => put_text(room, length, words.as_str().as_bytes()),
         Err(_) => NO_MEMORY,
     }
 }
 
 /// The words of a fault of a text.
-fn words_of(alloc: Global, text: &[u8], fault: TextFault) -> Result<String, AllocError>
-    ensures { IfOk result (λ words. string_bytes words ≡ words_of text.now fault) }
+fn fault_words(alloc: Global, text: &[u8], fault: TextFault) -> Result<String, AllocError>
+    ensures { IfOk result (λ words. string_bytes words ≡ fault_words text.now fault) }
 {
     let mut words = String::new(alloc);
     push_words(&mut words, text, fault)?;
@@ -64,7 +64,7 @@ fn words_of(alloc: Global, text: &[u8], fault: TextFault) -> Result<String, Allo
 
 /// The number and the name of a fault, and its place if it has one.
 fn push_words(words: &mut String, text: &[u8], fault: TextFault) -> Result<(), AllocError>
-    ensures { Adds result words.old words.new (words_of text.now fault) }
+    ensures { AppendsWords result words.old words.new (fault_words text.now fault) }
 {
     let told = fault_of(fault);
     let (number, name) = (told.number, name_of_text(fault));
@@ -76,19 +76,24 @@ fn push_words(words: &mut String, text: &[u8], fault: TextFault) -> Result<(), A
 }
 
 /// The place of a fault.
-fn push_place(words: &mut String, text: &[u8], kind: Kind, place: usize) -> Result<(), AllocError>
-    ensures { Adds result words.old words.new (place_words text.now kind place) }
+fn push_place(
+    words: &mut String,
+    text: &[u8],
+    kind: PlaceKind,
+    place: usize,
+) -> Result<(), AllocError>
+    ensures { AppendsWords result words.old words.new (place_words text.now kind place) }
 {
     match kind {
-        Kind::Byte => push_byte(words, text, place),
-        Kind::Process => write!(words, " at process {place}"),
-        Kind::Instance => write!(words, " at instance {place}"),
-        Kind::Channel => write!(words, " at channel {place}"),
+        PlaceKind::Byte => push_byte(words, text, place),
+        PlaceKind::Process => write!(words, " at process {place}"),
+        PlaceKind::Instance => write!(words, " at instance {place}"),
+        PlaceKind::Channel => write!(words, " at channel {place}"),
     }
 }
 
 fn push_byte(words: &mut String, text: &[u8], place: usize) -> Result<(), AllocError>
-    ensures { Adds result words.old words.new (place_words text.now Kind.Byte place) }
+    ensures { AppendsWords result words.old words.new (place_words text.now PlaceKind.Byte place) }
 {
     let position = position_at(text, place);
     let (line, column) = (position.line, position.column);
@@ -96,23 +101,23 @@ fn push_byte(words: &mut String, text: &[u8], place: usize) -> Result<(), AllocE
 }
 
 /// What the place of a fault of a description counts.
-fn kind_of_text(fault: TextFault) -> Kind
+fn kind_of_text(fault: TextFault) -> PlaceKind
     ensures { result ≡ kind_of_text fault }
 {
     match fault {
-        TextFault::Program(_, _) => Kind::Process,
+        TextFault::Program(_, _) => PlaceKind::Process,
         TextFault::Net(fault) => kind_of_net(fault),
-        _ => Kind::Byte,
+        _ => PlaceKind::Byte,
     }
 }
 
-fn kind_of_net(fault: NetFault) -> Kind
+fn kind_of_net(fault: NetFault) -> PlaceKind
     ensures { result ≡ kind_of_net fault }
 {
     match fault {
-        NetFault::NoSuchProgram(_) | NetFault::PortCount(_) => Kind::Instance,
-        NetFault::NoSuchChannel(_) => Kind::Instance,
-        _ => Kind::Channel,
+        NetFault::NoSuchProgram(_) | NetFault::PortCount(_) => PlaceKind::Instance,
+        NetFault::NoSuchChannel(_) => PlaceKind::Instance,
+        _ => PlaceKind::Channel,
     }
 }
 

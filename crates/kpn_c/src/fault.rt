@@ -9,13 +9,13 @@ use kpn_text::TextFault;
 
 /// The number of a fault, and its place: a byte, counted from 0, or the number of a process, an instance or a channel.
 #[derive(Clone, Copy)]
-pub struct Fault {
+pub struct NumberedFault {
     pub number: u32,
     pub place: Option<usize>,
 }
 
 /// The fault of a description.
-pub fn fault_of(fault: TextFault) -> Fault
+pub fn fault_of(fault: TextFault) -> NumberedFault
     ensures { result ≡ fault_of_text fault }
 {
     match fault {
@@ -59,7 +59,7 @@ fn number_of_program(fault: ProgramFault) -> u32
     }
 }
 
-fn fault_of_net(fault: NetFault) -> Fault
+fn fault_of_net(fault: NetFault) -> NumberedFault
     ensures { result ≡ fault_of_net fault }
 {
     match fault {
@@ -76,19 +76,19 @@ fn fault_of_net(fault: NetFault) -> Fault
     }
 }
 
-fn at_place(number: u32, place: usize) -> Fault
+fn at_place(number: u32, place: usize) -> NumberedFault
     ensures { result ≡ fault_at number place }
 {
-    Fault {
+    NumberedFault {
         number,
         place: Some(place),
     }
 }
 
-fn alone(number: u32) -> Fault
+fn alone(number: u32) -> NumberedFault
     ensures { result ≡ fault_alone number }
 {
-    Fault {
+    NumberedFault {
         number,
         place: None,
     }

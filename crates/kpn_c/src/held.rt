@@ -19,9 +19,9 @@ pub struct Held {
 }
 
 impl Model for Held {
-    ghost use Rattle.kpn_c.specs.Holding.{holds};
+    ghost use Rattle.kpn_c.specs.Holding.{owns_slot};
 
-    ghost also_owns = { λ h. holds h.alloc h.at h.slot };
+    ghost also_owns = { λ h. owns_slot h.alloc h.at h.slot };
 }
 
 impl Held {

@@ -1,7 +1,7 @@
 //! Lists that stand in one flat list.
 ghost use Rattle.std.specs.Prelude.{◌≡◌, ◌∷◌, [], ◌++◌, map, length, IfOk, IfErr, OnOk};
 ghost use Rattle.kpn_c.specs.declared.lists.CutFault.TheVariants.{NoMemory};
-ghost use Rattle.kpn_c.specs.Lists.{AreLists, RefusesCut, wanted_of};
+ghost use Rattle.kpn_c.specs.Lists.{AreLists, RefusesCut, first_wanted};
 
 use kpn_lang::Sequence;
 use std::alloc::{AllocError, AllocFailed, Global};
@@ -65,18 +65,18 @@ fn push_list(alloc: Global, lists: &mut Vec<Sequence<i64>>, items: &[i64]) -> Re
 }
 
 /// The items of these lists, list by list, and how many are of each: the first ones, as many as are wanted, or all.
-pub(crate) fn joined(
+pub(crate) fn flat_of(
     alloc: Global,
     lists: &[Sequence<i64>],
     wanted: Option<u64>,
 ) -> Result<(Vec<i64>, Vec<usize>), AllocError>
     ensures { IfOk result (λ told.
-        AreLists told.0.items told.1.items (map (wanted_of wanted) lists.now)) }
+        AreLists told.0.items told.1.items (map (first_wanted wanted) lists.now)) }
 {
     let mut items = Vec::new(alloc);
     let mut lengths = Vec::new(alloc);
     'lists: for k in 0..lists.len() {
-        let list = wanted_of(lists[k].as_slice(), wanted);
+        let list = first_wanted(lists[k].as_slice(), wanted);
         items.extend_from_slice(list)?;
         lengths.push(list.len())?;
     }
@@ -84,8 +84,8 @@ pub(crate) fn joined(
 }
 
 /// The first items of a list, as many as are wanted at most, or all.
-fn wanted_of(items: &[i64], wanted: Option<u64>) -> &[i64]
-    ensures { result.now ≡ wanted_of wanted items.now }
+fn first_wanted(items: &[i64], wanted: Option<u64>) -> &[i64]
+    ensures { result.now ≡ first_wanted wanted items.now }
 {
     match wanted {
         Some(most) if most < items.len() as u64 => &items[..most as usize],

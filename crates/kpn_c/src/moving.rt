@@ -4,15 +4,15 @@ ghost use Rattle.kpn_c.specs.Moving.{FeedsItems, TakesWanted, Moves, filled, cod
 
 use crate::codes::{NO_MEMORY, code_of_cause};
 use crate::fault::number_of;
-use crate::feeding::Fed;
-use crate::stepping::{Stepped, step_each};
+use crate::feeding::FedCount;
+use crate::stepping::{StepCount, step_each};
 use crate::taking::Taken;
 use kpn_book::Book;
 
 /// An item, and the source to which it is fed.
 #[repr(C)]
 #[derive(Clone, Copy)]
-pub struct Item {
+pub struct SourceItem {
     pub channel: usize,
     pub item: i64,
 }
@@ -27,7 +27,7 @@ pub struct Wanted {
 }
 
 /// Nothing was stepped.
-const NO_STEPS: Stepped = Stepped {
+const NO_STEPS: StepCount = StepCount {
     commits: 0,
     is_refused: false,
 };
@@ -41,27 +41,27 @@ const NO_TAKES: Taken = Taken {
 /// What each part of a call has done.
 #[derive(Clone, Copy)]
 pub struct Moved {
-    pub fed: Fed,
-    pub stepped: Stepped,
+    pub fed: FedCount,
+    pub stepped: StepCount,
     pub taken: Taken,
 }
 
 /// Feeds each item to its source, in order, until one is refused.
-pub(crate) fn feed_items(book: &mut Book<'_>, items: &[Item]) -> Fed
+pub(crate) fn feed_items(book: &mut Book<'_>, items: &[SourceItem]) -> FedCount
     ensures { FeedsItems items.now result book.old book.new }
 {
     'items: for count in 0..items.len() {
         match book.feed(items[count].channel, items[count].item, usize::MAX) {
             Ok(()) => book.known(),
             Err(cause) => {
-                return Fed {
+                return FedCount {
                     count,
                     cause: Some(cause),
                 };
             }
         }
     }
-    Fed {
+    FedCount {
         count: items.len(),
         cause: None,
     }
@@ -105,7 +105,7 @@ fn fill(place: &mut Wanted, item: Option<i64>)
 /// done before stays.
 pub(crate) fn move_items(
     book: &mut Book<'_>,
-    items: &[Item],
+    items: &[SourceItem],
     quota: u32,
     most: u64,
     places: &mut [Wanted],

@@ -4,20 +4,20 @@ ghost use Rattle.kpn_c.specs.Explaining.{position_behind, position_at};
 
 /// A line and a column, which counts bytes. Both count from 1.
 #[derive(Clone, Copy)]
-pub(crate) struct Position {
+pub(crate) struct TextPosition {
     pub line: usize,
     pub column: usize,
 }
 
 /// Where this byte of a text is, or its end if the text is shorter.
-pub(crate) fn position_at(text: &[u8], at: usize) -> Position
+pub(crate) fn position_at(text: &[u8], at: usize) -> TextPosition
     ensures { result ≡ position_at text.now at }
 {
     position_behind(if at < text.len() { &text[..at] } else { text })
 }
 
 /// Where the byte behind a text would be.
-fn position_behind(text: &[u8]) -> Position
+fn position_behind(text: &[u8]) -> TextPosition
     ensures { result ≡ position_behind text.now }
 {
     let mut line = 1;
@@ -30,5 +30,5 @@ fn position_behind(text: &[u8]) -> Position
             column += 1;
         }
     }
-    Position { line, column }
+    TextPosition { line, column }
 }

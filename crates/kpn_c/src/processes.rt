@@ -1,6 +1,6 @@
 //! The states of processes, for C.
 ghost use Rattle.std.specs.Prelude.{◌≡◌, map};
-ghost use Rattle.kpn_c.specs.Slices.{Puts};
+ghost use Rattle.kpn_c.specs.Slices.{PutsToFront};
 ghost use Rattle.kpn_c.specs.States.{state_alone, waiting_on, state_as};
 
 use crate::codes::{OK, TOO_SMALL};
@@ -17,7 +17,7 @@ pub struct ProcessState {
 
 /// Puts the states of all processes to the front of a slice if they fit there, and tells how many they are.
 pub(crate) fn put_states(book: &Book<'_>, room: &mut [ProcessState], count: &mut usize) -> u32
-    ensures { Puts (map state_as book.now.schedule.states) result count.new room.old room.new }
+    ensures { PutsToFront (map state_as book.now.schedule.states) result count.new room.old room.new }
 {
     book.known();
     let processes = book.network().instances();

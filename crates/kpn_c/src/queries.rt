@@ -2,10 +2,10 @@
 ghost use Rattle.kpn_c.specs.Sessions.{IsOpen};
 ghost use Rattle.kpn_c.specs.Telling.{PutsChannelName, PutsProcessName};
 ghost use Rattle.kpn_c.specs.States.{TellsNext};
-ghost use Rattle.kpn_c.specs.Exports.{Leads, Asks, FindsChannel, Counts as TellsCounts, TellsChannel, TellsProcesses};
+ghost use Rattle.kpn_c.specs.Exports.{Leads, Asks, FindsChannel, TellsCounts, TellsChannel, TellsProcesses};
 
-use crate::codes::{NO_CHANNEL, OK};
-use crate::ends::{ChannelState, Counts};
+use crate::codes::{NO_SUCH_CHANNEL, OK};
+use crate::ends::{ChannelStatus, PartCounts};
 use crate::held::Held;
 use crate::processes::ProcessState;
 use crate::slot::{put_back, taken};
@@ -29,13 +29,13 @@ pub extern "C" fn kpn_c_channel(
             *channel = number;
             OK
         }
-        None => NO_CHANNEL,
+        None => NO_SUCH_CHANNEL,
     }
 }
 
 /// Tells how many processes and channels there are.
 #[unsafe(no_mangle)]
-pub extern "C" fn kpn_c_count(held: Held, back: &mut Held, told: &mut Counts) -> u32
+pub extern "C" fn kpn_c_count(held: Held, back: &mut Held, told: &mut PartCounts) -> u32
     requires { IsOpen held.slot }
     ensures { Leads (Asks (TellsCounts result told.new)) held.slot back.new.slot }
 {
@@ -89,7 +89,7 @@ pub extern "C" fn kpn_c_tell_channel(
     held: Held,
     channel: usize,
     back: &mut Held,
-    state: &mut ChannelState,
+    state: &mut ChannelStatus,
 ) -> u32
     requires { IsOpen held.slot }
     ensures { Leads (Asks (TellsChannel channel result state.new)) held.slot back.new.slot }
@@ -102,7 +102,7 @@ pub extern "C" fn kpn_c_tell_channel(
             *state = found;
             OK
         }
-        None => NO_CHANNEL,
+        None => NO_SUCH_CHANNEL,
     }
 }
 
@@ -145,6 +145,6 @@ pub extern "C" fn kpn_c_look(
             *count = shown;
             OK
         }
-        None => NO_CHANNEL,
+        None => NO_SUCH_CHANNEL,
     }
 }

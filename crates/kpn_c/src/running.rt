@@ -1,9 +1,9 @@
 //! A network is run on lists that stand in one flat list.
 ghost use Rattle.std.specs.Prelude.{◌≡◌, ℕ, ℤ, List, IfOk, IfErr};
 ghost use Rattle.kpn_c.specs.Lists.{AreLists};
-ghost use Rattle.kpn_c.specs.Running.{Tells, IsRunOn, RefusesLists};
+ghost use Rattle.kpn_c.specs.Running.{TellsReport, IsRunOn, RefusesLists};
 
-use crate::lists::{CutFault, cut, joined};
+use crate::lists::{CutFault, cut, flat_of};
 use crate::telling::trace_of;
 use kpn_book::{Limits, Outcome, Report, run_here};
 use kpn_lang::Sequence;
@@ -12,7 +12,7 @@ use std::alloc::Global;
 
 /// What a run tells.
 #[derive(Drop)]
-pub struct Ran {
+pub struct RunResult {
     pub outcome: Outcome,
     /// How many commits were made.
     pub commits: u64,
@@ -32,7 +32,7 @@ pub(crate) fn run_network(
     items: &[i64],
     lengths: &[usize],
     limits: &Limits,
-) -> Result<Ran, CutFault>
+) -> Result<RunResult, CutFault>
     ensures ran { IfOk result (IsRunOn network.now items.now lengths.now limits.now) }
     ensures fault { IfErr result (RefusesLists network.now items.now lengths.now) }
 {
@@ -46,7 +46,7 @@ fn run_lists(
     network: &Network,
     lists: &[Sequence<i64>],
     limits: &Limits,
-) -> Result<Ran, CutFault>
+) -> Result<RunResult, CutFault>
     ensures ran { IfOk result (λ ran. (items : List ℤ) (lengths : List ℕ) → AreLists items lengths lists.now
         → IsRunOn network.now items lengths limits.now ran) }
     ensures fault { IfErr result (λ fault. (items : List ℤ) (lengths : List ℕ)
@@ -67,13 +67,13 @@ fn told_of(
     network: &Network,
     report: &Report,
     wanted: Option<u64>,
-) -> Result<Ran, CutFault>
-    ensures told { IfOk result (Tells network.now wanted report.now) }
+) -> Result<RunResult, CutFault>
+    ensures told { IfOk result (TellsReport network.now wanted report.now) }
     ensures fault { IfErr result (λ fault. fault ≡ CutFault.NoMemory) }
 {
-    let (items, lengths) = joined(alloc, report.taken.as_slice(), wanted)?;
+    let (items, lengths) = flat_of(alloc, report.taken.as_slice(), wanted)?;
     let trace = trace_of(alloc, network, &report.history)?;
-    Ok(Ran {
+    Ok(RunResult {
         outcome: report.outcome,
         commits: report.commits,
         items,

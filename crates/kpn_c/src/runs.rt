@@ -1,18 +1,18 @@
 //! Descriptions are checked, and networks are run on whole lists.
 ghost use Rattle.std.specs.Prelude.{◌≡◌};
 ghost use Rattle.kpn_c.specs.Exports.{Checks};
-ghost use Rattle.kpn_c.specs.Runs.{limits_from, buffers_of, PutsIfAllFits, Runs};
+ghost use Rattle.kpn_c.specs.Runs.{limits_from, buffers_of, PutsIfAllFits, RunsNetwork};
 
-use crate::codes::{LISTS, NO_MEMORY, OK, Place, TOO_SMALL, code_of_outcome, tell};
+use crate::codes::{FaultPlace, LISTS, NO_MEMORY, OK, TOO_SMALL, code_of_outcome, tell};
 use crate::fault::fault_of;
 use crate::slices::{put_bytes, put_items, put_lengths};
-use crate::texts::{RunFault, check, run};
+use crate::texts::{TextRunFault, check, run};
 use std::alloc::Global;
 
 /// When a run stops.
 #[repr(C)]
 #[derive(Clone, Copy)]
-pub struct Limits {
+pub struct GivenLimits {
     pub commits: u64,
     pub has_take: bool,
     pub take: u64,
@@ -22,7 +22,7 @@ pub struct Limits {
 /// What a run has come to, and how much room its items, sinks and trace want.
 #[repr(C)]
 #[derive(Clone, Copy)]
-pub struct Ran {
+pub struct RunSizes {
     pub outcome: u32,
     pub commits: u64,
     pub items: usize,
@@ -32,7 +32,7 @@ pub struct Ran {
 
 /// Reads a description. Returns 0, or the number of the fault.
 #[unsafe(no_mangle)]
-pub extern "C" fn kpn_c_check(alloc: Global, text: &[u8], place: &mut Place) -> u32
+pub extern "C" fn kpn_c_check(alloc: Global, text: &[u8], place: &mut FaultPlace) -> u32
     ensures { Checks text.now result place.new }
 {
     match check(alloc, text) {
@@ -48,25 +48,25 @@ pub extern "C" fn kpn_c_run(
     text: &[u8],
     items: &[i64],
     lengths: &[usize],
-    limits: &Limits,
+    limits: &GivenLimits,
     room: &mut [i64],
     sinks: &mut [usize],
     trace: &mut [u8],
-    ran: &mut Ran,
-    place: &mut Place,
+    ran: &mut RunSizes,
+    place: &mut FaultPlace,
 ) -> u32
-    ensures { Runs text.now items.now lengths.now limits.now result place.new ran.old ran.new
+    ensures { RunsNetwork text.now items.now lengths.now limits.now result place.new ran.old ran.new
         (buffers_of room.old sinks.old trace.old) (buffers_of room.new sinks.new trace.new) }
 {
     match run(alloc, text, items, lengths, &limits_of(limits)) {
         Ok(told) => put(&told, room, sinks, trace, ran),
-        Err(RunFault::Text(fault)) => tell(fault_of(fault), place),
-        Err(RunFault::Lists) => LISTS,
-        Err(RunFault::NoMemory) => NO_MEMORY,
+        Err(TextRunFault::Text(fault)) => tell(fault_of(fault), place),
+        Err(TextRunFault::Lists) => LISTS,
+        Err(TextRunFault::NoMemory) => NO_MEMORY,
     }
 }
 
-fn limits_of(limits: &Limits) -> kpn_book::Limits
+fn limits_of(limits: &GivenLimits) -> kpn_book::Limits
     ensures { result ≡ limits_from limits.now }
 {
     kpn_book::Limits {
@@ -82,11 +82,11 @@ fn limits_of(limits: &Limits) -> kpn_book::Limits
 
 /// Puts what a run tells where C wants it, if all of it fits.
 fn put(
-    told: &crate::running::Ran,
+    told: &crate::running::RunResult,
     room: &mut [i64],
     sinks: &mut [usize],
     trace: &mut [u8],
-    ran: &mut Ran,
+    ran: &mut RunSizes,
 ) -> u32
     ensures { PutsIfAllFits told.now result ran.new
         (buffers_of room.old sinks.old trace.old) (buffers_of room.new sinks.new trace.new) }
@@ -94,7 +94,7 @@ fn put(
     let items = told.items.as_slice();
     let lengths = told.lengths.as_slice();
     let text = told.trace.as_slice();
-    *ran = Ran {
+    *ran = RunSizes {
         outcome: code_of_outcome(told.outcome),
         commits: told.commits,
         items: items.len(),

@@ -13,21 +13,21 @@ ghost use Rattle.kpn_book.specs.Kept.{IsBook};
 ghost use Rattle.kpn_book.specs.Detached.{book_on};
 ghost use Rattle.kpn_book.specs.Refusals.{Closes, RefusesClose, Leaves, RefusesLeave};
 ghost use Rattle.kpn_book.specs.RunHere.{IsFirst};
-ghost use Rattle.kpn_c.specs.Calls.{FeedsEach, StepsEach, TakesEach, TellsComplete};
+ghost use Rattle.kpn_c.specs.Calls.{FeedsEach, StepsEach, TakesEach, TellsCompleteness};
 ghost use Rattle.kpn_c.specs.Moving.{Moves};
-ghost use Rattle.kpn_c.specs.Sessions.{Keeps};
-ghost use Rattle.kpn_c.specs.Slices.{Puts};
+ghost use Rattle.kpn_c.specs.Sessions.{KeepsAllOrNothing};
+ghost use Rattle.kpn_c.specs.Slices.{PutsToFront};
 ghost use Rattle.kpn_c.specs.States.{state_as, LooksInto};
 ghost use Rattle.kpn_c.specs.Telling.{TellsState, PutsChannelName, PutsProcessName, counts_of};
 
-use crate::codes::{NO_CHANNEL, NO_PROCESS};
-use crate::ends::{ChannelState, Counts, channel_state};
-use crate::feeding::{Fed, feed_each};
+use crate::codes::{NO_SUCH_CHANNEL, NO_SUCH_PROCESS};
+use crate::ends::{ChannelStatus, PartCounts, channel_state};
+use crate::feeding::{FedCount, feed_each};
 use crate::looking::look;
-use crate::moving::{Item, Moved, Wanted, move_items};
+use crate::moving::{Moved, SourceItem, Wanted, move_items};
 use crate::processes::{ProcessState, put_states};
 use crate::slices::put_text;
-use crate::stepping::{Stepped, step_each};
+use crate::stepping::{StepCount, step_each};
 use crate::taking::{Taken, take_each};
 use crate::telling::trace_of;
 use kpn_book::{Book, Detached, Keeping, Refused, Verdict};
@@ -38,7 +38,7 @@ use std::marker::Model;
 use std::str;
 
 /// The most steps that a process makes in one turn of a session.
-const QUOTA: u32 = 1_000;
+const STEPS_PER_TURN: u32 = 1_000;
 
 /// A run of the network that a text describes. It owns its document, and borrows nothing. Channels go by their numbers.
 /// Each call moves a session twice, so the document stands in a box.
@@ -72,7 +72,7 @@ impl Session {
         ensures spelled { IfOk result (λ session. Spells text.now session.document) }
         ensures first { IfOk result (λ session. IsFirst session.document.tables session.book) }
         ensures keeps { IfOk result (λ session. session.keeps ≡ keeps) }
-        ensures kept { IfOk result (λ session. Keeps keeps session.book) }
+        ensures kept { IfOk result (λ session. KeepsAllOrNothing keeps session.book) }
         ensures fault { IfErr result (Refuses text.now) }
     {
         let document = read_network(alloc, text)?;
@@ -95,7 +95,7 @@ impl Session {
     }
 
     /// Feeds items to a source, on which any number may be unread.
-    pub fn feed(self, source: usize, items: &[i64]) -> (Session, Fed)
+    pub fn feed(self, source: usize, items: &[i64]) -> (Session, FedCount)
         ensures document { result.0.document ≡ self.document }
         ensures keeps { result.0.keeps ≡ self.keeps }
         ensures fed { FeedsEach source items.now result.1 self.book result.0.book }
@@ -172,10 +172,10 @@ impl Session {
 
     /// Makes turns of processes: `most` commits, or fewer if no process is ready. If memory runs out, the process of
     /// the next turn has made its steps and is ready again, and nothing else has happened.
-    pub fn step(self, most: u64) -> (Session, Stepped)
+    pub fn step(self, most: u64) -> (Session, StepCount)
         ensures document { result.0.document ≡ self.document }
         ensures keeps { result.0.keeps ≡ self.keeps }
-        ensures stepped { StepsEach QUOTA most result.1 self.book result.0.book }
+        ensures stepped { StepsEach STEPS_PER_TURN most result.1 self.book result.0.book }
     {
         let Session {
             document,
@@ -183,7 +183,7 @@ impl Session {
             keeps,
         } = self;
         let mut book = attached(&document, detached);
-        let stepped = step_each(&mut book, QUOTA, most);
+        let stepped = step_each(&mut book, STEPS_PER_TURN, most);
         let detached = book.detach();
         (
             Session {
@@ -221,10 +221,15 @@ impl Session {
 
     /// Feeds items, makes turns and takes what is wanted, as the calls above do one after the other. What is refused
     /// ends the call, and what was done before stays.
-    pub fn move_items(self, items: &[Item], most: u64, places: &mut [Wanted]) -> (Session, Moved)
+    pub fn move_items(
+        self,
+        items: &[SourceItem],
+        most: u64,
+        places: &mut [Wanted],
+    ) -> (Session, Moved)
         ensures document { result.0.document ≡ self.document }
         ensures keeps { result.0.keeps ≡ self.keeps }
-        ensures moved { Moves items.now QUOTA most result.1 places.old places.new
+        ensures moved { Moves items.now STEPS_PER_TURN most result.1 places.old places.new
             self.book result.0.book }
     {
         let Session {
@@ -233,7 +238,7 @@ impl Session {
             keeps,
         } = self;
         let mut book = attached(&document, detached);
-        let moved = move_items(&mut book, items, QUOTA, most, places);
+        let moved = move_items(&mut book, items, STEPS_PER_TURN, most, places);
         let detached = book.detach();
         (
             Session {
@@ -248,7 +253,7 @@ impl Session {
     /// Whether a channel is complete: nothing more is ever put there. `None` if no channel has this number.
     pub fn is_complete(self, channel: usize) -> (Session, Option<bool>)
         ensures same { result.0 ≡ self }
-        ensures complete { TellsComplete channel result.1 self.book }
+        ensures complete { TellsCompleteness channel result.1 self.book }
     {
         let Session {
             document,
@@ -292,7 +297,7 @@ impl Session {
     }
 
     /// The state of a channel. `None` if no channel has this number.
-    pub fn channel_state(self, channel: usize) -> (Session, Option<ChannelState>)
+    pub fn channel_state(self, channel: usize) -> (Session, Option<ChannelStatus>)
         ensures same { result.0 ≡ self }
         ensures told { TellsState channel result.1 self.book }
     {
@@ -317,7 +322,7 @@ impl Session {
     /// Puts the states of all processes to the front of a slice if they fit there, and tells how many they are.
     pub fn put_states(self, room: &mut [ProcessState], count: &mut usize) -> (Session, u32)
         ensures same { result.0 ≡ self }
-        ensures told { Puts (map state_as self.book.schedule.states) result.1
+        ensures told { PutsToFront (map state_as self.book.schedule.states) result.1
             count.new room.old room.new }
     {
         let Session {
@@ -370,11 +375,11 @@ impl Session {
     }
 
     /// How many processes and channels there are.
-    pub fn counts(&self) -> Counts
+    pub fn counts(&self) -> PartCounts
         ensures { result ≡ counts_of self.now.document.tables }
     {
         let network = self.document.network();
-        Counts {
+        PartCounts {
             processes: network.instances(),
             channels: network.channels(),
         }
@@ -385,7 +390,7 @@ impl Session {
         ensures { PutsChannelName channel result length.new room.old room.new self.now }
     {
         if self.document.network().channels() <= channel {
-            return NO_CHANNEL;
+            return NO_SUCH_CHANNEL;
         }
         put_text(room, length, self.document.channel_name(channel).as_bytes())
     }
@@ -395,7 +400,7 @@ impl Session {
         ensures { PutsProcessName process result length.new room.old room.new self.now }
     {
         if self.document.network().instances() <= process {
-            return NO_PROCESS;
+            return NO_SUCH_PROCESS;
         }
         put_text(
             room,
@@ -452,7 +457,7 @@ fn attached(document: &Box<Document>, detached: Detached) -> Book<'_>
 /// A book at its start, which keeps all or nothing.
 fn first_book(alloc: Global, network: &Network, keeps: bool) -> Result<Detached, AllocError>
     ensures first { IfOk result (λ detached. IsFirst network.now (book_on network.now detached)) }
-    ensures kept { IfOk result (λ detached. Keeps keeps (book_on network.now detached)) }
+    ensures kept { IfOk result (λ detached. KeepsAllOrNothing keeps (book_on network.now detached)) }
 {
     let book = Book::keeping(alloc, network, keeping_of(keeps))?;
     Ok(book.detach())
@@ -470,7 +475,7 @@ fn keeping_of(keeps: bool) -> Keeping
 }
 
 fn is_complete(book: &Book<'_>, channel: usize) -> Option<bool>
-    ensures { TellsComplete channel result book.now }
+    ensures { TellsCompleteness channel result book.now }
 {
     if book.network().channels() <= channel {
         return None;

@@ -1,14 +1,14 @@
 //! Sessions, which C keeps. Each call gets a session and hands it back.
 ghost use Rattle.std.specs.Prelude.{true, false};
 ghost use Rattle.kpn_c.specs.Sessions.{IsOpen};
-ghost use Rattle.kpn_c.specs.Exports.{Leads, Asks, Feeds, Takes, Steps, MovesItems, ClosesSource, LeavesSink, TellsVerdict, TellsIfComplete, TellsTrace, Opens};
+ghost use Rattle.kpn_c.specs.Exports.{Leads, Asks, FeedsSource, TakesFromSink, StepsProcesses, MovesItems, ClosesSource, LeavesSink, TellsVerdict, TellsIfComplete, TellsTrace, Opens};
 
 use crate::codes::{
-    NO_CHANNEL, NO_MEMORY, NO_TRACE, OK, Place, code_of_cause, code_of_verdict, tell,
+    FaultPlace, NO_MEMORY, NO_SUCH_CHANNEL, NO_TRACE, OK, code_of_cause, code_of_verdict, tell,
 };
 use crate::fault::{fault_of, number_of};
 use crate::held::Held;
-use crate::moving::{Item, Wanted, code_of_moved};
+use crate::moving::{SourceItem, Wanted, code_of_moved};
 use crate::session::Session;
 use crate::slices::put_text;
 use crate::slot::{free, kept, put_back, taken};
@@ -16,7 +16,12 @@ use std::alloc::Global;
 
 /// Opens a session of the network that a text describes, or leaves `back` as it was. It keeps all that happens.
 #[unsafe(no_mangle)]
-pub extern "C" fn kpn_c_open(alloc: Global, text: &[u8], back: &mut Held, place: &mut Place) -> u32
+pub extern "C" fn kpn_c_open(
+    alloc: Global,
+    text: &[u8],
+    back: &mut Held,
+    place: &mut FaultPlace,
+) -> u32
     ensures { Opens true text.now result place.new back.old.slot back.new.slot }
 {
     opened(alloc, text, true, back, place)
@@ -28,14 +33,14 @@ pub extern "C" fn kpn_c_open_forgetting(
     alloc: Global,
     text: &[u8],
     back: &mut Held,
-    place: &mut Place,
+    place: &mut FaultPlace,
 ) -> u32
     ensures { Opens false text.now result place.new back.old.slot back.new.slot }
 {
     opened(alloc, text, false, back, place)
 }
 
-fn opened(alloc: Global, text: &[u8], keeps: bool, back: &mut Held, place: &mut Place) -> u32
+fn opened(alloc: Global, text: &[u8], keeps: bool, back: &mut Held, place: &mut FaultPlace) -> u32
     ensures { Opens keeps text.now result place.new back.old.slot back.new.slot }
 {
     match Session::open(alloc, text, keeps) {
@@ -68,7 +73,7 @@ pub extern "C" fn kpn_c_feed(
     count: &mut usize,
 ) -> u32
     requires { IsOpen held.slot }
-    ensures { Leads (Feeds source items.now result count.new) held.slot back.new.slot }
+    ensures { Leads (FeedsSource source items.now result count.new) held.slot back.new.slot }
 {
     let (boxed, session) = taken(held);
     let (session, fed) = session.feed(source, items);
@@ -111,7 +116,7 @@ pub extern "C" fn kpn_c_leave_sink(held: Held, sink: usize, back: &mut Held) -> 
 #[unsafe(no_mangle)]
 pub extern "C" fn kpn_c_step(held: Held, most: u64, back: &mut Held, commits: &mut u64) -> u32
     requires { IsOpen held.slot }
-    ensures { Leads (Steps most result commits.new) held.slot back.new.slot }
+    ensures { Leads (StepsProcesses most result commits.new) held.slot back.new.slot }
 {
     let (boxed, session) = taken(held);
     let (session, stepped) = session.step(most);
@@ -130,7 +135,7 @@ pub extern "C" fn kpn_c_take(
     count: &mut usize,
 ) -> u32
     requires { IsOpen held.slot }
-    ensures { Leads (Takes sink room.old room.new result count.new) held.slot back.new.slot }
+    ensures { Leads (TakesFromSink sink room.old room.new result count.new) held.slot back.new.slot }
 {
     let (boxed, session) = taken(held);
     let (session, got) = session.take(sink, room);
@@ -152,7 +157,7 @@ pub struct Amounts {
 #[unsafe(no_mangle)]
 pub extern "C" fn kpn_c_move(
     held: Held,
-    items: &[Item],
+    items: &[SourceItem],
     most: u64,
     places: &mut [Wanted],
     back: &mut Held,
@@ -192,7 +197,7 @@ pub extern "C" fn kpn_c_is_complete(
             *complete = is_complete;
             OK
         }
-        None => NO_CHANNEL,
+        None => NO_SUCH_CHANNEL,
     }
 }
 

@@ -1,6 +1,6 @@
 //! What is told goes to the front of a slice, if it fits there.
 
-ghost use Rattle.kpn_c.specs.Slices.{PutsIfFits, Puts};
+ghost use Rattle.kpn_c.specs.Slices.{PutsIfFits, PutsToFront};
 
 use crate::codes::{OK, TOO_SMALL};
 
@@ -40,7 +40,7 @@ pub fn put_lengths(room: &mut [usize], lengths: &[usize]) -> bool
 /// Puts a text to the front of a slice if it fits there, and tells its length. It returns the number that says whether
 /// it fits.
 pub fn put_text(room: &mut [u8], length: &mut usize, text: &[u8]) -> u32
-    ensures { Puts text.now result length.new room.old room.new }
+    ensures { PutsToFront text.now result length.new room.old room.new }
 {
     *length = text.len();
     if put_bytes(room, text) { OK } else { TOO_SMALL }

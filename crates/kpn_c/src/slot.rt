@@ -1,6 +1,6 @@
 //! A session in a box of its own, which C keeps.
 ghost use Rattle.std.specs.Prelude.{◌≡◌, IfSome};
-ghost use Rattle.kpn_c.specs.Sessions.{IsOpen, holding};
+ghost use Rattle.kpn_c.specs.Sessions.{IsOpen, slot_with};
 
 use crate::held::Held;
 use crate::loose::Loose;
@@ -16,7 +16,7 @@ pub struct Slot {
 /// Takes a session out of its box.
 pub(crate) fn taken(held: Held) -> (Box<Slot, Global>, Session)
     requires { IsOpen held.slot }
-    ensures { held.slot ≡ holding result.1 }
+    ensures { held.slot ≡ slot_with result.1 }
 {
     let mut boxed = held.into_loose().into_box();
     let Some(session) = boxed.session.take() else {
@@ -27,7 +27,7 @@ pub(crate) fn taken(held: Held) -> (Box<Slot, Global>, Session)
 
 /// Puts a session back into its box.
 pub(crate) fn put_back(mut boxed: Box<Slot, Global>, session: Session) -> Held
-    ensures { result.slot ≡ holding session }
+    ensures { result.slot ≡ slot_with session }
 {
     boxed.session = Some(session);
     Held::of(Loose::of(boxed))
@@ -35,7 +35,7 @@ pub(crate) fn put_back(mut boxed: Box<Slot, Global>, session: Session) -> Held
 
 /// Keeps a session in a new box. `None` if there is no memory for the box.
 pub(crate) fn kept(alloc: Global, session: Session) -> Option<Held>
-    ensures { IfSome result (λ held. held.slot ≡ holding session) }
+    ensures { IfSome result (λ held. held.slot ≡ slot_with session) }
 {
     let slot = Slot {
         session: Some(session),

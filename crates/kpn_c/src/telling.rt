@@ -10,7 +10,7 @@ use std::alloc::{AllocError, Global};
 
 // How many bytes are reserved for each line. The longest has 37 with its line feed: a `put` of the least item, if the
 // two numbers are 65535.
-const LINE: usize = 40;
+const BYTES_PER_LINE: usize = 40;
 
 /// The text of a trace. There is room for each line before the first is made. The error is that memory ran out.
 pub(crate) fn trace_of(
@@ -22,7 +22,7 @@ pub(crate) fn trace_of(
         text.items ≡ trace_text Two t.policy t.growth history.now.events) }
 {
     let lines = history.len().saturating_add(2);
-    let mut text = Vec::with_capacity(alloc, lines.saturating_mul(LINE))?;
+    let mut text = Vec::with_capacity(alloc, lines.saturating_mul(BYTES_PER_LINE))?;
     match write_trace(&mut text, network.policy(), network.growth(), history) {
         Ok(()) => Ok(text),
         Err(_) => Err(AllocError),

@@ -5,7 +5,7 @@ ghost use Rattle.kpn_c.specs.Texts.{IsText, RunsText, RefusesRun, RefusesRunOn};
 ghost use Rattle.kpn_c.specs.Running.{IsRunOn};
 
 use crate::lists::CutFault;
-use crate::running::{Ran, run_network};
+use crate::running::{RunResult, run_network};
 use kpn_book::Limits;
 use kpn_net::Network;
 use kpn_text::{TextFault, read_network};
@@ -13,7 +13,7 @@ use std::alloc::Global;
 
 /// Why there is no run.
 #[derive(Clone, Copy)]
-pub enum RunFault {
+pub enum TextRunFault {
     /// The text is no description.
     Text(TextFault),
     /// There is not one length for each source, or the lengths do not sum up to the number of items.
@@ -41,13 +41,13 @@ pub fn run(
     items: &[i64],
     lengths: &[usize],
     limits: &Limits,
-) -> Result<Ran, RunFault>
+) -> Result<RunResult, TextRunFault>
     ensures ran { IfOk result (RunsText text.now items.now lengths.now limits.now) }
     ensures fault { IfErr result (RefusesRun text.now items.now lengths.now) }
 {
     match read_network(alloc, text) {
         Ok(document) => run_described(alloc, document.network(), items, lengths, limits),
-        Err(fault) => Err(RunFault::Text(fault)),
+        Err(fault) => Err(TextRunFault::Text(fault)),
     }
 }
 
@@ -58,13 +58,13 @@ fn run_described(
     items: &[i64],
     lengths: &[usize],
     limits: &Limits,
-) -> Result<Ran, RunFault>
+) -> Result<RunResult, TextRunFault>
     ensures ran { IfOk result (IsRunOn network.now items.now lengths.now limits.now) }
     ensures fault { IfErr result (RefusesRunOn network.now items.now lengths.now) }
 {
     match run_network(alloc, network, items, lengths, limits) {
         Ok(ran) => Ok(ran),
-        Err(CutFault::Lengths) => Err(RunFault::Lists),
-        Err(CutFault::NoMemory) => Err(RunFault::NoMemory),
+        Err(CutFault::Lengths) => Err(TextRunFault::Lists),
+        Err(CutFault::NoMemory) => Err(TextRunFault::NoMemory),
     }
 }

@@ -14,7 +14,7 @@ use Rattle.kpn_book.specs.declared.report.Report.{Report}
 use Rattle.kpn_book.specs.Outcomes.{IsOutcome}
 use Rattle.kpn_book.specs.Reports.{events_of, IsWrittenFrom, AreSupplied, IsReport}
 use Rattle.kpn_book.proofs.Told.{journals_there, told_legal, told_view, IsReport-of}
-use Rattle.kpn_pool.specs.Fed.{AreFedBelow, AreClosedBelow}
+use Rattle.kpn_pool.specs.Fed.{AreFedBelow, AreSourcesClosedBelow}
 
 module _ (t : Tables) (b : Book) (tables : b.tables ≡ t) (book : IsBook b) (outcome : Outcome) (report : Report)
     (tells : IsWrittenFrom b outcome report) where
@@ -36,7 +36,7 @@ module _ (t : Tables) (b : Book) (tables : b.tables ≡ t) (book : IsBook b) (ou
           sym (journal_is c there) ∙ fed c there source;
     }
 
-    pub are_supplied : AreClosedBelow t b.history (length t.channels) → AreSupplied t lists (events_of report)
+    pub are_supplied : AreSourcesClosedBelow t b.history (length t.channels) → AreSupplied t lists (events_of report)
     are_supplied closed = record {
       whole = are_fed;
       closed = λ c source.

@@ -7,7 +7,7 @@ use Rattle.kpn_history.specs.declared.state.View.{View}
 use Rattle.kpn_book.specs.Snapshot.{shown_on}
 use Rattle.kpn_history.specs.declared.event.Event.{Event}
 use Rattle.kpn_history.specs.Channels.{is_closed}
-use Rattle.kpn_pool.specs.Fed.{AreFedBelow, AreClosedBelow}
+use Rattle.kpn_pool.specs.Fed.{AreFedBelow, AreSourcesClosedBelow}
 
 module _ {A : Type 0} (t : Tables) (lists : List (List ℤ)) (view : View A) where
   pub none_fed : AreFedBelow t lists view 0
@@ -31,12 +31,12 @@ module _ {A : Type 0} (t : Tables) (lists : List (List ℤ)) (view : View A) whe
       ]
 
 module _ (t : Tables) (H : List Event) where
-  pub none_closed : AreClosedBelow t H 0
+  pub none_closed : AreSourcesClosedBelow t H 0
   none_closed c below source = absurd (omega arith)
 
   -- the next channel is no source, or is closed
-  pub closed_more : (k : ℕ) → (is_source (channel_at t k) ≡ true → is_closed H k ≡ true) → AreClosedBelow t H k
-      → AreClosedBelow t H (k + 1)
+  pub closed_more : (k : ℕ) → (is_source (channel_at t k) ≡ true → is_closed H k ≡ true) → AreSourcesClosedBelow t H k
+      → AreSourcesClosedBelow t H (k + 1)
   closed_more k is so_far c below source =
       elim (cases_eq c k) [
         | inl same ↦

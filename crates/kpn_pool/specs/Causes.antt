@@ -31,7 +31,7 @@ abbrev pub all_abandoned : List Worked → Bool
 all_abandoned workers = list_all (λ (w : Worked). is_abandoned w.why) workers
 
 -- the first of these: a thread could not be started; memory ran out in a worker; the gate made every worker end
-abbrev pub cause_of : (had_threads : Bool) → List Worked → Option RunFault
-cause_of had_threads workers =
+abbrev pub fault_of_run : (had_threads : Bool) → List Worked → Option RunFault
+fault_of_run had_threads workers =
     if not had_threads then Some Threads else
     (if ran_out workers then Some NoMemory else (if all_abandoned workers then Some Abandoned else None))

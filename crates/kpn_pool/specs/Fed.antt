@@ -12,5 +12,5 @@ abbrev pub AreFedBelow : {A : Type 0} → Tables → (lists : List (List ℤ)) �
 AreFedBelow t lists view k = (c : ℕ) → c < k → is_source (channel_at t c) ≡ true → shown_on view c ≡ given_by t lists c
 
 -- each source with a number below k was closed
-abbrev pub AreClosedBelow : Tables → List Event → (k : ℕ) → Type 0
-AreClosedBelow t H k = (c : ℕ) → c < k → is_source (channel_at t c) ≡ true → is_closed H c ≡ true
+abbrev pub AreSourcesClosedBelow : Tables → List Event → (k : ℕ) → Type 0
+AreSourcesClosedBelow t H k = (c : ℕ) → c < k → is_source (channel_at t c) ≡ true → is_closed H c ≡ true

@@ -2,7 +2,7 @@
 ghost use Rattle.std.specs.Prelude.{◌≡◌, ◌<◌, ◌≤◌, Bool, [], length, map, IfOk, vec_len, vec_capacity};
 ghost use Rattle.std.specs.List.{sum_by};
 ghost use Rattle.kpn_book.specs.Kept.{IsBook};
-ghost use Rattle.kpn_pool.specs.Causes.{worked_of, is_out_of_memory, is_abandoned, ran_out, all_abandoned, cause_of};
+ghost use Rattle.kpn_pool.specs.Causes.{worked_of, is_out_of_memory, is_abandoned, ran_out, all_abandoned, fault_of_run};
 
 use crate::fault::RunFault;
 use crate::shared::{Opened, Shared, gather};
@@ -48,7 +48,7 @@ pub struct Worked {
 
 /// A run whose workers have ended.
 #[derive(Drop)]
-pub struct Ran<'n, C: Drop> {
+pub struct EndedRun<'n, C: Drop> {
     /// The book of the run. Its commits are those of the workers.
     pub book: Book<'n>,
     /// The client, which has served the outside.
@@ -80,14 +80,14 @@ pub fn run_beside<'n, R: Threads + Wait + Clock + Sync, G: Gate, C: Client, F: F
     keeping: Keeping,
     client: C,
     feeders: &[F],
-) -> Result<Ran<'n, C>, AllocError>
+) -> Result<EndedRun<'n, C>, AllocError>
     requires workers { (0 < workers) × (workers ≤ MAX_WORKERS) }
     ensures network { IfOk result (λ ran. ran.book.tables ≡ network.now) }
     ensures book { IfOk result (λ ran. IsBook ran.book) }
     ensures count { IfOk result (λ ran. vec_len ran.workers ≡ workers) }
     // whether each worker and each feeder had a thread of its own is the only thing left open
     ensures fault { IfOk result (λ ran.
-        (had_threads : Bool) × (ran.fault ≡ cause_of had_threads ran.workers.items)) }
+        (had_threads : Bool) × (ran.fault ≡ fault_of_run had_threads ran.workers.items)) }
     ensures commits { IfOk result (λ ran.
         ran.book.commits ≡ sum_by (λ worked. worked.commits) ran.workers.items) }
 {
@@ -116,7 +116,7 @@ fn run_job<
     keeping: Keeping,
     client: C,
     feeders: &[F],
-) -> Result<Ran<'n, C>, AllocError>
+) -> Result<EndedRun<'n, C>, AllocError>
     requires ledger { (blank.name ≡ J.name) × (blank.parts ≡ J.parts) }
     requires network { network.now ≡ J.network }
     requires workers { (workers ≡ J.parts) × (0 < workers) × (workers ≤ MAX_WORKERS) }
@@ -124,7 +124,7 @@ fn run_job<
     ensures book { IfOk result (λ ran. IsBook ran.book) }
     ensures count { IfOk result (λ ran. vec_len ran.workers ≡ workers) }
     ensures fault { IfOk result (λ ran.
-        (had_threads : Bool) × (ran.fault ≡ cause_of had_threads ran.workers.items)) }
+        (had_threads : Bool) × (ran.fault ≡ fault_of_run had_threads ran.workers.items)) }
     ensures commits { IfOk result (λ ran.
         ran.book.commits ≡ sum_by (λ worked. worked.commits) ran.workers.items) }
 {
@@ -148,7 +148,7 @@ fn run_job<
     record_each(seats.as_slice(), &mut records);
     let fault = fault_of(had_threads, records.as_slice());
     let book = gather(shared, seats);
-    Ok(Ran {
+    Ok(EndedRun {
         book,
         client,
         workers: records,
@@ -176,7 +176,7 @@ fn record_each<J: Job>(seats: &[WorkerSeat<J>], records: &mut Vec<Worked>)
 
 /// What kept the workers from their work, if anything did.
 fn fault_of(had_threads: bool, workers: &[Worked]) -> Option<RunFault>
-    ensures { result ≡ cause_of had_threads workers.now }
+    ensures { result ≡ fault_of_run had_threads workers.now }
 {
     if !had_threads {
         return Some(RunFault::Threads);

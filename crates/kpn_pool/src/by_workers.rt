@@ -3,7 +3,7 @@ ghost use Rattle.std.specs.Prelude.{◌≡◌, ◌<◌, ◌≤◌, length, IfOk}
 ghost use Rattle.kpn_net.specs.Iteration.{sources};
 ghost use Rattle.kpn_book.specs.Reports.{AreSupplied, IsReport, events_of};
 
-use crate::beside::{Ran, run_beside};
+use crate::beside::{EndedRun, run_beside};
 use crate::ending::conclude;
 use crate::fault::RunFault;
 use crate::serving::{Nobody, Serving};
@@ -79,7 +79,7 @@ pub fn run_keeping<R: Threads + Wait + Clock + Sync, G: Gate>(
     let ran = run_beside(
         rt, alloc, network, workers, gate, limits, keeping, serving, nobody,
     )?;
-    let Ran {
+    let EndedRun {
         book,
         client,
         fault,

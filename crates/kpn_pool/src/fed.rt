@@ -1,7 +1,7 @@
 //! Whether the sources of a run were fed their lists and closed, as the end of the run shows them.
 ghost use Rattle.std.specs.Prelude.{◌≡◌, length, IsTrue};
 ghost use Rattle.kpn_net.specs.Iteration.{sources};
-ghost use Rattle.kpn_pool.specs.Fed.{AreFedBelow, AreClosedBelow};
+ghost use Rattle.kpn_pool.specs.Fed.{AreFedBelow, AreSourcesClosedBelow};
 
 use kpn_book::Book;
 use kpn_history::View;
@@ -33,7 +33,7 @@ pub(crate) fn were_fed(network: &Network, lists: &[Sequence<i64>], view: &View) 
 /// Whether each source is closed.
 pub(crate) fn are_closed(book: &Book<'_>) -> bool
     ensures { let t = book.now.tables in
-        IsTrue result → AreClosedBelow t book.now.history (length t.channels) }
+        IsTrue result → AreSourcesClosedBelow t book.now.history (length t.channels) }
 {
     'channels: for c in 0..book.network().channels() {
         if book.network().is_source(c) && !book.is_closed(c) {

@@ -15,7 +15,7 @@ mod shared;
 mod threads;
 mod working;
 
-pub use beside::{Client, Feeder, Outside, Ran, Worked, run_beside};
+pub use beside::{Client, EndedRun, Feeder, Outside, Worked, run_beside};
 pub use by_workers::{run, run_keeping};
 pub use fault::RunFault;
 pub use kpn_pool_desk::{
@@ -26,5 +26,5 @@ pub use outside_calls::{
     close, feed, feed_all, feed_when_room, leave, snapshot, take, take_each, take_when_due,
     take_when_there,
 };
-pub use shared::{Look, Opened, Shared, gather};
+pub use shared::{DeskLook, Opened, Shared, gather};
 pub use working::work;

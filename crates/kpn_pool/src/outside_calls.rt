@@ -5,7 +5,7 @@ ghost use Rattle.kpn_net.specs.Tables.{channel_at, is_source, is_sink};
 ghost use Rattle.kpn_chan.specs.Channel.{unread};
 ghost use Rattle.kpn_machine.specs.Machine.{channel_in};
 ghost use Rattle.kpn_pool_desk.specs.declared.crew.Awaited.TheVariants.{There};
-ghost use Rattle.kpn_pool_desk.specs.OutsideSeats.{with_item, with_taken, HaveTaken, TakesMore, FeedsUntil, MayRefuseFeed, MayRefuseEnd, MayRefuseTake, MayRefuseTakes, MayRefuseSnapshot, AreSinks};
+ghost use Rattle.kpn_pool_desk.specs.OutsideSeats.{with_new_item, with_taken, HaveTaken, TakesMore, FeedsUntil, MayRefuseFeed, MayRefuseEnd, MayRefuseTake, MayRefuseTakes, MayRefuseSnapshot, AreSinks};
 ghost use Rattle.kpn_book.specs.declared.answers.Refused.TheVariants.{Full};
 ghost use Rattle.std.specs.Sync.Mutex.{mutex_guard_value};
 ghost use Rattle.kpn_book.specs.Snapshot.{ShowsARun, shown_on, IsBelowKahn, IsKahnAtRest};
@@ -27,7 +27,7 @@ pub fn feed<J: Job, A: Allocator + Copy, B: Allocator, R: Wait>(
     item: i64,
     bound: usize,
 ) -> Result<(), Refused>
-    ensures fed { OnOk result (seat.new ≡ with_item item seat.old) }
+    ensures fed { OnOk result (seat.new ≡ with_new_item item seat.old) }
     ensures as_before { OnErr result (seat.new ≡ seat.old) }
     ensures source { OnOk result (is_source (channel_at J.network seat.old.channel) ≡ true) }
     ensures refused { IfErr result (λ cause.

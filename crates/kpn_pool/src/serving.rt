@@ -8,7 +8,7 @@ use std::sync::Wait;
 use std::time::Clock;
 
 // How many items are fed under one hold of the lock: they take some tenths of a millisecond.
-const BATCH: usize = 16_384;
+const ITEMS_PER_HOLD: usize = 16_384;
 
 /// Feeds each source its whole list and closes it, as on one thread, and takes from the sinks until all workers have
 /// ended or what is wanted of the sinks was taken.
@@ -95,7 +95,7 @@ fn feed_list<J: Job, R: Wait>(
     list: &[i64],
     sinks: &mut [SinkSeat],
 ) -> Result<(), Refused> {
-    for items in list.chunks(BATCH) {
+    for items in list.chunks(ITEMS_PER_HOLD) {
         feed_all(rt, shared, seat, items, usize::MAX)?;
         seat.forget();
         take_each(rt, shared, sinks)?;

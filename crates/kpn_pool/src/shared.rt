@@ -64,11 +64,11 @@ pub struct Opened<'n, J: Job, A: Allocator = Global> {
 /// The desk of a run under its lock, which is free again once the look is dropped. Meanwhile all other calls on the run
 /// wait, also those of the thread that has the look.
 #[derive(Drop)]
-pub struct Look<'l, 'n, J: Job, A: Allocator = Global> {
+pub struct DeskLook<'l, 'n, J: Job, A: Allocator = Global> {
     desk: MutexGuard<'l, Desk<'n, J, A>>,
 }
 
-impl<'l, 'n, J: Job, A: Allocator> Look<'l, 'n, J, A> {
+impl<'l, 'n, J: Job, A: Allocator> DeskLook<'l, 'n, J, A> {
     /// The desk as it is now. `Desk::known` says what holds of it.
     pub fn desk(&self) -> &Desk<'n, J, A> {
         &self.desk
@@ -150,8 +150,8 @@ impl<'n, J: Job, A: Allocator> Shared<'n, J, A> {
     }
 
     /// A look at the desk, once nobody else has it.
-    pub fn look<R: Wait>(&self, rt: &R) -> Look<'_, 'n, J, A> {
-        Look {
+    pub fn look<R: Wait>(&self, rt: &R) -> DeskLook<'_, 'n, J, A> {
+        DeskLook {
             desk: self.lock(rt),
         }
     }

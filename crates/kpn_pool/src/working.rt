@@ -3,7 +3,7 @@ ghost use Rattle.std.specs.Prelude.{◌≡◌, ◌<◌, ◌≤◌, IsSome};
 
 use crate::pace::Pace;
 use crate::shared::Shared;
-use kpn_pool_desk::{Batch, Gate, Job, RegionTurn, WorkerSeat};
+use kpn_pool_desk::{Gate, HeldTurns, Job, RegionTurn, WorkerSeat};
 use std::alloc::Allocator;
 use std::sync::Wait;
 use std::time::Clock;
@@ -37,7 +37,7 @@ pub fn work<'n, J: Job, A: Allocator + Copy, G: Gate, R: Wait + Clock>(
 {
     let mut seat = seat;
     let mut pace = Pace::new();
-    let mut batch = Batch::new();
+    let mut batch = HeldTurns::new();
     let mut region = RegionTurn::new();
     for _ in rt.forever() {
         if !shared.go_on(

@@ -12,7 +12,7 @@ use Rattle.kpn_pool_desk.specs.declared.turn.Stepped.{Stepped}
 use Rattle.kpn_pool_desk.specs.Desk.{Desk, with_book, with_commit, with_total}
 use Rattle.kpn_pool_desk.specs.declared.gate.Go.{Go}
 use Rattle.kpn_pool_desk.specs.declared.gate.Go.TheVariants.{On, Abandon}
-use Rattle.kpn_pool_desk.specs.Batch.{Turn, Batch, IsTurnOf, made_of, steps_of, CommitsOrDrops, PutsBack, InTurn, IsEnd, Settles, claimed_by}
+use Rattle.kpn_pool_desk.specs.HeldTurns.{Turn, HeldTurns, IsTurnOf, made_of, steps_of, CommitsOrDrops, PutsBack, InTurn, IsEnd, SettlesTurns, claimed_by}
 use Rattle.kpn_pool_desk.specs.Gate.{LetsThrough}
 
 -- ---- one turn more
@@ -107,12 +107,12 @@ keeps_halts before between after one two = ap (λ (d : Desk). d.halts) two ∙ a
 
 -- ---- a batch
 
-pub settled : (b : Batch) (why : Option Why) (before between after end : Desk) (turns : List Turn) (committed : ℕ)
+pub settled : (b : HeldTurns) (why : Option Why) (before between after end : Desk) (turns : List Turn) (committed : ℕ)
     → turns ≡ b.turns
     → InTurn CommitsOrDrops (take committed (take b.passed turns)) before.book between.book
     → InTurn PutsBack (take (b.held - committed) (drop committed turns)) between.book after.book
     → between ≡ with_total between.book between.total before → after ≡ with_book after.book between
-    → end ≡ record after { halts = end.halts } → IsEnd committed b before end why → Settles b why before end
+    → end ≡ record after { halts = end.halts } → IsEnd committed b before end why → SettlesTurns b why before end
 settled b why before between after end turns committed same commits back one two is ends = record {
   committed = committed;
   between = between.book;

@@ -11,7 +11,7 @@ use Rattle.kpn_pool_desk.specs.declared.rows.Takers.{Takers}
 use Rattle.kpn_pool_desk.specs.declared.rows.Takers.TheVariants.{Workers}
 use Rattle.kpn_pool_desk.specs.Gate.{LetsAll}
 use Rattle.kpn_pool_desk.specs.Desk.{Desk, with_book, with_total}
-use Rattle.kpn_pool_desk.specs.Rows.{MakesRow, row, row_in_vain, TakesOn, no_take, one_take_more, GoesOn, nothing, one_row_more, takes_more, MakesRows, GoesInRows}
+use Rattle.kpn_pool_desk.specs.Rows.{MakesRow, row, row_in_vain, TakesOn, no_take, one_take_more, RowsLead, nothing, one_row_more, takes_more, MakesRows, GoesInRows}
 use Rattle.kpn_pool_desk.proofs.Keeping.{KeepsCount, takes}
 
 -- the network is the same, and so many commits were made
@@ -95,8 +95,8 @@ takes_on_from first before after same one two =
     (subst (λ takers. TakesOn takers before.book after.book) (ap (λ d. d.takers) same) two)
 
 -- what goes on from where another has come to
-goes_then : (quota : ℕ) (takers : Takers) (first between : Book) {b : Book} → GoesOn quota takers first between
-    → GoesOn quota takers between b → GoesOn quota takers first b
+goes_then : (quota : ℕ) (takers : Takers) (first between : Book) {b : Book} → RowsLead quota takers first between
+    → RowsLead quota takers between b → RowsLead quota takers first b
 goes_then quota takers first between one nothing = one
 goes_then quota takers first between one (one_row_more before after sink so_far made) =
     one_row_more before after sink (goes_then quota takers first between one so_far) made
@@ -147,7 +147,7 @@ pub rows_behind : (quota limit : ℕ) (first before after : Desk) → TakesOn fi
     → before ≡ with_book before.book first → MakesRows quota limit before after → MakesRows quota limit first after
 rows_behind quota limit first before after took same rows =
     let made =
-    subst (λ takers. GoesOn quota takers before.book after.book) (ap (λ d. d.takers) same) rows.goes in
+    subst (λ takers. RowsLead quota takers before.book after.book) (ap (λ d. d.takers) same) rows.goes in
     let one = rows.within in
     let two = (takes_keep first.takers first.book took).commits in
     record {

@@ -16,7 +16,7 @@ use Rattle.kpn_book.specs.Book.{Book}
 use Rattle.kpn_book.specs.Appending.{Appends, AppendsAll, IsGrowthOwed, AllHappen}
 use Rattle.kpn_book.specs.Refusals.{Takes}
 use Rattle.kpn_pool_desk.specs.Desk.{Desk}
-use Rattle.kpn_pool_desk.specs.OutsideSeats.{EndSeat, with_item, with_taken, AreRecorded, FeedsUntil, TakesFirst, TakesAll, TakeInTurn}
+use Rattle.kpn_pool_desk.specs.OutsideSeats.{EndSeat, with_new_item, with_taken, AreRecorded, FeedsUntil, TakesFirst, TakesAll, TakeInTurn}
 
 -- ---- some items, and then more
 
@@ -50,7 +50,7 @@ as_before P s t d e seat desk holds =
 -- ---- what is fed
 
 -- one item more
-pub fed_then : (r s t : EndSeat) (a b c : Book) (v : ℤ) → s.channel ≡ r.channel → t ≡ with_item v s
+pub fed_then : (r s t : EndSeat) (a b c : Book) (v : ℤ) → s.channel ≡ r.channel → t ≡ with_new_item v s
     → AreRecorded AppendsAll event.Feed r s a b → Appends (event.Feed s.channel v) b c
     → AreRecorded AppendsAll event.Feed r t a c
 fed_then r s t a b c v same is so_far feeds = record {

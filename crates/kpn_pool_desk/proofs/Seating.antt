@@ -10,7 +10,7 @@ use Rattle.std.proofs.lemmas.List.FromFn.{filter_of_map_range_with_len_more}
 use Rattle.kpn_pool_desk.specs.Desk.{Desk, with_book}
 use Rattle.kpn_net.specs.Tables.{Tables, channel_at, is_sink}
 use Rattle.kpn_book.specs.declared.answers.Refused.{Refused}
-use Rattle.kpn_pool_desk.specs.OutsideSeats.{EndSeat, kept_by, new_end, with_item, HasNoSeat, TakesMore, HaveTaken, AreSinks, MayRefuseTake, MayRefuseTakes}
+use Rattle.kpn_pool_desk.specs.OutsideSeats.{EndSeat, kept_by, new_end, with_new_item, HasNoSeat, TakesMore, HaveTaken, AreSinks, MayRefuseTake, MayRefuseTakes}
 use Rattle.kpn_lang.proofs.Prefixes.{IsPrefix-refl, IsPrefix-trans}
 
 -- one channel more is looked at
@@ -25,7 +25,7 @@ one_more p c seats now before more =
 -- ---- one item more is fed
 
 pub fed_more : (before s now : EndSeat) (items : List ℤ) (k : ℕ) (v : ℤ) → s.channel ≡ before.channel
-    → s.items ≡ before.items ++ take k items → k < length items → v ≡ get_or items k (pos 0) → now ≡ with_item v s
+    → s.items ≡ before.items ++ take k items → k < length items → v ≡ get_or items k (pos 0) → now ≡ with_new_item v s
     → (now.channel ≡ before.channel) × (now.items ≡ before.items ++ take (k + 1) items)
 fed_more before s now items k v channel so_far there is fed = (
   ap (λ (e : EndSeat). e.channel) fed ∙ channel,

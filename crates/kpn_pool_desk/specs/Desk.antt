@@ -6,8 +6,8 @@ use Rattle.kpn_history.specs.Ends.{IsSettled}
 use Rattle.kpn_history.specs.Views.{is_ready}
 use Rattle.kpn_book.specs.Book.{Book}
 use Rattle.kpn_book.specs.Kept.{IsBook}
-use Rattle.kpn_pool_desk.specs.declared.phases.Next.{Next}
-use Rattle.kpn_pool_desk.specs.declared.phases.Next.TheVariants as next
+use Rattle.kpn_pool_desk.specs.declared.phases.NextMove.{NextMove}
+use Rattle.kpn_pool_desk.specs.declared.phases.NextMove.TheVariants as next
 use Rattle.kpn_pool_desk.specs.declared.rows.Takers.{Takers}
 use Rattle.kpn_pool_desk.specs.declared.rows.Takers.TheVariants.{Seats}
 use Rattle.kpn_pool_desk.specs.declared.seat.Why.{Why}
@@ -101,6 +101,6 @@ IsReason d most (Some why) = ⊥
 IsReason d most None = IsOngoing d × (d.book.commits < most)
 
 -- what a worker does next, where this many commits are allowed: it ends exactly if there is a reason, and for that
-abbrev pub EndsFor : Desk → (most : ℕ) → Next → Type 0
+abbrev pub EndsFor : Desk → (most : ℕ) → NextMove → Type 0
 EndsFor d most (next.End why) = IsReason d most (Some why)
 EndsFor d most other = IsReason d most None

@@ -16,23 +16,23 @@ use Rattle.kpn_machine.specs.Machine.{channel_in, is_empty_wait, is_full_wait}
 use Rattle.kpn_book.specs.Book.{Book}
 
 -- a channel of the run, as it is held
-abbrev pub channel_of : Book → ℕ → ChannelState
-channel_of b c = channel_in b.machine c
+abbrev pub channel_in_book : Book → ℕ → ChannelState
+channel_in_book b c = channel_in b.machine c
 
 -- each journal is a prefix of Kahn's least solution for the items fed so far
 abbrev pub AreBelowLeast : Book → Type 0
 AreBelowLeast b = (c : ℕ) → c < length b.tables.channels
-    → IsBelowLeast b.tables (fed b.tables b.history) c (channel_of b c).journal
+    → IsBelowLeast b.tables (fed b.tables b.history) c (channel_in_book b c).journal
 
 -- each is what was read followed by what is queued
 abbrev pub AreReadThenQueued : Book → Type 0
 AreReadThenQueued b = (c : ℕ) → c < length b.tables.channels
-    → (channel_of b c).journal ≡ read_on b.history c ++ unread (channel_of b c)
+    → (channel_in_book b c).journal ≡ read_on b.history c ++ unread (channel_in_book b c)
 
 -- no more is queued than the capacity, where the reader has not ended or left
 abbrev pub AreWithinCapacity : Book → Type 0
-AreWithinCapacity b = (c : ℕ) → c < length b.tables.channels → (channel_of b c).is_retired ≡ false
-    → (cap : ℕ) → (channel_of b c).capacity ≡ Some cap → length (unread (channel_of b c)) ≤ cap
+AreWithinCapacity b = (c : ℕ) → c < length b.tables.channels → (channel_in_book b c).is_retired ≡ false
+    → (cap : ℕ) → (channel_in_book b c).capacity ≡ Some cap → length (unread (channel_in_book b c)) ≤ cap
 
 -- the counts of the processes that wait are the numbers of those that are blocked, on an empty and on a full channel
 pub record AreBlockedCounts (b : Book) (counts : Counts) : Type 0 where
@@ -47,7 +47,7 @@ AreOwedGrowths b = (B rest : List Event) (p d n : ℕ) → b.history ≡ B ++ Gr
 -- when every process has ended or waits on an empty channel, the journals are the least solution
 abbrev pub AreLeastWhenQuiet : Book → Type 0
 AreLeastWhenQuiet b = IsQuiet b.tables b.history → (c : ℕ) → c < length b.tables.channels
-    → IsLeast b.tables (fed b.tables b.history) c (channel_of b c).journal
+    → IsLeast b.tables (fed b.tables b.history) c (channel_in_book b c).journal
 
 -- no blocked cycle has a full channel below the limit
 abbrev pub HasNoneLeftToGrow : Book → Type 0

@@ -5,6 +5,6 @@ pub mod RegionTurn
 pub mod Seat
 pub mod Invariant
 pub mod OutsideSeats
-pub mod Batch
+pub mod HeldTurns
 pub mod Waiting
 pub mod Recent

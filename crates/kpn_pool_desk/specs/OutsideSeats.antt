@@ -38,13 +38,13 @@ abbrev pub new_ends : (ChannelSpec → Bool) → Tables → List EndSeat
 new_ends is_end t = filter (λ s. is_end (channel_at t s.channel)) (map new_end (channel_numbers t))
 
 -- one item more
-abbrev pub with_item : ℤ → EndSeat → EndSeat
-with_item item s = record s { items = s.items ++ item ∷ [] }
+abbrev pub with_new_item : ℤ → EndSeat → EndSeat
+with_new_item item s = record s { items = s.items ++ item ∷ [] }
 
 -- the item that was taken, if one was
 abbrev pub with_taken : Option ℤ → EndSeat → EndSeat
 with_taken None s = s
-with_taken (Some item) s = with_item item s
+with_taken (Some item) s = with_new_item item s
 
 -- the items that the seat can still tell: all of them, if it was never told to forget
 abbrev pub kept_by : EndSeat → List ℤ

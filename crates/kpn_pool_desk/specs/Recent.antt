@@ -11,12 +11,12 @@ pub record Recent : Type 0 where
 abbrev pub none_yet : Bool → Recent
 none_yet has_room = record { items = []; forgotten = 0; has_room = has_room }
 
-abbrev pub with_room : Bool → Recent → Recent
-with_room has_room r = record r { has_room = has_room }
+abbrev pub with_spare_room : Bool → Recent → Recent
+with_spare_room has_room r = record r { has_room = has_room }
 
 -- one item more
-abbrev pub one_more : ℤ → Bool → Recent → Recent
-one_more item has_room r = record r { items = r.items ++ item ∷ []; has_room = has_room }
+abbrev pub with_newest : ℤ → Bool → Recent → Recent
+with_newest item has_room r = record r { items = r.items ++ item ∷ []; has_room = has_room }
 
 -- all items are forgotten
 abbrev pub forgetful : Bool → Recent → Recent

@@ -7,8 +7,8 @@ use Rattle.kpn_book.specs.Book.{Book}
 use Rattle.kpn_book.specs.RegionClaims.{ClaimsRegion}
 use Rattle.kpn_book.specs.RegionCalls.{CommitsRegion, RefusesRegion}
 use Rattle.kpn_book.specs.Regions.{batch_put_back}
-use Rattle.kpn_pool_desk.specs.declared.phases.Next.{Next}
-use Rattle.kpn_pool_desk.specs.declared.phases.Next.TheVariants as next
+use Rattle.kpn_pool_desk.specs.declared.phases.NextMove.{NextMove}
+use Rattle.kpn_pool_desk.specs.declared.phases.NextMove.TheVariants as next
 use Rattle.kpn_pool_desk.specs.declared.rows.Takers.{Takers}
 use Rattle.kpn_pool_desk.specs.declared.rows.Takers.TheVariants.{Seats, Workers}
 use Rattle.kpn_pool_desk.specs.declared.seat.Why.{Why}
@@ -68,13 +68,13 @@ pub record SettlesRegion (hand : Option Batch) (why : Option Why) (before after 
 
 -- after a region was settled, a worker ends if there is a reason for that; else it takes from the sinks, if the workers
 -- take, and if it ends then, there is a reason too
-abbrev pub GoesOnAfterRegion : (most : ℕ) → Option Why → Next → (between after : Desk) → Type 0
+abbrev pub GoesOnAfterRegion : (most : ℕ) → Option Why → NextMove → (between after : Desk) → Type 0
 GoesOnAfterRegion most (Some why) then between after = (then ≡ next.End why) × (after ≡ between)
 GoesOnAfterRegion most None then between after =
     TakesOn between.takers between.book after.book × (after ≡ with_book after.book between) × EndsFor after most then
 
 -- a worker is back from its region: this is settled, and the worker goes on after that
-pub record ComesBackFromRegion (most : ℕ) (hand : Option Batch) (then : Next) (before after : Desk) : Type 0 where
+pub record ComesBackFromRegion (most : ℕ) (hand : Option Batch) (then : NextMove) (before after : Desk) : Type 0 where
   pub why : Option Why
   pub between : Desk
   pub settles : SettlesRegion hand why before between

@@ -21,16 +21,16 @@ pub data TakesOn (takers : Takers) (first : Book) : Book → Type 0 where
       → TakesOn takers first before → Takes sink (Some item) before after → TakesOn takers first after
 
 -- rows of turns lead from the first book to this one, and takes between them
-pub data GoesOn (quota : ℕ) (takers : Takers) (first : Book) : Book → Type 0 where
-  nothing : GoesOn quota takers first first
-  one_row_more : (before after : Book) (sink : Option ℕ) → GoesOn quota takers first before
-      → MakesRow quota sink before after → GoesOn quota takers first after
-  takes_more : (before after : Book) → GoesOn quota takers first before → TakesOn takers before after
-      → GoesOn quota takers first after
+pub data RowsLead (quota : ℕ) (takers : Takers) (first : Book) : Book → Type 0 where
+  nothing : RowsLead quota takers first first
+  one_row_more : (before after : Book) (sink : Option ℕ) → RowsLead quota takers first before
+      → MakesRow quota sink before after → RowsLead quota takers first after
+  takes_more : (before after : Book) → RowsLead quota takers first before → TakesOn takers before after
+      → RowsLead quota takers first after
 
 -- a worker makes turns in a row, up to a limit of commits
 pub record MakesRows (quota limit : ℕ) (before after : Desk) : Type 0 where
-  pub goes : GoesOn quota before.takers before.book after.book
+  pub goes : RowsLead quota before.takers before.book after.book
   pub within : after.book.commits ≤ max before.book.commits limit
   pub same : after ≡ with_total after.book after.total before
 

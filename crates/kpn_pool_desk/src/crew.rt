@@ -38,20 +38,20 @@ use std::mem;
 use std::time::Duration;
 
 // For how many nanoseconds a turn keeps the lock from others, by its commit and its claim, until that is measured.
-const HOLD: u32 = 450;
+const HOLD_NANOSECONDS: u32 = 450;
 
 // No hold counts for more nanoseconds: one that was interrupted weighs little.
-const LONGEST_HOLD: u32 = 2_000;
+const LONGEST_HOLD_NANOSECONDS: u32 = 2_000;
 
 // No turn counts for more nanoseconds. At so many there pay more workers than a run may have, and a turn that was
 // interrupted weighs little.
-const LONGEST: u32 = 16_000;
+const LONGEST_TURN_NANOSECONDS: u32 = 16_000;
 
 // A turn is one part of so many in the mean: so the mean follows within some hundred turns.
 const WEIGHT: u32 = 8;
 
 // A worker claims no more processes in one hold: so many pay for the lock, and others find enough that are ready.
-pub(crate) const BATCH: usize = 8;
+pub(crate) const TURNS_PER_BATCH: usize = 8;
 
 // For how many milliseconds the one that keeps watch rests: so seldom does it cost nothing, and two such rests, after
 // which it takes the place of a worker that is held, are still less than a tenth of a second.
@@ -120,7 +120,7 @@ pub(crate) struct Crew {
 pub(crate) fn share(workers: usize, ready: usize) -> usize
     ensures { result ≡ share_of (max workers 1) ready }
 {
-    ready.div_ceil(workers.max(1)).min(BATCH)
+    ready.div_ceil(workers.max(1)).min(TURNS_PER_BATCH)
 }
 
 /// The mean of nanoseconds, with so many turns more, which took this time together. A mean of 0 is of none.
@@ -142,7 +142,7 @@ impl Crew {
         Crew {
             working: workers,
             most: workers,
-            hold: HOLD,
+            hold: HOLD_NANOSECONDS,
             ..Crew::default()
         }
     }
@@ -226,7 +226,7 @@ impl Crew {
         self.yields = self.yields.saturating_sub(1);
         self.busy = self.busy.saturating_sub(1);
         if let Some(away) = away {
-            self.away = mean_with(self.away, away, turns, LONGEST);
+            self.away = mean_with(self.away, away, turns, LONGEST_TURN_NANOSECONDS);
         }
     }
 
@@ -235,7 +235,7 @@ impl Crew {
         ensures { self.new.working ≡ self.old.working }
     {
         if turns > 0 {
-            self.hold = mean_with(self.hold, held, turns, LONGEST_HOLD);
+            self.hold = mean_with(self.hold, held, turns, LONGEST_HOLD_NANOSECONDS);
         }
     }
 

@@ -4,18 +4,18 @@ use crate::regions::{number_at, sum};
 use std::alloc::{AllocError, Allocator};
 
 // A channel of a smaller capacity is narrow. None such is cut: a hand-over would pass an item or two.
-const WIDE: u32 = 8;
+const WIDE_CAPACITY: u32 = 8;
 
 // So many nanoseconds a hand-over takes in the mean: a claim, a commit, and now and then a worker that has to be woken.
-const HAND_OVER: u64 = 80_000;
+const HAND_OVER_NANOSECONDS: u64 = 80_000;
 
 // For so many of them the lock is held.
-const HOLD: u64 = 1_000;
+const HAND_OVER_HOLD_NANOSECONDS: u64 = 1_000;
 
 /// Whether a channel of this capacity is wide, as a source is, which has none.
 pub(crate) fn is_wide(capacity: Option<u32>) -> bool {
     match capacity {
-        Some(capacity) => capacity >= WIDE,
+        Some(capacity) => capacity >= WIDE_CAPACITY,
         None => true,
     }
 }
@@ -192,13 +192,15 @@ impl<A: Allocator> Cut<A> {
         for region in 0..self.load.len() {
             let load = self.load_of(region);
             let most = self.hand_overs(region, flows);
-            let time = load.saturating_add(most.saturating_mul(HAND_OVER));
+            let time = load.saturating_add(most.saturating_mul(HAND_OVER_NANOSECONDS));
             busiest = busiest.max(time);
             all = all.saturating_add(time);
             work = work.saturating_add(load);
             claims = claims.saturating_add(most);
         }
-        let held = claims.saturating_mul(HOLD).saturating_add(work / 10);
+        let held = claims
+            .saturating_mul(HAND_OVER_HOLD_NANOSECONDS)
+            .saturating_add(work / 10);
         busiest.max(all / workers.max(1) as u64).max(held)
     }
 

@@ -33,7 +33,7 @@ const FIRST: u64 = 20_000;
 const LATER: u64 = 16;
 
 // No turn counts for more nanoseconds: one that was interrupted weighs little.
-const LONGEST: u64 = 16_000;
+const LONGEST_TIMED_TURN_NANOSECONDS: u64 = 16_000;
 
 /// So many gets and puts a batch of a region makes at most.
 pub(crate) const BUDGET: u32 = 4_096;
@@ -110,7 +110,7 @@ impl<A: Allocator> Division<A> {
             return;
         }
         if let Some(taken) = self.taken.get_mut(process) {
-            *taken = taken.saturating_add(nanos.min(LONGEST));
+            *taken = taken.saturating_add(nanos.min(LONGEST_TIMED_TURN_NANOSECONDS));
         }
         if let Some(turns) = self.turns.get_mut(process) {
             *turns = turns.saturating_add(1);

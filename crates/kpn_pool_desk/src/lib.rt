@@ -2,13 +2,13 @@
 //! its work, and the seats of the outside. No call here waits or takes a lock.
 #![tactic(auto)]
 
-mod batch;
 mod complete;
 mod crew;
 mod cut;
 mod desk;
 mod division;
 mod gate;
+mod held_turns;
 mod job;
 mod opening;
 mod outside_seats;
@@ -21,15 +21,15 @@ mod seat;
 mod turn;
 mod watch;
 
-pub use batch::Batch;
 pub use crew::{Awaited, Need};
 pub use desk::Desk;
 pub use gate::{CommitsAll, Gate, Go};
+pub use held_turns::HeldTurns;
 pub use job::Job;
 pub use kpn_book::{Refused, View};
 pub use opening::{EndSeats, end_seats};
 pub use outside_seats::{SinkSeat, SnapFault, SourceSeat, take_from_each};
-pub use phases::{Next, Notices, Stay, Workers};
+pub use phases::{NextMove, Notices, Stay, Workers};
 pub use region_turn::RegionTurn;
 pub use rows::Takers;
 pub use seat::{Why, WorkerSeat};

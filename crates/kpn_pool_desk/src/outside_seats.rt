@@ -14,7 +14,7 @@ ghost use Rattle.kpn_book.specs.declared.answers.Refused.TheVariants.{Full};
 ghost use Rattle.kpn_pool_desk.specs.declared.crew.Awaited.TheVariants.{There, Ended};
 ghost use Rattle.kpn_pool_desk.specs.declared.outside_seats.SnapFault.TheVariants.{Foreign, Forgotten, NoMemory};
 ghost use Rattle.kpn_pool_desk.specs.Waiting.{IsFullSource};
-ghost use Rattle.kpn_pool_desk.specs.OutsideSeats.{with_item, with_taken, kept_by, forgetful, HaveTaken, TakesMore, new_end, AreRecorded, FeedsUntil, TakesFirst, MayRefuseFeed, MayRefuseEnd, MayRefuseTake, MayRefuseTakes, MayRefuseSnapshot, HasFed, IsForgotten, fault_of, AreSinks, TakeInTurn, TakeUntil};
+ghost use Rattle.kpn_pool_desk.specs.OutsideSeats.{with_new_item, with_taken, kept_by, forgetful, HaveTaken, TakesMore, new_end, AreRecorded, FeedsUntil, TakesFirst, MayRefuseFeed, MayRefuseEnd, MayRefuseTake, MayRefuseTakes, MayRefuseSnapshot, HasFed, IsForgotten, fault_of, AreSinks, TakeInTurn, TakeUntil};
 
 use crate::crew::Awaited;
 use crate::desk::Desk;
@@ -114,7 +114,7 @@ impl<A: Allocator> SourceSeat<A> {
         ensures done { IfOk result (λ _.
             Feeds self.old.channel item bound desk.old.book desk.new.book) }
         ensures source { OnOk result (is_source (channel_at J.network self.old.channel) ≡ true) }
-        ensures fed { OnOk result (self.new ≡ with_item item self.old) }
+        ensures fed { OnOk result (self.new ≡ with_new_item item self.old) }
         ensures desk { desk.new ≡ with_book desk.new.book desk.old }
         ensures refused { IfErr result (λ cause.
             RefusesFeed self.old.channel item bound desk.old.book cause) }

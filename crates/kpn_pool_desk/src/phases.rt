@@ -41,7 +41,7 @@ pub struct Stay {
 
 /// What a worker that has the lock does next.
 #[derive(Clone, Copy)]
-pub enum Next {
+pub enum NextMove {
     /// It ends, for this reason.
     End(Why),
     /// It claims processes.
@@ -56,20 +56,20 @@ impl<'n, J: Job, A: Allocator> Desk<'n, J, A> {
     /// What a worker does next, if `most` commits are allowed: it ends if there is a reason; else it claims if there is
     /// a place for it; else it waits. `in_vain` says that nobody has committed since it let the lock go, and `looks_on`
     /// that it looks on before it rests.
-    pub(crate) fn next(&mut self, most: u64, in_vain: bool, looks_on: bool) -> Next
+    pub(crate) fn next(&mut self, most: u64, in_vain: bool, looks_on: bool) -> NextMove
         ensures same { self.new ≡ self.old }
         ensures ends { EndsFor self.old most result }
     {
         if let Some(why) = self.reason_to_end(most) {
-            return Next::End(why);
+            return NextMove::End(why);
         }
         if self.crew.has_place(self.claimable(), in_vain) {
-            return Next::Claim;
+            return NextMove::Claim;
         }
         let commits = self.book.commits();
         if looks_on {
             self.crew.look_on();
-            return Next::LookOn(Stay {
+            return NextMove::LookOn(Stay {
                 commits,
                 keeps_watch: false,
                 calls: self.crew.call(),
@@ -81,11 +81,11 @@ impl<'n, J: Job, A: Allocator> Desk<'n, J, A> {
             keeps_watch,
             calls: self.crew.call(),
         };
-        Next::Rest(stay, Crew::rest_of(keeps_watch))
+        NextMove::Rest(stay, Crew::rest_of(keeps_watch))
     }
 
     /// A worker has looked on. Returns what it does next, if `most` commits are allowed.
-    pub fn look_away(&mut self, stay: Stay, most: u64) -> Next
+    pub fn look_away(&mut self, stay: Stay, most: u64) -> NextMove
         ensures same { self.new ≡ self.old }
         ensures ends { EndsFor self.old most result }
     {
@@ -96,7 +96,7 @@ impl<'n, J: Job, A: Allocator> Desk<'n, J, A> {
     }
 
     /// A worker has rested. Returns what it does next, if `most` commits are allowed.
-    pub fn rise(&mut self, stay: Stay, is_notified: bool, most: u64) -> Next
+    pub fn rise(&mut self, stay: Stay, is_notified: bool, most: u64) -> NextMove
         ensures same { self.new ≡ self.old }
         ensures ends { EndsFor self.old most result }
     {

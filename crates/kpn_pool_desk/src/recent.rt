@@ -1,6 +1,6 @@
 //! What a seat of the outside fed or took: what it was told to forget, which only proofs know, and what has come since.
 ghost use Rattle.std.specs.Prelude.{◌≡◌, ◌≤◌, length, drop, nat_lt, IsTrue, OnOk};
-ghost use Rattle.kpn_pool_desk.specs.Recent.{none_yet, with_room, one_more, forgetful};
+ghost use Rattle.kpn_pool_desk.specs.Recent.{none_yet, with_spare_room, with_newest, forgetful};
 
 use kpn_chan::Past;
 use std::alloc::{AllocError, Allocator};
@@ -44,7 +44,7 @@ impl<A: Allocator> Recent<A> {
 
     /// Makes room for one more item. The error is that memory ran out.
     pub(crate) fn reserve_one(&mut self) -> Result<(), AllocError>
-        ensures same { self.new ≡ with_room self.new.has_room self.old }
+        ensures same { self.new ≡ with_spare_room self.new.has_room self.old }
         ensures room { OnOk result (IsTrue self.new.has_room) }
     {
         self.newest.reserve(1)
@@ -53,7 +53,7 @@ impl<A: Allocator> Recent<A> {
     /// Puts an item behind the others, in the room that there is.
     pub(crate) fn push_reserved(&mut self, item: i64)
         requires { IsTrue self.old.has_room }
-        ensures { self.new ≡ one_more item self.new.has_room self.old }
+        ensures { self.new ≡ with_newest item self.new.has_room self.old }
     {
         self.newest.push_reserved(item);
     }

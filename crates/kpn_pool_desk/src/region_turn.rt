@@ -9,7 +9,7 @@ use crate::desk::Desk;
 use crate::division::BUDGET;
 use crate::gate::Gate;
 use crate::job::Job;
-use crate::phases::Next;
+use crate::phases::NextMove;
 use crate::seat::{Why, WorkerSeat};
 use kpn_book::Refused;
 use kpn_net::Network;
@@ -19,7 +19,7 @@ use std::marker::{Model, PhantomData};
 use std::time::Duration;
 
 // A process makes no more steps in a row: so a batch does not last for long where they lead to no get or put.
-const LONGEST: u32 = 1_000;
+const STEPS_PER_TURN_IN_REGION: u32 = 1_000;
 
 // So many times in a row a worker claims the same region again, whatever the others wait for.
 const AGAIN: u32 = 16;
@@ -144,7 +144,7 @@ impl<'n, J: Job, A: Allocator> RegionTurn<'n, J, A> {
         ensures { Runs self.old self.new }
     {
         if let Some(batch) = &mut self.batch {
-            let _ = batch.run(quota.min(LONGEST), BUDGET);
+            let _ = batch.run(quota.min(STEPS_PER_TURN_IN_REGION), BUDGET);
         }
     }
 
@@ -158,7 +158,7 @@ impl<'n, J: Job, A: Allocator> RegionTurn<'n, J, A> {
         commits: u64,
         away: Option<Duration>,
         most: u64,
-    ) -> Next
+    ) -> NextMove
     where
         A: Copy,
         requires { IsSome self.old }
@@ -177,7 +177,7 @@ impl<'n, J: Job, A: Allocator> RegionTurn<'n, J, A> {
             desk.division.rest(desk.book.commits());
         }
         if let Some(why) = why {
-            return Next::End(why);
+            return NextMove::End(why);
         }
         desk.cut();
         desk.take_from_sinks();

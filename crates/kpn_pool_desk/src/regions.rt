@@ -6,12 +6,12 @@ use std::alloc::{AllocError, Allocator};
 
 // So many nanoseconds a get or put takes beside the steps of its process, by turns: each keeps the lock from others, and
 // waits for it.
-const BY_TURNS: u64 = 1_500;
+const BY_TURNS_NANOSECONDS: u64 = 1_500;
 
 // In a region, on a wide channel, where many come without a wait, and on a narrow one.
-const WIDE: u64 = 10;
+const WIDE_NANOSECONDS: u64 = 10;
 
-const NARROW: u64 = 45;
+const NARROW_NANOSECONDS: u64 = 45;
 
 /// Regions, of which each process is in one.
 #[derive(Drop)]
@@ -146,9 +146,9 @@ impl Way {
     /// How many nanoseconds a get or put takes beside the steps of its process.
     fn nanos(self, is_wide: bool, is_sink: bool) -> u64 {
         match self {
-            Way::ByTurns => BY_TURNS,
-            Way::Regions { drains } if is_wide || drains && is_sink => WIDE,
-            Way::Regions { .. } => NARROW,
+            Way::ByTurns => BY_TURNS_NANOSECONDS,
+            Way::Regions { drains } if is_wide || drains && is_sink => WIDE_NANOSECONDS,
+            Way::Regions { .. } => NARROW_NANOSECONDS,
         }
     }
 }
@@ -162,7 +162,7 @@ fn time_by_turns<A: Allocator + Copy>(
     times: Times<'_>,
     workers: usize,
 ) -> Result<u64, AllocError> {
-    let paying = (times.mean() / BY_TURNS)
+    let paying = (times.mean() / BY_TURNS_NANOSECONDS)
         .saturating_add(1)
         .min(workers as u64);
     if paying <= 1 {

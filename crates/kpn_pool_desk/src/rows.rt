@@ -11,7 +11,7 @@ ghost use Rattle.kpn_pool_desk.specs.Rows.{TakesOn, MakesRows, GoesInRows};
 use crate::desk::Desk;
 use crate::gate::Gate;
 use crate::job::Job;
-use crate::phases::Next;
+use crate::phases::NextMove;
 use crate::seat::WorkerSeat;
 use std::alloc::Allocator;
 
@@ -131,7 +131,7 @@ impl<'n, J: Job, A: Allocator> Desk<'n, J, A> {
         seat: &mut WorkerSeat<J>,
         quota: u32,
         most: u64,
-    ) -> Next
+    ) -> NextMove
     where
         A: Copy,
         ensures goes { GoesInRows (G.may_answer gate.now) quota most self.old self.new }

@@ -2,7 +2,7 @@
 ghost use Rattle.std.specs.Prelude.{◌≡◌, ◌+◌, ◌≤◌, ◌⊎◌, true, false, None, IfOk, OnErr};
 ghost use Rattle.kpn_book.specs.Stepping.{ClaimsNobody};
 ghost use Rattle.kpn_pool_desk.specs.Desk.{with_book, with_total};
-ghost use Rattle.kpn_pool_desk.specs.Batch.{Claims, MayCommit, CommitsOrDrops, PutsBack};
+ghost use Rattle.kpn_pool_desk.specs.HeldTurns.{Claims, MayCommitTurn, CommitsOrDrops, PutsBack};
 
 use crate::desk::Desk;
 use crate::job::Job;
@@ -43,7 +43,7 @@ impl<'n, J: Job> Model for Turn<'n, J> {
     ghost use Rattle.kpn_step.specs.Frame.{fits};
     ghost use Rattle.std.specs.Coded.{codes};
     ghost use Rattle.kpn_lang.specs.Codes.{parts_code};
-    ghost use Rattle.kpn_pool_desk.specs.Batch.{Turn as Seen, frame_of, steps_of, IsTurnOf};
+    ghost use Rattle.kpn_pool_desk.specs.HeldTurns.{Turn as Seen, frame_of, steps_of, IsTurnOf};
 
     ghost Value = { Seen };
 
@@ -155,7 +155,7 @@ impl<'n, J: Job> Turn<'n, J> {
     ) -> bool
         ensures commits { (result ≡ true) → CommitsOrDrops self.now desk.old.book desk.new.book }
         ensures refused { (result ≡ false) → ((self.now.steps ≡ None)
-            ⊎ MayCommit self.now desk.old.book) × (desk.new ≡ desk.old) }
+            ⊎ MayCommitTurn self.now desk.old.book) × (desk.new ≡ desk.old) }
         ensures same { desk.new ≡ with_total desk.new.book desk.new.total desk.old }
         ensures number { seat.new.number ≡ seat.old.number }
         ensures counted { seat.old.commits ≤ seat.new.commits }

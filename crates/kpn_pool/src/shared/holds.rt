@@ -6,14 +6,14 @@ ghost use Rattle.kpn_pool_desk.specs.Seat.{ended};
 
 use super::{MOMENT, REGION_MOMENT, Shared, TRIES, TRIES_OUTSIDE};
 use crate::pace::Pace;
-use kpn_pool_desk::{Batch, Desk, Gate, Job, Next, RegionTurn, Stay, Why, WorkerSeat};
+use kpn_pool_desk::{Desk, Gate, HeldTurns, Job, NextMove, RegionTurn, Stay, Why, WorkerSeat};
 use std::alloc::{Allocator, Global};
 use std::sync::{MutexGuard, Wait};
 use std::time::{Clock, Duration, Instant};
 
 // For how many microseconds a worker makes turns in a row before it lets the lock go, for which the outside may have to
 // wait.
-const HOLD: u64 = 100;
+const ROWS_MICROSECONDS: u64 = 100;
 
 impl<'n, J: Job, A: Allocator> Shared<'n, J, A> {
     /// Commits what a worker has in hand, its batch of turns or the region that it holds, and makes turns in a row.
@@ -25,7 +25,7 @@ impl<'n, J: Job, A: Allocator> Shared<'n, J, A> {
         seat: &mut WorkerSeat<J>,
         quota: u32,
         pace: &mut Pace,
-        batch: &mut Batch<'n, J>,
+        batch: &mut HeldTurns<'n, J>,
         region: &mut RegionTurn<'n, J, A>,
     ) -> bool
     where
@@ -75,11 +75,11 @@ impl<'n, J: Job, A: Allocator> Shared<'n, J, A> {
         seat: &mut WorkerSeat<J>,
         quota: u32,
         pace: &mut Pace,
-        batch: &mut Batch<'n, J>,
+        batch: &mut HeldTurns<'n, J>,
         region: &mut RegionTurn<'n, J, A>,
         desk: &mut Desk<'n, J, A>,
         away: Option<Duration>,
-    ) -> Next
+    ) -> NextMove
     where
         A: Copy,
         requires { IsSome region.old → LetsAll (G.may_answer gate.now) }
@@ -111,8 +111,8 @@ impl<'n, J: Job, A: Allocator> Shared<'n, J, A> {
         seat: &mut WorkerSeat<J>,
         quota: u32,
         desk: &mut Desk<'n, J, A>,
-        next: Next,
-    ) -> Next
+        next: NextMove,
+    ) -> NextMove
     where
         A: Copy,
         ensures number { seat.new.number ≡ seat.old.number }
@@ -124,8 +124,9 @@ impl<'n, J: Job, A: Allocator> Shared<'n, J, A> {
         };
         let mut next = next;
         for _ in rt.forever() {
-            let is_over = begun.elapsed(rt).unwrap_or(Duration::MAX) > Duration::from_micros(HOLD);
-            if is_over || !matches!(next, Next::Claim) {
+            let is_over = begun.elapsed(rt).unwrap_or(Duration::MAX)
+                > Duration::from_micros(ROWS_MICROSECONDS);
+            if is_over || !matches!(next, NextMove::Claim) {
                 return next;
             }
             let before = seat.commits();
@@ -144,7 +145,7 @@ impl<'n, J: Job, A: Allocator> Shared<'n, J, A> {
         seat: &mut WorkerSeat<J>,
         pace: &mut Pace,
         desk: MutexGuard<'l, Desk<'n, J, A>>,
-        next: Next,
+        next: NextMove,
     ) -> Option<MutexGuard<'l, Desk<'n, J, A>>>
         ensures seat { (seat.new.number ≡ seat.old.number) × (seat.new.commits ≡ seat.old.commits) }
         ensures ended { IfNone result (IsSome seat.new.why) }
@@ -153,13 +154,13 @@ impl<'n, J: Job, A: Allocator> Shared<'n, J, A> {
         let mut next = next;
         for _ in rt.forever() {
             (desk, next) = match next {
-                Next::End(why) => {
+                NextMove::End(why) => {
                     self.end(desk, seat, why);
                     return None;
                 }
-                Next::Claim => return Some(desk),
-                Next::LookOn(stay) => self.look_on(rt, desk, stay),
-                Next::Rest(stay, most) => self.rest(rt, desk, stay, most),
+                NextMove::Claim => return Some(desk),
+                NextMove::LookOn(stay) => self.look_on(rt, desk, stay),
+                NextMove::Rest(stay, most) => self.rest(rt, desk, stay, most),
             };
             pace.wait();
         }
@@ -173,7 +174,7 @@ impl<'n, J: Job, A: Allocator> Shared<'n, J, A> {
         rt: &R,
         desk: MutexGuard<'l, Desk<'n, J, A>>,
         stay: Stay,
-    ) -> (MutexGuard<'l, Desk<'n, J, A>>, Next) {
+    ) -> (MutexGuard<'l, Desk<'n, J, A>>, NextMove) {
         let moment = if desk.goes_by_regions() {
             REGION_MOMENT
         } else {
@@ -195,7 +196,7 @@ impl<'n, J: Job, A: Allocator> Shared<'n, J, A> {
         desk: MutexGuard<'l, Desk<'n, J, A>>,
         stay: Stay,
         most: Duration,
-    ) -> (MutexGuard<'l, Desk<'n, J, A>>, Next) {
+    ) -> (MutexGuard<'l, Desk<'n, J, A>>, NextMove) {
         if stay.calls {
             self.called.notify_all();
         }
@@ -216,7 +217,7 @@ impl<'n, J: Job, A: Allocator> Shared<'n, J, A> {
 
 /// Claims the turns of a worker. Returns why it ends, if there are none. If memory ran out, all workers have to end.
 fn claim_turns<'n, J: Job, A: Allocator>(
-    batch: &mut Batch<'n, J>,
+    batch: &mut HeldTurns<'n, J>,
     desk: &mut Desk<'n, J, A>,
 ) -> Option<Why> {
     match batch.claim(desk) {

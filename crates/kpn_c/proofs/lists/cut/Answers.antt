@@ -3,7 +3,7 @@ use Rattle.std.proofs.lemmas.Grind.{flat_map-append}
 use Rattle.std.proofs.lemmas.List.{append-nil, map-append, take_more, length-take-le}
 use Rattle.std.proofs.lemmas.List.Sums.{sum_by_more}
 use Rattle.std.proofs.Math.Seq.{take-add}
-use Rattle.kpn_c.specs.Lists.{joined}
+use Rattle.kpn_c.specs.Lists.{flat_of}
 use Rattle.kpn_c.proofs.lists.cut.Goals as goal
 
 -- the next n items
@@ -17,10 +17,10 @@ module _ (items : List ℤ) (at n : ℕ) (lists more : List (List ℤ))
       let same : at + n - at ≡ n = omega arith in
       is ∙ ap (λ k. lists ++ take k (drop at items) ∷ []) same
 
-  items_then : joined lists ≡ take at items → joined more ≡ take (at + n) items
+  items_then : flat_of lists ≡ take at items → flat_of more ≡ take (at + n) items
   items_then so_far =
-      ap joined cut_next ∙ flat_map-append (λ list. list) lists (next ∷ [])
-      ∙ ap (λ xs. joined lists ++ xs) (append-nil next)
+      ap flat_of cut_next ∙ flat_map-append (λ list. list) lists (next ∷ [])
+      ∙ ap (λ xs. flat_of lists ++ xs) (append-nil next)
       ∙ ap (λ xs. xs ++ next) so_far ∙ sym (take-add at n items)
 
   lengths_then : (lengths : List ℕ) (k : ℕ) → k < length lengths → n ≡ get_or lengths k 0

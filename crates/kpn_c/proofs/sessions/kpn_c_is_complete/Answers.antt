@@ -1,5 +1,5 @@
 use Rattle.std.proofs.Common.{refl, subst, inl}
-use Rattle.kpn_c.specs.Calls.{TellsComplete}
+use Rattle.kpn_c.specs.Calls.{TellsCompleteness}
 use Rattle.kpn_c.specs.Exports.{TellsIfComplete}
 use Rattle.kpn_c.proofs.Leading.{leads}
 use Rattle.kpn_c.proofs.sessions.kpn_c_is_complete.Goals as goal
@@ -13,7 +13,7 @@ returns-in-Some c =
       same = c.is_complete-session.ensures.same;
       tells = inl (
         refl,
-        subst (λ told. TellsComplete c.args.channel told before.book) c.in-Some.is
+        subst (λ told. TellsCompleteness c.args.channel told before.book) c.in-Some.is
             c.is_complete-session.ensures.complete,
       );
     })

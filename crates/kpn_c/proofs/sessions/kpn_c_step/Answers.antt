@@ -1,12 +1,12 @@
 use Rattle.std.proofs.Common.{cond, sym, ap}
-use Rattle.kpn_c.specs.Exports.{Steps}
+use Rattle.kpn_c.specs.Exports.{StepsProcesses}
 use Rattle.kpn_c.proofs.Leading.{leads}
 use Rattle.kpn_c.proofs.sessions.kpn_c_step.Goals as goal
 
 pub returns-then-stepped : goal.returns-then-stepped
 returns-then-stepped c =
     let stepped = c.step-session.result.1 in
-    leads (Steps c.args.most 42 stepped.commits) c.args.held.slot c.put_back.result.slot c.taken-boxed.result.1
+    leads (StepsProcesses c.args.most 42 stepped.commits) c.args.held.slot c.put_back.result.slot c.taken-boxed.result.1
     c.step-session.result.0 c.taken-boxed.ensures c.put_back.ensures
     (record {
       document = c.step-session.ensures.document;
@@ -19,7 +19,7 @@ returns-then-stepped c =
 pub returns-else-stepped : goal.returns-else-stepped
 returns-else-stepped c =
     let stepped = c.step-session.result.1 in
-    leads (Steps c.args.most 0 stepped.commits) c.args.held.slot c.put_back.result.slot c.taken-boxed.result.1
+    leads (StepsProcesses c.args.most 0 stepped.commits) c.args.held.slot c.put_back.result.slot c.taken-boxed.result.1
     c.step-session.result.0 c.taken-boxed.ensures c.put_back.ensures
     (record {
       document = c.step-session.ensures.document;

@@ -1,6 +1,6 @@
 use Rattle.std.proofs.Common.{◌≡◌, length, ap, sym, ◌∙◌, subst}
 use Rattle.kpn_net.specs.Tables.{Tables}
-use Rattle.kpn_pool.specs.Fed.{AreFedBelow, AreClosedBelow}
+use Rattle.kpn_pool.specs.Fed.{AreFedBelow, AreSourcesClosedBelow}
 use Rattle.kpn_pool.proofs.Concluding.{journals_shown, are_supplied, IsReport-concluded}
 use Rattle.kpn_pool.proofs.ending.conclude.Goals as goal
 
@@ -20,7 +20,7 @@ returns c =
     subst (λ (u : Tables). AreFedBelow u c.args.lists.now report.view (length u.channels)) network
     (c.were_fed-are_fed.ensures c.if-not-are_fed.false) in
     let closed =
-    subst (λ (u : Tables). AreClosedBelow u c.empty_sinks-emptied.new.book.history (length u.channels)) same
+    subst (λ (u : Tables). AreSourcesClosedBelow u c.empty_sinks-emptied.new.book.history (length u.channels)) same
     (c.are_closed-are_closed.ensures c.if-not-are_closed.false) in
     record {
       report =

@@ -1,5 +1,5 @@
-use Rattle.kpn_pool.specs.Fed.{AreClosedBelow}
+use Rattle.kpn_pool.specs.Fed.{AreSourcesClosedBelow}
 use Rattle.kpn_pool.proofs.fed.are_closed.Given as goal
 
 abbrev pub invariant-channels : goal.invariant-channels
-invariant-channels l = AreClosedBelow l.book.tables l.book.history l.c
+invariant-channels l = AreSourcesClosedBelow l.book.tables l.book.history l.c

@@ -1,4 +1,4 @@
-use Rattle.kpn_c.specs.declared.session.TheConstants.{QUOTA}
+use Rattle.kpn_c.specs.declared.session.TheConstants.{STEPS_PER_TURN}
 use Rattle.kpn_c.specs.Moving.{Moves}
 use Rattle.kpn_c.proofs.Networks.{moves_tables}
 use Rattle.kpn_c.proofs.SessionLemmas.{book_after, of_session}
@@ -10,7 +10,7 @@ invariant_of-result c =
     let last = c.move_items-moved.new.book in
     book_after c.self.inside.document.value c.self.inside.detached opened last c.detach-detached.result
     c.attached-book.ensures
-    (moves_tables c.args.items.now QUOTA c.args.most c.move_items-moved.result c.args.places.now
+    (moves_tables c.args.items.now STEPS_PER_TURN c.args.most c.move_items-moved.result c.args.places.now
     c.move_items-moved.new.places opened last c.move_items-moved.ensures)
     c.detach-detached.ensures.same c.detach-detached.ensures.book
 
@@ -21,8 +21,8 @@ returns-clause-moved c =
     let kept = c.move_items-moved.new.places in
     of_session c.self.inside.document.value c.self.inside.detached opened last c.detach-detached.result
     c.attached-book.ensures
-    (moves_tables c.args.items.now QUOTA c.args.most c.move_items-moved.result c.args.places.now kept opened last
+    (moves_tables c.args.items.now STEPS_PER_TURN c.args.most c.move_items-moved.result c.args.places.now kept opened last
     c.move_items-moved.ensures)
     c.detach-detached.ensures.same c.args.self c.self.view_is
-    (Moves c.args.items.now QUOTA c.args.most c.move_items-moved.result c.args.places.now kept)
+    (Moves c.args.items.now STEPS_PER_TURN c.args.most c.move_items-moved.result c.args.places.now kept)
     c.move_items-moved.ensures

@@ -1,4 +1,4 @@
-use Rattle.kpn_c.specs.declared.session.TheConstants.{QUOTA}
+use Rattle.kpn_c.specs.declared.session.TheConstants.{STEPS_PER_TURN}
 use Rattle.kpn_c.specs.Calls.{StepsEach}
 use Rattle.kpn_c.proofs.Networks.{steps_tables}
 use Rattle.kpn_c.proofs.SessionLemmas.{book_after, of_session}
@@ -10,7 +10,7 @@ invariant_of-result c =
     let last = c.step_each-stepped.new.book in
     book_after c.self.inside.document.value c.self.inside.detached opened last c.detach-detached.result
     c.attached-book.ensures
-    (steps_tables QUOTA c.args.most c.step_each-stepped.result opened last c.step_each-stepped.ensures)
+    (steps_tables STEPS_PER_TURN c.args.most c.step_each-stepped.result opened last c.step_each-stepped.ensures)
     c.detach-detached.ensures.same c.detach-detached.ensures.book
 
 pub returns-clause-stepped : goal.returns-clause-stepped
@@ -19,6 +19,6 @@ returns-clause-stepped c =
     let last = c.step_each-stepped.new.book in
     of_session c.self.inside.document.value c.self.inside.detached opened last c.detach-detached.result
     c.attached-book.ensures
-    (steps_tables QUOTA c.args.most c.step_each-stepped.result opened last c.step_each-stepped.ensures)
+    (steps_tables STEPS_PER_TURN c.args.most c.step_each-stepped.result opened last c.step_each-stepped.ensures)
     c.detach-detached.ensures.same c.args.self c.self.view_is
-    (StepsEach QUOTA c.args.most c.step_each-stepped.result) c.step_each-stepped.ensures
+    (StepsEach STEPS_PER_TURN c.args.most c.step_each-stepped.result) c.step_each-stepped.ensures

@@ -2,8 +2,8 @@ use Rattle.std.proofs.Common.{◌≡◌, length, drop, sym, ◌∙◌, subst, ru
 use Rattle.std.proofs.lemmas.List.{take-append-le, take_all}
 use Rattle.kpn_book.proofs.FirstOfQueue.{refused_with}
 use Rattle.std.specs.List.{refill}
-use Rattle.kpn_pool_desk.specs.Batch.{ClaimsInVain}
-use Rattle.kpn_pool_desk.proofs.batch.Batch.claim.Goals as goal
+use Rattle.kpn_pool_desk.specs.HeldTurns.{ClaimsInVain}
+use Rattle.kpn_pool_desk.proofs.held_turns.HeldTurns.claim.Goals as goal
 
 pub returns-in_err-self-inside-clause-back : goal.returns-in_err-self-inside-clause-back
 returns-in_err-self-inside-clause-back g c =

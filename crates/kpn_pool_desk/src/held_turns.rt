@@ -1,15 +1,15 @@
 //! The turns that a worker makes between two holds of the lock, in the order of their claims.
 ghost use Rattle.std.specs.Prelude.{◌≡◌, ◌↔◌, ◌+◌, ◌<◌, ◌≤◌, IsTrue, IfOk, OnErr, take, length};
 ghost use Rattle.kpn_book.specs.Stepping.{ClaimsNobody};
-ghost use Rattle.kpn_pool_desk.specs.Batch.{InTurn, Claims, ClaimsInVain, CommitsOrDrops, PutsBack, Settles, claimed_by, ComesBack};
+ghost use Rattle.kpn_pool_desk.specs.HeldTurns.{InTurn, Claims, ClaimsInVain, CommitsOrDrops, PutsBack, SettlesTurns, claimed_by, ComesBackWithTurns};
 ghost use Rattle.kpn_pool_desk.specs.Gate.{LetsThrough, LetsAll};
 ghost use Rattle.kpn_pool_desk.specs.Desk.{share_in, with_book, with_total};
 
-use crate::crew::BATCH;
+use crate::crew::TURNS_PER_BATCH;
 use crate::desk::Desk;
 use crate::gate::{Gate, Go};
 use crate::job::Job;
-use crate::phases::Next;
+use crate::phases::NextMove;
 use crate::rows::go_in_rows;
 use crate::seat::{Why, WorkerSeat};
 use crate::turn::Turn;
@@ -21,17 +21,17 @@ use std::time::{Clock, Duration};
 
 /// Turns of which the first ones are held, and of these the gate has let the first ones through.
 #[derive(Drop)]
-pub struct Batch<'n, J: Job> {
-    turns: ArrayVec<Turn<'n, J>, BATCH>,
+pub struct HeldTurns<'n, J: Job> {
+    turns: ArrayVec<Turn<'n, J>, TURNS_PER_BATCH>,
     held: usize,
     passed: usize,
 }
 
-impl<'n, J: Job> Model for Batch<'n, J> {
+impl<'n, J: Job> Model for HeldTurns<'n, J> {
     ghost use Rattle.std.specs.Prelude.{◌≡◌, ◌≤◌, length};
     ghost use Rattle.std.specs.Coded.{codes};
     ghost use Rattle.kpn_lang.specs.Codes.{parts_code};
-    ghost use Rattle.kpn_pool_desk.specs.Batch.{Batch as Seen};
+    ghost use Rattle.kpn_pool_desk.specs.HeldTurns.{HeldTurns as Seen};
 
     ghost Value = { Seen };
 
@@ -42,12 +42,12 @@ impl<'n, J: Job> Model for Batch<'n, J> {
     ghost invariant = { λ b. (length b.turns.items ≡ 8) × (b.held ≤ 8) × (b.passed ≤ b.held) };
 }
 
-impl<'n, J: Job> Batch<'n, J> {
+impl<'n, J: Job> HeldTurns<'n, J> {
     /// No process is claimed.
     pub fn new() -> Self
         ensures { result.held ≡ 0 }
     {
-        Batch {
+        HeldTurns {
             turns: ArrayVec::from_array_in(
                 (),
                 [
@@ -136,20 +136,20 @@ impl<'n, J: Job> Batch<'n, J> {
         away: Option<Duration>,
         quota: u32,
         most: u64,
-    ) -> Next
+    ) -> NextMove
         ensures number { seat.new.number ≡ seat.old.number }
         ensures commits { seat.old.commits ≤ seat.new.commits }
         // turns that the gate was not asked for are committed only if it lets everything through
         ensures asked { seat.old.commits + self.now.passed < seat.new.commits
             → LetsAll (G.may_answer gate.now) }
-        ensures does { ComesBack (G.may_answer gate.now) quota most self.now result desk.old desk.new }
+        ensures does { ComesBackWithTurns (G.may_answer gate.now) quota most self.now result desk.old desk.new }
     {
         let is_alone = desk.book.commits() == commits;
         desk.crew.come_back(self.held, away);
         let turns = self.turns.as_slice();
         note_each(desk, &turns[..self.passed]);
         if let Some(why) = self.settle(desk, seat) {
-            return Next::End(why);
+            return NextMove::End(why);
         }
         if gate.lets_all() {
             desk.cut();
@@ -165,7 +165,7 @@ impl<'n, J: Job> Batch<'n, J> {
         desk: &mut Desk<'n, J, A>,
         seat: &mut WorkerSeat<J>,
     ) -> Option<Why>
-        ensures settles { Settles self.now result desk.old desk.new }
+        ensures settles { SettlesTurns self.now result desk.old desk.new }
         ensures number { seat.new.number ≡ seat.old.number }
         ensures counted { seat.old.commits ≤ seat.new.commits }
         ensures most { seat.new.commits ≤ seat.old.commits + self.now.passed }

@@ -1,7 +1,7 @@
 use Rattle.std.proofs.Common.{◌≡◌, ◌+◌, ◌≤◌, take}
 use Rattle.kpn_pool_desk.specs.Desk.{with_total}
-use Rattle.kpn_pool_desk.specs.Batch.{CommitsOrDrops, InTurn}
-use Rattle.kpn_pool_desk.proofs.batch.commit_each.Given as goal
+use Rattle.kpn_pool_desk.specs.HeldTurns.{CommitsOrDrops, InTurn}
+use Rattle.kpn_pool_desk.proofs.held_turns.commit_each.Given as goal
 
 abbrev pub invariant-turns : goal.invariant-turns
 invariant-turns g l = record {

@@ -2,10 +2,10 @@
 use Rattle.std.proofs.Common.{◌≡◌, ◌<◌, length, Some, sym, ap, ◌∙◌, subst, rules, arith}
 use Rattle.std.specs.Prelude.{slice_get}
 use Rattle.kpn_pool_desk.specs.declared.gate.Go.TheVariants.{On, Abandon}
-use Rattle.kpn_pool_desk.specs.Batch.{claimed_by}
+use Rattle.kpn_pool_desk.specs.HeldTurns.{claimed_by}
 use Rattle.kpn_pool_desk.specs.Gate.{LetsThrough}
 use Rattle.kpn_pool_desk.proofs.Batches.{claimed_by-set, claimed_at, through_more, stopped_at, let_all}
-use Rattle.kpn_pool_desk.proofs.batch.step_each.Goals as goal
+use Rattle.kpn_pool_desk.proofs.held_turns.step_each.Goals as goal
 
 pub turns-preserved : goal.turns-preserved
 turns-preserved g c =

@@ -2,8 +2,8 @@
 use Rattle.std.proofs.Common.{◌≡◌, ℕ, ◌<◌, Some}
 use Rattle.std.specs.Prelude.{slice_get}
 use Rattle.kpn_pool_desk.specs.declared.gate.Go.TheVariants.{On}
-use Rattle.kpn_pool_desk.specs.Batch.{claimed_by}
-use Rattle.kpn_pool_desk.proofs.batch.step_each.Given as goal
+use Rattle.kpn_pool_desk.specs.HeldTurns.{claimed_by}
+use Rattle.kpn_pool_desk.proofs.held_turns.step_each.Given as goal
 
 abbrev pub invariant-turns : goal.invariant-turns
 invariant-turns g l = record {

@@ -1,7 +1,7 @@
 use Rattle.std.proofs.Common.{rules, ◌≡◌, true, get_or, arith, ◌∙◌}
-use Rattle.kpn_pool_desk.specs.Batch.{CommitsOrDrops}
+use Rattle.kpn_pool_desk.specs.HeldTurns.{CommitsOrDrops}
 use Rattle.kpn_pool_desk.proofs.Batches.{commits_on, one_more}
-use Rattle.kpn_pool_desk.proofs.batch.commit_each.Goals as goal
+use Rattle.kpn_pool_desk.proofs.held_turns.commit_each.Goals as goal
 
 pub turns-preserved : goal.turns-preserved
 turns-preserved g c =

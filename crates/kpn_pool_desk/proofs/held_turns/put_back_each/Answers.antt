@@ -1,8 +1,8 @@
 use Rattle.std.proofs.Common.{rules, ◌≡◌, get_or}
-use Rattle.kpn_pool_desk.specs.Batch.{PutsBack}
+use Rattle.kpn_pool_desk.specs.HeldTurns.{PutsBack}
 use Rattle.kpn_pool_desk.proofs.Batches.{one_more}
 use Rattle.kpn_pool_desk.proofs.Seating.{still_with_book}
-use Rattle.kpn_pool_desk.proofs.batch.put_back_each.Goals as goal
+use Rattle.kpn_pool_desk.proofs.held_turns.put_back_each.Goals as goal
 
 pub turns-preserved : goal.turns-preserved
 turns-preserved g c =

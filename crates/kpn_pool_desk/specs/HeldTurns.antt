@@ -12,8 +12,8 @@ use Rattle.kpn_pool_desk.specs.declared.turn.Stepped.{Stepped}
 use Rattle.kpn_pool_desk.specs.declared.seat.Why.{Why}
 use Rattle.kpn_pool_desk.specs.declared.seat.Why.TheVariants.{Abandoned, NoMemory}
 use Rattle.kpn_pool_desk.specs.declared.gate.Go.{Go}
-use Rattle.kpn_pool_desk.specs.declared.phases.Next.{Next}
-use Rattle.kpn_pool_desk.specs.declared.phases.Next.TheVariants as next
+use Rattle.kpn_pool_desk.specs.declared.phases.NextMove.{NextMove}
+use Rattle.kpn_pool_desk.specs.declared.phases.NextMove.TheVariants as next
 use Rattle.kpn_pool_desk.specs.Desk.{Desk, EndsFor, KeepsWorkers}
 use Rattle.kpn_pool_desk.specs.Rows.{GoesInRows}
 
@@ -47,7 +47,7 @@ pub record IsTurnOf (program : Parts) (last : Stepped) : Type 0 where
       × IsAtPort last.claim.program.now last.to made.1)
 
 -- turns: the first ones, so many, are held, and of these the first ones, so many, the gate has let through
-pub record Batch : Type 0 where
+pub record HeldTurns : Type 0 where
   pub turns : List Turn
   pub held : ℕ
   pub passed : ℕ
@@ -64,15 +64,15 @@ pub record Claims (turn : Turn) (before after : Book) : Type 0 where
   pub frame : turn.frame ≡ Some (frame_in before.machine turn.process)
 
 -- its process is held, and its steps are those of this process from where it stands
-abbrev pub MayCommit : Turn → Book → Type 0
-MayCommit turn b =
+abbrev pub MayCommitTurn : Turn → Book → Type 0
+MayCommitTurn turn b =
     (steps : Advanced) × (turn.steps ≡ Some steps) × IsHeld b turn.process × IsOwnAdvance b turn.process steps
 
 -- its steps are committed; any others are dropped
 abbrev pub CommitsOrDrops : Turn → Book → Book → Type 0
 CommitsOrDrops turn before after =
     ((steps : Advanced) × (done : Done) × (turn.steps ≡ Some steps) × Commits turn.process steps done before after)
-    ⊎ ((¬ MayCommit turn before) × (after ≡ before))
+    ⊎ ((¬ MayCommitTurn turn before) × (after ≡ before))
 
 -- its process is put back, if it is held
 abbrev pub PutsBack : Turn → Book → Book → Type 0
@@ -94,7 +94,7 @@ ClaimsInVain turns before after =
 
 -- why a worker ends that has committed so many of the turns that it holds: memory is wanted for the next one, and all
 -- workers shall end; or the gate did not let the next one through
-abbrev pub IsEnd : (committed : ℕ) → Batch → (before after : Desk) → Option Why → Type 0
+abbrev pub IsEnd : (committed : ℕ) → HeldTurns → (before after : Desk) → Option Why → Type 0
 IsEnd committed b before after None = (committed ≡ b.held) × (after.halts ≡ before.halts)
 IsEnd committed b before after (Some Abandoned) =
     (committed ≡ b.passed) × (b.passed < b.held) × (after.halts ≡ before.halts)
@@ -102,7 +102,7 @@ IsEnd committed b before after (Some NoMemory) = (committed < b.passed) × (afte
 IsEnd committed b before after (Some why) = ⊥
 
 -- the first turns of a batch are committed in order, and then the others that are held are put back in order
-pub record Settles (b : Batch) (why : Option Why) (before after : Desk) : Type 0 where
+pub record SettlesTurns (b : HeldTurns) (why : Option Why) (before after : Desk) : Type 0 where
   pub committed : ℕ
   pub between : Book
   pub commits : InTurn CommitsOrDrops (take committed (take b.passed b.turns)) before.book between
@@ -114,16 +114,16 @@ pub record Settles (b : Batch) (why : Option Why) (before after : Desk) : Type 0
 
 -- after a batch was settled, a worker ends if there is a reason for that; else it makes turns in a row, and if it ends
 -- then, there is a reason too
-abbrev pub GoesOnAfter : (may_answer : (worker process : ℕ) → Go → Type 0) → (quota most : ℕ) → Option Why → Next
+abbrev pub GoesOnAfter : (may_answer : (worker process : ℕ) → Go → Type 0) → (quota most : ℕ) → Option Why → NextMove
     → (between after : Desk) → Type 0
 GoesOnAfter may_answer quota most (Some why) then between after = (then ≡ next.End why) × (after ≡ between)
 GoesOnAfter may_answer quota most None then between after =
     GoesInRows may_answer quota most between after × EndsFor after most then
 
 -- its batch is settled, and it goes on after that
-pub record ComesBack (may_answer : (worker process : ℕ) → Go → Type 0) (quota most : ℕ) (b : Batch) (then : Next)
-    (before after : Desk) : Type 0 where
+pub record ComesBackWithTurns (may_answer : (worker process : ℕ) → Go → Type 0) (quota most : ℕ) (b : HeldTurns)
+    (then : NextMove) (before after : Desk) : Type 0 where
   pub why : Option Why
   pub between : Desk
-  pub settles : Settles b why before between
+  pub settles : SettlesTurns b why before between
   pub goes_on : GoesOnAfter may_answer quota most why then between after

@@ -1,7 +1,7 @@
 use Rattle.std.proofs.Common.{◌≡◌, take}
 use Rattle.kpn_pool_desk.specs.Desk.{with_book}
-use Rattle.kpn_pool_desk.specs.Batch.{PutsBack, InTurn}
-use Rattle.kpn_pool_desk.proofs.batch.put_back_each.Given as goal
+use Rattle.kpn_pool_desk.specs.HeldTurns.{PutsBack, InTurn}
+use Rattle.kpn_pool_desk.proofs.held_turns.put_back_each.Given as goal
 
 abbrev pub invariant-turns : goal.invariant-turns
 invariant-turns g l = record {

@@ -1,13 +1,13 @@
 use Rattle.std.proofs.Common.{Bool, rules, refl, sym, ap, ◌∙◌, subst, arith, Some, None}
 use Rattle.kpn_pool_desk.specs.declared.seat.Why.TheVariants.{Abandoned, NoMemory}
-use Rattle.kpn_pool_desk.specs.Batch.{Settles}
+use Rattle.kpn_pool_desk.specs.HeldTurns.{SettlesTurns}
 use Rattle.kpn_pool_desk.proofs.Batches.{keeps_halts, settled}
-use Rattle.kpn_pool_desk.proofs.batch.Batch.settle.Goals as goal
+use Rattle.kpn_pool_desk.proofs.held_turns.HeldTurns.settle.Goals as goal
 
 pub returns-then-committed-self-clause-settles : goal.returns-then-committed-self-clause-settles
 returns-then-committed-self-clause-settles g c =
     let halts = ap (λ d. d.halts) c.halt.ensures in
-    subst (λ b. Settles b (Some NoMemory) c.args.desk.now c.halt.new.self) c.self.view_is
+    subst (λ b. SettlesTurns b (Some NoMemory) c.args.desk.now c.halt.new.self) c.self.view_is
     (settled _ (Some NoMemory) c.args.desk.now c.commit_each-committed.new.desk c.put_back_each.new.desk
     c.halt.new.self c.as_slice-turns.result.now c.commit_each-committed.result c.as_slice-turns.ensures.value
     c.commit_each-committed.ensures.commits c.put_back_each.ensures.back c.commit_each-committed.ensures.same
@@ -20,7 +20,7 @@ returns-then-committed-self-2-clause-settles g c =
     let halts =
     keeps_halts c.args.desk.now c.commit_each-committed.new.desk c.put_back_each.new.desk
     c.commit_each-committed.ensures.same c.put_back_each.ensures.same in
-    subst (λ b. Settles b (Some Abandoned) c.args.desk.now c.put_back_each.new.desk) c.self.view_is
+    subst (λ b. SettlesTurns b (Some Abandoned) c.args.desk.now c.put_back_each.new.desk) c.self.view_is
     (settled _ (Some Abandoned) c.args.desk.now c.commit_each-committed.new.desk c.put_back_each.new.desk
     c.put_back_each.new.desk c.as_slice-turns.result.now c.commit_each-committed.result c.as_slice-turns.ensures.value
     c.commit_each-committed.ensures.commits c.put_back_each.ensures.back c.commit_each-committed.ensures.same
@@ -31,7 +31,7 @@ returns-clause-settles g c =
     let halts =
     keeps_halts c.args.desk.now c.commit_each-committed.new.desk c.put_back_each.new.desk
     c.commit_each-committed.ensures.same c.put_back_each.ensures.same in
-    subst (λ b. Settles b None c.args.desk.now c.put_back_each.new.desk) c.self.view_is
+    subst (λ b. SettlesTurns b None c.args.desk.now c.put_back_each.new.desk) c.self.view_is
     (settled _ None c.args.desk.now c.commit_each-committed.new.desk c.put_back_each.new.desk
     c.put_back_each.new.desk c.as_slice-turns.result.now c.commit_each-committed.result c.as_slice-turns.ensures.value
     c.commit_each-committed.ensures.commits c.put_back_each.ensures.back c.commit_each-committed.ensures.same
