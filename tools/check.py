@@ -2,13 +2,15 @@
 """Checks one crate over libraries that are there, and proves no crate below it.
 
 usage: tools/check.py CRATE [--library | --edits [NAME ..]] [FLAG ..]
+       tools/check.py --changed
 
 It takes the libraries that `tools/build.py` has made, here or in the tree of KPN_BASE. What it makes and finds out it
 keeps for the next check outside the tree, since the gate refuses sources that no check reads. Flags go to `rattle
 check`, as --only PATH, --allow-holes, --start F, --test and --jobs N; without --jobs it uses two. If a crate below has
 changed here, make its library first, and those of the crates between, by --library. --edits tries the wrong bodies of
 the crate, or those whose names contain a NAME, and prints what refuses each; one that can't be put in, or does not
-compile, is not tried.
+compile, is not tried. --changed is the quick gate for every day, as changed.py says: all that has changed, what stands
+on it, and the rows and tests above.
 """
 import os
 import pathlib
@@ -109,6 +111,9 @@ def main():
         return 0
     if len(sys.argv) < 2:
         sys.exit(__doc__)
+    if sys.argv[1:] == ['--changed']:
+        import changed
+        return changed.main()
     name, *flags = sys.argv[1:]
     crates, kit = prover.read_crates(TOP), prover.find_kit()
     if name not in crates:
