@@ -19,7 +19,7 @@ use Rattle.kpn_history.proofs.Legality.{Legal-nil}
 use Rattle.kpn_history.proofs.Searching.{each_below, each_below-at}
 use Rattle.kpn_parts.specs.declared.order.PartEvent.{PartEvent}
 use Rattle.kpn_parts.specs.Cut.{Part, whole_channel, empty_part, part_at, IsCutSource}
-use Rattle.kpn_parts.specs.Joined.{events_of, whole_history, IsSent, IsJoined, IsDelivered, AreQuiet}
+use Rattle.kpn_parts.specs.Joined.{events_of_part, whole_history, IsSent, IsJoined, IsDelivered, AreQuiet}
 use Rattle.kpn_parts.proofs.Orders.{event_of-other}
 use Rattle.check_histories.proofs.ListTests.{begins, equals, begins-true, equals-true}
 use Rattle.check_histories.proofs.Passing.{passes, passes-legal}
@@ -43,34 +43,34 @@ abbrev pub are_there : List Part → List PartEvent → Bool
 are_there cut order = list_all (λ e. nat_lt e.part (length cut)) order
 
 none_past : (cut : List Part) (order : List PartEvent) → are_there cut order ≡ true → (r : ℕ) → length cut ≤ r
-    → events_of r order ≡ []
+    → events_of_part r order ≡ []
 none_past cut [] e r past = refl
 none_past cut (x ∷ order) e r past =
     let parts = and_parts _ _ e in
     let below = ltb-true x.part (length cut) parts.0 in
-    ap (λ xs. xs ++ events_of r order) (event_of-other r x (λ same. absurd omega (arith, same, below, past)))
+    ap (λ xs. xs ++ events_of_part r order) (event_of-other r x (λ same. absurd omega (arith, same, below, past)))
     ∙ none_past cut order parts.1 r past
 
 legal_past : (r : ℕ) (cut : List Part) (order : List PartEvent) → are_there cut order ≡ true → length cut ≤ r
-    → Legal (part_at cut r).tables (events_of r order)
+    → Legal (part_at cut r).tables (events_of_part r order)
 legal_past r cut order e past =
-    subst (λ part. Legal part.tables (events_of r order)) (sym (get_or_past cut r empty_part past))
+    subst (λ part. Legal part.tables (events_of_part r order)) (sym (get_or_past cut r empty_part past))
     (subst (Legal empty_part.tables) (sym (none_past cut order e r past)) (Legal-nil empty_part.tables))
 
 -- ---- legal, quiet
 
 abbrev pub are_legal : List Part → (n : ℕ) → List PartEvent → Bool
 are_legal cut n order =
-    are_there cut order && each_below (λ r. passes (part_at cut r).tables n (events_of r order)) (length cut)
+    are_there cut order && each_below (λ r. passes (part_at cut r).tables n (events_of_part r order)) (length cut)
 
 pub are_legal-true : (cut : List Part) (n : ℕ) (order : List PartEvent) → are_legal cut n order ≡ true → (r : ℕ)
-    → Legal (part_at cut r).tables (events_of r order)
+    → Legal (part_at cut r).tables (events_of_part r order)
 are_legal-true cut n order e r =
     let parts = and_parts _ _ e in
     elim (cases_lt r (length cut)) [
       | inl below ↦
-          passes-legal (part_at cut r).tables n (events_of r order)
-          (each_below-at (λ s. passes (part_at cut s).tables n (events_of s order)) (length cut) parts.1 r below)
+          passes-legal (part_at cut r).tables n (events_of_part r order)
+          (each_below-at (λ s. passes (part_at cut s).tables n (events_of_part s order)) (length cut) parts.1 r below)
       | inr past ↦ legal_past r cut order parts.0 past
     ]
 
@@ -80,15 +80,15 @@ quiet_past r cut H past =
     (record { each = λ p below. absurd omega (arith, below) })
 
 abbrev pub are_quiet : List Part → List PartEvent → Bool
-are_quiet cut order = each_below (λ r. is_quiet (part_at cut r).tables (events_of r order)) (length cut)
+are_quiet cut order = each_below (λ r. is_quiet (part_at cut r).tables (events_of_part r order)) (length cut)
 
 pub are_quiet-true : (cut : List Part) (order : List PartEvent) → are_quiet cut order ≡ true → AreQuiet cut order
 are_quiet-true cut order e r =
     elim (cases_lt r (length cut)) [
       | inl below ↦
-          is_quiet-true (part_at cut r).tables (events_of r order)
-          (each_below-at (λ s. is_quiet (part_at cut s).tables (events_of s order)) (length cut) e r below)
-      | inr past ↦ quiet_past r cut (events_of r order) past
+          is_quiet-true (part_at cut r).tables (events_of_part r order)
+          (each_below-at (λ s. is_quiet (part_at cut s).tables (events_of_part s order)) (length cut) e r below)
+      | inr past ↦ quiet_past r cut (events_of_part r order) past
     ]
 
 -- ---- a test of each cut source
@@ -138,7 +138,7 @@ each_cut-true t cut test e r c h =
 
 abbrev is_sent : Tables → List Part → List PartEvent → (r c : ℕ) → Bool
 is_sent t cut order r c =
-    begins int_eq (written_on (events_of r order) c)
+    begins int_eq (written_on (events_of_part r order) c)
     (written_on (whole_history t cut order) (whole_channel (part_at cut r) c))
 
 abbrev pub are_sent : Tables → List Part → List PartEvent → Bool
@@ -164,7 +164,7 @@ joins-true t cut n order legal sent =
 
 abbrev has_all : Tables → List Part → List PartEvent → (r c : ℕ) → Bool
 has_all t cut order r c =
-    equals int_eq (written_on (events_of r order) c)
+    equals int_eq (written_on (events_of_part r order) c)
     (written_on (whole_history t cut order) (whole_channel (part_at cut r) c))
 
 abbrev pub are_delivered : Tables → List Part → List PartEvent → Bool

@@ -6,7 +6,7 @@ ghost use Rattle.kpn_net.specs.Iteration.{IsBelowLeast};
 ghost use Rattle.kpn_history.specs.Channels.{written_on};
 ghost use Rattle.kpn_history.specs.Legal.{Legal};
 ghost use Rattle.kpn_parts.specs.Cut.{part_at, IsCut};
-ghost use Rattle.kpn_parts.specs.Joined.{events_of, whole_history, IsJoined, IsDelivered, AreQuiet};
+ghost use Rattle.kpn_parts.specs.Joined.{events_of_part, whole_history, IsJoined, IsDelivered, AreQuiet};
 ghost use Rattle.check_histories.specs.Cuts.{chain_network, chain_cut, ring_network, ring_cut};
 ghost use Rattle.check_histories.specs.Orders.{chain_order, chain_run, ring_order, twice_order, ComesToRest};
 
@@ -24,7 +24,7 @@ pub fn a_chain_comes_to_rest()
 pub fn parts_may_vouch_for_each_other()
     ensures network { IsNetwork ring_network }
     ensures cut { IsCut ring_network ring_cut }
-    ensures legal { (r : ℕ) → Legal (part_at ring_cut r).tables (events_of r ring_order) }
+    ensures legal { (r : ℕ) → Legal (part_at ring_cut r).tables (events_of_part r ring_order) }
     ensures quiet { AreQuiet ring_cut ring_order }
     ensures delivered { IsDelivered ring_network ring_cut ring_order }
     ensures nobody_made { (given : Family) → ¬ IsBelowLeast ring_network given 0
@@ -34,6 +34,6 @@ pub fn parts_may_vouch_for_each_other()
 
 /// An item that is sent twice shows, though each part alone is legal: the run is not joined.
 pub fn an_item_is_sent_once()
-    ensures legal { (r : ℕ) → Legal (part_at chain_cut r).tables (events_of r twice_order) }
+    ensures legal { (r : ℕ) → Legal (part_at chain_cut r).tables (events_of_part r twice_order) }
     ensures not_joined { ¬ IsJoined chain_network chain_cut twice_order }
 {}

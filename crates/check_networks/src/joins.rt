@@ -1,18 +1,18 @@
 //! Two copies joined by the links between them.
 use kpn_history::Event;
 use kpn_lang::Sequence;
-use kpn_parts::{Link, join};
+use kpn_parts::{PartLink, join};
 use std::alloc::{AllocError, Global};
 use std::test::Fail;
 
-const ONWARD: Link = Link {
+const ONWARD: PartLink = PartLink {
     writer: 0,
     sink: 1,
     reader: 1,
     source: 0,
 };
 
-const BACK: Link = Link {
+const BACK: PartLink = PartLink {
     writer: 1,
     sink: 1,
     reader: 0,
@@ -35,7 +35,7 @@ fn joined(
     alloc: Global,
     first: &[i64],
     second: &[i64],
-    links: &[Link],
+    links: &[PartLink],
 ) -> Result<Option<usize>, AllocError> {
     let mut histories = Vec::new(alloc);
     histories.push(copy_run(alloc, first)?)?;

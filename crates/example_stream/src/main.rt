@@ -6,7 +6,7 @@ ghost use Rattle.std.specs.Bool.{⊤};
 
 use anyhow::Result;
 use kpn_net::Network;
-use kpn_stream::{Keeping, Limits, Look, SinkFault, Sinks, SourceFault, Sources, stream};
+use kpn_stream::{Keeping, Limits, Readiness, SinkFault, Sinks, SourceFault, Sources, stream};
 use kpn_text::read_network;
 use std::alloc::Global;
 use std::io::Write;
@@ -51,8 +51,8 @@ impl Sources for Sensor {
         true
     }
 
-    fn look(&mut self, _source: usize) -> Look {
-        Look::AtHand
+    fn look(&mut self, _source: usize) -> Readiness {
+        Readiness::AtHand
     }
 
     fn linger(&self) {}

@@ -10,7 +10,7 @@ use Rattle.kpn_history.specs.Talks.{is_of_process}
 use Rattle.kpn_history.specs.Channels.{is_growth_of}
 use Rattle.kpn_step.specs.declared.stop.Stop.TheVariants.{WantRead, WantWrite}
 use Rattle.kpn_step.proofs.MayStep.{at_port}
-use Rattle.kpn_chan.specs.Channel.{is_full, next_item}
+use Rattle.kpn_chan.specs.Channel.{is_channel_full, next_item}
 use Rattle.kpn_machine.specs.Machine.{Machine, channel_in, frame_in, IsFree}
 use Rattle.kpn_machine.specs.Changes.{IsChannelAt}
 use Rattle.kpn_machine.specs.Due.{Stands}
@@ -41,7 +41,7 @@ module _ (t : Tables) (H : List Event) (event : Event) (quota : ℕ) (s : Machin
   reads_there at stands next is = (free, record { port = port; channel = at; stands = stands }, is)
 
   pub writes_there : IsChannelAt (instance_at t p).outs port c → (v w : ℤ) → v ≡ w → Stands t s p (WantWrite port w)
-      → (full : Bool) → full ≡ is_full (channel_in s c) → IsDoing t H event quota s p (Writes c v full)
+      → (full : Bool) → full ≡ is_channel_full (channel_in s c) → IsDoing t H event quota s p (Writes c v full)
   writes_there at v w same stands full is =
       (free, record { port = port; channel = at; stands = subst (λ x. Stands t s p (WantWrite port x)) (sym same) stands }, is)
 

@@ -14,7 +14,7 @@ use Rattle.kpn_history.specs.declared.event.Event.TheVariants.{Get, Put, WaitEmp
 use Rattle.kpn_history.specs.Talks.{is_of, is_of_process}
 use Rattle.kpn_history.specs.Legal.{waiter}
 use Rattle.kpn_history.proofs.AfterEvent.{of_process}
-use Rattle.kpn_history.specs.Stops.{OwesNothing, OwesNoCycleGrowth, OwesNoStopGrowth, goes_on}
+use Rattle.kpn_history.specs.Stops.{OwesNothing, OwesNoCycleGrowth, OwesNoStopGrowth, lets_go_on}
 use Rattle.kpn_history.proofs.Growth.{no_cycle_owed_after}
 use Rattle.kpn_history.proofs.OwedGrowth.{no_stop_owed_after}
 use Rattle.kpn_machine.specs.Changes.{IsFrameAfter}
@@ -103,7 +103,7 @@ nothing_owed t H cycle stop p d (inr owed) = stop p d owed
 -- after an event that moves an item, or a growth, nothing is owed
 pub followed : (t : Tables) → IsNetwork t → (H : List Event) (e : Event) (before after : Machine)
     → waiter e ≡ None
-    → goes_on e ≡ true → IsRun t (H ++ e ∷ []) after → AllGoBy t e before after → IsFollowed t H e before after None
+    → lets_go_on e ≡ true → IsRun t (H ++ e ∷ []) after → AllGoBy t e before after → IsFollowed t H e before after None
 followed t network H e before after none on run goes =
     record {
       run = run;

@@ -5,7 +5,7 @@ use Rattle.kpn_net.specs.Tables.{Tables, instance_at, program_of, channel_at, is
 use Rattle.kpn_net.specs.Faults.{IsNetwork}
 use Rattle.kpn_step.specs.declared.stop.Stop.{Stop}
 use Rattle.kpn_step.specs.declared.stop.Stop.TheVariants.{WantRead, WantWrite}
-use Rattle.kpn_chan.specs.Channel.{unread, is_full, next_item}
+use Rattle.kpn_chan.specs.Channel.{unread, is_channel_full, next_item}
 use Rattle.kpn_history.specs.declared.event.Event.{Event}
 use Rattle.kpn_history.specs.declared.event.Event.TheVariants.{Get, Put, WaitEmpty, WaitFull, Ended, Feed, Close, Take, Leave, Grow}
 use Rattle.kpn_history.specs.declared.event.How.{How}
@@ -19,7 +19,7 @@ use Rattle.kpn_machine.specs.Run.{IsRun}
 use Rattle.kpn_machine.proofs.Due.{end_is_no_pause}
 use Rattle.kpn_machine.proofs.OneStop.{one_stop}
 use Rattle.kpn_machine.proofs.Exact.{due_here, due_outside}
-use Rattle.kpn_audit.specs.Judged.{IsReadFrom, IsWriteOf, StandsFree}
+use Rattle.kpn_audit.specs.Judged.{IsReadAt, IsWriteOf, StandsFree}
 
 same_item : (o : Option ℤ) (v w : ℤ) → o ≡ Some v → o ≡ Some w → v ≡ w
 same_item o v w e f = let g : ◌≡◌ {A = Option ℤ} (Some v) (Some w) = sym e ∙ f in cc
@@ -27,7 +27,7 @@ same_item o v w e f = let g : ◌≡◌ {A = Option ℤ} (Some v) (Some w) = sym
 -- ---- where a process stands
 
 module _ (t : Tables) (s : Machine) (p : ℕ) (stop : Stop) (at : StandsFree t s p stop) (c : ℕ) where
-  pub is_read : ReadsFrom t s p c → IsReadFrom (instance_at t p).ins c stop
+  pub is_read : ReadsFrom t s p c → IsReadAt (instance_at t p).ins c stop
   is_read reads = (
     reads.port,
     reads.channel,
@@ -56,7 +56,7 @@ module _ (t : Tables) (network : IsNetwork t) (H : List Event) (s : Machine) (ru
   due : (e : Event) → is_of p e ≡ true → Legal t (H ++ e ∷ []) → IsDueNow t s e
   due e own legal = due_here t network H s run p at.there stop at.stands at.is_no_pause e own legal
 
-  pub get_elsewhere : (c : ℕ) (v : ℤ) → ¬ IsReadFrom (instance_at t p).ins c stop → ¬ Legal t (H ++ Get p c v ∷ [])
+  pub get_elsewhere : (c : ℕ) (v : ℤ) → ¬ IsReadAt (instance_at t p).ins c stop → ¬ Legal t (H ++ Get p c v ∷ [])
   get_elsewhere c v not legal = not (is_read t s p stop at c (due (Get p c v) (eq-eqb p p refl) legal).1)
 
   pub get_of_nothing : (c : ℕ) (v : ℤ) → is_some (next_item (channel_in s c)) ≡ false → ¬ Legal t (H ++ Get p c v ∷ [])
@@ -69,11 +69,11 @@ module _ (t : Tables) (network : IsNetwork t) (H : List Event) (s : Machine) (ru
   pub put_elsewhere : (c : ℕ) (v : ℤ) → ¬ IsWriteOf (instance_at t p).outs c v stop → ¬ Legal t (H ++ Put p c v ∷ [])
   put_elsewhere c v not legal = not (is_write t s p stop at c v (due (Put p c v) (eq-eqb p p refl) legal).1)
 
-  pub put_on_full : (c : ℕ) (v : ℤ) → is_full (channel_in s c) ≡ true → ¬ Legal t (H ++ Put p c v ∷ [])
+  pub put_on_full : (c : ℕ) (v : ℤ) → is_channel_full (channel_in s c) ≡ true → ¬ Legal t (H ++ Put p c v ∷ [])
   put_on_full c v full legal =
-      both_ways (is_full (channel_in s c)) (due (Put p c v) (eq-eqb p p refl) legal).2 full
+      both_ways (is_channel_full (channel_in s c)) (due (Put p c v) (eq-eqb p p refl) legal).2 full
 
-  pub empty_elsewhere : (c : ℕ) → ¬ IsReadFrom (instance_at t p).ins c stop → ¬ Legal t (H ++ WaitEmpty p c ∷ [])
+  pub empty_elsewhere : (c : ℕ) → ¬ IsReadAt (instance_at t p).ins c stop → ¬ Legal t (H ++ WaitEmpty p c ∷ [])
   empty_elsewhere c not legal = not (is_read t s p stop at c (due (WaitEmpty p c) (eq-eqb p p refl) legal).1)
 
   pub not_empty : (c : ℕ) → unread (channel_in s c) ≢ [] → ¬ Legal t (H ++ WaitEmpty p c ∷ [])
@@ -85,9 +85,9 @@ module _ (t : Tables) (network : IsNetwork t) (H : List Event) (s : Machine) (ru
       let writes = (due (WaitFull p c) (eq-eqb p p refl) legal).1 in
       not (writes.0, is_write t s p stop at c writes.0 writes.1)
 
-  pub not_full : (c : ℕ) → is_full (channel_in s c) ≡ false → ¬ Legal t (H ++ WaitFull p c ∷ [])
+  pub not_full : (c : ℕ) → is_channel_full (channel_in s c) ≡ false → ¬ Legal t (H ++ WaitFull p c ∷ [])
   not_full c room legal =
-      both_ways (is_full (channel_in s c)) room (due (WaitFull p c) (eq-eqb p p refl) legal).2
+      both_ways (is_channel_full (channel_in s c)) room (due (WaitFull p c) (eq-eqb p p refl) legal).2
 
   pub no_such_end : (how : How) → ¬ (stop ≡ stop_of how) → ¬ Legal t (H ++ Ended p how ∷ [])
   no_such_end how not legal = not (is_stop t s p stop at how (due (Ended p how) (eq-eqb p p refl) legal).1)

@@ -21,8 +21,8 @@ use Rattle.kpn_audit.specs.declared.judged.Judged.TheVariants.{Follows, Illegal,
 use Rattle.kpn_audit.specs.Place.{StopsWithin, GoesBy, IsPlaceAfter}
 
 -- the stop is a read at a port that has this channel
-abbrev pub IsReadFrom : (ports : List ℕ) → (c : ℕ) → Stop → Type 0
-IsReadFrom ports c stop = (port : ℕ) × IsChannelAt ports port c × (stop ≡ WantRead port)
+abbrev pub IsReadAt : (ports : List ℕ) → (c : ℕ) → Stop → Type 0
+IsReadAt ports c stop = (port : ℕ) × IsChannelAt ports port c × (stop ≡ WantRead port)
 
 -- the stop is a write of this item at a port that has this channel
 abbrev pub IsWriteOf : (ports : List ℕ) → (c : ℕ) → (v : ℤ) → Stop → Type 0

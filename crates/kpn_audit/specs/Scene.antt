@@ -2,7 +2,7 @@
 use Rattle.std.specs.Prelude.{◌≡◌, ℕ, true, if◌then◌else◌, List, take, Some, slice_get}
 use Rattle.kpn_net.specs.declared.wait.Wait.TheVariants.{Empty, Full}
 use Rattle.kpn_net.specs.Tables.{Tables, channel_at, is_source, is_sink, larger_capacity}
-use Rattle.kpn_chan.specs.Channel.{is_full, next_item}
+use Rattle.kpn_chan.specs.Channel.{is_channel_full, next_item}
 use Rattle.kpn_history.specs.declared.event.Event.{Event}
 use Rattle.kpn_history.specs.declared.event.Event.TheVariants.{Feed, Close, Take, Leave}
 use Rattle.kpn_history.specs.declared.stored.Trace.{Trace}
@@ -21,8 +21,8 @@ use Rattle.kpn_audit.specs.declared.scene.Scene.TheVariants.{Owes, NotThere, Pro
 use Rattle.kpn_audit.specs.declared.scene.GrowthOwed.{GrowthOwed}
 use Rattle.kpn_audit.specs.declared.scene.Doing.{Doing}
 use Rattle.kpn_audit.specs.declared.scene.Doing.TheVariants.{Ended, WaitsEmpty, WaitsFull, Reads, Writes, Ends, Elsewhere}
-use Rattle.kpn_audit.specs.declared.scene.Side.{Side}
-use Rattle.kpn_audit.specs.declared.scene.Side.TheVariants.{NoSource, Closed, Open, NoSink, Left, Next}
+use Rattle.kpn_audit.specs.declared.scene.OutsideEnd.{OutsideEnd}
+use Rattle.kpn_audit.specs.declared.scene.OutsideEnd.TheVariants.{NoSource, Closed, Open, NoSink, Left, Next}
 
 -- what process p, of which the event is, is doing in a machine. It comes to a read, a write or an end only if it
 -- may go on, and is elsewhere only if it has used up its steps
@@ -31,23 +31,24 @@ IsDoing t H event quota s p (Ended how) = end_in s p ≡ Some how
 IsDoing t H event quota s p (WaitsEmpty c) = wait_in s p ≡ Empty c
 IsDoing t H event quota s p (WaitsFull c) = wait_in s p ≡ Full c
 IsDoing t H event quota s p (Reads c next) = IsFree s p × ReadsFrom t s p c × (next ≡ next_item (channel_in s c))
-IsDoing t H event quota s p (Writes c v full) = IsFree s p × WritesTo t s p c v × (full ≡ is_full (channel_in s c))
+IsDoing t H event quota s p (Writes c v full) =
+    IsFree s p × WritesTo t s p c v × (full ≡ is_channel_full (channel_in s c))
 IsDoing t H event quota s p (Ends how) = IsFree s p × Stands t s p (stop_of how)
 IsDoing t H event quota s p Elsewhere = IsOutOfSteps t H event quota
 
 -- how channel c stands to the outside that feeds it
-abbrev pub source_side : Tables → Machine → (c : ℕ) → Side
+abbrev pub source_side : Tables → Machine → (c : ℕ) → OutsideEnd
 source_side t s c =
     if is_source (channel_at t c) then (if closed_in s c then Closed else Open) else NoSource
 
 -- how channel c stands to the outside that takes from it
-abbrev pub sink_side : Tables → Machine → (c : ℕ) → Side
+abbrev pub sink_side : Tables → Machine → (c : ℕ) → OutsideEnd
 sink_side t s c =
     if is_sink (channel_at t c) then
     (if (channel_in s c).is_retired then Left else Next (next_item (channel_in s c))) else NoSink
 
 -- how the channel of an event of the outside stands to it
-abbrev pub IsSide : Tables → Machine → Event → (c : ℕ) → Side → Type 0
+abbrev pub IsSide : Tables → Machine → Event → (c : ℕ) → OutsideEnd → Type 0
 IsSide t s (Feed d v) c side = (c ≡ d) × (side ≡ source_side t s c)
 IsSide t s (Close d) c side = (c ≡ d) × (side ≡ source_side t s c)
 IsSide t s (Take d v) c side = (c ≡ d) × (side ≡ sink_side t s c)
@@ -73,7 +74,7 @@ pub record IsOfProcess (t : Tables) (H : List Event) (event : Event) (quota p : 
   pub is_doing : IsDoing t H event quota seen p doing
 
 -- the event is of the outside, and a machine to which the history leads shows how its channel stands
-pub record IsOfOutside (t : Tables) (H : List Event) (event : Event) (c : ℕ) (side : Side) : Type 0 where
+pub record IsOfOutside (t : Tables) (H : List Event) (event : Event) (c : ℕ) (side : OutsideEnd) : Type 0 where
   pub by_itself : IsJudgedByItself t H event
   pub seen : Machine
   pub run : IsRun t H seen

@@ -22,5 +22,5 @@ mod summary;
 
 pub use auditor::audit;
 pub use findings::{Audit, AuditFault};
-pub use scene::{Doing, GrowthOwed, Scene, Side};
+pub use scene::{Doing, GrowthOwed, OutsideEnd, Scene};
 pub use scenes::scene_before;

@@ -3,7 +3,7 @@ ghost use Rattle.std.specs.Prelude.{◌≡◌, ◌↔◌, ◌<◌, ℤ, IsTrue, 
 ghost use Rattle.kpn_net.specs.Tables.{instance_at};
 ghost use Rattle.kpn_machine.specs.Changes.{IsChannelAt};
 ghost use Rattle.kpn_machine.specs.Due.{stop_of};
-ghost use Rattle.kpn_audit.specs.Judged.{IsReadFrom, IsWriteOf};
+ghost use Rattle.kpn_audit.specs.Judged.{IsReadAt, IsWriteOf};
 
 use kpn_history::How;
 use kpn_machine::stop_of;
@@ -20,7 +20,7 @@ fn is_channel_at(ports: &[usize], port: usize, c: usize) -> bool
 /// Whether the stop of process `p` is a read from channel `c`.
 pub(crate) fn is_read_from(network: &Network, p: usize, c: usize, stop: Stop) -> bool
     requires { p < length network.now.instances }
-    ensures { IsTrue result ↔ IsReadFrom (instance_at network.now p).ins c stop }
+    ensures { IsTrue result ↔ IsReadAt (instance_at network.now p).ins c stop }
 {
     match stop {
         Stop::WantRead(port) => is_channel_at(network.ins(p), port, c),

@@ -12,7 +12,7 @@ pub enum Scene {
     /// `Process(p, doing)`: the event is one of process `p`, which is doing this.
     Process(usize, Doing),
     /// `Outside(c, side)`: the event is one of the outside at channel `c`, which stands like this.
-    Outside(usize, Side),
+    Outside(usize, OutsideEnd),
     /// The event is a growth, and none is owed.
     OwesNothing,
 }
@@ -46,7 +46,7 @@ pub enum Doing {
 
 /// How a channel stands to the outside.
 #[derive(Clone, Copy)]
-pub enum Side {
+pub enum OutsideEnd {
     /// It is no source.
     NoSource,
     /// It is a source, and the outside has closed it.

@@ -13,7 +13,7 @@ ghost use Rattle.kpn_audit.specs.Judged.{ArePlaces};
 ghost use Rattle.kpn_audit.specs.Scene.{IsDoing, IsScene, source_side, sink_side};
 
 use crate::judging::has_numbers;
-use crate::scene::{Doing, Scene, Side};
+use crate::scene::{Doing, OutsideEnd, Scene};
 use crate::stepping::step_on;
 use kpn_history::{Event, How};
 use kpn_machine::{Machine, in_channel, out_channel};
@@ -100,32 +100,32 @@ fn doing<A: Allocator>(machine: &mut Machine<A>, network: &Network, p: usize, qu
 }
 
 /// How channel `c` stands to the outside that feeds it.
-fn source_side<A: Allocator>(machine: &Machine<A>, network: &Network, c: usize) -> Side
+fn source_side<A: Allocator>(machine: &Machine<A>, network: &Network, c: usize) -> OutsideEnd
     requires shape { IsMachine network.now machine.now }
     requires channel { c < length network.now.channels }
     ensures { result ≡ source_side network.now machine.now c }
 {
     if !network.is_source(c) {
-        Side::NoSource
+        OutsideEnd::NoSource
     } else if machine.is_closed(c) {
-        Side::Closed
+        OutsideEnd::Closed
     } else {
-        Side::Open
+        OutsideEnd::Open
     }
 }
 
 /// How channel `c` stands to the outside that takes from it.
-fn sink_side<A: Allocator>(machine: &Machine<A>, network: &Network, c: usize) -> Side
+fn sink_side<A: Allocator>(machine: &Machine<A>, network: &Network, c: usize) -> OutsideEnd
     requires shape { IsMachine network.now machine.now }
     requires channel { c < length network.now.channels }
     ensures { result ≡ sink_side network.now machine.now c }
 {
     if !network.is_sink(c) {
-        Side::NoSink
+        OutsideEnd::NoSink
     } else if machine.channel(c).is_retired() {
-        Side::Left
+        OutsideEnd::Left
     } else {
-        Side::Next(machine.channel(c).peek())
+        OutsideEnd::Next(machine.channel(c).peek())
     }
 }
 

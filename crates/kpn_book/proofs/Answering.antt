@@ -7,7 +7,7 @@ use Rattle.kpn_net.specs.Tables.{Tables, larger_capacity}
 use Rattle.kpn_net.specs.Faults.{IsNetwork}
 use Rattle.kpn_step.specs.declared.stop.Stop.{Stop}
 use Rattle.kpn_step.specs.declared.stop.Stop.TheVariants as stop
-use Rattle.kpn_chan.specs.Channel.{is_full, next_item}
+use Rattle.kpn_chan.specs.Channel.{is_channel_full, next_item}
 use Rattle.kpn_history.specs.declared.event.Event.{Event}
 use Rattle.kpn_history.specs.declared.event.Event.TheVariants as event
 use Rattle.kpn_history.specs.declared.event.How.{How}
@@ -15,7 +15,7 @@ use Rattle.kpn_history.specs.declared.state.State.TheVariants.{Ready}
 use Rattle.kpn_history.specs.Talks.{is_of_process, process_events}
 use Rattle.kpn_history.specs.Channels.{capacity_or_zero}
 use Rattle.kpn_history.specs.Legal.{OwesCycleGrowth, OwesGrowth, growth_after, Legal, waiter, waiter_of_last}
-use Rattle.kpn_history.specs.Stops.{OwesNothing, OwesNoCycleGrowth, OwesNoStopGrowth, goes_on}
+use Rattle.kpn_history.specs.Stops.{OwesNothing, OwesNoCycleGrowth, OwesNoStopGrowth, lets_go_on}
 use Rattle.kpn_history.proofs.Events.{last_or-push}
 use Rattle.kpn_history.proofs.AfterEvent.{process_events-next}
 use Rattle.kpn_history.proofs.Growth.{Some-number, no_cycle_owed_after}
@@ -28,7 +28,7 @@ use Rattle.kpn_machine.proofs.Growing.{owed_by_history}
 use Rattle.kpn_book.specs.Schedule.{state_at, made_ready}
 use Rattle.kpn_book.specs.declared.answers.Done.{Done}
 use Rattle.kpn_book.specs.declared.answers.Done.TheVariants as done
-use Rattle.kpn_book.specs.Book.{Book, IsHeld, held_count, put_back, counted}
+use Rattle.kpn_book.specs.Book.{Book, IsHeld, held_count, put_back, with_one_commit}
 use Rattle.kpn_book.specs.Appending.{AppendsAll, IsGrowthOwed, Happens}
 use Rattle.kpn_book.specs.Commits.{IsReadFrom, IsWriteTo, HasToWait, IsAnswer, ready_if_paused, HandlesStop}
 use Rattle.kpn_book.specs.Kept.{IsStateBy, IsInStep, IsKept}
@@ -50,7 +50,7 @@ no_cycle_then e b a follows none =
     next_history e b a follows (λ H. OwesNoCycleGrowth a.tables H) (no_cycle_owed_after a.tables b.history e none)
 
 -- after an event that moves an item, or a growth, nothing is owed
-pub sound_after : (e : Event) (b a : Book) → IsNetwork b.tables → Follows e b a → waiter e ≡ None → goes_on e ≡ true
+pub sound_after : (e : Event) (b a : Book) → IsNetwork b.tables → Follows e b a → waiter e ≡ None → lets_go_on e ≡ true
     → IsSound a
 sound_after e b a network follows none goes = record {
   in_step = follows.in_step;
@@ -175,7 +175,7 @@ answered_got b a network p c v item follows = record {
 }
 
 pub answered_put : (b a : Book) → IsNetwork b.tables → (p c : ℕ) (v : ℤ)
-    → is_full (channel_in b.machine c) ≡ false
+    → is_channel_full (channel_in b.machine c) ≡ false
     → Follows (event.Put p c v) b a → Answered p (λ s. IsWriteTo b.tables p s c v) done.Put b a
 answered_put b a network p c v ready follows = record {
   answers = λ s asks. record {
@@ -324,12 +324,12 @@ at_most_one done.Paused b p s events is = subst (λ es. count_by is_of_process e
 
 module _ (b a : Book) (p : ℕ) (s : Stop) (answer : Done) (kept : IsKept b) (answers : AnswersAt p s answer b a)
     (sound : IsSound a) (released : held_count a + 1 ≡ held_count b) where
-  pub handles_counted : HandlesStop p s answer b (counted a)
+  pub handles_counted : HandlesStop p s answer b (with_one_commit a)
   handles_counted = record {
     events = answers.events;
     answers = answers.answers;
     appends =
-        subst (λ x. AppendsAll answers.events x (counted a)) (counts_ready answer p b)
+        subst (λ x. AppendsAll answers.events x (with_one_commit a)) (counts_ready answer p b)
         (counts_all answers.events (ready_if_paused p answer b) a answers.appends);
   }
 
@@ -343,7 +343,7 @@ module _ (b a : Book) (p : ℕ) (s : Stop) (answer : Done) (kept : IsKept b) (an
       ∙ ap (λ H. H ++ answers.events) (base_history answer p b))
       ∙ sum_by-append (λ e. cond (is_of_process e) 1 0) b.history answers.events
 
-  pub kept_counted : IsKept (counted a)
+  pub kept_counted : IsKept (with_one_commit a)
   kept_counted =
       let most = at_most_one answer b p s answers.events answers.answers in
       let same = same_commits in
@@ -380,8 +380,8 @@ fits_after b a p asks s answer is kept held answered =
 -- what is so once the commit is counted
 pub record IsCounted (a : Book) (R : Book → Type 0) : Type 0 where
   pub fits : a.commits + 1 < 2 ^ 64
-  pub kept : IsKept (counted a)
-  pub is : R (counted a)
+  pub kept : IsKept (with_one_commit a)
+  pub is : R (with_one_commit a)
 
 -- process p is held at its stop, its memory is reserved, and its commit there makes what R says
 pub record IsAtStop (p : ℕ) (s : Stop) (R : Done → Book → Type 0) (b : Book) : Type 0 where
@@ -397,7 +397,7 @@ is_counted p s R b a answer at answered =
       fits = fits_after b a p (λ z. z ≡ s) s answer refl at.kept at.held answered;
       kept = kept_counted b a p s answer at.kept answers answered.sound answered.released;
       is =
-          at.commits answer (counted a)
+          at.commits answer (with_one_commit a)
           (handles_counted b a p s answer at.kept answers answered.sound answered.released);
     }
 

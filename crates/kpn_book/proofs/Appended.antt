@@ -4,7 +4,7 @@ use Rattle.std.proofs.lemmas.List.{append_assoc, length-set, get_or-set_same}
 use Rattle.kpn_history.specs.declared.event.Event.{Event}
 use Rattle.kpn_book.specs.declared.answers.Done.{Done}
 use Rattle.kpn_book.specs.declared.answers.Done.TheVariants as done
-use Rattle.kpn_book.specs.Book.{Book, IsHeld, IsClaimed, standing_at, counted}
+use Rattle.kpn_book.specs.Book.{Book, IsHeld, IsClaimed, standing_at, with_one_commit}
 use Rattle.kpn_step.specs.Stops.{Advanced}
 use Rattle.kpn_history.specs.declared.state.State.TheVariants.{Ready, Held}
 use Rattle.kpn_book.specs.Schedule.{state_at}
@@ -30,7 +30,7 @@ commits_stay [] before after is = ap (λ b. b.commits) is
 commits_stay (e ∷ events) before after is = commits_stay events is.0 after is.2 ∙ is.1.commits
 
 -- the same events after one more commit
-counts_one : (e : Event) (before after : Book) → Appends e before after → Appends e (counted before) (counted after)
+counts_one : (e : Event) (before after : Book) → Appends e before after → Appends e (with_one_commit before) (with_one_commit after)
 counts_one e before after is = record {
   tables = is.tables;
   history = is.history;
@@ -40,13 +40,13 @@ counts_one e before after is = record {
 }
 
 pub counts_all : (events : List Event) (before after : Book) → AppendsAll events before after
-    → AppendsAll events (counted before) (counted after)
-counts_all [] before after is = ap counted is
+    → AppendsAll events (with_one_commit before) (with_one_commit after)
+counts_all [] before after is = ap with_one_commit is
 counts_all (e ∷ events) before after is =
-    (counted is.0, counts_one e before is.0 is.1, counts_all events is.0 after is.2)
+    (with_one_commit is.0, counts_one e before is.0 is.1, counts_all events is.0 after is.2)
 
 pub counts_ready : (answer : Done) (p : ℕ) (b : Book)
-    → counted (ready_if_paused p answer b) ≡ ready_if_paused p answer (counted b)
+    → with_one_commit (ready_if_paused p answer b) ≡ ready_if_paused p answer (with_one_commit b)
 counts_ready done.Paused p b = refl
 counts_ready other p b = refl
 
@@ -67,21 +67,21 @@ base_commits other p b = refl
 pub commit_tables : (p : ℕ) (a : Advanced) (answer : Done) (before after : Book) → Commits p a answer before after
     → after.tables ≡ before.tables
 commit_tables p a answer before after is =
-    tables_stay is.handles.events (ready_if_paused p answer (counted (standing_at p a.to before))) after
-    is.handles.appends ∙ base_tables answer p (counted (standing_at p a.to before))
+    tables_stay is.handles.events (ready_if_paused p answer (with_one_commit (standing_at p a.to before))) after
+    is.handles.appends ∙ base_tables answer p (with_one_commit (standing_at p a.to before))
 
 pub commit_history : (p : ℕ) (a : Advanced) (answer : Done) (before after : Book)
     → (commits : Commits p a answer before after) → after.history ≡ before.history ++ commits.handles.events
 commit_history p a answer before after is =
-    history_then is.handles.events (ready_if_paused p answer (counted (standing_at p a.to before))) after
+    history_then is.handles.events (ready_if_paused p answer (with_one_commit (standing_at p a.to before))) after
     is.handles.appends
-    ∙ ap (λ H. H ++ is.handles.events) (base_history answer p (counted (standing_at p a.to before)))
+    ∙ ap (λ H. H ++ is.handles.events) (base_history answer p (with_one_commit (standing_at p a.to before)))
 
 pub commit_commits : (p : ℕ) (a : Advanced) (answer : Done) (before after : Book) → Commits p a answer before after
     → after.commits ≡ before.commits + 1
 commit_commits p a answer before after is =
-    commits_stay is.handles.events (ready_if_paused p answer (counted (standing_at p a.to before))) after
-    is.handles.appends ∙ base_commits answer p (counted (standing_at p a.to before))
+    commits_stay is.handles.events (ready_if_paused p answer (with_one_commit (standing_at p a.to before))) after
+    is.handles.appends ∙ base_commits answer p (with_one_commit (standing_at p a.to before))
 
 -- a process that is claimed is held
 pub claimed_is_held : (p : ℕ) (before after : Book) → IsClaimed p before after → IsHeld after p

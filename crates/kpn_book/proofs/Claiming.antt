@@ -16,7 +16,7 @@ use Rattle.kpn_history.specs.declared.event.Event.{Event}
 use Rattle.kpn_machine.specs.Machine.{Machine, channel_in, wait_in, end_in, frame_in, no_frame, with_channel}
 use Rattle.kpn_machine.specs.Run.{IsRun}
 use Rattle.kpn_machine.proofs.Moments.{within_capacity}
-use Rattle.kpn_region.specs.Local.{no_side, Local, is_within, frame_at, side_at, IsLocal}
+use Rattle.kpn_region.specs.Local.{no_side, Local, is_in_region, frame_at, side_at, IsLocal}
 use Rattle.kpn_region.specs.Batch.{Batch, IsFresh, IsEmpty, with_process}
 use Rattle.kpn_region.specs.Joining.{ChannelAgrees, AgreesWith}
 use Rattle.kpn_book.specs.Schedule.{state_at}
@@ -36,19 +36,19 @@ module _ (t : Tables) (s : Machine) where
     tables = tables;
     fresh = fresh;
     within = λ p there. (
-      λ is. absurd (both_ways (is_within b.first p) (empty.processes p) is),
+      λ is. absurd (both_ways (is_in_region b.first p) (empty.processes p) is),
       λ both. absurd (Contains-none p both.0),
     );
-    frames = λ p is. absurd (both_ways (is_within b.first p) (empty.processes p) is);
+    frames = λ p is. absurd (both_ways (is_in_region b.first p) (empty.processes p) is);
   }
 
   -- process q is in the region if it is one of these and has not ended, and only then
   abbrev IsWithinBy : (of : List ℕ) → (q : ℕ) → Local → Type 0
-  IsWithinBy of q claim = (is_within claim q ≡ true) ↔ (Contains of q × (end_in s q ≡ None))
+  IsWithinBy of q claim = (is_in_region claim q ≡ true) ↔ (Contains of q × (end_in s q ≡ None))
 
   -- it is where it stands
   abbrev StandsBy : (q : ℕ) → Local → Type 0
-  StandsBy q claim = is_within claim q ≡ true → frame_at claim q ≡ frame_in s q
+  StandsBy q claim = is_in_region claim q ≡ true → frame_at claim q ≡ frame_in s q
 
   module _ (done : List ℕ) (p : ℕ) (claim : Local) (long : p < length claim.within)
       (frames : p < length claim.frames) (q : ℕ) where
@@ -434,7 +434,7 @@ module _ (of : List ℕ) (most : ℕ) (drains : Bool) (book : Book) (s : Machine
   tables : batch.tables ≡ book.tables
   tables = sees.tables ∙ has.tables
 
-  within_first : (p : ℕ) → is_within batch.first p ≡ is_within first.first p
+  within_first : (p : ℕ) → is_in_region batch.first p ≡ is_in_region first.first p
   within_first p = ap (λ xs. get_or xs p false) sees.within
 
   side_is : (c : ℕ) → c < length book.tables.channels → side_at batch.first c

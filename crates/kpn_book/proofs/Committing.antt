@@ -13,7 +13,7 @@ use Rattle.kpn_history.specs.declared.state.State.TheVariants.{Ready, Held}
 use Rattle.kpn_history.specs.Talks.{is_of_process, process_events}
 use Rattle.kpn_net.specs.Faults.{IsNetwork}
 use Rattle.kpn_history.specs.Legal.{waiter}
-use Rattle.kpn_history.specs.Stops.{goes_on}
+use Rattle.kpn_history.specs.Stops.{lets_go_on}
 use Rattle.kpn_history.proofs.AfterEvent.{process_events-next}
 use Rattle.kpn_history.specs.Views.{is_held}
 use Rattle.kpn_chan.specs.Channel.{with_room}
@@ -203,7 +203,7 @@ kept_claimed b kept p a claimed more =
 
 -- if no growth is owed after it
 pub kept_outside : (b a : Book) (e : Event) → IsNetwork b.tables → IsKept b → Follows e b a → is_of_process e ≡ false
-    → waiter e ≡ None → goes_on e ≡ true → IsKept a
+    → waiter e ≡ None → lets_go_on e ≡ true → IsKept a
 kept_outside b a e network kept follows nobody none goes =
     let sound = sound_after e b a network follows none goes in
     let count = kept.countable in

@@ -20,14 +20,14 @@ use Rattle.kpn_book.proofs.Waiting.{first_taken}
 use Rattle.kpn_book.proofs.Queueing.{HoldsFirst-popped}
 use Rattle.kpn_book.specs.declared.answers.Done.{Done}
 use Rattle.kpn_book.specs.declared.answers.Done.TheVariants as done
-use Rattle.kpn_book.specs.Book.{Book, IsHeld, held_count, IsClaimed, standing_at, counted}
+use Rattle.kpn_book.specs.Book.{Book, IsHeld, held_count, IsClaimed, standing_at, with_one_commit}
 use Rattle.kpn_book.specs.Commits.{IsWriteTo, IsAnswer, IsOwnAdvance, ready_if_paused, HandlesStop}
 use Rattle.kpn_book.specs.Kept.{IsKept, IsBook}
 use Rattle.kpn_book.specs.Stepping.{StepsNext}
-use Rattle.kpn_book.specs.InARow.{PutsOnNoSink, puts_on, StepsInRow, no_step, one_step_more, RunsOn, RunsInVain, StepsUncommitted}
+use Rattle.kpn_book.specs.InARow.{PutsOnNoSink, puts_on, StepsInRow, no_step, one_step_more, RunsInRow, RunsInVain, StepsUncommitted}
 use Rattle.kpn_book.specs.declared.open_book.Hold.{Hold}
 use Rattle.kpn_book.specs.declared.open_book.Hold.TheVariants as hold
-use Rattle.kpn_book.specs.Open.{first_claimed, IsNext, next_by, IsHeldBy, held_by, IsSound, if_sink, sink_of, sink_by, is_but_reserved, AnsweredFirst, HandlesFirst, IsTurn}
+use Rattle.kpn_book.specs.Open.{first_claimed, IsNextHeld, next_by, IsHeldBy, held_by, IsSound, if_sink, sink_of, sink_by, is_but_reserved, AnsweredFirst, HandlesFirst, IsTurn}
 use Rattle.kpn_book.proofs.CommitCounts.{held_more}
 use Rattle.kpn_book.proofs.Appended.{claimed_is_held, tables_stay, history_then, commits_stay, base_tables, base_history, base_commits}
 use Rattle.kpn_book.proofs.Following.{recorded}
@@ -76,10 +76,10 @@ next_from (Some p) b is count more first = record {
 pub held_once : (p : ℕ) (s : Schedule) → with_state p Held (first_held p s) ≡ first_held p s
 held_once p s = ap (λ xs. record { states = xs; queue = drop 1 s.queue }) (set-set s.states p Held Held)
 
-pub first_by : (p : ℕ) (b : Book) → IsNext p b → slice_get b.schedule.queue 0 ≡ Some p
+pub first_by : (p : ℕ) (b : Book) → IsNextHeld p b → slice_get b.schedule.queue 0 ≡ Some p
 first_by p b is = ap (λ xs. slice_get xs 0) is.holds.queue
 
-pub claimed_by : (p : ℕ) (b : Book) → IsNext p b → (s : Schedule) → s ≡ with_state p Held (first_held p b.schedule)
+pub claimed_by : (p : ℕ) (b : Book) → IsNextHeld p b → (s : Schedule) → s ≡ with_state p Held (first_held p b.schedule)
     → IsClaimed p b (recorded b b.history b.machine s)
 claimed_by p b is s same =
     subst (λ x. IsClaimed p b (recorded b b.history b.machine x)) (sym (same ∙ held_once p b.schedule))
@@ -240,55 +240,55 @@ module _ (quota p : ℕ) (b : Book) (kept : IsKept b) (holds : HoldsFirst p b.sc
         fits_after h.reserved a p (λ z. z ≡ x.stop) x.stop h.answered.answer refl kept_then held_then
         h.answered.answered
 
-    pub turn_kept : IsKept (counted a)
+    pub turn_kept : IsKept (with_one_commit a)
     turn_kept =
         kept_counted h.reserved a p x.stop h.answered.answer kept_then (h.answered.answered.answers x.stop refl)
         h.answered.answered.sound h.answered.answered.released
 
-    handles : HandlesStop p x.stop h.answered.answer h.reserved (counted a)
+    handles : HandlesStop p x.stop h.answered.answer h.reserved (with_one_commit a)
     handles =
         handles_counted h.reserved a p x.stop h.answered.answer kept_then (h.answered.answered.answers x.stop refl)
         h.answered.answered.sound h.answered.answered.released
 
-    turn_steps : StepsNext quota h.answered.answer b (counted a)
+    turn_steps : StepsNext quota h.answered.answer b (with_one_commit a)
     turn_steps =
-        steps_next quota p b was x claimed_was kept_was own advance within stepped is_stepped h.reserved (counted a)
+        steps_next quota p b was x claimed_was kept_was own advance within stepped is_stepped h.reserved (with_one_commit a)
         h.answered.answer h.but handles
 
-    turn_history : (counted a).history ≡ b.history ++ handles.events
+    turn_history : (with_one_commit a).history ≡ b.history ++ handles.events
     turn_history =
-        history_then handles.events (ready_if_paused p h.answered.answer (counted h.reserved)) (counted a)
+        history_then handles.events (ready_if_paused p h.answered.answer (with_one_commit h.reserved)) (with_one_commit a)
         handles.appends
         ∙ ap (λ H. H ++ handles.events)
-        (base_history h.answered.answer p (counted h.reserved) ∙ history_reserved x.stop stepped h.reserved h.but)
+        (base_history h.answered.answer p (with_one_commit h.reserved) ∙ history_reserved x.stop stepped h.reserved h.but)
 
-    turn_tables : (counted a).tables ≡ b.tables
+    turn_tables : (with_one_commit a).tables ≡ b.tables
     turn_tables =
-        tables_stay handles.events (ready_if_paused p h.answered.answer (counted h.reserved)) (counted a)
+        tables_stay handles.events (ready_if_paused p h.answered.answer (with_one_commit h.reserved)) (with_one_commit a)
         handles.appends
-        ∙ base_tables h.answered.answer p (counted h.reserved) ∙ tables_reserved x.stop stepped h.reserved h.but
+        ∙ base_tables h.answered.answer p (with_one_commit h.reserved) ∙ tables_reserved x.stop stepped h.reserved h.but
 
-    turn_commits : (counted a).commits ≡ b.commits + 1
+    turn_commits : (with_one_commit a).commits ≡ b.commits + 1
     turn_commits =
-        commits_stay handles.events (ready_if_paused p h.answered.answer (counted h.reserved)) (counted a)
+        commits_stay handles.events (ready_if_paused p h.answered.answer (with_one_commit h.reserved)) (with_one_commit a)
         handles.appends
-        ∙ base_commits h.answered.answer p (counted h.reserved)
+        ∙ base_commits h.answered.answer p (with_one_commit h.reserved)
         ∙ ap (λ n. n + 1) (commits_reserved x.stop stepped h.reserved h.but)
 
-    turn_puts : puts_on sink h.answered.answer b (counted a)
+    turn_puts : puts_on sink h.answered.answer b (with_one_commit a)
     turn_puts =
-        puts_by b (counted a) h.reserved p x.stop sink handles.events
+        puts_by b (with_one_commit a) h.reserved p x.stop sink handles.events
         (tables_reserved x.stop stepped h.reserved h.but) turn_history h.answered.answer handles.answers
         (h.answered.sink_is x.stop refl)
 
-    turn_held : held_count (counted a) ≡ held_count b
+    turn_held : held_count (with_one_commit a) ≡ held_count b
     turn_held =
         let released = h.answered.answered.released in
         let same = count_reserved x.stop stepped h.reserved h.but in
         let one = held_more b.schedule.states p holds.there (ap is_held holds.was_ready) in
         omega (arith, released, same, one)
 
-    pub turn_made : IsBook b → IsSchedule (counted a).schedule → IsTurn quota sink b (counted a)
+    pub turn_made : IsBook b → IsSchedule (with_one_commit a).schedule → IsTurn quota sink b (with_one_commit a)
     turn_made book schedule = record {
       step = record {
         was = book;
@@ -347,7 +347,7 @@ module _ (quota n : ℕ) (first now with_memory after : Book) (same : with_memor
       }
 
   pub runs_to_sink : (most : ℕ) → n < most → (sink : Option ℕ) → is_some sink ≡ true
-      → IsTurn quota sink with_memory after → RunsOn quota most sink first after
+      → IsTurn quota sink with_memory after → RunsInRow quota most sink first after
   runs_to_sink most below None some turn = absurd (false≢true some)
   runs_to_sink most below (Some c) some turn =
       let is = a_turn (Some c) turn in
@@ -364,7 +364,7 @@ module _ (quota n : ℕ) (first now with_memory after : Book) (same : with_memor
 
 -- all turns are made, or nobody is ready
 pub runs_so_far : (quota most n : ℕ) (first now : Book) → IsSoFar quota n first now → n ≤ most
-    → (n < most → now.schedule.queue ≡ []) → RunsOn quota most None first now
+    → (n < most → now.schedule.queue ≡ []) → RunsInRow quota most None first now
 runs_so_far quota most n first now so_far within stopped =
     let commits = so_far.commits in
     record {
@@ -385,9 +385,9 @@ nobody_first [] none = refl
 nobody_first (x ∷ xs) none = absurd cc
 
 pub runs_till_idle : (quota most n : ℕ) (first now with_memory : Book) → with_memory ≡ now → IsSoFar quota n first now
-    → n ≤ most → None ≡ slice_get now.schedule.queue 0 → RunsOn quota most None first with_memory
+    → n ≤ most → None ≡ slice_get now.schedule.queue 0 → RunsInRow quota most None first with_memory
 runs_till_idle quota most n first now with_memory same so_far within nobody =
-    subst (RunsOn quota most None first) (sym same)
+    subst (RunsInRow quota most None first) (sym same)
     (runs_so_far quota most n first now so_far within (λ below. nobody_first now.schedule.queue nobody))
 
 -- what holds in any case

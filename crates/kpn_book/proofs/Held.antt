@@ -31,7 +31,7 @@ use Rattle.kpn_machine.proofs.Waking.{woken_at_end}
 use Rattle.kpn_book.specs.Schedule.{Schedule, state_at, made_ready}
 use Rattle.kpn_book.specs.declared.answers.Done.{Done}
 use Rattle.kpn_book.specs.declared.answers.Done.TheVariants as done
-use Rattle.kpn_book.specs.Book.{Book, held_count, standing_at, counted, IsClaimed}
+use Rattle.kpn_book.specs.Book.{Book, held_count, standing_at, with_one_commit, IsClaimed}
 use Rattle.kpn_book.specs.Kept.{IsBook, IsStateBy}
 use Rattle.kpn_book.specs.Appending.{AppendsAll, all_made_ready, own_part, woken_by, IsGrowthOwed, Happens}
 use Rattle.kpn_book.specs.Commits.{IsAnswer, ready_if_paused}
@@ -277,9 +277,9 @@ module _ (before : Book) (book : IsBook before) (p : ℕ) (between : Book) (clai
         → ((q : ℕ) → Contains (woken_by between.tables between.machine.waits e) q
         → (q ≡ p) ⊎ Waits between.tables between.machine.waits q)
         → (own_part e between.schedule).states ≡ set between.schedule.states p y → (es : List Event) → es ≡ e ∷ []
-        → AppendsAll es (counted stood) after → held_count after ≡ held_count before
+        → AppendsAll es (with_one_commit stood) after → held_count after ≡ held_count before
     by_one e y new each own es same appends =
-        let h = subst (λ es. AppendsAll es (counted stood) after) same appends in
+        let h = subst (λ es. AppendsAll es (with_one_commit stood) after) same appends in
         ap held_count h.2 ∙ ap (λ s. held_in s.states) h.1.schedule
         ∙ released y new (woken_by between.tables between.machine.waits e) each (own_part e between.schedule) own
 
@@ -289,9 +289,9 @@ module _ (before : Book) (book : IsBook before) (p : ℕ) (between : Book) (clai
         → (q ≡ p) ⊎ Waits between.tables between.machine.waits q)
         → ((q : ℕ) → (q ≡ p → ⊥) → wait_then between.tables e q Nobody ≡ Nobody)
         → (own_part e between.schedule).states ≡ set between.schedule.states p y → (es : List Event)
-        → es ≡ e ∷ event.Grow r d n ∷ [] → AppendsAll es (counted stood) after → held_count after ≡ held_count before
+        → es ≡ e ∷ event.Grow r d n ∷ [] → AppendsAll es (with_one_commit stood) after → held_count after ≡ held_count before
     by_two e r d n y new each none own es same appends =
-        let h = subst (λ es. AppendsAll es (counted stood) after) same appends in
+        let h = subst (λ es. AppendsAll es (with_one_commit stood) after) same appends in
         let middle = h.0 in
         let woken = woken_by between.tables between.machine.waits e in
         let writer = option_to_list (waiting_writer middle.tables middle.machine.waits d) in
@@ -339,7 +339,7 @@ module _ (before : Book) (book : IsBook before) (p : ℕ) (between : Book) (clai
         inr (r.0, λ none. let clash : Nobody ≡ Full r.1.channel = sym none ∙ r.1.waits in cc)
 
     held_by_answer : (s : Stop) (answer : Done) (es : List Event) → IsAnswer stood p s answer es
-        → AppendsAll es (ready_if_paused p answer (counted stood)) after → held_count after ≡ held_count before
+        → AppendsAll es (ready_if_paused p answer (with_one_commit stood)) after → held_count after ≡ held_count before
     held_by_answer s (done.Got v) es got appends =
         by_one (event.Get p got.channel v) Ready refl
         (λ q among. inr (a_writer between.tables between.machine.waits got.channel q among)) refl es got.appends
@@ -385,7 +385,7 @@ module _ (before : Book) (book : IsBook before) (p : ℕ) (between : Book) (clai
             appends
         by_growth growth owed same = absurd owed
     held_by_answer s done.Paused es paused appends =
-        let h = subst (λ es. AppendsAll es (ready_if_paused p done.Paused (counted stood)) after) paused.appends appends
+        let h = subst (λ es. AppendsAll es (ready_if_paused p done.Paused (with_one_commit stood)) after) paused.appends appends
         in
         ap held_count h ∙ released Ready refl [] nobody (made_ready p between.schedule) refl
 

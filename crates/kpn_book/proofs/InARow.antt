@@ -6,7 +6,7 @@ use Rattle.kpn_book.specs.declared.answers.Done.{Done}
 use Rattle.kpn_book.specs.declared.answers.Done.TheVariants as done
 use Rattle.kpn_book.specs.Book.{Book}
 use Rattle.kpn_book.specs.Stepping.{ClaimsNobody}
-use Rattle.kpn_book.specs.InARow.{PutsOnNoSink, IsStepInRow, StepsInRow, no_step, one_step_more, RunsOn}
+use Rattle.kpn_book.specs.InARow.{PutsOnNoSink, IsStepInRow, StepsInRow, no_step, one_step_more, RunsInRow}
 use Rattle.kpn_book.proofs.Seen.{not_settled}
 use Rattle.kpn_book.specs.declared.outcome.Limits.{Limits}
 use Rattle.kpn_book.specs.Outcomes.{IsEnough, IsOutcome}
@@ -110,7 +110,7 @@ module _ (limits : Limits) (quota : ℕ) (is_quota : quota ≡ max limits.quota 
   module _ (most : ℕ) (is_most : most ≡ limits.commits - first.commits) (below : first.commits < limits.commits)
       (ready : first.schedule.queue ≡ [] → ⊥) (now : Book) where
     -- no turn has put an item on a sink
-    pub row_ends : RunsOn quota most None first now → AreStepped limits false first now
+    pub row_ends : RunsInRow quota most None first now → AreStepped limits false first now
     row_ends runs =
         let within = runs.within in
         let now_within : now.commits ≤ limits.commits = omega (arith, within, is_most, below) in
@@ -128,7 +128,7 @@ module _ (limits : Limits) (quota : ℕ) (is_quota : quota ≡ max limits.quota 
         })
 
     -- the last turn has put an item on this sink
-    module _ (sink : ℕ) (runs : RunsOn quota most (Some sink) first now) where
+    module _ (sink : ℕ) (runs : RunsInRow quota most (Some sink) first now) where
       now_within : now.commits ≤ limits.commits
       now_within = let within = runs.within in omega (arith, within, is_most, below)
 

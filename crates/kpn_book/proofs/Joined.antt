@@ -11,10 +11,10 @@ use Rattle.kpn_history.specs.Talks.{is_of_process, process_events}
 use Rattle.kpn_history.specs.Stops.{OwesNothing}
 use Rattle.kpn_machine.specs.Machine.{Machine, end_in, wait_in, frame_in}
 use Rattle.kpn_machine.specs.Run.{IsRun}
-use Rattle.kpn_region.specs.Local.{SideState, is_within, frame_at}
+use Rattle.kpn_region.specs.Local.{SideState, is_in_region, frame_at}
 use Rattle.kpn_region.specs.Turn.{side_in}
 use Rattle.kpn_region.specs.Batch.{Batch, IsBatch}
-use Rattle.kpn_region.specs.Joining.{has_put, has_taken, wait_joined, Joins}
+use Rattle.kpn_region.specs.Joining.{has_put_items, has_taken, wait_joined, Joins}
 use Rattle.kpn_book.specs.Schedule.{Schedule, state_at}
 use Rattle.kpn_book.specs.Regions.{region_woken}
 use Rattle.kpn_book.specs.Book.{Book}
@@ -27,7 +27,7 @@ use Rattle.kpn_book.proofs.Regions.{length_woken, held_at_most, agrees_then, sta
 wait_ends_or_stays : (sides : List SideState) (wait : Wait)
     → (wait_joined sides wait ≡ Nobody) ⊎ (wait_joined sides wait ≡ wait)
 wait_ends_or_stays sides Nobody = inl refl
-wait_ends_or_stays sides (Empty c) = by_test (has_put (side_in sides c))
+wait_ends_or_stays sides (Empty c) = by_test (has_put_items (side_in sides c))
   where
     by_test : (b : Bool) → (cond b Nobody (Empty c) ≡ Nobody) ⊎ (cond b Nobody (Empty c) ≡ Empty c)
     by_test true = inl refl
@@ -55,7 +55,7 @@ module _ (b : Batch) (book : Book) (s : Machine) (kept : IsKept book) (joins : J
       let long : q < length book.schedule.states = let same = kept.in_step.processes in omega (arith, there, same) in
       subst (λ e. IsStateBy e (wait_in s q) (state_at (with_batch b s book).schedule.states q))
       (ap (λ ends. get_or ends q None) (sym joins.ends))
-      (agrees_then (is_within b.now) s.waits (end_in book.machine q) q
+      (agrees_then (is_in_region b.now) s.waits (end_in book.machine q) q
       (range_with_len 0 (length book.schedule.states)) book.schedule long
       (range_has (length book.schedule.states) q long)
       (stands_so (end_in book.machine q) (wait_in book.machine q) (wait_in s q)
@@ -67,7 +67,7 @@ module _ (b : Batch) (book : Book) (s : Machine) (kept : IsKept book) (joins : J
       → IsKept (with_batch b s book)
   kept_with_batch run nothing few =
       let long =
-      length_woken (is_within b.now) s.waits (range_with_len 0 (length book.schedule.states)) book.schedule
+      length_woken (is_in_region b.now) s.waits (range_with_len 0 (length book.schedule.states)) book.schedule
       ∙ kept.in_step.processes in
       let most = held_at_most (with_batch b s book) long in
       let events : process_events (book.history ++ b.events)
@@ -82,7 +82,7 @@ module _ (b : Batch) (book : Book) (s : Machine) (kept : IsKept book) (joins : J
       }
 
   -- the processes of the region are where the batch has brought them
-  pub frames_with_batch : IsBatch b → (q : ℕ) → is_within b.now q ≡ true → frame_in s q ≡ frame_at b.now q
+  pub frames_with_batch : IsBatch b → (q : ℕ) → is_in_region b.now q ≡ true → frame_in s q ≡ frame_at b.now q
   frames_with_batch is q within =
       elim (cases_lt q (length b.tables.instances)) [
         | inl below ↦
@@ -94,7 +94,7 @@ module _ (b : Batch) (book : Book) (s : Machine) (kept : IsKept book) (joins : J
 
 -- a book with the events, the schedule and the count of a batch
 pub joined_book : (b : Batch) (s : Machine) (book : Book) (H : List Event) (order : Schedule) (n : ℕ)
-    → H ≡ book.history ++ b.events → order ≡ region_woken (is_within b.now) s.waits book.schedule
+    → H ≡ book.history ++ b.events → order ≡ region_woken (is_in_region b.now) s.waits book.schedule
     → n ≡ process_events b.events
     → record {
       tables = book.tables;
@@ -127,7 +127,7 @@ joined_book b s book H order n history schedule count =
       tables = book.tables;
       history = book.history ++ b.events;
       machine = s;
-      schedule = region_woken (is_within b.now) s.waits book.schedule;
+      schedule = region_woken (is_in_region b.now) s.waits book.schedule;
       commits = book.commits + x;
     })
     count

@@ -5,7 +5,7 @@ use Rattle.std.proofs.lemmas.List.{get_or-set_same, get_or-set_other}
 use Rattle.kpn_net.specs.Tables.{Tables}
 use Rattle.kpn_step.specs.declared.stop.Stop.{Stop}
 use Rattle.kpn_step.specs.declared.stop.Stop.TheVariants as stop
-use Rattle.kpn_chan.specs.Channel.{ChannelState, with_room, is_full, next_item, unread, most_after}
+use Rattle.kpn_chan.specs.Channel.{ChannelState, with_room, is_channel_full, next_item, unread, most_after}
 use Rattle.kpn_history.specs.declared.event.Event.{Event}
 use Rattle.kpn_history.specs.Channels.{written_in, read_in}
 use Rattle.kpn_history.specs.AfterEvent.{capacity_then, takes_reader}
@@ -13,7 +13,7 @@ use Rattle.kpn_machine.specs.Machine.{channel_in}
 use Rattle.kpn_machine.specs.Changes.{IsChannelAfter}
 use Rattle.kpn_book.specs.declared.answers.Done.{Done}
 use Rattle.kpn_book.specs.declared.answers.Done.TheVariants as done
-use Rattle.kpn_book.specs.Book.{Book, counted}
+use Rattle.kpn_book.specs.Book.{Book, with_one_commit}
 use Rattle.kpn_book.specs.Appending.{Appends, AppendsAll}
 use Rattle.kpn_book.specs.Commits.{HasToWait, IsAnswer, ready_if_paused, HandlesStop}
 use Rattle.kpn_book.specs.Open.{reserved_on}
@@ -100,7 +100,7 @@ module _ (b : Book) (c : ℕ) (below : c < length b.machine.channels) where
           channel = w.channel;
           item = w.item;
           asks = w.asks;
-          full = sym (sees_same is_full (λ ch. refl) w.channel) ∙ w.full;
+          full = sym (sees_same is_channel_full (λ ch. refl) w.channel) ∙ w.full;
           is = w.is;
         })
       ]
@@ -117,7 +117,7 @@ module _ (b : Book) (c : ℕ) (below : c < length b.machine.channels) where
     channel = is.channel;
     item = is.item;
     asks = is.asks;
-    ready = sym (sees_same is_full (λ ch. refl) is.channel) ∙ is.ready;
+    ready = sym (sees_same is_channel_full (λ ch. refl) is.channel) ∙ is.ready;
     appends = is.appends;
   }
   answer_unreserved done.Blocked p s events is = record {
@@ -142,14 +142,14 @@ cons_is_some e es events is none = let clash : (e ∷ es) ≡ [] = sym is ∙ no
 
 module _ (b : Book) (c : ℕ) (below : c < length b.machine.channels) where
   all_unreserved : (events : List Event) (a : Book) → (events ≡ [] → ⊥)
-      → AppendsAll events (counted (reserved_on c b)) a → AppendsAll events (counted b) a
+      → AppendsAll events (with_one_commit (reserved_on c b)) a → AppendsAll events (with_one_commit b) a
   all_unreserved [] a some is = absurd (some refl)
-  all_unreserved (e ∷ events) a some is = (is.0, appends_unreserved (counted b) c below e is.0 is.1, is.2)
+  all_unreserved (e ∷ events) a some is = (is.0, appends_unreserved (with_one_commit b) c below e is.0 is.1, is.2)
 
   appended_unreserved : (answer : Done) (p : ℕ) (s : Stop) (events : List Event) (a : Book) → (s ≡ stop.Paused → ⊥)
       → IsAnswer b p s answer events
-      → AppendsAll events (ready_if_paused p answer (counted (reserved_on c b))) a
-      → AppendsAll events (ready_if_paused p answer (counted b)) a
+      → AppendsAll events (ready_if_paused p answer (with_one_commit (reserved_on c b))) a
+      → AppendsAll events (ready_if_paused p answer (with_one_commit b)) a
   appended_unreserved (done.Got v) p s events a some is h =
       all_unreserved events a (cons_is_some _ _ events is.appends) h
   appended_unreserved done.Put p s events a some is h = all_unreserved events a (cons_is_some _ _ events is.appends) h

@@ -14,7 +14,7 @@ use Rattle.kpn_history.specs.Views.{AreCounts}
 use Rattle.kpn_history.specs.Waiting.{waits_of}
 use Rattle.kpn_history.proofs.States.{stopped_state}
 use Rattle.kpn_machine.specs.Machine.{is_full_wait}
-use Rattle.kpn_book.specs.Schedule.{HaveStopped, state_at}
+use Rattle.kpn_book.specs.Schedule.{AreAllStopped, state_at}
 use Rattle.kpn_book.specs.Book.{Book}
 use Rattle.kpn_book.specs.Kept.{IsInStep}
 use Rattle.kpn_book.specs.declared.answers.Done.TheVariants as done
@@ -22,7 +22,7 @@ use Rattle.kpn_book.specs.Open.{GrowsIfOwed}
 use Rattle.kpn_book.proofs.Answering.{none_at_stop, blocked_then}
 use Rattle.kpn_book.proofs.Standing.{states_in_step, full_count}
 
-pub not_settled : (b : Book) → IsInStep b → (HaveStopped b.schedule.states → ⊥) → ¬ IsSettled b.tables b.history
+pub not_settled : (b : Book) → IsInStep b → (AreAllStopped b.schedule.states → ⊥) → ¬ IsSettled b.tables b.history
 not_settled b step some settled =
     some
     (λ p below.

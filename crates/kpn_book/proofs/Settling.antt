@@ -12,17 +12,17 @@ use Rattle.kpn_history.specs.Views.{is_held}
 use Rattle.kpn_machine.specs.Machine.{frame_in}
 use Rattle.kpn_machine.specs.Changes.{IsFrameAfter}
 use Rattle.kpn_machine.specs.Due.{Stands}
-use Rattle.kpn_region.specs.Local.{is_within, frame_at}
-use Rattle.kpn_region.specs.Batch.{Batch, IsBatch, stop_of}
+use Rattle.kpn_region.specs.Local.{is_in_region, frame_at}
+use Rattle.kpn_region.specs.Batch.{Batch, IsBatch, stop_in}
 use Rattle.kpn_book.specs.Schedule.{state_at}
 use Rattle.kpn_book.specs.declared.answers.Done.{Done}
 use Rattle.kpn_book.specs.declared.answers.Done.TheVariants as done
-use Rattle.kpn_book.specs.Book.{Book, IsHeld, counted}
+use Rattle.kpn_book.specs.Book.{Book, IsHeld, with_one_commit}
 use Rattle.kpn_book.specs.Appending.{AppendsAll, IsGrowthOwed}
 use Rattle.kpn_book.specs.Commits.{HasToWait, IsAnswer, HandlesStop, ready_if_paused}
 use Rattle.kpn_book.specs.Kept.{IsKept}
 use Rattle.kpn_book.specs.Open.{is_but_reserved}
-use Rattle.kpn_book.specs.Regions.{commits_or_not, goes_to, has_part, settles_if, Settles, SettleBelow, none_yet, one_more}
+use Rattle.kpn_book.specs.Regions.{commits_or_not, goes_to, has_part, settles_if, Settles, SettleBelow, none_yet, one_more_in}
 use Rattle.kpn_book.proofs.Answering.{IsAtStop}
 use Rattle.kpn_book.proofs.Appended.{tables_stay, base_tables}
 use Rattle.kpn_book.proofs.Regions.{and_left, and_right, held_of_test}
@@ -107,10 +107,10 @@ module _ (p q : ℕ) (apart : q ≡ p → ⊥) where
   commit_elsewhere : (answer : Done) (s : Stop) (b a : Book) → q < length b.tables.instances
       → HandlesStop p s answer b a → frame_in a.machine q ≡ frame_in b.machine q
   commit_elsewhere answer s b a there is =
-      frames_stay q is.events (ready_if_paused p answer (counted b)) a is.appends
+      frames_stay q is.events (ready_if_paused p answer (with_one_commit b)) a is.appends
       (are_of_others answer b s is.events is.answers)
-      (subst (λ t. q < length t.instances) (sym (base_tables answer p (counted b))) there)
-      ∙ base_frame answer (counted b)
+      (subst (λ t. q < length t.instances) (sym (base_tables answer p (with_one_commit b))) there)
+      ∙ base_frame answer (with_one_commit b)
 
   by_memory : (memory : Bool) (s : Stop) (b a : Book) → q < length b.tables.instances → commits_or_not memory p s b a
       → frame_in a.machine q ≡ frame_in b.machine q
@@ -124,7 +124,7 @@ module _ (p q : ℕ) (apart : q ≡ p → ⊥) where
 
   by_part : (part memory : Bool) (batch : Batch) (b a : Book) → q < length b.tables.instances
       → settles_if part memory batch p b a → frame_in a.machine q ≡ frame_in b.machine q
-  by_part true memory batch b a there is = by_stop memory (stop_of batch p) b a there is
+  by_part true memory batch b a there is = by_stop memory (stop_in batch p) b a there is
   by_part false memory batch b a there is = ap (λ x. frame_in x.machine q) is.1
 
   pub settles_elsewhere : (memory : Bool) (batch : Batch) (b a : Book) → q < length b.tables.instances
@@ -135,7 +135,7 @@ module _ (p q : ℕ) (apart : q ≡ p → ⊥) where
 
 commit_network : (p : ℕ) (answer : Done) (s : Stop) (b a : Book) → HandlesStop p s answer b a → a.tables ≡ b.tables
 commit_network p answer s b a is =
-    tables_stay is.events (ready_if_paused p answer (counted b)) a is.appends ∙ base_tables answer p (counted b)
+    tables_stay is.events (ready_if_paused p answer (with_one_commit b)) a is.appends ∙ base_tables answer p (with_one_commit b)
 
 network_by_memory : (memory : Bool) (p : ℕ) (s : Stop) (b a : Book) → commits_or_not memory p s b a
     → a.tables ≡ b.tables
@@ -149,7 +149,7 @@ network_by_stop memory p None b a is = ap (λ x. x.tables) is.1
 
 network_by_part : (part memory : Bool) (batch : Batch) (p : ℕ) (b a : Book) → settles_if part memory batch p b a
     → a.tables ≡ b.tables
-network_by_part true memory batch p b a is = network_by_stop memory p (stop_of batch p) b a is
+network_by_part true memory batch p b a is = network_by_stop memory p (stop_in batch p) b a is
 network_by_part false memory batch p b a is = ap (λ x. x.tables) is.1
 
 -- ---- process after process
@@ -159,11 +159,11 @@ pub record IsSettledBelow (batch : Batch) (first : Book) (n : ℕ) (memory : Boo
   pub settle : SettleBelow batch first n memory b
   pub kept : IsKept b
   pub tables : b.tables ≡ first.tables
-  pub frames : (q : ℕ) → n ≤ q → q < length first.tables.instances → is_within batch.now q ≡ true
+  pub frames : (q : ℕ) → n ≤ q → q < length first.tables.instances → is_in_region batch.now q ≡ true
       → frame_in b.machine q ≡ frame_at batch.now q
 
 pub settled_at_first : (batch : Batch) (b : Book) → IsKept b
-    → ((q : ℕ) → is_within batch.now q ≡ true → frame_in b.machine q ≡ frame_at batch.now q)
+    → ((q : ℕ) → is_in_region batch.now q ≡ true → frame_in b.machine q ≡ frame_at batch.now q)
     → IsSettledBelow batch b 0 true b
 settled_at_first batch b kept frames =
     record { settle = none_yet; kept = kept; tables = refl; frames = λ q above there within. frames q within }
@@ -172,7 +172,7 @@ pub settled_next : (batch : Batch) (first b a : Book) (n : ℕ) (memory enough :
     → IsSettledBelow batch first n memory b → Settles enough batch n b a → IsKept a
     → IsSettledBelow batch first (n + 1) (memory && enough) a
 settled_next batch first b a n memory enough is settles kept = record {
-  settle = one_more enough b a is.settle settles;
+  settle = one_more_in enough b a is.settle settles;
   kept = kept;
   tables = network_by_part (has_part batch n b) enough batch n b a settles ∙ is.tables;
   frames = λ q above there within.
@@ -187,17 +187,17 @@ pub settles_not : (batch : Batch) (p : ℕ) (b : Book) → has_part batch p b �
 settles_not batch p b is = subst (λ part. settles_if part true batch p b b) (sym is) (refl, refl)
 
 pub settles_by : (batch : Batch) (p : ℕ) (b a : Book) (memory : Bool) (o : Option Stop) → has_part batch p b ≡ true
-    → o ≡ stop_of batch p → goes_to memory p o b a → Settles memory batch p b a
+    → o ≡ stop_in batch p → goes_to memory p o b a → Settles memory batch p b a
 settles_by batch p b a memory o part is goes =
     subst (λ h. settles_if h memory batch p b a) (sym part) (subst (λ x. goes_to memory p x b a) is goes)
 
 -- it is of the region and held
-pub part_within : (batch : Batch) (p : ℕ) (b : Book) → has_part batch p b ≡ true → is_within batch.now p ≡ true
-part_within batch p b is = and_left (is_within batch.now p) (is_held (state_at b.schedule.states p)) is
+pub part_within : (batch : Batch) (p : ℕ) (b : Book) → has_part batch p b ≡ true → is_in_region batch.now p ≡ true
+part_within batch p b is = and_left (is_in_region batch.now p) (is_held (state_at b.schedule.states p)) is
 
 pub part_held : (batch : Batch) (p : ℕ) (b : Book) → has_part batch p b ≡ true → IsHeld b p
 part_held batch p b is =
-    held_of_test b p (and_right (is_within batch.now p) (is_held (state_at b.schedule.states p)) is)
+    held_of_test b p (and_right (is_in_region batch.now p) (is_held (state_at b.schedule.states p)) is)
 
 -- it stands at its stop in the batch
 pub record IsStuckHere (b : Book) (p : ℕ) (s : Stop) : Type 0 where
@@ -206,8 +206,8 @@ pub record IsStuckHere (b : Book) (p : ℕ) (s : Stop) : Type 0 where
 
 pub stuck_here : (batch : Batch) (p : ℕ) (b : Book) (s : Stop) → IsBatch batch → batch.tables ≡ b.tables
     → p < length b.tables.instances
-    → (is_within batch.now p ≡ true → frame_in b.machine p ≡ frame_at batch.now p)
-    → has_part batch p b ≡ true → stop_of batch p ≡ Some s → IsStuckHere b p s
+    → (is_in_region batch.now p ≡ true → frame_in b.machine p ≡ frame_at batch.now p)
+    → has_part batch p b ≡ true → stop_in batch p ≡ Some s → IsStuckHere b p s
 stuck_here batch p b s is tables there frame part stop =
     let stuck = is.stuck p s (subst (λ t. p < length t.instances) (sym tables) there) stop in
     record {

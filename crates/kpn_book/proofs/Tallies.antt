@@ -8,7 +8,7 @@ use Rattle.kpn_history.specs.declared.state.State.{State}
 use Rattle.kpn_history.specs.declared.state.State.TheVariants.{Ready, Held}
 use Rattle.kpn_history.specs.Views.{AreCounts, is_ready, is_held, waits_empty, waits_full, is_ended}
 use Rattle.kpn_book.specs.Counting.{goes, IsTally}
-use Rattle.kpn_book.specs.Schedule.{HaveStopped}
+use Rattle.kpn_book.specs.Schedule.{AreAllStopped}
 
 -- ---- one count
 
@@ -76,7 +76,7 @@ not_counted f xs none i there = by (f (get_or xs i Ready)) refl
     by false e = refl
 
 -- the test of the code
-pub idle_is : (xs : List State) (going : ℕ) → going ≡ count_by goes xs → (nat_eq going 0 ≡ true) ↔ HaveStopped xs
+pub idle_is : (xs : List State) (going : ℕ) → going ≡ count_by goes xs → (nat_eq going 0 ≡ true) ↔ AreAllStopped xs
 idle_is xs going counted = (
   λ is i there. not-false _ (not_counted goes xs (sym counted ∙ eqb-true going 0 is) i there),
   λ stopped. eq-eqb going 0 (counted ∙ none_of goes xs (λ i there. ap not (stopped i there))),

@@ -27,7 +27,7 @@ use Rattle.kpn_book.specs.declared.outcome.Outcome.TheVariants.{Stopped}
 use Rattle.kpn_book.specs.declared.report.Report.{Report}
 use Rattle.kpn_book.specs.Outcomes.{IsOutcome, verdict_of}
 use Rattle.kpn_book.specs.Reports.{events_of, read_of_sinks, IsWrittenFrom, AreSupplied, IsReport, sink_numbers}
-use Rattle.kpn_book.specs.RunHere.{supplies, takes_from_sinks, IsTurn, Turns, no_turn, one_turn_more, IsFirst, IsReportHere}
+use Rattle.kpn_book.specs.RunHere.{supplies, takes_from_sinks, IsTurn, Turns, no_turn, one_turn_more, IsNewBook, IsReportHere}
 use Rattle.kpn_book.specs.Running.{IsFedBelow, ComesToOutcome, first_read, ReadsWithin}
 use Rattle.kpn_book.proofs.Agreeing.{same_list}
 use Rattle.kpn_book.proofs.Happening.{all_commits}
@@ -220,7 +220,7 @@ module _ (t : Tables) (network : IsNetwork t) (lists : List (List ℤ)) (limits 
       let same = tells.commits in
       let turns : comes.turns ≡ report.commits = omega arith in subst (λ n. Turns limits fed n after) turns comes.made
 
-  pub IsReportHere-told : (first : Book) → IsFirst t first → AllHappen (supplies t (given_by t lists)) first fed
+  pub IsReportHere-told : (first : Book) → IsNewBook t first → AllHappen (supplies t (given_by t lists)) first fed
       → (report : Report) → IsWrittenFrom after outcome report → IsReportHere t lists limits report
   IsReportHere-told first begins supplied report tells = record {
     last = after;

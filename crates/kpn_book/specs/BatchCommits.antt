@@ -2,7 +2,7 @@
 use Rattle.std.specs.Prelude.{◌+◌, ◌++◌}
 use Rattle.kpn_history.specs.Talks.{process_events}
 use Rattle.kpn_machine.specs.Machine.{Machine}
-use Rattle.kpn_region.specs.Local.{is_within}
+use Rattle.kpn_region.specs.Local.{is_in_region}
 use Rattle.kpn_region.specs.Batch.{Batch}
 use Rattle.kpn_book.specs.Book.{Book}
 use Rattle.kpn_book.specs.Regions.{region_woken}
@@ -15,6 +15,6 @@ with_batch b s book =
       tables = book.tables;
       history = book.history ++ b.events;
       machine = s;
-      schedule = region_woken (is_within b.now) s.waits book.schedule;
+      schedule = region_woken (is_in_region b.now) s.waits book.schedule;
       commits = book.commits + process_events b.events;
     }

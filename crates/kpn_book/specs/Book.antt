@@ -37,8 +37,8 @@ abbrev pub put_back : (p : ℕ) → Book → Book
 put_back p b = record b { schedule = made_ready p b.schedule }
 
 -- one more commit was made
-abbrev pub counted : Book → Book
-counted b = record b { commits = b.commits + 1 }
+abbrev pub with_one_commit : Book → Book
+with_one_commit b = record b { commits = b.commits + 1 }
 
 -- the first process of the queue, p, becomes held, and nothing else changes
 pub record IsClaimed (p : ℕ) (before after : Book) : Type 0 where

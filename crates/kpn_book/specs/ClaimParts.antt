@@ -6,7 +6,7 @@ use Rattle.kpn_chan.specs.Channel.{ChannelState}
 use Rattle.kpn_history.specs.declared.event.Event.{Event}
 use Rattle.kpn_machine.specs.Machine.{Machine, channel_in, end_in, frame_in}
 use Rattle.kpn_machine.specs.Run.{IsRun}
-use Rattle.kpn_region.specs.Local.{Local, is_within, frame_at, side_at, with_side}
+use Rattle.kpn_region.specs.Local.{Local, is_in_region, frame_at, side_at, with_side}
 use Rattle.kpn_region.specs.Batch.{Batch, IsFresh, with_process}
 use Rattle.kpn_book.specs.RegionClaims.{IsSameButMemory, side_claimed}
 
@@ -21,8 +21,8 @@ pub record HasProcesses (of : List ℕ) (t : Tables) (s : Machine) (batch : Batc
   pub tables : batch.tables ≡ t
   pub fresh : IsFresh batch
   pub within : (p : ℕ) → p < length t.instances
-      → (is_within batch.first p ≡ true) ↔ (Contains of p × (end_in s p ≡ None))
-  pub frames : (p : ℕ) → is_within batch.first p ≡ true → frame_at batch.first p ≡ frame_in s p
+      → (is_in_region batch.first p ≡ true) ↔ (Contains of p × (end_in s p ≡ None))
+  pub frames : (p : ℕ) → is_in_region batch.first p ≡ true → frame_at batch.first p ≡ frame_in s p
 
 -- ---- channels
 

@@ -4,7 +4,7 @@ use Rattle.kpn_net.specs.Tables.{Tables, instance_at, program_of}
 use Rattle.kpn_step.specs.declared.stop.Stop.{Stop}
 use Rattle.kpn_step.specs.declared.stop.Stop.TheVariants as stop
 use Rattle.kpn_step.specs.Stops.{Advanced}
-use Rattle.kpn_chan.specs.Channel.{unread, is_full, next_item}
+use Rattle.kpn_chan.specs.Channel.{unread, is_channel_full, next_item}
 use Rattle.kpn_history.specs.declared.event.Event.{Event}
 use Rattle.kpn_history.specs.declared.event.Event.TheVariants as event
 use Rattle.kpn_history.specs.declared.event.How.{How}
@@ -15,7 +15,7 @@ use Rattle.kpn_machine.specs.Changes.{IsChannelAt}
 use Rattle.kpn_machine.specs.Due.{stop_of}
 use Rattle.kpn_book.specs.declared.answers.Done.{Done}
 use Rattle.kpn_book.specs.declared.answers.Done.TheVariants as done
-use Rattle.kpn_book.specs.Book.{Book, IsHeld, standing_at, put_back, counted}
+use Rattle.kpn_book.specs.Book.{Book, IsHeld, standing_at, put_back, with_one_commit}
 use Rattle.kpn_book.specs.Appending.{AppendsAll, IsGrowthOwed}
 
 -- ---- what a stop of process p asks for
@@ -35,18 +35,18 @@ pub record IsWriteTo (t : Tables) (p : ℕ) (s : Stop) (c : ℕ) (v : ℤ) : Typ
 -- ---- the events of a commit
 
 -- it got this item, which was the next one of the channel that it would read
-pub record Gets (b : Book) (p : ℕ) (s : Stop) (v : ℤ) (events : List Event) : Type 0 where
+pub record CommitGets (b : Book) (p : ℕ) (s : Stop) (v : ℤ) (events : List Event) : Type 0 where
   pub channel : ℕ
   pub asks : IsReadFrom b.tables p s channel
   pub item : next_item (channel_in b.machine channel) ≡ Some v
   pub appends : events ≡ event.Get p channel v ∷ []
 
 -- it put the item that it would write, on a channel that was not full
-pub record Puts (b : Book) (p : ℕ) (s : Stop) (events : List Event) : Type 0 where
+pub record CommitPuts (b : Book) (p : ℕ) (s : Stop) (events : List Event) : Type 0 where
   pub channel : ℕ
   pub item : ℤ
   pub asks : IsWriteTo b.tables p s channel item
-  pub ready : is_full (channel_in b.machine channel) ≡ false
+  pub ready : is_channel_full (channel_in b.machine channel) ≡ false
   pub appends : events ≡ event.Put p channel item ∷ []
 
 -- it has to wait: the channel that it would read is empty
@@ -61,7 +61,7 @@ pub record HasToWaitOnFull (b : Book) (p : ℕ) (s : Stop) (wait : Event) : Type
   pub channel : ℕ
   pub item : ℤ
   pub asks : IsWriteTo b.tables p s channel item
-  pub full : is_full (channel_in b.machine channel) ≡ true
+  pub full : is_channel_full (channel_in b.machine channel) ≡ true
   pub is : wait ≡ event.WaitFull p channel
 
 -- it waits from now on, by this event
@@ -98,8 +98,8 @@ pub record Pauses (s : Stop) (events : List Event) : Type 0 where
 
 -- what a commit of process p at this stop returns, and the events that it appends
 abbrev pub IsAnswer : Book → (p : ℕ) → Stop → Done → List Event → Type 0
-IsAnswer b p s (done.Got v) events = Gets b p s v events
-IsAnswer b p s done.Put events = Puts b p s events
+IsAnswer b p s (done.Got v) events = CommitGets b p s v events
+IsAnswer b p s done.Put events = CommitPuts b p s events
 IsAnswer b p s done.Blocked events = IsBlocked b p s events
 IsAnswer b p s (done.Grew d) events = WaitsAndGrows b p s d events
 IsAnswer b p s done.Ended events = Ends b p s events
@@ -116,7 +116,7 @@ ready_if_paused p other b = b
 pub record HandlesStop (p : ℕ) (s : Stop) (answer : Done) (before after : Book) : Type 0 where
   pub events : List Event
   pub answers : IsAnswer before p s answer events
-  pub appends : AppendsAll events (ready_if_paused p answer (counted before)) after
+  pub appends : AppendsAll events (ready_if_paused p answer (with_one_commit before)) after
 
 -- the steps began at the frame of process p and are steps of its program
 pub record IsOwnAdvance (b : Book) (p : ℕ) (a : Advanced) : Type 0 where

@@ -31,8 +31,8 @@ abbrev pub one_less_if : Bool → ℕ → ℕ
 one_less_if is n = if is then n - 1 else n
 
 -- one more process is in this state
-abbrev pub one_more : State → Tally → Tally
-one_more state tally = record {
+abbrev pub one_more_in : State → Tally → Tally
+one_more_in state tally = record {
   going = one_more_if (goes state) tally.going;
   empty = one_more_if (waits_empty state) tally.empty;
   full = one_more_if (waits_full state) tally.full;

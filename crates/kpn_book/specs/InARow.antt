@@ -52,7 +52,7 @@ ends_row quota None before after = after ≡ before
 
 -- at most so many steps in a row, of which only the last may have put an item on a sink, namely on this one. At least
 -- one is made if a process is ready
-pub record RunsOn (quota most : ℕ) (sink : Option ℕ) (before after : Book) : Type 0 where
+pub record RunsInRow (quota most : ℕ) (sink : Option ℕ) (before after : Book) : Type 0 where
   pub steps : ℕ
   pub last : Book
   pub row : StepsInRow quota before steps last

@@ -156,7 +156,7 @@ pub record GrowsAtStop (channel : Option ℕ) (before after : Book) : Type 0 whe
   pub held : held_count after ≡ held_count before
 
 -- process p is the next to be held: it is the first of the queue, and one more held process can be counted
-pub record IsNext (p : ℕ) (b : Book) : Type 0 where
+pub record IsNextHeld (p : ℕ) (b : Book) : Type 0 where
   pub holds : HoldsFirst p b.schedule (first_held p b.schedule)
   pub countable : b.commits + held_count b + 1 < 2 ^ 64
 
@@ -164,7 +164,7 @@ pub record IsNext (p : ℕ) (b : Book) : Type 0 where
 
 -- this process is the next to be held, or none can be
 abbrev pub next_by : Option ℕ → Book → Type 0
-next_by (Some p) b = IsNext p b
+next_by (Some p) b = IsNextHeld p b
 next_by None b = ClaimsNobody b
 
 -- the first process of the queue is claimed, or none can be

@@ -8,7 +8,7 @@ use Rattle.kpn_chan.specs.Channel.{ChannelState, unread, readable}
 use Rattle.kpn_history.specs.declared.state.State.{State}
 use Rattle.kpn_history.specs.Views.{is_ready, is_held}
 use Rattle.kpn_machine.specs.Machine.{Machine, channel_in, end_in, frame_in}
-use Rattle.kpn_region.specs.Local.{SideState, claimed_with, Local, is_within, frame_at, side_at}
+use Rattle.kpn_region.specs.Local.{SideState, claimed_with, Local, is_in_region, frame_at, side_at}
 use Rattle.kpn_region.specs.Batch.{Batch, IsFresh}
 use Rattle.kpn_region.specs.Joining.{AgreesWith}
 use Rattle.kpn_book.specs.Schedule.{state_at}
@@ -25,7 +25,7 @@ may_claim of states =
 
 -- an end of a channel is a process of the region
 abbrev pub is_end_within : Local → End → Bool
-is_end_within s (Process p) = is_within s p
+is_end_within s (Process p) = is_in_region s p
 is_end_within s other = false
 
 -- so many items, but no more than half the capacity, rounded up, or than 512 of a source, which has none
@@ -94,8 +94,8 @@ pub record ClaimsRegion (of : List ℕ) (most : ℕ) (drains : Bool) (batch : Ba
   pub countable : CanCount 0 before
   pub fresh : IsFresh batch
   pub within : (p : ℕ) → p < length before.tables.instances
-      → (is_within batch.first p ≡ true) ↔ (Contains of p × (end_in before.machine p ≡ None))
-  pub frames : (p : ℕ) → is_within batch.first p ≡ true → frame_at batch.first p ≡ frame_in before.machine p
+      → (is_in_region batch.first p ≡ true) ↔ (Contains of p × (end_in before.machine p ≡ None))
+  pub frames : (p : ℕ) → is_in_region batch.first p ≡ true → frame_at batch.first p ≡ frame_in before.machine p
   pub sides : (c : ℕ) → c < length before.tables.channels → side_at batch.first c
       ≡ side_claimed before.tables batch.first c most drains (channel_in before.machine c)
   pub roomy : Book

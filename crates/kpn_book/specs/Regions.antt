@@ -10,8 +10,8 @@ use Rattle.kpn_step.specs.declared.stop.Stop.TheVariants.{Paused}
 use Rattle.kpn_history.specs.declared.state.State.{State}
 use Rattle.kpn_history.specs.declared.state.State.TheVariants.{Held, WaitsEmpty, WaitsFull}
 use Rattle.kpn_history.specs.Views.{is_held}
-use Rattle.kpn_region.specs.Local.{is_within}
-use Rattle.kpn_region.specs.Batch.{Batch, stop_of}
+use Rattle.kpn_region.specs.Local.{is_in_region}
+use Rattle.kpn_region.specs.Batch.{Batch, stop_in}
 use Rattle.kpn_book.specs.declared.answers.Done.{Done}
 use Rattle.kpn_book.specs.Schedule.{Schedule, state_at, first_held, made_ready, with_state}
 use Rattle.kpn_book.specs.Book.{Book, put_back}
@@ -34,7 +34,7 @@ region_held within s =
 
 -- the ready processes of a batch become held
 abbrev pub batch_held : Batch → Book → Book
-batch_held b book = record book { schedule = region_held (is_within b.now) book.schedule }
+batch_held b book = record book { schedule = region_held (is_in_region b.now) book.schedule }
 
 -- process p, which is the first of the queue, has its turn in that: it becomes held, or goes to the tail
 abbrev pub turned_if : (within : Bool) → (p : ℕ) → Schedule → Schedule
@@ -56,7 +56,7 @@ region_put_back within s = all_put_back within (range_with_len 0 (length s.state
 
 -- the held processes of a batch are put back
 abbrev pub batch_put_back : Batch → Book → Book
-batch_put_back b book = record book { schedule = region_put_back (is_within b.now) book.schedule }
+batch_put_back b book = record book { schedule = region_put_back (is_in_region b.now) book.schedule }
 
 -- ---- whom the events of a batch wake
 
@@ -93,10 +93,10 @@ goes_to memory p None before after = (memory ≡ true) × (after ≡ put_back p 
 
 -- the batch has to do with process p now: it is of the region, and held
 abbrev pub has_part : Batch → (p : ℕ) → Book → Bool
-has_part b p book = is_within b.now p && is_held (state_at book.schedule.states p)
+has_part b p book = is_in_region b.now p && is_held (state_at book.schedule.states p)
 
 abbrev pub settles_if : (part : Bool) → (memory : Bool) → Batch → (p : ℕ) → (before after : Book) → Type 0
-settles_if true memory b p before after = goes_to memory p (stop_of b p) before after
+settles_if true memory b p before after = goes_to memory p (stop_in b p) before after
 settles_if false memory b p before after = (memory ≡ true) × (after ≡ before)
 
 -- what becomes of process p

@@ -62,7 +62,7 @@ pub data Turns (limits : Limits) (first : Book) : ℕ → Book → Type 0 where
 
 -- the book at the start: nothing has happened, each process is at the start of its program, and all are ready, in order
 -- of number
-pub record IsFirst (t : Tables) (b : Book) : Type 0 where
+pub record IsNewBook (t : Tables) (b : Book) : Type 0 where
   pub book : IsBook b
   pub tables : b.tables ≡ t
   pub history : b.history ≡ []
@@ -76,7 +76,7 @@ pub record IsFirst (t : Tables) (b : Book) : Type 0 where
 pub record RunsHere (t : Tables) (lists : List (List ℤ)) (limits : Limits) (turns : ℕ) (outcome : Outcome) (last : Book)
     : Type 0 where
   pub first : Book
-  pub begins : IsFirst t first
+  pub begins : IsNewBook t first
   pub fed : Book
   pub supplied : AllHappen (supplies t (given_by t lists)) first fed
   pub made : Turns limits fed turns last

@@ -23,8 +23,8 @@ pub record IsSchedule (s : Schedule) : Type 0 where
   pub count : length s.queue ≡ count_by is_ready s.states
 
 -- each process has ended or waits
-abbrev pub HaveStopped : List State → Type 0
-HaveStopped states = (p : ℕ) → p < length states → is_stopped (state_at states p) ≡ true
+abbrev pub AreAllStopped : List State → Type 0
+AreAllStopped states = (p : ℕ) → p < length states → is_stopped (state_at states p) ≡ true
 
 -- ---- changes
 

@@ -1,6 +1,6 @@
 //! Counts of processes by state, kept step by step.
 ghost use Rattle.std.specs.Prelude.{◌≡◌, ◌+◌, ◌<◌, ◌^◌};
-ghost use Rattle.kpn_book.specs.Counting.{count_in, one_more, one_less};
+ghost use Rattle.kpn_book.specs.Counting.{count_in, one_more_in, one_less};
 
 use kpn_history::State;
 
@@ -20,7 +20,7 @@ pub(crate) struct Tally {
 #[inline(always)]
 pub(crate) fn enter(tally: &mut Tally, state: State)
     requires { count_in state tally.old + 1 < 2 ^ 64 }
-    ensures { tally.new ≡ one_more state tally.old }
+    ensures { tally.new ≡ one_more_in state tally.old }
 {
     match state {
         State::Ready | State::Held => tally.going += 1,

@@ -6,7 +6,7 @@ ghost use Rattle.kpn_machine.specs.Settled.{IsVerdictNow};
 ghost use Rattle.kpn_book.specs.Appending.{all_made_ready};
 ghost use Rattle.kpn_book.specs.Book.{IsHeld, IsClaimed, held_count};
 ghost use Rattle.kpn_book.specs.Kept.{IsKept};
-ghost use Rattle.kpn_book.specs.Open.{MayBeReady, IsNext, book_of, next_by, claims_by};
+ghost use Rattle.kpn_book.specs.Open.{MayBeReady, IsNextHeld, book_of, next_by, claims_by};
 
 use crate::schedule::Schedule;
 use kpn_history::{History, State, Verdict};
@@ -63,7 +63,7 @@ impl<'n, A: Allocator> OpenBook<'n, A> {
 
     /// Holds process `p`, which is the next to be held.
     pub(crate) fn hold(&mut self, p: usize)
-        requires next { IsNext p (book_of self.old) }
+        requires next { IsNextHeld p (book_of self.old) }
         requires kept { IsKept (book_of self.old) }
         ensures claimed { IsClaimed p (book_of self.old) (book_of self.new) }
         ensures kept { IsKept (book_of self.new) }

@@ -3,7 +3,7 @@ ghost use Rattle.std.specs.Prelude.{◌≡◌, ◌↔◌, ◌<◌, ◌^◌, true
 ghost use Rattle.kpn_history.specs.declared.state.State.TheVariants.{Ready};
 ghost use Rattle.kpn_history.specs.Views.{AreCounts, is_ready, is_held};
 ghost use Rattle.kpn_book.specs.Counting.{IsTally};
-ghost use Rattle.kpn_book.specs.Schedule.{state_at, IsSchedule, HaveStopped, all_ready, first_held, made_ready, with_state};
+ghost use Rattle.kpn_book.specs.Schedule.{state_at, IsSchedule, AreAllStopped, all_ready, first_held, made_ready, with_state};
 
 use crate::counting::{Tally, enter, leave};
 use crate::queue::Queue;
@@ -98,7 +98,7 @@ impl<A: Allocator> Schedule<A> {
 
     /// Whether each process has ended or waits.
     pub fn is_idle(&self) -> bool
-        ensures { (result ≡ true) ↔ HaveStopped self.now.states }
+        ensures { (result ≡ true) ↔ AreAllStopped self.now.states }
     {
         self.tally.going == 0
     }

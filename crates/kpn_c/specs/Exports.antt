@@ -20,7 +20,7 @@ use Rattle.kpn_c.specs.Telling.{TellsState, counts_of}
 use Rattle.kpn_c.specs.declared.processes.ProcessState.{ProcessState}
 use Rattle.kpn_c.specs.States.{state_as}
 use Rattle.kpn_history.specs.declared.stored.Version.TheVariants.{Two}
-use Rattle.kpn_book.specs.RunHere.{IsFirst}
+use Rattle.kpn_book.specs.RunHere.{IsNewBook}
 use Rattle.kpn_trace.specs.TraceText.{trace_text}
 use Rattle.kpn_text_names.specs.Names.{number_of}
 use Rattle.kpn_text.specs.declared.fault.TextFault.{TextFault}
@@ -179,7 +179,7 @@ pub record IsNewSession (keeps : Bool) (text : List ℕ) (slot : Option Slot) : 
   pub session : Session
   pub held : slot ≡ slot_with session
   pub spelled : Spells text session.document
-  pub first : IsFirst session.document.tables session.book
+  pub first : IsNewBook session.document.tables session.book
   pub keeps_so : session.keeps ≡ keeps
   pub kept : KeepsAllOrNothing keeps session.book
 

@@ -12,7 +12,7 @@ ghost use Rattle.kpn_text.specs.Phases.{Refuses};
 ghost use Rattle.kpn_book.specs.Kept.{IsBook};
 ghost use Rattle.kpn_book.specs.Detached.{book_on};
 ghost use Rattle.kpn_book.specs.Refusals.{Closes, RefusesClose, Leaves, RefusesLeave};
-ghost use Rattle.kpn_book.specs.RunHere.{IsFirst};
+ghost use Rattle.kpn_book.specs.RunHere.{IsNewBook};
 ghost use Rattle.kpn_c.specs.Calls.{FeedsEach, StepsEach, TakesEach, TellsCompleteness};
 ghost use Rattle.kpn_c.specs.Moving.{Moves};
 ghost use Rattle.kpn_c.specs.Sessions.{KeepsAllOrNothing};
@@ -70,7 +70,7 @@ impl Session {
     /// happen, or nothing.
     pub fn open(alloc: Global, text: &[u8], keeps: bool) -> Result<Session, TextFault>
         ensures spelled { IfOk result (λ session. Spells text.now session.document) }
-        ensures first { IfOk result (λ session. IsFirst session.document.tables session.book) }
+        ensures first { IfOk result (λ session. IsNewBook session.document.tables session.book) }
         ensures keeps { IfOk result (λ session. session.keeps ≡ keeps) }
         ensures kept { IfOk result (λ session. KeepsAllOrNothing keeps session.book) }
         ensures fault { IfErr result (Refuses text.now) }
@@ -456,7 +456,7 @@ fn attached(document: &Box<Document>, detached: Detached) -> Book<'_>
 
 /// A book at its start, which keeps all or nothing.
 fn first_book(alloc: Global, network: &Network, keeps: bool) -> Result<Detached, AllocError>
-    ensures first { IfOk result (λ detached. IsFirst network.now (book_on network.now detached)) }
+    ensures first { IfOk result (λ detached. IsNewBook network.now (book_on network.now detached)) }
     ensures kept { IfOk result (λ detached. KeepsAllOrNothing keeps (book_on network.now detached)) }
 {
     let book = Book::keeping(alloc, network, keeping_of(keeps))?;

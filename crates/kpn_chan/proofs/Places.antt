@@ -11,7 +11,7 @@ use Rattle.std.proofs.lemmas.Option.{slice_get_within}
 use Rattle.circular_buffer.proofs.Places.{slice_get-drop}
 use Rattle.kpn_chan.specs.declared.chunks.Chunks.{Chunks}
 use Rattle.kpn_chan.specs.Chunks.{AreFull, IsChunks, IsCounted, HasNext, HasPlacesFor, items_of, all_of}
-use Rattle.kpn_chan.specs.Channel.{ChannelState, after_put, joined, has_places_for, MayJoin}
+use Rattle.kpn_chan.specs.Channel.{ChannelState, after_put, batch_joined, has_places_for, MayJoin}
 use Rattle.kpn_chan.specs.Ring.{IsLaidOut, IsRoomy, made_for, HasPlaces, MayPass, passed_through}
 use Rattle.kpn_chan.specs.declared.chunks.TheConstants.{MOST_GONE, MAX_CHUNKS}
 use Rattle.kpn_chan.specs.declared.channel.TheConstants.{FIRST_PLACES}
@@ -341,7 +341,7 @@ module _ (before after : List ℤ) (read : ℕ) (capacity : Option ℕ) (was kee
       → (left_so reserved ready : Bool) (ring filled : Option (Buffer ℤ)) (most_then : ℕ)
       → filled ≡ passed_through taken items ring → most_then ≡ cond (is_none ring) most (max most seen)
       → seen_so after (read + taken) capacity (is_none filled) reserved keeps most_then ready is_wide
-      ≡ joined taken items seen reserved ready
+      ≡ batch_joined taken items seen reserved ready
       (seen_so before read capacity (is_none ring) left_so was most is_roomy is_wide)
   seen_joined taken items seen is left_so reserved ready ring filled most_then passed most_is =
       let gone : is_none filled ≡ is_none ring = ap is_none passed ∙ still_gone ring in

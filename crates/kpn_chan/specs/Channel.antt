@@ -40,16 +40,16 @@ fills count None = false
 fills count (Some capacity) = nat_le capacity count
 
 -- whether a writer has to wait: the reader is there, and the unread items have reached the capacity
-abbrev pub is_full : ChannelState → Bool
-is_full c = not c.is_retired && fills (length (unread c)) c.capacity
+abbrev pub is_channel_full : ChannelState → Bool
+is_channel_full c = not c.is_retired && fills (length (unread c)) c.capacity
 
 -- the item that a read returns: the oldest unread one, and none once the reader is gone
 abbrev pub next_item : ChannelState → Option ℤ
 next_item c = if c.is_retired then None else slice_get (unread c) 0
 
 -- the item that a read returns after so many others
-abbrev pub next_at : ℕ → ChannelState → Option ℤ
-next_at k c = if c.is_retired then None else slice_get (unread c) k
+abbrev pub item_after : ℕ → ChannelState → Option ℤ
+item_after k c = if c.is_retired then None else slice_get (unread c) k
 
 -- the items that a reader may get: the unread ones, and none once the reader is gone
 abbrev pub readable : ChannelState → List ℤ
@@ -114,8 +114,8 @@ one_more None = None
 one_more (Some capacity) = Some (capacity + 1)
 
 -- the channel with a capacity larger by one
-abbrev pub grown : Bool → ChannelState → ChannelState
-grown reserved c = record c { capacity = one_more c.capacity; is_reserved = reserved; is_roomy = false }
+abbrev pub grown_by_one : Bool → ChannelState → ChannelState
+grown_by_one reserved c = record c { capacity = one_more c.capacity; is_reserved = reserved; is_roomy = false }
 
 -- the channel has a capacity below this one, which is at most the greatest possible one
 abbrev pub MayGrowTo : (larger : ℕ) → ChannelState → Type 0
@@ -154,8 +154,8 @@ abbrev pub most_with_batch : (most : ℕ) → ChannelState → ℕ
 most_with_batch most c = if c.is_retired then c.most else max c.most most
 
 -- the channel once so many items more are read, and these are put
-abbrev pub joined : (taken : ℕ) → List ℤ → (most : ℕ) → (reserved is_roomy : Bool) → ChannelState → ChannelState
-joined taken items most reserved is_roomy c =
+abbrev pub batch_joined : (taken : ℕ) → List ℤ → (most : ℕ) → (reserved is_roomy : Bool) → ChannelState → ChannelState
+batch_joined taken items most reserved is_roomy c =
     record c {
       journal = c.journal ++ items;
       read = c.read + taken;

@@ -2,7 +2,7 @@
 //! into no chunk.
 ghost use Rattle.std.specs.Option.{unwrap_or, is_none};
 ghost use Rattle.std.specs.Prelude.{◌≡◌, ◌++◌, drop, ◌+◌, ◌*◌, ◌<◌, ◌≤◌, ◌^◌, max, length, [], ◌↔◌, IsTrue, false, IfErr, true, IsOk, OnOk, OnErr, IfOk, is_ok, if◌then◌else◌, slice_get, take, nat_lt};
-ghost use Rattle.kpn_chan.specs.Channel.{unread, is_full, next_item, next_at, readable, opened, opened_as, kept_journal, with_room, after_put, after_get, retired, MayGrow, grown, MayGrowTo, grown_to, roomy, with_reserved, MayJoin, joined, has_places_for};
+ghost use Rattle.kpn_chan.specs.Channel.{unread, is_channel_full, next_item, item_after, readable, opened, opened_as, kept_journal, with_room, after_put, after_get, retired, MayGrow, grown_by_one, MayGrowTo, grown_to, roomy, with_reserved, MayJoin, batch_joined, has_places_for};
 ghost use Rattle.kpn_chan.specs.Ring.{MayPass, passed_through};
 ghost use Rattle.kpn_chan.specs.declared.unread.Unread.TheVariants.{Forgotten};
 ghost use Rattle.kpn_chan.specs.declared.channel.TheConstants.{FIRST_PLACES};
@@ -122,7 +122,7 @@ impl<A: Allocator + Copy> Channel<A> {
     pub fn grow(&mut self) -> Result<(), AllocError>
         requires { MayGrow self.old }
         ensures after { self.new
-            ≡ (if is_ok result then grown self.new.is_reserved self.old else self.old) }
+            ≡ (if is_ok result then grown_by_one self.new.is_reserved self.old else self.old) }
         ensures reserved { IsTrue self.old.is_reserved → IsTrue self.new.is_reserved }
         ensures already { IsTrue self.old.is_reserved → IsOk result }
         ensures gone { IsTrue self.old.is_retired → IsOk result }
@@ -181,7 +181,7 @@ impl<A: Allocator + Copy> Channel<A> {
     /// The contract leaves open whether an item is reserved, and whether the channel is roomy, unless nothing is put.
     pub fn join(&mut self, taken: usize, items: &[i64], most: usize)
         requires { MayJoin taken items.now most self.old }
-        ensures after { self.new ≡ joined taken items.now most
+        ensures after { self.new ≡ batch_joined taken items.now most
             self.new.is_reserved self.new.is_roomy self.old }
         ensures reserved { items.now ≡ [] → IsTrue self.old.is_reserved
             → IsTrue self.new.is_reserved }
@@ -262,7 +262,7 @@ impl<A: Allocator> Channel<A> {
     /// The unread item that comes after `k` others, which stays unread. `None` if no more than `k` are unread or the
     /// channel is retired.
     pub fn peek_at(&self, k: usize) -> Option<i64>
-        ensures { result ≡ next_at k self.now }
+        ensures { result ≡ item_after k self.now }
     {
         let Some(ring) = &self.ring else {
             return None;
@@ -301,7 +301,7 @@ impl<A: Allocator> Channel<A> {
     /// Whether a writer has to wait: the channel is not retired, and its unread items have reached
     /// the capacity. A source is never full.
     pub fn is_full(&self) -> bool
-        ensures { result ≡ is_full self.now }
+        ensures { result ≡ is_channel_full self.now }
     {
         match (&self.ring, self.capacity) {
             (Some(ring), Some(capacity)) => capacity as usize <= ring.len(),

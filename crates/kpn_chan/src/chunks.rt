@@ -18,7 +18,7 @@ pub const MAX_CHUNKS: usize = 1 << 48;
 const FIRST_PLACES: usize = 4;
 
 /// How many places the chunk has whose items are forgotten when it is full.
-const SHORT: usize = 256;
+const FORGOTTEN_PLACES: usize = 256;
 
 /// How many items may be forgotten: as many as the full chunks may hold.
 pub const MOST_GONE: usize = 1 << 60;
@@ -115,7 +115,7 @@ impl<A: Allocator + Copy> Chunks<A> {
     {
         let len = self.last.len();
         if len == 0 {
-            return self.last.reserve_exact(SHORT);
+            return self.last.reserve_exact(FORGOTTEN_PLACES);
         }
         if MOST_GONE - self.gone < len {
             return Err(AllocError);

@@ -1,6 +1,6 @@
 //! What holds of every channel, as contracts of functions that do nothing. The layers above cite them.
 ghost use Rattle.std.specs.Prelude.{◌≡◌, ℕ, ◌≤◌, ℤ, Bool, true, false, ◌⊎◌, ◌↔◌, IsTrue, [], ◌∷◌, ◌++◌, length, Some, None};
-ghost use Rattle.kpn_chan.specs.Channel.{ChannelState, already_read, unread, is_full, next_item, after_put, after_get, retired, grown};
+ghost use Rattle.kpn_chan.specs.Channel.{ChannelState, already_read, unread, is_channel_full, next_item, after_put, after_get, retired, grown_by_one};
 
 /// The journal is what was read followed by what is unread.
 pub fn journal_is_read_then_unread()
@@ -28,7 +28,7 @@ pub fn gives_nothing()
 
 /// A channel is full if and only if its reader is there and its unread items have reached its capacity.
 pub fn full_at_capacity()
-    ensures { (c : ChannelState) → (IsTrue (is_full c)
+    ensures { (c : ChannelState) → (IsTrue (is_channel_full c)
         ↔ ((c.is_retired ≡ false)
         × ((capacity : ℕ) × (c.capacity ≡ Some capacity) × (capacity ≤ length (unread c))))) }
 {}
@@ -36,5 +36,5 @@ pub fn full_at_capacity()
 /// A channel whose unread items are within its capacity is not full once it has grown.
 pub fn grown_is_not_full()
     ensures { (c : ChannelState) (reserved : Bool) (capacity : ℕ) → c.capacity ≡ Some capacity
-        → length (unread c) ≤ capacity → is_full (grown reserved c) ≡ false }
+        → length (unread c) ≤ capacity → is_channel_full (grown_by_one reserved c) ≡ false }
 {}

@@ -1,7 +1,7 @@
 //! Events and what stands before them, in words.
 
 use crate::trace_names::{channel, process};
-use kpn_audit::{Doing, Scene, Side};
+use kpn_audit::{Doing, OutsideEnd, Scene};
 use kpn_command_base::Pushed;
 use kpn_history::{Event, Version};
 use kpn_text::Document;
@@ -97,13 +97,13 @@ fn push_next(text: &mut String, next: Option<i64>) -> Pushed {
 }
 
 // How a channel stands to the outside.
-fn push_side(text: &mut String, side: Side) -> Pushed {
+fn push_side(text: &mut String, side: OutsideEnd) -> Pushed {
     match side {
-        Side::NoSource => text.push_str(" is no source"),
-        Side::Closed => text.push_str(" is closed"),
-        Side::Open => text.push_str(" is open"),
-        Side::NoSink => text.push_str(" is no sink"),
-        Side::Left => text.push_str(" was left"),
-        Side::Next(next) => push_next(text, next),
+        OutsideEnd::NoSource => text.push_str(" is no source"),
+        OutsideEnd::Closed => text.push_str(" is closed"),
+        OutsideEnd::Open => text.push_str(" is open"),
+        OutsideEnd::NoSink => text.push_str(" is no sink"),
+        OutsideEnd::Left => text.push_str(" was left"),
+        OutsideEnd::Next(next) => push_next(text, next),
     }
 }

@@ -14,7 +14,7 @@ use Rattle.kpn_command_stream.specs.Command as command
 use Rattle.kpn_net.specs.Tables.{Tables}
 use Rattle.kpn_book.specs.Book.{Book}
 use Rattle.kpn_book.specs.declared.outcome.Limits.{Limits}
-use Rattle.kpn_stream.specs.declared.ending.Ending.{Ending}
+use Rattle.kpn_stream.specs.declared.ending.StreamEnding.{StreamEnding}
 use Rattle.kpn_command_stream.specs.declared.running.Lost.{Lost}
 use Rattle.kpn_command_stream.specs.Command.{HandedOn, Known, RanOver}
 
@@ -96,7 +96,7 @@ outputs_same Does before c answer after (outputs.by_none found is same) =
 
 -- the same run, by other names of its limits and its network
 pub ran_by : {I F O G : Type 0} (known : Known I F O G) (limits others : Limits) (t tables : Tables) (sinks : List ℕ)
-    (inputs read : Inputs I F) (outputs written : Outputs O G) (ending : Ending) (b : Book) (lost : List Lost)
+    (inputs read : Inputs I F) (outputs written : Outputs O G) (ending : StreamEnding) (b : Book) (lost : List Lost)
     → limits ≡ others → t ≡ tables → RanOver known limits t sinks inputs read outputs written ending b lost
     → RanOver known others tables sinks inputs read outputs written ending b lost
 ran_by known limits others t tables sinks inputs read outputs written ending b lost same same_tables ran =

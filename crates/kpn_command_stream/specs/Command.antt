@@ -18,7 +18,7 @@ use Rattle.kpn_command_base.specs.Description.{IsDescribed}
 use Rattle.kpn_command_base.specs.Sources.{name_in, file_in}
 use Rattle.kpn_stream.specs.declared.faults.SinkFault.{SinkFault}
 use Rattle.kpn_stream.specs.declared.faults.SinkFault.TheVariants.{Gone}
-use Rattle.kpn_stream.specs.declared.ending.Ending.{Ending}
+use Rattle.kpn_stream.specs.declared.ending.StreamEnding.{StreamEnding}
 use Rattle.kpn_stream.specs.Devices.{Fed, Served, Called, EndsFlushed}
 use Rattle.kpn_stream.specs.Ending.{failed_source, failed_sink, IsEnding, LeavesNothing}
 use Rattle.kpn_stream_devices.specs.declared.inputs.Input.{Input}
@@ -146,7 +146,7 @@ flushes_of holds holds_in = OutputsFlush holds holds_in
 -- sinks handed on what they kept, and this was lost.
 pub record RanOver {I F O G : Type 0} (known : Known I F O G) (limits : Limits) (t : Tables) (sinks : List ℕ)
     (inputs : Inputs I F) (read : Inputs I F) (outputs : Outputs O G) (written : Outputs O G)
-    (ending : Ending) (b : Book) (lost : List Lost) : Type 0 where
+    (ending : StreamEnding) (b : Book) (lost : List Lost) : Type 0 where
   pub same_input : read.standard.ghost_name ≡ inputs.standard.ghost_name
   pub same_output : written.standard.ghost_name ≡ outputs.standard.ghost_name
   pub tables : b.tables ≡ t
@@ -169,7 +169,7 @@ pub record RanOver {I F O G : Type 0} (known : Known I F O G) (limits : Limits) 
 -- The same, over standard input and output and these files. Standard input and output are given as they were, and as
 -- they are afterwards: they are those of the first and of the last devices.
 pub record Ran {I F O G : Type 0} (known : Known I F O G) (request : StreamRequest) (t : Tables) (sinks : List ℕ)
-    (inputs : List (Input F)) (outputs : List (Output G)) (input read : I) (out written : O) (ending : Ending)
+    (inputs : List (Input F)) (outputs : List (Output G)) (input read : I) (out written : O) (ending : StreamEnding)
     (b : Book) (lost : List Lost) : Type 0 where
   pub first_input : Inputs I F
   pub last_input : Inputs I F
@@ -189,7 +189,7 @@ sinks_of places = map (λ place. place.channel) places.sinks.items
 
 -- the same, over standard input and output and the files of these places
 pub record RanAt {S I F O G : Type 0} (may_give : Loads) (names : Names S F G) (known : Known I F O G)
-    (request : StreamRequest) (t : Tables) (places : Places) (input read : I) (out written : O) (ending : Ending)
+    (request : StreamRequest) (t : Tables) (places : Places) (input read : I) (out written : O) (ending : StreamEnding)
     (b : Book) (lost : List Lost) : Type 0 where
   pub inputs : List (Input F)
   pub are_inputs : AllZip (IsInputFor may_give names.comes_from known.left_in) places.sources.items inputs
@@ -211,7 +211,7 @@ IsTraceKept may_give (Some name) t over shelf kept stored =
 -- The status at the end: that of the first fault that is told. They are told in this order: what has ended the stream,
 -- what outputs have lost, the trace that could not be stored, the summary if there was no memory for it. Without a
 -- fault it is that of the stream.
-abbrev pub end_status : Ending → List Lost → (stored : Result (Unit {0}) Refusal) → (is_told : Bool) → Over → ℕ
+abbrev pub end_status : StreamEnding → List Lost → (stored : Result (Unit {0}) Refusal) → (is_told : Bool) → Over → ℕ
 end_status ending lost stored is_told over =
     unwrap_or
     (first_of (first_of (ending_fault ending) (lost_fault lost))
@@ -220,7 +220,7 @@ end_status ending lost stored is_told over =
 
 -- A stream that has ended: what is told of it, its trace, and the status; or there was no memory for what is told, and
 -- no trace is stored.
-pub data IsConcluded {S : Type 0} (may_give : S → Loads) (request : StreamRequest) (t : Tables) (ending : Ending)
+pub data IsConcluded {S : Type 0} (may_give : S → Loads) (request : StreamRequest) (t : Tables) (ending : StreamEnding)
     (b : Book) (lost : List Lost) (shelf kept : S) (status : ℕ) : Type 0 where
   told : (over : Over) → IsOver (limits_of request) request.stats ending b over → (stored : Result (Unit {0}) Refusal) →
       IsTraceKept may_give request.trace t over shelf kept stored → (is_told : Bool) →
@@ -247,7 +247,7 @@ pub record IsStreamedOf {S I F O G : Type 0} (may_give : S → Loads) (names : N
   pub places : Places
   pub asked_for : AreAskedFor request d places
   pub own_inputs : HaveOwnInputs (names.are_two_inputs shelf) places.sources.items
-  pub ending : Ending
+  pub ending : StreamEnding
   pub book : Book
   pub lost : List Lost
   pub ran : RanAt (may_give shelf) names known request d.tables places input read out written ending book lost

@@ -2,8 +2,8 @@
 use Rattle.std.specs.Prelude.{ℕ, Bool, true, false, List, [], ◌∷◌, Option, Some, None, Result, Ok, Err}
 use Rattle.kpn_command_base.specs.declared.refusal.Refusal.{Refusal}
 use Rattle.kpn_command_base.specs.Refusal.{status_of}
-use Rattle.kpn_stream.specs.declared.ending.Ending.{Ending}
-use Rattle.kpn_stream.specs.declared.ending.Ending.TheVariants as ending
+use Rattle.kpn_stream.specs.declared.ending.StreamEnding.{StreamEnding}
+use Rattle.kpn_stream.specs.declared.ending.StreamEnding.TheVariants as ending
 use Rattle.kpn_stream.specs.declared.faults.SourceFault.{SourceFault}
 use Rattle.kpn_stream.specs.declared.faults.SourceFault.TheVariants as input
 use Rattle.kpn_stream.specs.declared.faults.SinkFault.{SinkFault}
@@ -31,7 +31,7 @@ sink_status fault = 1
 -- ---- the statuses of what has failed, if it has
 
 -- the device or the memory that the stream has ended by
-abbrev pub ending_fault : Ending → Option ℕ
+abbrev pub ending_fault : StreamEnding → Option ℕ
 ending_fault (ending.SourceFailed c fault) = Some (source_status fault)
 ending_fault (ending.SinkFailed c fault) = Some (sink_status fault)
 ending_fault ending.NoMemory = Some 6

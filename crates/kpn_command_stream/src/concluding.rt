@@ -14,7 +14,7 @@ use crate::summary::{stream_status, summary_of};
 use kpn_command_base::{Refusal, StreamRequest, store_trace};
 use kpn_net::Network;
 use kpn_shelf::Shelf;
-use kpn_stream::{Ending, Streamed};
+use kpn_stream::{StreamEnding, Streamed};
 use kpn_text::Document;
 use std::alloc::{AllocError, Global};
 use std::io::Write;
@@ -48,7 +48,7 @@ fn conclude_over<S: Shelf, E: Write>(
     alloc: Global,
     request: &StreamRequest<'_>,
     document: &Document,
-    ending: Ending,
+    ending: StreamEnding,
     lost: &[Lost],
     over: &Over,
     places: &Places<'_>,
@@ -82,7 +82,7 @@ fn status_of_over(over: &Over) -> u8
 /// There was no memory for what is to be told. So there is none for the trace either.
 fn conclude_untold<E: Write>(
     document: &Document,
-    ending: Ending,
+    ending: StreamEnding,
     lost: &[Lost],
     places: &Places<'_>,
     err: &mut E,
@@ -171,7 +171,7 @@ fn first_of(first: Option<u8>, later: Option<u8>) -> Option<u8>
 /// Reports what has ended the stream, if something has failed, and what was lost at its end. Returns the status of the
 /// first.
 fn report_failed<E: Write>(
-    ending: Ending,
+    ending: StreamEnding,
     document: &Document,
     lost: &[Lost],
     places: &Places<'_>,
@@ -186,7 +186,7 @@ fn report_failed<E: Write>(
 
 /// Reports a device that has failed, or that memory ran out.
 fn report_ending<E: Write>(
-    ending: Ending,
+    ending: StreamEnding,
     document: &Document,
     places: &Places<'_>,
     err: &mut E,
@@ -194,15 +194,15 @@ fn report_ending<E: Write>(
     ensures { result ≡ ending_fault ending }
 {
     match ending {
-        Ending::SourceFailed(c, fault) => {
+        StreamEnding::SourceFailed(c, fault) => {
             let place = place_of(&places.sources, c);
             Some(report_source(document, fault, place, err))
         }
-        Ending::SinkFailed(c, fault) => {
+        StreamEnding::SinkFailed(c, fault) => {
             let place = place_of(&places.sinks, c);
             Some(report_sink(document, fault, place, err))
         }
-        Ending::NoMemory => Some(report_memory(err)),
+        StreamEnding::NoMemory => Some(report_memory(err)),
         _ => None,
     }
 }

@@ -9,7 +9,7 @@ use kpn_book::{Book, outcome_of};
 use kpn_deadlock::rings_among;
 use kpn_history::{History, State};
 use kpn_lang::Sequence;
-use kpn_stream::{Ending, Limits, Outcome, Streamed, close_sources};
+use kpn_stream::{Limits, Outcome, StreamEnding, Streamed, close_sources};
 use std::alloc::{AllocError, Global};
 
 /// What a stream has come to.
@@ -53,7 +53,7 @@ pub(crate) fn over_of(
 
 /// The outcome of a stream, if it has one.
 fn outcome_at(
-    ending: Ending,
+    ending: StreamEnding,
     book: &mut Book<'_>,
     limits: &Limits,
 ) -> Result<Option<Outcome>, AllocError>
@@ -61,8 +61,8 @@ fn outcome_at(
         IsOutcomeAt limits.now ending book.old outcome book.new) }
 {
     match ending {
-        Ending::Outcome(outcome) => Ok(Some(outcome)),
-        Ending::Resting => {
+        StreamEnding::Outcome(outcome) => Ok(Some(outcome)),
+        StreamEnding::Resting => {
             close_sources(book)?;
             Ok(outcome_of(book, limits))
         }

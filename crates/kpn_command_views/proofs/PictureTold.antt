@@ -9,7 +9,7 @@ use Rattle.kpn_history.specs.declared.stored.Version.{Version}
 use Rattle.kpn_history.specs.declared.stored.Version.TheVariants.{One, Two}
 use Rattle.kpn_text.specs.Document.{Document}
 use Rattle.kpn_audit.specs.Stored.{told, told_behind, history_of}
-use Rattle.kpn_ticks.specs.Ticks.{Clocks, after, start, clocks_after}
+use Rattle.kpn_ticks.specs.Ticks.{Clocks, clocks_with_event, start, clocks_after}
 use Rattle.kpn_ticks.proofs.Told.{same_after, history_clocks}
 use Rattle.kpn_command_views.specs.declared.scale.Scale.{Scale}
 use Rattle.kpn_command_views.specs.PictureText.{scale_for, ticks_in, event_boxes, all_event_boxes, last_boxes, box_count, all_box_count, last_counts, head_text, grid_text, legend, picture, picture_size}
@@ -31,7 +31,7 @@ told_boxes names t told_of s k B (event ∷ events) =
     let more = B ++ told told_of B event ∷ [] in
     ap₂ (λ (xs ys : List ℕ). xs ++ ys) (same_boxes names t told_of s k B event)
     (ap (λ (k : Clocks). all_event_boxes names t s k (told_behind told_of more events)) (same_after t told_of k B event)
-    ∙ told_boxes names t told_of s (after t k event) more events)
+    ∙ told_boxes names t told_of s (clocks_with_event t k event) more events)
 
 told_count : (t told_of : Tables) (s : Scale) (k : Clocks) (B events : List Event)
     → all_box_count t s k (told_behind told_of B events) ≡ all_box_count t s k events
@@ -40,7 +40,7 @@ told_count t told_of s k B (event ∷ events) =
     let more = B ++ told told_of B event ∷ [] in
     ap₂ (λ (m n : ℕ). m + n) (same_count t told_of s k B event)
     (ap (λ (k : Clocks). all_box_count t s k (told_behind told_of more events)) (same_after t told_of k B event)
-    ∙ told_count t told_of s (after t k event) more events)
+    ∙ told_count t told_of s (clocks_with_event t k event) more events)
 
 history_boxes : (v : Version) (names : List (List ℕ)) (t : Tables) (s : Scale) (events : List Event)
     → all_event_boxes names t s (start t true) (history_of v t events)

@@ -6,7 +6,7 @@ use Rattle.std.proofs.lemmas.List.Folds.{concat-append}
 use Rattle.std.proofs.lemmas.List.FromFn.{map-range_with_len_more}
 use Rattle.kpn_net.specs.Tables.{Tables}
 use Rattle.kpn_history.specs.declared.event.Event.{Event}
-use Rattle.kpn_ticks.specs.Ticks.{Clocks, after, start, clocks_after}
+use Rattle.kpn_ticks.specs.Ticks.{Clocks, clocks_with_event, start, clocks_after}
 use Rattle.kpn_ticks.specs.Held.{reads_before}
 use Rattle.kpn_command_views.specs.TimelineText.{each_below, event_lines, all_event_lines, counter_line, read_lines, counter_lines}
 
@@ -26,15 +26,15 @@ one_more line n start so_far more is added =
 -- one event more of those to come
 pub events_next : (names : List (List ℕ)) (t : Tables) (s after_it : Clocks) (events : List Event) (k : ℕ) (d : Event)
     (text more : List ℕ) → k < length events → more ≡ text ++ event_lines names t s (get_or events k d)
-    → after_it ≡ after t s (get_or events k d)
+    → after_it ≡ clocks_with_event t s (get_or events k d)
     → more ++ all_event_lines names t after_it (drop (k + 1) events)
     ≡ text ++ all_event_lines names t s (drop k events)
 events_next names t s after_it events k d text more below added counted =
     let event = get_or events k d in
     let rest = drop (k + 1) events in
     ap (λ (s : Clocks). more ++ all_event_lines names t s rest) counted
-    ∙ ap (λ xs. xs ++ all_event_lines names t (after t s event) rest) added
-    ∙ append_assoc text (event_lines names t s event) (all_event_lines names t (after t s event) rest)
+    ∙ ap (λ xs. xs ++ all_event_lines names t (clocks_with_event t s event) rest) added
+    ∙ append_assoc text (event_lines names t s event) (all_event_lines names t (clocks_with_event t s event) rest)
     ∙ ap (λ (es : List Event). text ++ all_event_lines names t s es) (sym (drop_more events k d below))
 
 -- nothing is to come
@@ -113,9 +113,9 @@ fold_last f a [] x = refl
 fold_last f a (y ∷ xs) x = fold_last f (f a y) xs x
 
 pub clocks_next : (t : Tables) (s now : Clocks) (events : List Event) (k : ℕ) (d : Event) → k < length events
-    → s ≡ clocks_after t true (take k events) → now ≡ after t s (get_or events k d)
+    → s ≡ clocks_after t true (take k events) → now ≡ clocks_with_event t s (get_or events k d)
     → now ≡ clocks_after t true (take (k + 1) events)
 clocks_next t s now events k d below so_far counted =
-    counted ∙ ap (λ (x : Clocks). after t x (get_or events k d)) so_far
-    ∙ sym (fold_last (after t) (start t true) (take k events) (get_or events k d))
+    counted ∙ ap (λ (x : Clocks). clocks_with_event t x (get_or events k d)) so_far
+    ∙ sym (fold_last (clocks_with_event t) (start t true) (take k events) (get_or events k d))
     ∙ ap (λ (es : List Event). clocks_after t true es) (sym (take_more events k d below))

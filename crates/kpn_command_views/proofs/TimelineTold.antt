@@ -12,7 +12,7 @@ use Rattle.kpn_history.specs.declared.stored.Version.TheVariants.{One, Two}
 use Rattle.kpn_history.specs.declared.stored.Trace.{Trace}
 use Rattle.kpn_text.specs.Document.{Document}
 use Rattle.kpn_audit.specs.Stored.{told, told_behind, history_of, tables_for, history_in}
-use Rattle.kpn_ticks.specs.Ticks.{Clocks, after, start}
+use Rattle.kpn_ticks.specs.Ticks.{Clocks, clocks_with_event, start}
 use Rattle.kpn_ticks.proofs.Told.{same_after, history_clocks}
 use Rattle.kpn_command_views.specs.TimelineText.{head, track_line, each_below, event_lines, all_event_lines, last_waits, channel_counters, timeline}
 
@@ -29,7 +29,7 @@ told_lines names t told_of s B (event ∷ events) =
     ap₂ (λ (xs ys : List ℕ). xs ++ ys) (same_lines names t told_of s B event)
     (ap (λ (s : Clocks). all_event_lines names t s (told_behind told_of more events))
     (same_after t told_of s B event)
-    ∙ told_lines names t told_of (after t s event) more events)
+    ∙ told_lines names t told_of (clocks_with_event t s event) more events)
 
 history_lines : (v : Version) (names : List (List ℕ)) (t : Tables) (events : List Event)
     → all_event_lines names t (start t true) (history_of v t events)

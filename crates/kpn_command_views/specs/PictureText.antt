@@ -13,7 +13,7 @@ use Rattle.kpn_history.specs.declared.event.Event.{Event}
 use Rattle.kpn_history.specs.declared.event.Event.TheVariants.{Get, Put, Grow}
 use Rattle.kpn_text_names.specs.Names.{name_at}
 use Rattle.kpn_text.specs.Document.{Document}
-use Rattle.kpn_ticks.specs.Ticks.{Clocks, latest_of, get_tick, put_tick, after, start, clocks_after}
+use Rattle.kpn_ticks.specs.Ticks.{Clocks, latest_of, get_tick, put_tick, clocks_with_event, start, clocks_after}
 use Rattle.kpn_command_views.specs.declared.scale.Scale.{Scale}
 use Rattle.kpn_command_views.specs.TimelineText.{each_below}
 
@@ -149,7 +149,7 @@ event_boxes names t s clocks event = []
 abbrev pub all_event_boxes : (names : List (List ℕ)) → Tables → Scale → Clocks → List Event → List ℕ
 all_event_boxes names t s clocks [] = []
 all_event_boxes names t s clocks (event ∷ events) =
-    event_boxes names t s clocks event ++ all_event_boxes names t s (after t clocks event) events
+    event_boxes names t s clocks event ++ all_event_boxes names t s (clocks_with_event t clocks event) events
 
 -- the title of a wait that has not ended
 abbrev pub last_title : (what name : List ℕ) → (first : ℕ) → List ℕ
@@ -198,7 +198,7 @@ box_count t s clocks event = 0
 abbrev pub all_box_count : Tables → Scale → Clocks → List Event → ℕ
 all_box_count t s clocks [] = 0
 all_box_count t s clocks (event ∷ events) =
-    box_count t s clocks event + all_box_count t s (after t clocks event) events
+    box_count t s clocks event + all_box_count t s (clocks_with_event t clocks event) events
 
 -- how many boxes are drawn of process p, which waits so at the end
 abbrev pub last_count : Scale → Clocks → (p : ℕ) → Wait → ℕ

@@ -12,7 +12,7 @@ use Rattle.kpn_history.specs.declared.event.Event.{Event}
 use Rattle.kpn_history.specs.declared.event.Event.TheVariants.{Get, Put, Grow}
 use Rattle.kpn_text_names.specs.Names.{name_at}
 use Rattle.kpn_text.specs.Document.{Document}
-use Rattle.kpn_ticks.specs.Ticks.{Clocks, latest_of, written_of, read_of, get_tick, put_tick, after, start, clocks_after}
+use Rattle.kpn_ticks.specs.Ticks.{Clocks, latest_of, written_of, read_of, get_tick, put_tick, clocks_with_event, start, clocks_after}
 use Rattle.kpn_ticks.specs.Held.{reads_before}
 
 -- ---- the slices
@@ -78,7 +78,7 @@ event_lines names t s event = []
 abbrev pub all_event_lines : (names : List (List ℕ)) → Tables → Clocks → List Event → List ℕ
 all_event_lines names t s [] = []
 all_event_lines names t s (event ∷ events) =
-    event_lines names t s event ++ all_event_lines names t (after t s event) events
+    event_lines names t s event ++ all_event_lines names t (clocks_with_event t s event) events
 
 -- what is drawn of process p, which waits so at the end: its wait goes on for one tick behind the last one
 abbrev pub last_wait : (names : List (List ℕ)) → Clocks → (p : ℕ) → Wait → List ℕ

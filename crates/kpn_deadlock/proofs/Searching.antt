@@ -8,7 +8,7 @@ use Rattle.kpn_net.specs.Tables.{Tables}
 use Rattle.kpn_net.specs.Waits.{wait_at, awaited, WaitsFor, WaitInTurn, IsCycle}
 use Rattle.kpn_net.proofs.Cycles.{Contains-first, Contains-later, Contains-cases, Contains-none, cycle_from, cycle_short, waits_for_one}
 use Rattle.kpn_cycle.proofs.Walks.{IsAhead, IsClosed}
-use Rattle.kpn_deadlock.specs.Told.{IsLeast, IsCycleFrom, IsOneOf, AreTold, FindsFrom, with_found}
+use Rattle.kpn_deadlock.specs.Told.{IsLeastOf, IsCycleFrom, IsOneOf, AreTold, FindsFrom, with_found}
 
 -- ---- the walk from a process
 
@@ -111,7 +111,7 @@ module _ (t : Tables) (waits : List Wait) (p : ℕ) where
 
     -- the walk has come to a process below p
     smaller : (next : ℕ) → awaited t (wait_at waits at) ≡ Some next → next < p → (others rest : List ℕ)
-        → IsLeast p others → p ∷ others ≡ members ++ at ∷ rest → WaitInTurn t waits at rest p → ⊥
+        → IsLeastOf p others → p ∷ others ≡ members ++ at ∷ rest → WaitInTurn t waits at rest p → ⊥
     smaller next e less others [] least is turn =
         let same = waits_for_one t waits at next p (record { awaited = e }) turn in
         omega arith

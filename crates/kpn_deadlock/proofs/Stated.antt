@@ -13,20 +13,20 @@ use Rattle.kpn_history.specs.Legal.{Legal}
 use Rattle.kpn_history.specs.Views.{IsStateOf}
 use Rattle.kpn_history.proofs.EndsOnce.{ended_by}
 use Rattle.kpn_history.proofs.WaitsAfter.{ended_is_not_blocked}
-use Rattle.kpn_deadlock.specs.Among.{AreStatesOf, wait_in}
+use Rattle.kpn_deadlock.specs.Among.{AreStatesOf, wait_of_state}
 
 -- one state more
 pub states_more : (states : List State) (p : ℕ) (d : State) (wait : Wait) (before after : List Wait) → p < length states
-    → before ≡ map wait_in (take p states) → wait ≡ wait_in (get_or states p d) → after ≡ before ++ wait ∷ []
-    → after ≡ map wait_in (take (p + 1) states)
+    → before ≡ map wait_of_state (take p states) → wait ≡ wait_of_state (get_or states p d) → after ≡ before ++ wait ∷ []
+    → after ≡ map wait_of_state (take (p + 1) states)
 states_more states p d wait before after below so_far is more =
     more ∙ ap (λ xs. xs ++ wait ∷ []) so_far
-    ∙ ap (λ x. map wait_in (take p states) ++ x ∷ []) is
-    ∙ sym (map-append wait_in (take p states) (get_or states p d ∷ []))
-    ∙ ap (map wait_in) (sym (take_more states p d below))
+    ∙ ap (λ x. map wait_of_state (take p states) ++ x ∷ []) is
+    ∙ sym (map-append wait_of_state (take p states) (get_or states p d ∷ []))
+    ∙ ap (map wait_of_state) (sym (take_more states p d below))
 
 state_waits : (t : Tables) → IsNetwork t → (H : List Event) → Legal t H → (p : ℕ) (state : State)
-    → IsStateOf t H p state → wait_in state ≡ wait_of t H p
+    → IsStateOf t H p state → wait_of_state state ≡ wait_of t H p
 state_waits t network H legal p Ready is = sym is.1
 state_waits t network H legal p Held is = sym is.1
 state_waits t network H legal p (WaitsEmpty c) is = sym is.1
@@ -34,17 +34,17 @@ state_waits t network H legal p (WaitsFull c) is = sym is.1
 state_waits t network H legal p (Ended how) is = sym (ended_is_not_blocked t network p H legal (ended_by H p how is))
 
 by_number : (g : ℕ → Wait) (states : List State) (a : ℕ)
-    → ((k : ℕ) → k < length states → wait_in (get_or states k Ready) ≡ g (a + k))
-    → map wait_in states ≡ map g (range_with_len a (length states))
+    → ((k : ℕ) → k < length states → wait_of_state (get_or states k Ready) ≡ g (a + k))
+    → map wait_of_state states ≡ map g (range_with_len a (length states))
 by_number g [] a each = refl
 by_number g (state ∷ states) a each =
-    let first : wait_in state ≡ g a = each 0 (omega arith) ∙ ap g (omega arith) in
-    ap (λ x. x ∷ map wait_in states) first
+    let first : wait_of_state state ≡ g a = each 0 (omega arith) ∙ ap g (omega arith) in
+    ap (λ x. x ∷ map wait_of_state states) first
     ∙ ap (λ xs. g a ∷ xs)
     (by_number g states (a + 1) (λ k below. each (suc k) (omega arith) ∙ ap g (omega arith)))
 
 pub waits_are : (t : Tables) → IsNetwork t → (H : List Event) → Legal t H → (states : List State)
-    → AreStatesOf t H states → map wait_in states ≡ waits_of t H
+    → AreStatesOf t H states → map wait_of_state states ≡ waits_of t H
 waits_are t network H legal states are =
     by_number (wait_of t H) states 0
     (λ k below. state_waits t network H legal k (get_or states k Ready)

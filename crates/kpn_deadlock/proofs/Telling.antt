@@ -10,12 +10,12 @@ use Rattle.kpn_net.specs.Faults.{IsNetwork}
 use Rattle.kpn_net.specs.Waits.{wait_at}
 use Rattle.kpn_net.proofs.Cycles.{Contains-first, Contains-later, Contains-cases, Contains-none, cycle_unique, cycle_below}
 use Rattle.kpn_deadlock.specs.Ring.{AwaitsItem, IsRing, AreFinal}
-use Rattle.kpn_deadlock.specs.Told.{IsCycleFrom, IsRingFrom, AreRings, FindsFrom, is_empty_wait, all_await_items}
+use Rattle.kpn_deadlock.specs.Told.{IsCycleFrom, IsRingFrom, AreRings, FindsFrom, is_wait_for_item, all_await_items}
 use Rattle.kpn_deadlock.proofs.Final.{silent}
 
 -- ---- waits on empty channels
 
-awaits_item : (waits : List Wait) (p : ℕ) (w : Wait) → wait_at waits p ≡ w → is_empty_wait w ≡ true → AwaitsItem waits p
+awaits_item : (waits : List Wait) (p : ℕ) (w : Wait) → wait_at waits p ≡ w → is_wait_for_item w ≡ true → AwaitsItem waits p
 awaits_item waits p Nobody is is_so = absurd (false≢true is_so)
 awaits_item waits p (Empty c) is is_so = record { channel = c; is = is }
 awaits_item waits p (Full c) is is_so = absurd (false≢true is_so)
@@ -24,7 +24,7 @@ each_awaits : (waits : List Wait) (members : List ℕ) → all_await_items waits
     → Contains members q → AwaitsItem waits q
 each_awaits waits [] all q h = absurd (Contains-none q h)
 each_awaits waits (p ∷ members) all q h =
-    let parts = and_parts (is_empty_wait (wait_at waits p)) (all_await_items waits members) all in
+    let parts = and_parts (is_wait_for_item (wait_at waits p)) (all_await_items waits members) all in
     elim (Contains-cases p members q h) [
       | inl same ↦ subst (AwaitsItem waits) same (awaits_item waits p (wait_at waits p) refl parts.0)
       | inr later ↦ each_awaits waits members parts.1 q later
@@ -35,7 +35,7 @@ all_await : (waits : List Wait) (members : List ℕ) → ((q : ℕ) → Contains
 all_await waits [] each = refl
 all_await waits (p ∷ members) each =
     let first = each p (Contains-first p members) in
-    and_from (is_empty_wait (wait_at waits p)) (all_await_items waits members) (ap is_empty_wait first.is)
+    and_from (is_wait_for_item (wait_at waits p)) (all_await_items waits members) (ap is_wait_for_item first.is)
     (all_await waits members (λ q h. each q (Contains-later p members q h)))
 
 -- ---- what the walk from a process says of rings

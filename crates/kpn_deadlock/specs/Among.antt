@@ -16,9 +16,9 @@ pub record AreStatesOf (t : Tables) (H : List Event) (states : List State) : Typ
 -- ---- scaffolding
 
 -- what a process in this state waits for
-abbrev pub wait_in : State → Wait
-wait_in Ready = Nobody
-wait_in Held = Nobody
-wait_in (WaitsEmpty c) = Empty c
-wait_in (WaitsFull c) = Full c
-wait_in (Ended how) = Nobody
+abbrev pub wait_of_state : State → Wait
+wait_of_state Ready = Nobody
+wait_of_state Held = Nobody
+wait_of_state (WaitsEmpty c) = Empty c
+wait_of_state (WaitsFull c) = Full c
+wait_of_state (Ended how) = Nobody

@@ -9,18 +9,18 @@ use Rattle.kpn_net.specs.Waits.{wait_at, IsCycle}
 use Rattle.kpn_deadlock.specs.Ring.{IsRing}
 
 -- p has a number below those of the others
-abbrev pub IsLeast : (p : ℕ) → (others : List ℕ) → Type 0
-IsLeast p others = (q : ℕ) → Contains others q → p < q
+abbrev pub IsLeastOf : (p : ℕ) → (others : List ℕ) → Type 0
+IsLeastOf p others = (q : ℕ) → Contains others q → p < q
 
 -- a cycle, from its member of least number on
 pub record IsCycleFrom (t : Tables) (waits : List Wait) (p : ℕ) (others : List ℕ) : Type 0 where
   pub cycle : IsCycle t waits p others
-  pub least : IsLeast p others
+  pub least : IsLeastOf p others
 
 -- a ring, from its member of least number on
 pub record IsRingFrom (t : Tables) (waits : List Wait) (p : ℕ) (others : List ℕ) : Type 0 where
   pub ring : IsRing t waits p others
-  pub least : IsLeast p others
+  pub least : IsLeastOf p others
 
 -- a list of members is p and these others, which are so
 pub record IsOneOf (Is : ℕ → List ℕ → Type 0) (members : List ℕ) : Type 0 where
@@ -59,11 +59,11 @@ abbrev pub with_found : (told : List (List ℕ)) → Option (List ℕ) → List 
 with_found told None = told
 with_found told (Some members) = told ++ members ∷ []
 
-abbrev pub is_empty_wait : Wait → Bool
-is_empty_wait Nobody = false
-is_empty_wait (Empty c) = true
-is_empty_wait (Full c) = false
+abbrev pub is_wait_for_item : Wait → Bool
+is_wait_for_item Nobody = false
+is_wait_for_item (Empty c) = true
+is_wait_for_item (Full c) = false
 
 -- all these processes wait on empty channels
 abbrev pub all_await_items : List Wait → List ℕ → Bool
-all_await_items waits members = list_all (λ p. is_empty_wait (wait_at waits p)) members
+all_await_items waits members = list_all (λ p. is_wait_for_item (wait_at waits p)) members

@@ -3,7 +3,7 @@ ghost use Rattle.std.specs.Prelude.{◌≡◌, List, map, IfOk};
 ghost use Rattle.kpn_history.specs.declared.event.Event.{Event};
 ghost use Rattle.kpn_history.specs.Waiting.{waits_of};
 ghost use Rattle.kpn_history.specs.Legal.{Legal};
-ghost use Rattle.kpn_deadlock.specs.Among.{AreStatesOf, wait_in};
+ghost use Rattle.kpn_deadlock.specs.Among.{AreStatesOf, wait_of_state};
 ghost use Rattle.kpn_deadlock.specs.Told.{AreRings};
 
 use crate::search::rings;
@@ -30,7 +30,7 @@ pub fn rings_among<A: Allocator + Copy>(
 
 /// What each process waits for.
 fn waits_in<A: Allocator>(alloc: A, states: &[State]) -> Result<Vec<Wait, A>, AllocError>
-    ensures { IfOk result (λ waits. waits.items ≡ map wait_in states.now) }
+    ensures { IfOk result (λ waits. waits.items ≡ map wait_of_state states.now) }
 {
     let mut waits = Vec::with_capacity(alloc, states.len())?;
     for p in 0..states.len() {
@@ -41,7 +41,7 @@ fn waits_in<A: Allocator>(alloc: A, states: &[State]) -> Result<Vec<Wait, A>, Al
 
 /// What a process in this state waits for.
 fn wait_in(state: State) -> Wait
-    ensures { result ≡ wait_in state }
+    ensures { result ≡ wait_of_state state }
 {
     match state {
         State::WaitsEmpty(c) => Wait::Empty(c),

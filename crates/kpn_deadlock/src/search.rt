@@ -3,7 +3,7 @@ ghost use Rattle.std.specs.Prelude.{◌≡◌, IfOk, All};
 ghost use Rattle.kpn_net.specs.Tables.{writer_of, reader_of};
 ghost use Rattle.kpn_net.specs.Waits.{wait_at, process_at, awaited};
 ghost use Rattle.kpn_deadlock.specs.Ring.{AreFinal};
-ghost use Rattle.kpn_deadlock.specs.Told.{AreCycles, AreRings, FindsFrom, IsCycleFrom, IsRingFrom, with_found, is_empty_wait, all_await_items};
+ghost use Rattle.kpn_deadlock.specs.Told.{AreCycles, AreRings, FindsFrom, IsCycleFrom, IsRingFrom, with_found, is_wait_for_item, all_await_items};
 
 use kpn_lang::Sequence;
 use kpn_net::{End, Network, Wait};
@@ -170,7 +170,7 @@ fn do_all_await_items(waits: &[Wait], members: &[usize]) -> bool
 }
 
 fn is_empty_wait(wait: Wait) -> bool
-    ensures { result ≡ is_empty_wait wait }
+    ensures { result ≡ is_wait_for_item wait }
 {
     match wait {
         Wait::Empty(_) => true,

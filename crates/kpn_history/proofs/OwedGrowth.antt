@@ -27,7 +27,7 @@ use Rattle.kpn_history.specs.WaitsAfter.{wait_made}
 use Rattle.kpn_history.specs.Waking.{wait_then}
 use Rattle.kpn_history.specs.Ends.{IsSettled}
 use Rattle.kpn_history.specs.Legal.{waiter, OwesCycleGrowth, OwesGrowth, Legal}
-use Rattle.kpn_history.specs.Stops.{OwesNothing, OwesNoCycleGrowth, OwesNoStopGrowth, goes_on, IsAwaitedByWriter, HasCapacityBelow}
+use Rattle.kpn_history.specs.Stops.{OwesNothing, OwesNoCycleGrowth, OwesNoStopGrowth, lets_go_on, IsAwaitedByWriter, HasCapacityBelow}
 use Rattle.kpn_history.proofs.Legality.{Legal-last, Legal-before}
 use Rattle.kpn_history.proofs.AfterEvent.{has_ended-next, is_closed-next}
 use Rattle.kpn_history.proofs.EarlierWaits.{wait_at-waits_of}
@@ -178,7 +178,7 @@ free_after t network B e legal p below own no_end none =
 
 -- after an item has moved or a channel has grown the history is not settled
 pub unsettled_after : (t : Tables) → IsNetwork t → (B : List Event) (e : Event) → Legal t (B ++ e ∷ [])
-    → goes_on e ≡ true → ¬ IsSettled t (B ++ e ∷ [])
+    → lets_go_on e ≡ true → ¬ IsSettled t (B ++ e ∷ [])
 unsettled_after t network B (Get p c v) legal goes =
     free_after t network B (Get p c v) legal p (Legal-last t B (Get p c v) legal).numbers.0 (eq-eqb p p refl) refl refl
 unsettled_after t network B (Put p c v) legal goes =
@@ -204,7 +204,7 @@ unsettled_after t network B (Grow p d n) legal goes =
 unsettled_after t network B e legal goes = absurd (false≢true goes)
 
 pub no_stop_owed_after : (t : Tables) → IsNetwork t → (B : List Event) (e : Event) → Legal t (B ++ e ∷ [])
-    → goes_on e ≡ true → OwesNoStopGrowth t (B ++ e ∷ [])
+    → lets_go_on e ≡ true → OwesNoStopGrowth t (B ++ e ∷ [])
 no_stop_owed_after t network B e legal goes p d owed = unsettled_after t network B e legal goes owed.settled
 
 -- if nothing is owed at a stop under `all`, each channel on which a process waits as full is at the limit

@@ -12,7 +12,7 @@ use Rattle.kpn_history.specs.declared.event.Event.{Event}
 use Rattle.kpn_history.specs.declared.event.Event.TheVariants.{Get, Put, WaitEmpty, WaitFull, Ended, Feed}
 use Rattle.kpn_history.specs.Talks.{is_of, last_event, is_end_of, has_ended}
 use Rattle.kpn_history.specs.Channels.{written_in, read_in, written_on, read_on, unread_on, is_growth_of, reader_lives, capacity_after, reaches, is_empty, is_full}
-use Rattle.kpn_history.specs.Waiting.{wait_in, wait_of_last, wait_of}
+use Rattle.kpn_history.specs.Waiting.{lasting_wait, wait_of_last, wait_of}
 use Rattle.kpn_history.specs.WaitsAfter.{wait_made, wait_kept, wait_after}
 use Rattle.kpn_history.specs.Legal.{MayFollow, Legal}
 use Rattle.kpn_history.proofs.Events.{Some-event, last_event-own, last_event-other, has_ended-push, written_on-same, read_on-same}
@@ -128,7 +128,7 @@ own_full t B p c full =
     is_full-same t B (WaitFull p c) c refl refl refl (keeps_reader t c (WaitFull p c) (λ q. refl) refl) ∙ full
 
 wait_of_own : (t : Tables) (B : List Event) (e : Event) → Legal t (B ++ e ∷ [])
-    → wait_in t (B ++ e ∷ []) e ≡ wait_made e
+    → lasting_wait t (B ++ e ∷ []) e ≡ wait_made e
 wait_of_own t B (WaitEmpty p c) legal =
     ap (λ b. cond b (Empty c) Nobody) (own_empty B p c (Legal-last t B (WaitEmpty p c) legal).due.1.empty)
 wait_of_own t B (WaitFull p c) legal =

@@ -25,12 +25,12 @@ abbrev pub OwesNoStopGrowth : Tables → List Event → Type 0
 OwesNoStopGrowth t H = (p d : ℕ) → ¬ OwesStopGrowth t H p d
 
 -- after the event something may still go on: an item has moved, or a channel has grown
-abbrev pub goes_on : Event → Bool
-goes_on (Get p c v) = true
-goes_on (Put p c v) = true
-goes_on (Feed c v) = true
-goes_on (Grow p d n) = true
-goes_on event = false
+abbrev pub lets_go_on : Event → Bool
+lets_go_on (Get p c v) = true
+lets_go_on (Put p c v) = true
+lets_go_on (Feed c v) = true
+lets_go_on (Grow p d n) = true
+lets_go_on event = false
 
 -- the writer of a channel is a process that waits on it as full
 pub record IsAwaitedByWriter (t : Tables) (H : List Event) (d : ℕ) : Type 0 where

@@ -12,14 +12,14 @@ use Rattle.kpn_history.specs.Talks.{last_event}
 use Rattle.kpn_history.specs.Channels.{is_empty, is_full}
 
 -- a wait lasts while its channel is empty or full
-abbrev pub wait_in : Tables → List Event → Event → Wait
-wait_in t H (WaitEmpty p c) = if is_empty H c then Empty c else Nobody
-wait_in t H (WaitFull p c) = if is_full t H c then Full c else Nobody
-wait_in t H event = Nobody
+abbrev pub lasting_wait : Tables → List Event → Event → Wait
+lasting_wait t H (WaitEmpty p c) = if is_empty H c then Empty c else Nobody
+lasting_wait t H (WaitFull p c) = if is_full t H c then Full c else Nobody
+lasting_wait t H event = Nobody
 
 abbrev pub wait_of_last : Tables → List Event → Option Event → Wait
 wait_of_last t H None = Nobody
-wait_of_last t H (Some event) = wait_in t H event
+wait_of_last t H (Some event) = lasting_wait t H event
 
 -- what a process is blocked on: the channel of its last event, if that is a wait and the channel is still empty, or
 -- still full. It is blocked if this is not Nobody

@@ -16,7 +16,7 @@ ghost use Rattle.kpn_history.specs.Channels.{capacity_after, capacity_or_zero};
 ghost use Rattle.kpn_history.specs.Waiting.{wait_of, waits_of, HasFullCycle};
 ghost use Rattle.kpn_history.specs.Legal.{waiter, OwesCycleGrowth, OwesGrowth, Legal};
 ghost use Rattle.kpn_history.specs.Ends.{WaitsOnFull, IsQuiet, IsSettled, IsVerdict};
-ghost use Rattle.kpn_history.specs.Stops.{OwesNothing, OwesNoCycleGrowth, OwesNoStopGrowth, goes_on, IsAwaitedByWriter, HasCapacityBelow, CanGrow, IsJammedAtLimit, WaitsForBlocked};
+ghost use Rattle.kpn_history.specs.Stops.{OwesNothing, OwesNoCycleGrowth, OwesNoStopGrowth, lets_go_on, IsAwaitedByWriter, HasCapacityBelow, CanGrow, IsJammedAtLimit, WaitsForBlocked};
 
 use kpn_limits::MAX_CAPACITY;
 
@@ -38,7 +38,7 @@ pub fn one_growth_is_owed()
     ensures waits { (t : Tables) (B : List Event) (event : Event) → waiter event ≡ None
         → OwesNoCycleGrowth t (B ++ event ∷ []) }
     ensures stops { (t : Tables) → IsNetwork t → (B : List Event) (event : Event)
-        → Legal t (B ++ event ∷ []) → goes_on event ≡ true
+        → Legal t (B ++ event ∷ []) → lets_go_on event ≡ true
         → OwesNoStopGrowth t (B ++ event ∷ []) }
     ensures cycles { (t : Tables) (H : List Event) → t.policy ≡ Cycles → OwesNoStopGrowth t H }
 {}

@@ -14,7 +14,7 @@ use std::mem;
 const _: () = prove!(size_of::<Event>() <= 16);
 
 /// For how many events there is memory at least where none is kept.
-const SHORT: usize = 256;
+const FEWEST_EVENTS: usize = 256;
 
 /// The events of a run so far, oldest first, and memory for some more.
 ///
@@ -101,7 +101,7 @@ impl<A: Allocator> History<A> {
         }
         if self.events.capacity() < n {
             // more than asked for, so that not each call that asks for as much comes here
-            return self.events.reserve(n.saturating_mul(2).max(SHORT));
+            return self.events.reserve(n.saturating_mul(2).max(FEWEST_EVENTS));
         }
         forget(&mut self.past, &mut self.newest, &mut self.events);
         Ok(())

@@ -12,7 +12,7 @@ use Rattle.kpn_lang.specs.Parts.{Parts}
 use Rattle.kpn_step.specs.Frame.{Frame, fits, passed}
 use Rattle.kpn_step.specs.Stops.{IsGiven}
 use Rattle.kpn_step.proofs.Places.{Fits-from}
-use Rattle.kpn_chan.specs.Channel.{ChannelState, after_put, after_get, retired, is_full, most_after}
+use Rattle.kpn_chan.specs.Channel.{ChannelState, after_put, after_get, retired, is_channel_full, most_after}
 use Rattle.kpn_history.specs.declared.event.How.{How}
 use Rattle.kpn_history.specs.declared.event.Event.{Event}
 use Rattle.kpn_history.specs.declared.event.Event.TheVariants.{Get, Put, WaitEmpty, WaitFull, Feed, Close, Take, Leave}
@@ -190,7 +190,7 @@ module _ (t : Tables) (s : Machine) (shape : IsMachine t s) where
     module _ (put : ch ≡ after_put v ch.is_reserved (channel_in s c))
         (woke : waits ≡ woken_at (is_wait (Empty c)) s.waits (reader_of t c)) where
       pub Made-put : (p : ℕ) → p < length t.instances → IsFree s p → WritesTo t s p c v → writer_of t c ≡ Process p
-          → is_full (channel_in s c) ≡ false
+          → is_channel_full (channel_in s c) ≡ false
           → after ≡ record s {
             channels = slice_set s.channels c ch;
             waits = waits;

@@ -31,7 +31,7 @@ use Rattle.kpn_history.proofs.Above.{IsLast-ending_of}
 use Rattle.kpn_history.proofs.OneMore.{Legal-exactly, item_here}
 use Rattle.kpn_machine.specs.Machine.{Machine, channel_in, closed_in, end_in, frame_in, IsFree}
 use Rattle.kpn_machine.specs.Run.{HoldsChannel, IsEndOf, IsRun}
-use Rattle.kpn_machine.specs.Due.{Stands, ReadsFrom, WritesTo, stop_at, stop_of, IsDueNow}
+use Rattle.kpn_machine.specs.Due.{Stands, ReadsFrom, WritesTo, stop_for, stop_of, IsDueNow}
 use Rattle.kpn_machine.proofs.Talking.{CanSay-next, ComesTo-end}
 
 -- ---- ends as stops
@@ -42,7 +42,7 @@ stop_of-fault ZeroDivisor = refl
 stop_of-fault Index = refl
 stop_of-fault Shift = refl
 
-last_is_no_pause : (end : Ending) → IsLast end → stop_at end ≢ stop.Paused
+last_is_no_pause : (end : Ending) → IsLast end → stop_for end ≢ stop.Paused
 last_is_no_pause ending.Done last e = absurd cc
 last_is_no_pause (ending.Faulted fault) last e = absurd cc
 last_is_no_pause end last e = absurd last
@@ -188,7 +188,7 @@ module _ (t : Tables) (network : IsNetwork t) (H : List Event) (s : Machine) (ru
           },
         ) tt
 
-    comes_last : (end : Ending) → IsLast end → Stands t s p (stop_at end) → ComesTo t p (read_on H) end (talk_of H p)
+    comes_last : (end : Ending) → IsLast end → Stands t s p (stop_for end) → ComesTo t p (read_on H) end (talk_of H p)
     comes_last ending.Done last stands = comes_to stop.Done stands (λ e. absurd cc) ending.Done tt (λ e. absurd cc)
     comes_last (ending.Faulted fault) last stands =
         comes_to (stop.Faulted fault) stands (λ e. absurd cc) (ending.Faulted fault) refl (λ e. absurd cc)

@@ -42,7 +42,7 @@ use Rattle.kpn_history.proofs.Running.{IsLast}
 use Rattle.kpn_history.proofs.Above.{IsLast-ending_of}
 use Rattle.kpn_machine.specs.Machine.{Machine, channel_in, end_in, frame_in, IsFree}
 use Rattle.kpn_machine.specs.Run.{IsEndOf, StandsAfter, IsRun}
-use Rattle.kpn_machine.specs.Due.{Stands, ReadsFrom, WritesTo, stop_at, stop_of, IsDueNow}
+use Rattle.kpn_machine.specs.Due.{Stands, ReadsFrom, WritesTo, stop_for, stop_of, IsDueNow}
 use Rattle.kpn_machine.proofs.Due.{unread_same, full_same}
 use Rattle.kpn_machine.proofs.Ports.{reads_below, reads_own}
 use Rattle.kpn_machine.proofs.Talking.{IsRestAfter-more}
@@ -241,9 +241,9 @@ module _ (t : Tables) (network : IsNetwork t) (H : List Event) (s : Machine) (ru
     ended_at : (at : Stop) (mine : Ending) (rest : Lists) (how : How)
         → Stands t s p at → ends_at_channel (instance_at t p) mine ≡ ending_of how → EndsThere at rest mine
         → Stands t s p (stop_of how)
-    ended_at stop.Done ending.Done rest how stands own ends = subst (λ x. Stands t s p x) (ap stop_at own) stands
+    ended_at stop.Done ending.Done rest how stands own ends = subst (λ x. Stands t s p x) (ap stop_for own) stands
     ended_at (stop.Faulted f) (ending.Faulted other) rest how stands own ends =
-        subst (λ x. Stands t s p x) (ap stop.Faulted (sym ends) ∙ ap stop_at own) stands
+        subst (λ x. Stands t s p x) (ap stop.Faulted (sym ends) ∙ ap stop_for own) stands
     ended_at at (ending.Starved i) rest how stands own ends = absurd (subst IsLast (sym own) (IsLast-ending_of how))
     ended_at at ending.Cut rest how stands own ends = absurd (subst IsLast (sym own) (IsLast-ending_of how))
     ended_at at mine rest how stands own ends = absurd ends

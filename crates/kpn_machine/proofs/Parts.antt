@@ -13,7 +13,7 @@ use Rattle.kpn_net.proofs.Networks.{larger_capacity_is_some}
 use Rattle.kpn_net.specs.Waits.{wait_at, IsOwnWait, AreWaits}
 use Rattle.kpn_step.specs.Frame.{Frame, fits}
 use Rattle.kpn_step.proofs.Places.{fits-passed, fits-passed_with}
-use Rattle.kpn_chan.specs.Channel.{ChannelState, opened, unread, is_full, fills, most_after, most_after_put}
+use Rattle.kpn_chan.specs.Channel.{ChannelState, opened, unread, is_channel_full, fills, most_after, most_after_put}
 use Rattle.kpn_history.specs.declared.event.Event.{Event}
 use Rattle.kpn_history.specs.declared.event.Event.TheVariants.{Get, Put, WaitEmpty, WaitFull, Feed, Close, Take, Leave, Grow}
 use Rattle.kpn_history.specs.Talks.{is_of, is_end_of}
@@ -170,7 +170,7 @@ wait_then-close t c q (Full d) = refl
 -- only the writer of a channel puts there, and not if it is full, only a source is fed, a process that comes to wait as
 -- full has an item reserved, and if a channel grows, the limit is not 0 and its capacity becomes no less
 abbrev pub KeepsRoom : Tables → Machine → Event → Type 0
-KeepsRoom t s (Put p c v) = (writer_of t c ≡ end.Process p) × (is_full (channel_in s c) ≡ false)
+KeepsRoom t s (Put p c v) = (writer_of t c ≡ end.Process p) × (is_channel_full (channel_in s c) ≡ false)
 KeepsRoom t s (Feed c v) = is_source (channel_at t c) ≡ true
 KeepsRoom t s (WaitFull p c) = IsTrue (channel_in s c).is_reserved
 KeepsRoom t s (Grow p c n) =
@@ -255,7 +255,7 @@ most_put true most count cap room within = within
 most_put false most count cap room within =
     let below = not_past cap count room in omega (arith, below, within)
 
-within_put : (channel : ChannelState) (cap : ℕ) → is_full channel ≡ false → channel.capacity ≡ Some cap
+within_put : (channel : ChannelState) (cap : ℕ) → is_channel_full channel ≡ false → channel.capacity ≡ Some cap
     → channel.most ≤ cap → most_after_put channel ≤ cap
 within_put channel cap room is within =
     most_put channel.is_retired channel.most (length (unread channel)) cap
@@ -269,7 +269,7 @@ within_then t s (Put p d v) keeps c below h cap is = by_test (eqb d c) refl
   where
     by_test : (b : Bool) → eqb d c ≡ b → most_after (cond b (v ∷ []) []) (channel_in s c) ≤ cap
     by_test true same =
-        within_put (channel_in s c) cap (subst (λ x. is_full (channel_in s x) ≡ false) (eqb-true d c same) keeps.1) is
+        within_put (channel_in s c) cap (subst (λ x. is_channel_full (channel_in s x) ≡ false) (eqb-true d c same) keeps.1) is
         (h.within c cap below is)
     by_test false other = h.within c cap below is
 within_then t s (Feed d v) keeps c below h cap is = by_test (eqb d c) refl

@@ -6,7 +6,7 @@ use Rattle.kpn_net.specs.Tables.{Tables, instance_at, program_of, channel_at, is
 use Rattle.kpn_step.specs.declared.stop.Stop.{Stop}
 use Rattle.kpn_step.specs.declared.stop.Stop.TheVariants.{WantRead, WantWrite, Done, Faulted, Paused}
 use Rattle.kpn_step.specs.Stops.{StandsAt}
-use Rattle.kpn_chan.specs.Channel.{unread, is_full, next_item}
+use Rattle.kpn_chan.specs.Channel.{unread, is_channel_full, next_item}
 use Rattle.kpn_history.specs.declared.event.Event.{Event}
 use Rattle.kpn_history.specs.declared.event.Event.TheVariants.{Get, Put, WaitEmpty, WaitFull, Ended, Feed, Close, Take, Leave, Grow}
 use Rattle.kpn_history.specs.declared.event.How.{How}
@@ -33,14 +33,14 @@ pub record WritesTo (t : Tables) (s : Machine) (p c : ℕ) (v : ℤ) : Type 0 wh
   pub stands : Stands t s p (WantWrite port v)
 
 -- the stop of a process that comes to this ending; a pause if it does not end there
-abbrev pub stop_at : Ending → Stop
-stop_at ending.Done = Done
-stop_at (ending.Faulted fault) = Faulted fault
-stop_at other = Paused
+abbrev pub stop_for : Ending → Stop
+stop_for ending.Done = Done
+stop_for (ending.Faulted fault) = Faulted fault
+stop_for other = Paused
 
 -- the stop of a process that ends in this way
 abbrev pub stop_of : How → Stop
-stop_of how = stop_at (ending_of how)
+stop_of how = stop_for (ending_of how)
 
 -- ---- when an event is due
 
@@ -49,9 +49,9 @@ stop_of how = stop_at (ending_of how)
 -- is for moments that owe no growth, so no growth is due. For a growth see IsOwed
 abbrev pub IsDueNow : Tables → Machine → Event → Type 0
 IsDueNow t s (Get p c v) = IsFree s p × ReadsFrom t s p c × (next_item (channel_in s c) ≡ Some v)
-IsDueNow t s (Put p c v) = IsFree s p × WritesTo t s p c v × (is_full (channel_in s c) ≡ false)
+IsDueNow t s (Put p c v) = IsFree s p × WritesTo t s p c v × (is_channel_full (channel_in s c) ≡ false)
 IsDueNow t s (WaitEmpty p c) = IsFree s p × ReadsFrom t s p c × (unread (channel_in s c) ≡ [])
-IsDueNow t s (WaitFull p c) = IsFree s p × ((v : ℤ) × WritesTo t s p c v) × (is_full (channel_in s c) ≡ true)
+IsDueNow t s (WaitFull p c) = IsFree s p × ((v : ℤ) × WritesTo t s p c v) × (is_channel_full (channel_in s c) ≡ true)
 IsDueNow t s (Ended p how) = IsFree s p × Stands t s p (stop_of how)
 IsDueNow t s (Feed c v) = (is_source (channel_at t c) ≡ true) × (closed_in s c ≡ false)
 IsDueNow t s (Close c) = (is_source (channel_at t c) ≡ true) × (closed_in s c ≡ false)

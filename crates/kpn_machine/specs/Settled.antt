@@ -10,8 +10,8 @@ use Rattle.kpn_history.specs.declared.state.Verdict.TheVariants.{Ended, Clogged,
 use Rattle.kpn_machine.specs.Machine.{Machine, channel_in, closed_in, wait_in, end_in}
 
 -- each process has ended or waits
-abbrev pub HaveStopped : Tables → Machine → Type 0
-HaveStopped t s =
+abbrev pub HaveStoppedIn : Tables → Machine → Type 0
+HaveStoppedIn t s =
     (p : ℕ) → p < length t.instances → ((how : How) × (end_in s p ≡ Some how)) ⊎ (wait_in s p ≢ Nobody)
 
 -- each source is closed, and each sink is empty or left
@@ -22,7 +22,7 @@ pub record IsOutsideDone (t : Tables) (s : Machine) : Type 0 where
 
 -- nothing goes on by itself, and the outside has done all that it may
 pub record IsSettledNow (t : Tables) (s : Machine) : Type 0 where
-  pub processes : HaveStopped t s
+  pub processes : HaveStoppedIn t s
   pub outside : IsOutsideDone t s
 
 -- some cycle of waiting processes has a full channel

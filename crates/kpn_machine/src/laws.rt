@@ -24,7 +24,7 @@ ghost use Rattle.kpn_step.specs.declared.stop.Stop.TheVariants.{Paused};
 ghost use Rattle.kpn_history.specs.Talks.{is_of, is_of_process, talk_of};
 ghost use Rattle.kpn_history.specs.Legal.{HasNumbers, Legal, OwesGrowth, growth_after};
 ghost use Rattle.kpn_history.specs.Stops.{OwesNothing};
-ghost use Rattle.kpn_chan.specs.Channel.{unread, is_full, next_item};
+ghost use Rattle.kpn_chan.specs.Channel.{unread, is_channel_full, next_item};
 ghost use Rattle.kpn_machine.specs.Machine.{Machine, IsMachine, channel_in, wait_in, end_in, frame_in, capacities, IsFree};
 ghost use Rattle.kpn_machine.specs.Woken.{waiting_writer, waiting_reader};
 ghost use Rattle.kpn_machine.specs.Quiet.{IsQuietNow};
@@ -94,7 +94,7 @@ pub fn who_can_go_on_is_awake()
         → next_item (channel_in s c) ≡ Some item → wait_in s p ≡ Nobody }
     ensures writes { (t : Tables) → IsNetwork t → (H : List Event) (s : Machine) → IsRun t H s
         → (p c : ℕ) (item : ℤ) → p < length t.instances → WritesTo t s p c item
-        → is_full (channel_in s c) ≡ false → wait_in s p ≡ Nobody }
+        → is_channel_full (channel_in s c) ≡ false → wait_in s p ≡ Nobody }
 {}
 
 /// At every moment of a run the journal of a channel is what was read from it and then what is unread, and is below the

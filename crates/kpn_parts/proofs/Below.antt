@@ -14,7 +14,7 @@ use Rattle.kpn_history.specs.Channels.{written_in, written_on, fed}
 use Rattle.kpn_history.proofs.Below.{IsBelowIterate, fed_on_sources}
 use Rattle.kpn_parts.specs.declared.order.PartEvent.{PartEvent}
 use Rattle.kpn_parts.specs.Cut.{Part, whole_channel, part_at, IsCut}
-use Rattle.kpn_parts.specs.Joined.{events_of, in_whole, is_of_whole, whole_event, whole_history, IsJoined}
+use Rattle.kpn_parts.specs.Joined.{events_of_part, in_whole, is_of_whole, whole_event, whole_history, IsJoined}
 use Rattle.kpn_parts.proofs.Spoken.{IsSpoken}
 use Rattle.kpn_parts.proofs.Least.{one_more}
 use Rattle.kpn_parts.proofs.Orders.{whole_history-push, joined-prefix, owns_last, by_joined}
@@ -87,14 +87,14 @@ module _ (t : Tables) (network : IsNetwork t) (cut : List Part) (is : IsCut t cu
   pub part_below_least : (order : List PartEvent) → IsJoined t cut order
       → IsPrefixOnSources t (fed t (whole_history t cut order)) given → (r c : ℕ)
       → c < length (part_at cut r).tables.channels
-      → IsBelowLeast t given (whole_channel (part_at cut r) c) (written_on (events_of r order) c)
+      → IsBelowLeast t given (whole_channel (part_at cut r) c) (written_on (events_of_part r order) c)
   part_below_least order joined begun r c there =
       let b = below_one_iterate order joined begun in
       let x = whole_channel (part_at cut r) c in
       record {
         turns = b.turns;
         below =
-            IsPrefix-trans (written_on (events_of r order) c) (written_on (whole_history t cut order) x)
+            IsPrefix-trans (written_on (events_of_part r order) c) (written_on (whole_history t cut order) x)
             (iterate t given b.turns x)
             (journal_begins t network cut is r c there order joined) (b.below x);
       }

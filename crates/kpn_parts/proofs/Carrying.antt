@@ -6,15 +6,15 @@ use Rattle.std.proofs.Math.ListN.{get_or-append}
 use Rattle.std.proofs.Math.Seq.{get_or-append_seam}
 use Rattle.kpn_lang.proofs.Prefixes.{IsPrefix-refl, length_of_prefix}
 use Rattle.kpn_parts.specs.declared.order.PartEvent.{PartEvent}
-use Rattle.kpn_parts.specs.declared.link.Link.{Link}
+use Rattle.kpn_parts.specs.declared.link.PartLink.{PartLink}
 use Rattle.kpn_parts.specs.declared.joining.Carried.{Carried}
-use Rattle.kpn_parts.specs.Links.{put_on, fed_on, IsSentOn, AreSent, IsCarriedOn, IsCarried, AreCarried, CarryNothing, CarryMore, FedAtMost, MayCome, items_on, items_of, IsNext}
+use Rattle.kpn_parts.specs.Links.{put_on_link, fed_on, IsSentOn, AreSent, IsCarriedOn, IsCarried, AreCarried, CarryNothing, CarryMore, FedAtMost, MayCome, items_on, items_of, IsNext}
 use Rattle.kpn_parts.proofs.Sending.{sent_start, sent_next, next_if_sent}
 
 -- ---- one link and one event
 
 -- a feed of the next item keeps the link sent, and no other
-pub next_exactly : (link : Link) (order : List PartEvent) (e : PartEvent) (items : List ℤ) (fed : ℕ)
+pub next_exactly : (link : PartLink) (order : List PartEvent) (e : PartEvent) (items : List ℤ) (fed : ℕ)
     (put feed : Option ℤ) → IsCarriedOn link order items fed → items_on link.writer link.sink e ≡ items_of put
     → items_on link.reader link.source e ≡ items_of feed
     → IsNext (items ++ items_of put) fed feed ↔ IsSentOn (order ++ e ∷ []) link
@@ -31,15 +31,15 @@ next_exactly link order e items fed put feed carried puts feeds = (
         (sent_next link order e items fed put (Some v) (items ++ items_of put) carried puts is refl (fed + 1)
         (refl, next)).sent
 
-pub fed_at_most : (link : Link) (order : List PartEvent) (items : List ℤ) (fed : ℕ) → IsCarriedOn link order items fed
+pub fed_at_most : (link : PartLink) (order : List PartEvent) (items : List ℤ) (fed : ℕ) → IsCarriedOn link order items fed
     → fed ≤ length items
 fed_at_most link order items fed h =
-    let long = length_of_prefix (fed_on order link) (put_on order link) (h.sent order (IsPrefix-refl order)) in
+    let long = length_of_prefix (fed_on order link) (put_on_link order link) (h.sent order (IsPrefix-refl order)) in
     let a = h.count in let b = ap length h.put in omega (arith, long, a, b)
 
 -- ---- all links
 
-pub carried_start : (links : List Link) (carried : List Carried) → CarryNothing carried (length links)
+pub carried_start : (links : List PartLink) (carried : List Carried) → CarryNothing carried (length links)
     → AreCarried links [] carried
 carried_start links carried h =
     record {
@@ -49,14 +49,14 @@ carried_start links carried h =
           sent_start (get_or links l x) [] (get_or carried l d).items.items (get_or carried l d).fed refl none.0 none.1;
     }
 
-pub are_fed_at_most : (links : List Link) (order : List PartEvent) (carried : List Carried)
+pub are_fed_at_most : (links : List PartLink) (order : List PartEvent) (carried : List Carried)
     → AreCarried links order carried → FedAtMost carried
 are_fed_at_most [] order carried h l d below = let none = h.same in absurd omega (arith, none, below)
 are_fed_at_most (x ∷ links) order carried h l d below =
     fed_at_most (get_or (x ∷ links) l x) order (get_or carried l d).items.items (get_or carried l d).fed
     (h.each l x d (subst (λ n. l < n) h.same below))
 
-pub carried_next : (links : List Link) (order : List PartEvent) (e : PartEvent) (old new : List Carried)
+pub carried_next : (links : List PartLink) (order : List PartEvent) (e : PartEvent) (old new : List Carried)
     → AreCarried links order old → MayCome links order e → CarryMore links e old new (length links)
     → AreCarried links (order ++ e ∷ []) new
 carried_next links order e old new h may more =
@@ -65,14 +65,14 @@ carried_next links order e old new h may more =
       each = λ l x d below. more.below l x d below order (h.each l x d below) (may l x below);
     }
 
-pub carried_sent : (links : List Link) (order : List PartEvent) (carried : List Carried)
+pub carried_sent : (links : List PartLink) (order : List PartEvent) (carried : List Carried)
     → AreCarried links order carried → AreSent links order
 carried_sent links order [] h l x below = let none = h.same in absurd omega (arith, none, below)
 carried_sent links order (c ∷ carried) h l x below = (h.each l x c below).sent
 
 -- ---- the loops
 
-pub more_start : (links : List Link) (e : PartEvent) (carried : List Carried) → CarryMore links e carried carried 0
+pub more_start : (links : List PartLink) (e : PartEvent) (carried : List Carried) → CarryMore links e carried carried 0
 more_start links e carried =
     record {
       same = refl;
@@ -80,7 +80,7 @@ more_start links e carried =
       above = λ l d past. refl;
     }
 
-pub more_next : (links : List Link) (e : PartEvent) (old new : List Carried) (n : ℕ) (y : Link) (c b : Carried)
+pub more_next : (links : List PartLink) (e : PartEvent) (old new : List Carried) (n : ℕ) (y : PartLink) (c b : Carried)
     → CarryMore links e old new n → n < length links → n < length old → c ≡ get_or new n b → (after : Carried)
     → ((order : List PartEvent) → IsCarried (get_or links n y) order c
     → IsSentOn (order ++ e ∷ []) (get_or links n y) → IsCarried (get_or links n y) (order ++ e ∷ []) after)
@@ -134,9 +134,9 @@ nothing_next carried n c h none zero' =
 -- ---- the test of an event
 
 -- one link more
-links_next : (order : List PartEvent) (links : List Link) (l : ℕ) (d : Link)
-    → ((j : ℕ) (x : Link) → j < l → IsSentOn order (get_or links j x)) → l < length links
-    → IsSentOn order (get_or links l d) → (j : ℕ) (x : Link) → j < l + 1 → IsSentOn order (get_or links j x)
+links_next : (order : List PartEvent) (links : List PartLink) (l : ℕ) (d : PartLink)
+    → ((j : ℕ) (x : PartLink) → j < l → IsSentOn order (get_or links j x)) → l < length links
+    → IsSentOn order (get_or links l d) → (j : ℕ) (x : PartLink) → j < l + 1 → IsSentOn order (get_or links j x)
 links_next order links l d before below now j x h =
     elim (cases_eq j l) [
       | inl same ↦
@@ -146,11 +146,11 @@ links_next order links l d before below now j x h =
     ]
 
 -- what the test of one link shows
-abbrev pub Tests : Link → Carried → PartEvent → Bool → Type 0
+abbrev pub Tests : PartLink → Carried → PartEvent → Bool → Type 0
 Tests link carried e result =
     (order : List PartEvent) → IsCarried link order carried → ((result ≡ true) ↔ IsSentOn (order ++ e ∷ []) link)
 
-pub refused : (links : List Link) (carried : List Carried) (e : PartEvent) (l : ℕ) (y : Link) (b one : Carried)
+pub refused : (links : List PartLink) (carried : List Carried) (e : PartEvent) (l : ℕ) (y : PartLink) (b one : Carried)
     (result : Bool) → l < length links → one ≡ get_or carried l b → Tests (get_or links l y) one e result
     → result ≡ false → (order : List PartEvent) → AreCarried links order carried → MayCome links order e → ⊥
 refused links carried e l y b one result below at tests fails order h may =
@@ -158,12 +158,12 @@ refused links carried e l y b one result below at tests fails order h may =
     (tests order (subst (IsCarried (get_or links l y) order) (sym at) (h.each l y b below))).1 (may l y below) in
     both_ways result fails is
 
-pub accepted : (links : List Link) (carried : List Carried) (e : PartEvent) (l : ℕ) (y : Link) (b one : Carried)
+pub accepted : (links : List PartLink) (carried : List Carried) (e : PartEvent) (l : ℕ) (y : PartLink) (b one : Carried)
     (result : Bool) → l < length links → one ≡ get_or carried l b → Tests (get_or links l y) one e result
     → result ≡ true
-    → ((order : List PartEvent) → AreCarried links order carried → (j : ℕ) (x : Link) → j < l
+    → ((order : List PartEvent) → AreCarried links order carried → (j : ℕ) (x : PartLink) → j < l
     → IsSentOn (order ++ e ∷ []) (get_or links j x))
-    → (order : List PartEvent) → AreCarried links order carried → (j : ℕ) (x : Link) → j < l + 1
+    → (order : List PartEvent) → AreCarried links order carried → (j : ℕ) (x : PartLink) → j < l + 1
     → IsSentOn (order ++ e ∷ []) (get_or links j x)
 accepted links carried e l y b one result below at tests is before order h =
     links_next (order ++ e ∷ []) links l y (before order h) below

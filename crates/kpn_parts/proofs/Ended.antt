@@ -22,7 +22,7 @@ use Rattle.kpn_history.proofs.Journals.{read_on-outside}
 use Rattle.kpn_history.proofs.Above.{HasSaidAll, HasSaidAll-ended, IsStarved, IsStarved-last}
 use Rattle.kpn_parts.specs.declared.order.PartEvent.{PartEvent}
 use Rattle.kpn_parts.specs.Cut.{Part, whole_process, whole_channel, part_at, IsCut}
-use Rattle.kpn_parts.specs.Joined.{events_of, in_whole, counted, whole_history, AreLegal, IsJoined}
+use Rattle.kpn_parts.specs.Joined.{events_of_part, in_whole, counted, whole_history, AreLegal, IsJoined}
 use Rattle.kpn_parts.proofs.Spoken.{SaysAll}
 use Rattle.kpn_parts.proofs.Renaming.{said_in_whole, seen_by, talk_same, reads_in_whole}
 use Rattle.kpn_parts.proofs.Ends.{part_of, by_reader}
@@ -137,7 +137,7 @@ module _ (t : Tables) (network : IsNetwork t) (cut : List Part) (is : IsCut t cu
 
     own_same : (order : List PartEvent) → AreLegal cut order
         → filter (is_of (whole_process (part_at cut r) p)) (whole_history t cut order)
-        ≡ map (in_whole (part_at cut r)) (filter (is_of p) (events_of r order))
+        ≡ map (in_whole (part_at cut r)) (filter (is_of p) (events_of_part r order))
     own_same order legal =
         sym (filter-flat (is_of (whole_process (part_at cut r) p)) (whole_history t cut order))
         ∙ seen t network cut is r (one_if (is_of (whole_process (part_at cut r) p)))
@@ -149,15 +149,15 @@ module _ (t : Tables) (network : IsNetwork t) (cut : List Part) (is : IsCut t cu
         same
         ∙ own_here e.event o)
         (λ e differ o. own_elsewhere e.part e.event differ o) order legal
-        ∙ map-filter-flat (in_whole (part_at cut r)) (is_of p) (events_of r order)
+        ∙ map-filter-flat (in_whole (part_at cut r)) (is_of p) (events_of_part r order)
 
     -- the last event of a process is that of its part
     pub last_same : (order : List PartEvent) → AreLegal cut order
         → last_event (whole_history t cut order) (whole_process (part_at cut r) p)
-        ≡ option_map (in_whole (part_at cut r)) (last_event (events_of r order) p)
+        ≡ option_map (in_whole (part_at cut r)) (last_event (events_of_part r order) p)
     last_same order legal =
         ap (last_or None) (own_same order legal)
-        ∙ last_or-map (in_whole (part_at cut r)) None (filter (is_of p) (events_of r order))
+        ∙ last_or-map (in_whole (part_at cut r)) None (filter (is_of p) (events_of_part r order))
 
     -- ---- ends
 
@@ -180,7 +180,7 @@ module _ (t : Tables) (network : IsNetwork t) (cut : List Part) (is : IsCut t cu
         counts_none t (mark_if (is_end_of (whole_process (part_at cut r) p))) (in_whole (part_at cut s) event) refl
 
     pub ended_same : (order : List PartEvent) → AreLegal cut order
-        → has_ended (whole_history t cut order) (whole_process (part_at cut r) p) ≡ has_ended (events_of r order) p
+        → has_ended (whole_history t cut order) (whole_process (part_at cut r) p) ≡ has_ended (events_of_part r order) p
     ended_same order legal =
         any-marks (is_end_of (whole_process (part_at cut r) p)) (whole_history t cut order)
         ∙ ap is_some_mark
@@ -193,7 +193,7 @@ module _ (t : Tables) (network : IsNetwork t) (cut : List Part) (is : IsCut t cu
         same
         ∙ ends_here e.event o)
         (λ e differ o. ends_elsewhere e.part e.event differ o) order legal)
-        ∙ sym (any-marks (is_end_of p) (events_of r order))
+        ∙ sym (any-marks (is_end_of p) (events_of_part r order))
 
     -- ---- what more a process could say
 
@@ -202,21 +202,21 @@ module _ (t : Tables) (network : IsNetwork t) (cut : List Part) (is : IsCut t cu
       -- the lists that the process reads, and what was taken from the sinks of its part
       abbrev lists : Family
       lists c =
-          cond (is_sink (channel_at (part_at cut r).tables c)) (read_on (events_of r order) c)
+          cond (is_sink (channel_at (part_at cut r).tables c)) (read_on (events_of_part r order) c)
           (seen_by (part_at cut r) Y c)
 
       lists_at : (c : ℕ) → is_sink (channel_at (part_at cut r).tables c) ≡ false
           → lists c ≡ Y (whole_channel (part_at cut r) c)
-      lists_at c inner = ap (λ b. cond b (read_on (events_of r order) c) (seen_by (part_at cut r) Y c)) inner
+      lists_at c inner = ap (λ b. cond b (read_on (events_of_part r order) c) (seen_by (part_at cut r) Y c)) inner
 
-      lists_longer : IsFamilyPrefix (read_on (events_of r order)) lists
+      lists_longer : IsFamilyPrefix (read_on (events_of_part r order)) lists
       lists_longer c = which (is_sink (channel_at (part_at cut r).tables c)) refl
         where
           u : Tables
           u = (part_at cut r).tables
 
           by_end : (end : End) → reader_of u c ≡ end → c < length u.channels → is_sink (channel_at u c) ≡ false
-              → IsPrefix (read_on (events_of r order) c) (Y (whole_channel (part_at cut r) c))
+              → IsPrefix (read_on (events_of_part r order) c) (Y (whole_channel (part_at cut r) c))
           by_end (Process q) e there inner =
               IsPrefix-trans _ (read_on (whole_history t cut order) (whole_channel (part_at cut r) c)) _
               (IsPrefix-same _ _
@@ -226,15 +226,15 @@ module _ (t : Tables) (network : IsNetwork t) (cut : List Part) (is : IsCut t cu
           by_end Sink e there inner = absurd (both_ways _ inner (sink-reader_of u c e))
 
           which : (b : Bool) → is_sink (channel_at u c) ≡ b
-              → IsPrefix (read_on (events_of r order) c)
-              (cond b (read_on (events_of r order) c) (Y (whole_channel (part_at cut r) c)))
-          which true e = IsPrefix-refl (read_on (events_of r order) c)
+              → IsPrefix (read_on (events_of_part r order) c)
+              (cond b (read_on (events_of_part r order) c) (Y (whole_channel (part_at cut r) c)))
+          which true e = IsPrefix-refl (read_on (events_of_part r order) c)
           which false e =
               elim (cases_lt c (length u.channels)) [
                 | inl there ↦ by_end (reader_of u c) refl there e
                 | inr past ↦
                     subst (λ xs. IsPrefix xs (Y (whole_channel (part_at cut r) c)))
-                    (sym (read_on-outside u c past (events_of r order) (joined.legal r))) tt
+                    (sym (read_on-outside u c past (events_of_part r order) (joined.legal r))) tt
               ]
 
       no_sink_of : (c : ℕ) → Reads (part_at cut r).tables p c → is_sink (channel_at (part_at cut r).tables c) ≡ false
@@ -254,7 +254,7 @@ module _ (t : Tables) (network : IsNetwork t) (cut : List Part) (is : IsCut t cu
 
       -- what bounds the talk in the part bounds it in the whole
       bounded : (n : ℕ)
-          → IsPrefix (talk_on (part_at cut r).tables p n lists) (talk_of (events_of r order) p)
+          → IsPrefix (talk_on (part_at cut r).tables p n lists) (talk_of (events_of_part r order) p)
           → IsPrefix (talk_on t (whole_process (part_at cut r) p) n Y)
           (talk_of (whole_history t cut order) (whole_process (part_at cut r) p))
       bounded n h =
@@ -264,27 +264,27 @@ module _ (t : Tables) (network : IsNetwork t) (cut : List Part) (is : IsCut t cu
           (talk_same t part (part_of t cut is r) p below n Y
           ∙ ap (λ ran. map (said_in_whole part) (map (at_channel (instance_at part.tables p)) ran.talk))
           (sym (ran_on-own_ins part.tables p n lists (seen_by part Y) lists_agree))))
-          (IsPrefix-trans _ (map (said_in_whole part) (talk_of (events_of r order) p)) _
+          (IsPrefix-trans _ (map (said_in_whole part) (talk_of (events_of_part r order) p)) _
           (map-prefix (said_in_whole part) _ _ h)
           (IsPrefix-same _ _ (sym (talk_of_same t network cut is r p below order joined.legal))))
 
-    ended_in_part : (order : List PartEvent) → IsJoined t cut order → has_ended (events_of r order) p ≡ true
+    ended_in_part : (order : List PartEvent) → IsJoined t cut order → has_ended (events_of_part r order) p ≡ true
         → HasSaidAll t (whole_history t cut order) (whole_process (part_at cut r) p)
     ended_in_part order joined ended =
         record {
           whole = λ n Y longer.
               bounded order joined Y longer n
-              ((HasSaidAll-ended (part_at cut r).tables p (events_of r order) (joined.legal r) ended).whole n
+              ((HasSaidAll-ended (part_at cut r).tables p (events_of_part r order) (joined.legal r) ended).whole n
               (lists order joined Y longer) (lists_longer order joined Y longer));
         }
 
     starved_in_part : (order : List PartEvent) → IsJoined t cut order → (q c : ℕ)
-        → last_event (events_of r order) p ≡ Some (WaitEmpty q c)
+        → last_event (events_of_part r order) p ≡ Some (WaitEmpty q c)
         → IsStarved t (whole_history t cut order) (whole_process (part_at cut r) p) (whole_channel (part_at cut r) c)
     starved_in_part order joined q c last =
         let u = (part_at cut r).tables in
         let h =
-        IsStarved-last u (part_of t cut is r).network p (events_of r order) (joined.legal r) q c last in
+        IsStarved-last u (part_of t cut is r).network p (events_of_part r order) (joined.legal r) q c last in
         record {
           reads = reads_in_whole t (part_at cut r) (part_of t cut is r) p below c h.reads;
           whole = λ n Y longer same.
@@ -307,7 +307,7 @@ module _ (t : Tables) (network : IsNetwork t) (cut : List Part) (is : IsCut t cu
     wait_behind q c event e = absurd cc
 
     last_behind : (order : List PartEvent) → IsJoined t cut order → (q c : ℕ) (last : Option Event)
-        → last_event (events_of r order) p ≡ last
+        → last_event (events_of_part r order) p ≡ last
         → option_map (in_whole (part_at cut r)) last ≡ Some (WaitEmpty q c)
         → IsStarved t (whole_history t cut order) (whole_process (part_at cut r) p) c
     last_behind order joined q c None l e = absurd cc
@@ -320,7 +320,7 @@ module _ (t : Tables) (network : IsNetwork t) (cut : List Part) (is : IsCut t cu
         → last_event (whole_history t cut order) (whole_process (part_at cut r) p) ≡ Some (WaitEmpty q c)
         → IsStarved t (whole_history t cut order) (whole_process (part_at cut r) p) c
     starved_in_whole order joined q c e =
-        last_behind order joined q c (last_event (events_of r order) p) refl (sym (last_same order joined.legal) ∙ e)
+        last_behind order joined q c (last_event (events_of_part r order) p) refl (sym (last_same order joined.legal) ∙ e)
 
   pub says_all : (order : List PartEvent) → IsJoined t cut order → SaysAll t (whole_history t cut order)
   says_all order joined =

@@ -9,27 +9,27 @@ use Rattle.kpn_history.specs.declared.event.Event.{Event}
 use Rattle.kpn_history.specs.Legal.{Legal}
 use Rattle.kpn_history.specs.Channels.{written_on}
 use Rattle.kpn_parts.specs.declared.order.PartEvent.{PartEvent}
-use Rattle.kpn_parts.specs.declared.link.Link.{Link}
+use Rattle.kpn_parts.specs.declared.link.PartLink.{PartLink}
 use Rattle.kpn_parts.specs.Cut.{Part, whole_channel, part_at, IsCut}
-use Rattle.kpn_parts.specs.Joined.{events_of, whole_history, IsSent, AreLegal, IsJoined}
-use Rattle.kpn_parts.specs.Links.{put_on, fed_on, IsSentOn, AreSent, HasLink, AreLinks, history_at, IsJoinOf}
+use Rattle.kpn_parts.specs.Joined.{events_of_part, whole_history, IsSent, AreLegal, IsJoined}
+use Rattle.kpn_parts.specs.Links.{put_on_link, fed_on, IsSentOn, AreSent, HasLink, AreLinks, history_at, IsJoinOf}
 use Rattle.kpn_parts.proofs.Ends.{source_or_sink}
 use Rattle.kpn_parts.proofs.Orders.{legal-prefix}
 use Rattle.kpn_parts.proofs.Whole.{journal_same}
 
-module _ (t : Tables) (network : IsNetwork t) (cut : List Part) (is : IsCut t cut) (links : List Link)
+module _ (t : Tables) (network : IsNetwork t) (cut : List Part) (is : IsCut t cut) (links : List PartLink)
     (are : AreLinks t cut links) where
   sent_by_link : (order : List PartEvent) → AreLegal cut order → (r c : ℕ) → (h : HasLink cut links r c)
-      → IsPrefix (fed_on order h.link) (put_on order h.link) → IsSent t cut order r c
+      → IsPrefix (fed_on order h.link) (put_on_link order h.link) → IsSent t cut order r c
   sent_by_link order legal r c h begins =
       let W = whole_history t cut order in
-      let fed : IsPrefix (written_on (events_of r order) c) (put_on order h.link) =
-      subst (λ s. IsPrefix (written_on (events_of s order) c) (put_on order h.link)) h.ends.reader
-      (subst (λ d. IsPrefix (written_on (events_of h.link.reader order) d) (put_on order h.link)) h.ends.source begins)
+      let fed : IsPrefix (written_on (events_of_part r order) c) (put_on_link order h.link) =
+      subst (λ s. IsPrefix (written_on (events_of_part s order) c) (put_on_link order h.link)) h.ends.reader
+      (subst (λ d. IsPrefix (written_on (events_of_part h.link.reader order) d) (put_on_link order h.link)) h.ends.source begins)
       in
-      IsPrefix-trans (written_on (events_of r order) c) (put_on order h.link)
+      IsPrefix-trans (written_on (events_of_part r order) c) (put_on_link order h.link)
       (written_on W (whole_channel (part_at cut r) c)) fed
-      (subst (λ x. IsPrefix (put_on order h.link) (written_on W x)) h.ends.same
+      (subst (λ x. IsPrefix (put_on_link order h.link) (written_on W x)) h.ends.same
       (IsPrefix-same _ _
       (sym
       (journal_same t network cut is h.link.writer h.link.sink

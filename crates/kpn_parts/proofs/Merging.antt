@@ -6,8 +6,8 @@ use Rattle.kpn_lang.specs.Prefix.{IsPrefix}
 use Rattle.kpn_lang.proofs.Prefixes.{IsPrefix-refl, IsPrefix-trans, IsPrefix-append, length_of_prefix, same_from_prefix}
 use Rattle.kpn_history.specs.declared.event.Event.{Event}
 use Rattle.kpn_parts.specs.declared.order.PartEvent.{PartEvent}
-use Rattle.kpn_parts.specs.Joined.{events_of}
-use Rattle.kpn_parts.specs.declared.link.Link.{Link}
+use Rattle.kpn_parts.specs.Joined.{events_of_part}
+use Rattle.kpn_parts.specs.declared.link.PartLink.{PartLink}
 use Rattle.kpn_parts.specs.declared.joining.Carried.{Carried}
 use Rattle.kpn_parts.specs.Links.{IsJoinOf, history_at, AreCarried, CarryNothing, CarryMore, MayCome, SoFar, StandsStill, IsStuck, UsesAll, LacksOne}
 use Rattle.kpn_parts.proofs.Carrying.{carried_start, carried_next, carried_sent}
@@ -18,8 +18,8 @@ use Rattle.kpn_parts.proofs.Orders.{event_of-own, event_of-other, events_of-push
 
 -- the first k events of part r are in the order, which has of other parts what it had
 pub record PartSoFar (history : List Event) (r : ℕ) (first order : List PartEvent) (k : ℕ) : Type 0 where
-  pub own : events_of r order ≡ take k history
-  pub other : (s : ℕ) → (s ≡ r → ⊥) → events_of s order ≡ events_of s first
+  pub own : events_of_part r order ≡ take k history
+  pub other : (s : ℕ) → (s ≡ r → ⊥) → events_of_part s order ≡ events_of_part s first
 
 pub part_next : (history : List Event) (r : ℕ) (first order after : List PartEvent) (k : ℕ) (d : Event)
     (e : PartEvent) → PartSoFar history r first order k → k < length history → e.part ≡ r
@@ -27,33 +27,33 @@ pub part_next : (history : List Event) (r : ℕ) (first order after : List PartE
 part_next history r first order after k d e before below part event more =
     record {
       own =
-          ap (events_of r) more ∙ events_of-push r order e
-          ∙ ap (λ xs. events_of r order ++ xs) (event_of-own r e part)
+          ap (events_of_part r) more ∙ events_of-push r order e
+          ∙ ap (λ xs. events_of_part r order ++ xs) (event_of-own r e part)
           ∙ ap (λ xs. xs ++ e.event ∷ []) before.own
           ∙ ap (λ x. take k history ++ x ∷ []) event
           ∙ sym (take_more history k d below);
       other = λ s differ.
-          ap (events_of s) more ∙ events_of-push s order e
-          ∙ ap (λ xs. events_of s order ++ xs) (event_of-other s e (λ same. differ (sym same ∙ part)))
-          ∙ append-nil (events_of s order)
+          ap (events_of_part s) more ∙ events_of-push s order e
+          ∙ ap (λ xs. events_of_part s order ++ xs) (event_of-other s e (λ same. differ (sym same ∙ part)))
+          ∙ append-nil (events_of_part s order)
           ∙ before.other s differ;
     }
 
 pub part_all : (history : List Event) (r : ℕ) (first order : List PartEvent) (k to : ℕ)
     → PartSoFar history r first order k → length history ≤ k → length history ≤ to
-    → events_of r order ≡ take to history
+    → events_of_part r order ≡ take to history
 part_all history r first order k to before past there =
     before.own ∙ take_all k history past ∙ sym (take_all to history there)
 
 -- the same, with what the links carry
-pub record GoesOn (history : List Event) (r : ℕ) (links : List Link) (first order : List PartEvent)
+pub record GoesOn (history : List Event) (r : ℕ) (links : List PartLink) (first order : List PartEvent)
     (carried : List Carried) (k : ℕ) : Type 0 where
   pub part : PartSoFar history r first order k
   pub begins : IsPrefix first order
   pub on_links : AreCarried links order carried
 
-pub goes_on_start : (history : List Event) (r : ℕ) (links : List Link) (order : List PartEvent)
-    (carried : List Carried) (k : ℕ) → events_of r order ≡ take k history → AreCarried links order carried
+pub goes_on_start : (history : List Event) (r : ℕ) (links : List PartLink) (order : List PartEvent)
+    (carried : List Carried) (k : ℕ) → events_of_part r order ≡ take k history → AreCarried links order carried
     → GoesOn history r links order order carried k
 goes_on_start history r links order carried k own h =
     record {
@@ -62,7 +62,7 @@ goes_on_start history r links order carried k own h =
       on_links = h;
     }
 
-pub goes_on_next : (history : List Event) (r : ℕ) (links : List Link) (first order after : List PartEvent)
+pub goes_on_next : (history : List Event) (r : ℕ) (links : List PartLink) (first order after : List PartEvent)
     (carried now : List Carried) (k : ℕ) (d : Event) (e : PartEvent) → GoesOn history r links first order carried k
     → k < length history → e.part ≡ r → e.event ≡ get_or history k d → MayCome links order e
     → CarryMore links e carried now (length links) → after ≡ order ++ e ∷ []
@@ -79,7 +79,7 @@ goes_on_next history r links first order after carried now k d e before below pa
     }
 
 -- an event that may not come behind the order
-pub still_there : (links : List Link) (order : List PartEvent) (r : ℕ) (history : List Event) (k : ℕ) (b : Event)
+pub still_there : (links : List PartLink) (order : List PartEvent) (r : ℕ) (history : List Event) (k : ℕ) (b : Event)
     (result : Bool) → ((result ≡ true) ↔ MayCome links order (record { part = r; event = get_or history k b }))
     → result ≡ false → (d : Event) → k < length history
     → MayCome links order (record { part = r; event = get_or history k d }) → ⊥
@@ -96,31 +96,31 @@ zero_at zero r = refl
 zero_at (suc n) zero = refl
 zero_at (suc n) (suc r) = zero_at n r
 
-pub so_far_start : (histories : List (List Event)) (links : List Link) (at : List ℕ) (order : List PartEvent)
+pub so_far_start : (histories : List (List Event)) (links : List PartLink) (at : List ℕ) (order : List PartEvent)
     (carried : List Carried) → at ≡ replicate (length histories) 0 → order ≡ []
     → CarryNothing carried (length links) → SoFar histories links at order carried
 so_far_start histories links at order carried zeros none nothing =
     record {
       parts = ap length zeros ∙ length-replicate (length histories) 0;
       each = λ r.
-          ap (events_of r) none
+          ap (events_of_part r) none
           ∙ sym
           (ap (λ n. take n (history_at histories r))
           (ap (λ xs. get_or xs r 0) zeros ∙ zero_at (length histories) r));
       on_links = subst (λ B. AreCarried links B carried) (sym none) (carried_start links carried nothing);
     }
 
-so_far_next : (histories : List (List Event)) (links : List Link) (at : List ℕ) (order after : List PartEvent)
+so_far_next : (histories : List (List Event)) (links : List PartLink) (at : List ℕ) (order after : List PartEvent)
     (carried now : List Carried) (r to : ℕ) (d : List Event) → SoFar histories links at order carried
-    → r < length histories → events_of r after ≡ take to (get_or histories r d)
-    → ((s : ℕ) → (s ≡ r → ⊥) → events_of s after ≡ events_of s order) → AreCarried links after now
+    → r < length histories → events_of_part r after ≡ take to (get_or histories r d)
+    → ((s : ℕ) → (s ≡ r → ⊥) → events_of_part s after ≡ events_of_part s order) → AreCarried links after now
     → SoFar histories links (set at r to) after now
 so_far_next histories links at order after carried now r to d before below own other links_now =
     record {
       parts = length-set at r to ∙ before.parts;
       each = λ s. elim (cases_eq s r) [
         | inl same ↦
-            subst (λ x. events_of x after ≡ take (get_or (set at r to) x 0) (history_at histories x)) (sym same)
+            subst (λ x. events_of_part x after ≡ take (get_or (set at r to) x 0) (history_at histories x)) (sym same)
             (own ∙ ap (take to) (get_or_default histories r d [] below)
             ∙ sym
             (ap (λ n. take n (history_at histories r))
@@ -133,22 +133,22 @@ so_far_next histories links at order after carried now r to d before below own o
     }
 
 -- a round that has gone over the parts below r; if it added nothing, these stand still
-pub record Round (histories : List (List Event)) (links : List Link) (first : List PartEvent) (at : List ℕ)
+pub record Round (histories : List (List Event)) (links : List PartLink) (first : List PartEvent) (at : List ℕ)
     (order : List PartEvent) (carried : List Carried) (r : ℕ) : Type 0 where
   pub so_far : SoFar histories links at order carried
   pub begins : IsPrefix first order
   pub idle : length order ≡ length first → (j : ℕ) → j < r → StandsStill histories links at order j
 
-pub round_start : (histories : List (List Event)) (links : List Link) (at : List ℕ) (order : List PartEvent)
+pub round_start : (histories : List (List Event)) (links : List PartLink) (at : List ℕ) (order : List PartEvent)
     (carried : List Carried) → SoFar histories links at order carried → Round histories links order at order carried 0
 round_start histories links at order carried h =
     record { so_far = h; begins = IsPrefix-refl order; idle = λ same j below. absurd omega (arith, below) }
 
-pub round_next : (histories : List (List Event)) (links : List Link) (first : List PartEvent) (at : List ℕ)
+pub round_next : (histories : List (List Event)) (links : List PartLink) (first : List PartEvent) (at : List ℕ)
     (order after : List PartEvent) (carried now : List Carried) (r to : ℕ) (d history : List Event)
     → history ≡ get_or histories r d → Round histories links first at order carried r → r < length histories
-    → events_of r after ≡ take to history
-    → ((s : ℕ) → (s ≡ r → ⊥) → events_of s after ≡ events_of s order) → IsPrefix order after
+    → events_of_part r after ≡ take to history
+    → ((s : ℕ) → (s ≡ r → ⊥) → events_of_part s after ≡ events_of_part s order) → IsPrefix order after
     → AreCarried links after now
     → ((e : Event) → to < length history
     → MayCome links after (record { part = r; event = get_or history to e }) → ⊥)
@@ -203,7 +203,7 @@ round_next histories links first at order after carried now r to d history lent 
         (same_from_prefix order after begins (short same)) (h e))
         left may
 
-pub round_all : (histories : List (List Event)) (links : List Link) (first : List PartEvent) (at : List ℕ)
+pub round_all : (histories : List (List Event)) (links : List PartLink) (first : List PartEvent) (at : List ℕ)
     (order : List PartEvent) (carried : List Carried) (r : ℕ) → Round histories links first at order carried r
     → length histories ≤ r → length order ≡ length first → IsStuck histories links at order
 round_all histories links first at order carried r h past same j =
@@ -218,7 +218,7 @@ round_all histories links first at order carried r h past same j =
 
 -- ---- the end
 
-pub joined_all : (histories : List (List Event)) (links : List Link) (at : List ℕ) (order : List PartEvent)
+pub joined_all : (histories : List (List Event)) (links : List PartLink) (at : List ℕ) (order : List PartEvent)
     (carried : List Carried) → SoFar histories links at order carried → UsesAll histories at
     → IsJoinOf histories links order
 joined_all histories links at order carried h uses =
@@ -227,7 +227,7 @@ joined_all histories links at order carried h uses =
       sent = carried_sent links order carried h.on_links;
     }
 
-pub joined_none : (histories : List (List Event)) (links : List Link) (at : List ℕ) (order : List PartEvent)
+pub joined_none : (histories : List (List Event)) (links : List PartLink) (at : List ℕ) (order : List PartEvent)
     (carried : List Carried) → SoFar histories links at order carried → IsStuck histories links at order
     → LacksOne histories at → (other : List PartEvent) → IsJoinOf histories links other → ⊥
 joined_none histories links at order carried h stuck lacks other join =

@@ -15,7 +15,7 @@ use Rattle.kpn_history.proofs.Legality.{Legal-prefix}
 use Rattle.kpn_history.proofs.Ownership.{Owns, Owns-last}
 use Rattle.kpn_parts.specs.declared.order.PartEvent.{PartEvent}
 use Rattle.kpn_parts.specs.Cut.{Part, part_at, IsCut}
-use Rattle.kpn_parts.specs.Joined.{event_of, events_of, whole_event, whole_history, AreLegal, IsJoined}
+use Rattle.kpn_parts.specs.Joined.{event_of, events_of_part, whole_event, whole_history, AreLegal, IsJoined}
 use Rattle.kpn_parts.proofs.Ends.{part_of}
 
 -- ---- the events of one part
@@ -27,7 +27,7 @@ pub event_of-other : (r : ℕ) (e : PartEvent) → (e.part ≡ r → ⊥) → ev
 event_of-other r e differ = ap (λ b. cond b (e.event ∷ []) []) (ne_eqb e.part r differ)
 
 pub events_of-push : (r : ℕ) (B : List PartEvent) (e : PartEvent)
-    → events_of r (B ++ e ∷ []) ≡ events_of r B ++ event_of r e
+    → events_of_part r (B ++ e ∷ []) ≡ events_of_part r B ++ event_of r e
 events_of-push r B e = flat_map-push (event_of r) B e
 
 module _ (t : Tables) (network : IsNetwork t) (cut : List Part) (is : IsCut t cut) where
@@ -39,9 +39,9 @@ module _ (t : Tables) (network : IsNetwork t) (cut : List Part) (is : IsCut t cu
 
   pub legal-prefix : (B rest : List PartEvent) → AreLegal cut (B ++ rest) → AreLegal cut B
   legal-prefix B rest legal r =
-      Legal-prefix (part_at cut r).tables (events_of r B) (events_of r (B ++ rest))
-      (subst (IsPrefix (events_of r B)) (sym (flat_map-append (event_of r) B rest))
-      (IsPrefix-append (events_of r B) (events_of r rest)))
+      Legal-prefix (part_at cut r).tables (events_of_part r B) (events_of_part r (B ++ rest))
+      (subst (IsPrefix (events_of_part r B)) (sym (flat_map-append (event_of r) B rest))
+      (IsPrefix-append (events_of_part r B) (events_of_part r rest)))
       (legal r)
 
   pub joined-prefix : (B rest : List PartEvent) → IsJoined t cut (B ++ rest) → IsJoined t cut B
@@ -57,9 +57,9 @@ module _ (t : Tables) (network : IsNetwork t) (cut : List Part) (is : IsCut t cu
       → Owns (part_at cut e.part).tables e.event
   owns_last B e legal =
       let u = (part_at cut e.part).tables in
-      Owns-last u (part_of t cut is e.part).network (events_of e.part B) e.event
+      Owns-last u (part_of t cut is e.part).network (events_of_part e.part B) e.event
       (subst (Legal u)
-      (events_of-push e.part B e ∙ ap (λ xs. events_of e.part B ++ xs) (event_of-own e.part e refl))
+      (events_of-push e.part B e ∙ ap (λ xs. events_of_part e.part B ++ xs) (event_of-own e.part e refl))
       (legal e.part))
 
   -- if Q holds of the beginnings of what it holds of: what holds of no events, and of each such order with one more
@@ -95,9 +95,9 @@ module _ (t : Tables) (network : IsNetwork t) (cut : List Part) (is : IsCut t cu
       → ((e : PartEvent) → (e.part ≡ r → ⊥) → Owns (part_at cut e.part).tables e.event
       → flat_map f (whole_event t cut e) ≡ [])
       → (order : List PartEvent) → AreLegal cut order
-      → flat_map f (whole_history t cut order) ≡ flat_map g (events_of r order)
+      → flat_map f (whole_history t cut order) ≡ flat_map g (events_of_part r order)
   seen r f g own other =
-      by_legal (λ order. flat_map f (whole_history t cut order) ≡ flat_map g (events_of r order))
+      by_legal (λ order. flat_map f (whole_history t cut order) ≡ flat_map g (events_of_part r order))
       (λ B e legal h.
       let owns = owns_last B e legal in
       let split =
@@ -107,19 +107,19 @@ module _ (t : Tables) (network : IsNetwork t) (cut : List Part) (is : IsCut t cu
       elim (cases_eq e.part r) [
         | inl same ↦
             split
-            ∙ ap (λ xs. flat_map g (events_of r B) ++ xs)
+            ∙ ap (λ xs. flat_map g (events_of_part r B) ++ xs)
             (own e same (subst (λ s. Owns (part_at cut s).tables e.event) same owns))
             ∙ sym
             (ap (flat_map g)
-            (events_of-push r B e ∙ ap (λ xs. events_of r B ++ xs) (event_of-own r e same))
-            ∙ flat_map-push g (events_of r B) e.event)
+            (events_of-push r B e ∙ ap (λ xs. events_of_part r B ++ xs) (event_of-own r e same))
+            ∙ flat_map-push g (events_of_part r B) e.event)
         | inr differ ↦
             split
-            ∙ ap (λ xs. flat_map g (events_of r B) ++ xs) (other e differ owns)
-            ∙ append-nil (flat_map g (events_of r B))
+            ∙ ap (λ xs. flat_map g (events_of_part r B) ++ xs) (other e differ owns)
+            ∙ append-nil (flat_map g (events_of_part r B))
             ∙ sym
             (ap (flat_map g)
-            (events_of-push r B e ∙ ap (λ xs. events_of r B ++ xs) (event_of-other r e differ)
-            ∙ append-nil (events_of r B)))
+            (events_of-push r B e ∙ ap (λ xs. events_of_part r B ++ xs) (event_of-other r e differ)
+            ∙ append-nil (events_of_part r B)))
       ])
       refl

@@ -25,7 +25,7 @@ use Rattle.kpn_history.proofs.Below.{fed-source}
 use Rattle.kpn_history.proofs.Above.{empty_wait, IsStarved-last}
 use Rattle.kpn_parts.specs.declared.order.PartEvent.{PartEvent}
 use Rattle.kpn_parts.specs.Cut.{Part, whole_process, whole_channel, part_at, IsCut, IsCutSource}
-use Rattle.kpn_parts.specs.Joined.{events_of, in_whole, whole_history, IsJoined, HasAll, IsDelivered, AreQuiet}
+use Rattle.kpn_parts.specs.Joined.{events_of_part, in_whole, whole_history, IsJoined, HasAll, IsDelivered, AreQuiet}
 use Rattle.kpn_parts.proofs.Spoken.{SaysAll, written_on-put}
 use Rattle.kpn_parts.proofs.Ends.{part_of, by_reader}
 use Rattle.kpn_parts.proofs.Whole.{journal_same, read_same}
@@ -100,7 +100,7 @@ module _ (t : Tables) (network : IsNetwork t) (cut : List Part) (is : IsCut t cu
   -- a channel on which a part has all that was put
   written_same : (r c : ℕ) → c < length (part_at cut r).tables.channels
       → (IsCutSource t (part_at cut r) c → HasAll t cut order r c)
-      → written_on (whole_history t cut order) (whole_channel (part_at cut r) c) ≡ written_on (events_of r order) c
+      → written_on (whole_history t cut order) (whole_channel (part_at cut r) c) ≡ written_on (events_of_part r order) c
   written_same r c there delivered =
       elim (cases_Bool (is_source (channel_at (part_at cut r).tables c))) [
         | inl source ↦ elim (cases_Bool (is_source (channel_at t (whole_channel (part_at cut r) c)))) [
@@ -117,14 +117,14 @@ module _ (t : Tables) (network : IsNetwork t) (cut : List Part) (is : IsCut t cu
 
   -- a process that waits in its part waits in the whole, if its part was fed all that was put there
   pub wait_in_whole : (r p c : ℕ) → p < length (part_at cut r).tables.instances
-      → wait_of (part_at cut r).tables (events_of r order) p ≡ Empty c
+      → wait_of (part_at cut r).tables (events_of_part r order) p ≡ Empty c
       → (IsCutSource t (part_at cut r) c → HasAll t cut order r c)
       → wait_of t (whole_history t cut order) (whole_process (part_at cut r) p)
       ≡ Empty (whole_channel (part_at cut r) c)
   wait_in_whole r p c below waits delivered =
       let part = part_at cut r in
       let x = whole_channel part c in
-      let H = events_of r order in
+      let H = events_of_part r order in
       let W = whole_history t cut order in
       let w = empty_wait part.tables H (last_event H p) c waits in
       let reads =
@@ -171,7 +171,7 @@ module _ (t : Tables) (network : IsNetwork t) (cut : List Part) (is : IsCut t cu
   pub part_least_at_rest : AreQuiet cut order → IsDelivered t cut order → (given : Family)
       → AgreeOnSources t (fed t (whole_history t cut order)) given
       → (r c : ℕ) → c < length (part_at cut r).tables.channels
-      → IsLeast t given (whole_channel (part_at cut r) c) (written_on (events_of r order) c)
+      → IsLeast t given (whole_channel (part_at cut r) c) (written_on (events_of_part r order) c)
   part_least_at_rest quiet delivered given agree r c there =
       subst (IsLeast t given (whole_channel (part_at cut r) c))
       (written_same r c there (delivered.each r c))

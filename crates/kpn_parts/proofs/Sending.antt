@@ -7,9 +7,9 @@ use Rattle.kpn_lang.specs.Prefix.{IsPrefix}
 use Rattle.kpn_lang.proofs.Prefixes.{IsPrefix-refl, IsPrefix-trans, IsPrefix-append, prefix_of_push, nil_from_prefix}
 use Rattle.kpn_history.specs.Channels.{written_in, written_on}
 use Rattle.kpn_parts.specs.declared.order.PartEvent.{PartEvent}
-use Rattle.kpn_parts.specs.declared.link.Link.{Link}
-use Rattle.kpn_parts.specs.Joined.{event_of, events_of}
-use Rattle.kpn_parts.specs.Links.{put_on, fed_on, IsSentOn, IsCarriedOn, items_on, items_of, IsNext, Feeds}
+use Rattle.kpn_parts.specs.declared.link.PartLink.{PartLink}
+use Rattle.kpn_parts.specs.Joined.{event_of, events_of_part}
+use Rattle.kpn_parts.specs.Links.{put_on_link, fed_on, IsSentOn, IsCarriedOn, items_on, items_of, IsNext, FeedsNext}
 use Rattle.kpn_parts.proofs.Orders.{events_of-push}
 
 -- ---- lists
@@ -33,11 +33,11 @@ length_push (x ∷ xs) v = let e = length_push xs v in omega (arith, e)
 -- ---- one event more
 
 written-push : (B : List PartEvent) (e : PartEvent) (r c : ℕ)
-    → written_on (events_of r (B ++ e ∷ [])) c ≡ written_on (events_of r B) c ++ items_on r c e
+    → written_on (events_of_part r (B ++ e ∷ [])) c ≡ written_on (events_of_part r B) c ++ items_on r c e
 written-push B e r c =
-    ap (flat_map (written_in c)) (events_of-push r B e) ∙ flat_map-append (written_in c) (events_of r B) (event_of r e)
+    ap (flat_map (written_in c)) (events_of-push r B e) ∙ flat_map-append (written_in c) (events_of_part r B) (event_of r e)
 
-pub sent_start : (link : Link) (B : List PartEvent) (items : List ℤ) (fed : ℕ) → B ≡ [] → items ≡ [] → fed ≡ 0
+pub sent_start : (link : PartLink) (B : List PartEvent) (items : List ℤ) (fed : ℕ) → B ≡ [] → items ≡ [] → fed ≡ 0
     → IsCarriedOn link B items fed
 sent_start link B items fed none e f =
     subst (λ H. IsCarriedOn link H items fed) (sym none)
@@ -46,15 +46,15 @@ sent_start link B items fed none e f =
       count = f;
       sent = λ begun begins.
           let same = nil_from_prefix begun begins in
-          subst (λ C. IsPrefix (fed_on C link) (put_on C link)) (sym same) tt;
+          subst (λ C. IsPrefix (fed_on C link) (put_on_link C link)) (sym same) tt;
     })
 
-module _ (link : Link) (B : List PartEvent) (e : PartEvent) (items : List ℤ) (fed : ℕ) (put feed : Option ℤ)
+module _ (link : PartLink) (B : List PartEvent) (e : PartEvent) (items : List ℤ) (fed : ℕ) (put feed : Option ℤ)
     (after : List ℤ) (before : IsCarriedOn link B items fed) (puts : items_on link.writer link.sink e ≡ items_of put)
     (feeds : items_on link.reader link.source e ≡ items_of feed) (more : after ≡ items ++ items_of put) where
-  after_is : after ≡ put_on (B ++ e ∷ []) link
+  after_is : after ≡ put_on_link (B ++ e ∷ []) link
   after_is =
-      more ∙ ap (λ xs. xs ++ items_of put) before.put ∙ ap (λ xs. put_on B link ++ xs) (sym puts)
+      more ∙ ap (λ xs. xs ++ items_of put) before.put ∙ ap (λ xs. put_on_link B link ++ xs) (sym puts)
       ∙ sym (written-push B e link.writer link.sink)
 
   fed_is : fed_on (B ++ e ∷ []) link ≡ fed_on B link ++ items_of feed
@@ -62,23 +62,23 @@ module _ (link : Link) (B : List PartEvent) (e : PartEvent) (items : List ℤ) (
 
   fed_begins : IsPrefix (fed_on B link) after
   fed_begins =
-      IsPrefix-trans (fed_on B link) (put_on B link) after (before.sent B (IsPrefix-refl B))
+      IsPrefix-trans (fed_on B link) (put_on_link B link) after (before.sent B (IsPrefix-refl B))
       (subst (λ xs. IsPrefix xs after) before.put
       (subst (IsPrefix items) (sym more) (IsPrefix-append items (items_of put))))
 
-  still_sent : (feed' : Option ℤ) → feed ≡ feed' → (now : ℕ) → Feeds after fed feed' now
+  still_sent : (feed' : Option ℤ) → feed ≡ feed' → (now : ℕ) → FeedsNext after fed feed' now
       → IsPrefix (fed_on B link ++ items_of feed') after
   still_sent None f now h = subst (λ xs. IsPrefix xs after) (sym (append-nil (fed_on B link))) fed_begins
   still_sent (Some v) f now h =
       prefix_more (fed_on B link) after v fed_begins (subst (λ n. slice_get after n ≡ Some v) before.count h.1)
 
-  counted_now : (feed' : Option ℤ) (now : ℕ) → Feeds after fed feed' now
+  counted_now : (feed' : Option ℤ) (now : ℕ) → FeedsNext after fed feed' now
       → now ≡ length (fed_on B link ++ items_of feed')
   counted_now None now h = h ∙ before.count ∙ ap length (sym (append-nil (fed_on B link)))
   counted_now (Some v) now h =
       h.0 ∙ ap (λ n. n + 1) before.count ∙ sym (length_push (fed_on B link) v)
 
-  pub sent_next : (now : ℕ) → Feeds after fed feed now → IsCarriedOn link (B ++ e ∷ []) after now
+  pub sent_next : (now : ℕ) → FeedsNext after fed feed now → IsCarriedOn link (B ++ e ∷ []) after now
   sent_next now h =
       record {
         put = after_is;
@@ -86,7 +86,7 @@ module _ (link : Link) (B : List PartEvent) (e : PartEvent) (items : List ℤ) (
         sent = λ begun begins. elim (prefix_of_push begun B e begins) [
           | inl earlier ↦ before.sent begun earlier
           | inr same ↦
-              subst (λ C. IsPrefix (fed_on C link) (put_on C link)) (sym same)
+              subst (λ C. IsPrefix (fed_on C link) (put_on_link C link)) (sym same)
               (subst (IsPrefix (fed_on (B ++ e ∷ []) link)) after_is
               (subst (λ xs. IsPrefix xs after) (sym fed_is) (still_sent feed refl now h)))
         ];

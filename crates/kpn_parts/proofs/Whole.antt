@@ -24,7 +24,7 @@ use Rattle.kpn_history.proofs.Ownership.{Owns}
 use Rattle.kpn_history.proofs.Journals.{none_elsewhere, reads_begin_writes}
 use Rattle.kpn_parts.specs.declared.order.PartEvent.{PartEvent}
 use Rattle.kpn_parts.specs.Cut.{Part, whole_process, whole_channel, part_at, IsCut, IsCutSource}
-use Rattle.kpn_parts.specs.Joined.{events_of, in_whole, is_of_whole, counted, whole_event, whole_history, IsSent, AreLegal, IsJoined}
+use Rattle.kpn_parts.specs.Joined.{events_of_part, in_whole, is_of_whole, counted, whole_event, whole_history, IsSent, AreLegal, IsJoined}
 use Rattle.kpn_parts.proofs.Spoken.{AreOwn, AreOwn-append, IsSpoken, read_on-outside}
 use Rattle.kpn_parts.proofs.Renaming.{said_in_whole, seen_by, talk_same, reads_in_whole, writes_in_whole}
 use Rattle.kpn_parts.proofs.Ends.{part_of, by_process, ReadsIn, by_reader, written_once, read_once, feeds_in, writes_in, takes_in, reads_in_there, no_cut_sink, is_read}
@@ -154,7 +154,7 @@ module _ (t : Tables) (network : IsNetwork t) (cut : List Part) (is : IsCut t cu
 
     -- the journal of a channel that is no cut source is that of the whole
     pub journal_same : (order : List PartEvent) → AreLegal cut order
-        → written_on (whole_history t cut order) (whole_channel (part_at cut r) c) ≡ written_on (events_of r order) c
+        → written_on (whole_history t cut order) (whole_channel (part_at cut r) c) ≡ written_on (events_of_part r order) c
     journal_same =
         seen t network cut is r (written_in (whole_channel (part_at cut r) c)) (written_in c)
         (λ e same o.
@@ -229,7 +229,7 @@ module _ (t : Tables) (network : IsNetwork t) (cut : List Part) (is : IsCut t cu
 
     -- what was read from a channel where it is read
     pub read_same : (order : List PartEvent) → AreLegal cut order
-        → read_on (whole_history t cut order) (whole_channel (part_at cut r) c) ≡ read_on (events_of r order) c
+        → read_on (whole_history t cut order) (whole_channel (part_at cut r) c) ≡ read_on (events_of_part r order) c
     read_same =
         seen t network cut is r (read_in (whole_channel (part_at cut r) c)) (read_in c)
         (λ e same o.
@@ -280,7 +280,7 @@ module _ (t : Tables) (network : IsNetwork t) (cut : List Part) (is : IsCut t cu
     -- a process said in the whole what it said in its part
     pub talk_of_same : (order : List PartEvent) → AreLegal cut order
         → talk_of (whole_history t cut order) (whole_process (part_at cut r) p)
-        ≡ map (said_in_whole (part_at cut r)) (talk_of (events_of r order) p)
+        ≡ map (said_in_whole (part_at cut r)) (talk_of (events_of_part r order) p)
     talk_of_same order legal =
         seen t network cut is r (said_in (whole_process (part_at cut r) p))
         (λ e. map (said_in_whole (part_at cut r)) (said_in p e))
@@ -290,7 +290,7 @@ module _ (t : Tables) (network : IsNetwork t) (cut : List Part) (is : IsCut t cu
         same
         ∙ said_here e.event o)
         (λ e differ o. said_elsewhere e.part e.event differ o) order legal
-        ∙ map-flat_map (said_in_whole (part_at cut r)) (said_in p) (events_of r order)
+        ∙ map-flat_map (said_in_whole (part_at cut r)) (said_in p) (events_of_part r order)
 
   -- ---- each event belongs to whatever made it
 
@@ -329,7 +329,7 @@ module _ (t : Tables) (network : IsNetwork t) (cut : List Part) (is : IsCut t cu
   -- what a process of a part read is what the whole read
   read_on_ins : (r p : ℕ) → p < length (part_at cut r).tables.instances → (order : List PartEvent)
       → IsJoined t cut order
-      → AgreeOnIns (part_at cut r).tables p (read_on (events_of r order))
+      → AgreeOnIns (part_at cut r).tables p (read_on (events_of_part r order))
       (seen_by (part_at cut r) (read_on (whole_history t cut order)))
   read_on_ins r p below order joined =
       record {
@@ -346,17 +346,17 @@ module _ (t : Tables) (network : IsNetwork t) (cut : List Part) (is : IsCut t cu
       let part = part_at cut r in
       let W = whole_history t cut order in
       let k =
-      CanSay-own_ins part.tables p (read_on (events_of r order)) (seen_by part (read_on W))
-      (read_on_ins r p below order joined) (talk_of (events_of r order) p)
-      ((Legal-consistent part.tables (events_of r order) (joined.legal r)).said p below) in
+      CanSay-own_ins part.tables p (read_on (events_of_part r order)) (seen_by part (read_on W))
+      (read_on_ins r p below order joined) (talk_of (events_of_part r order) p)
+      ((Legal-consistent part.tables (events_of_part r order) (joined.legal r)).said p below) in
       record {
         turns = k.turns;
         said =
             IsPrefix-trans (talk_of W (whole_process part p))
-            (map (said_in_whole part) (talk_of (events_of r order) p))
+            (map (said_in_whole part) (talk_of (events_of_part r order) p))
             (talk_on t (whole_process part p) k.turns (read_on W))
             (IsPrefix-same _ _ (talk_of_same r p below order joined.legal))
-            (IsPrefix-trans (map (said_in_whole part) (talk_of (events_of r order) p))
+            (IsPrefix-trans (map (said_in_whole part) (talk_of (events_of_part r order) p))
             (map (said_in_whole part) (talk_on part.tables p k.turns (seen_by part (read_on W))))
             (talk_on t (whole_process part p) k.turns (read_on W))
             (map-prefix (said_in_whole part) _ _ k.said)
@@ -372,7 +372,7 @@ module _ (t : Tables) (network : IsNetwork t) (cut : List Part) (is : IsCut t cu
             let part = part_at cut at.part in
             let c = at.channel in
             let W = whole_history t cut order in
-            let H = events_of at.part order in
+            let H = events_of_part at.part order in
             subst (λ y. IsPrefix (read_on W y) (written_on W y)) at.same
             (IsPrefix-trans (read_on W (whole_channel part c)) (read_on H c) (written_on W (whole_channel part c))
             (IsPrefix-same _ _ (read_same at.part c at.reads order joined.legal))

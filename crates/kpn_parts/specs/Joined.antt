@@ -19,8 +19,8 @@ abbrev pub event_of : (r : ℕ) → PartEvent → List Event
 event_of r placed = if nat_eq placed.part r then placed.event ∷ [] else []
 
 -- the history of part r: its events, in this order
-abbrev pub events_of : (r : ℕ) → List PartEvent → List Event
-events_of r order = flat_map (event_of r) order
+abbrev pub events_of_part : (r : ℕ) → List PartEvent → List Event
+events_of_part r order = flat_map (event_of r) order
 
 -- ---- the events of the whole
 
@@ -60,12 +60,12 @@ whole_history t cut order = flat_map (whole_event t cut) order
 -- what part r was fed on its channel c begins what was put there in the whole
 abbrev pub IsSent : Tables → List Part → List PartEvent → (r c : ℕ) → Type 0
 IsSent t cut order r c =
-    IsPrefix (written_on (events_of r order) c)
+    IsPrefix (written_on (events_of_part r order) c)
     (written_on (whole_history t cut order) (whole_channel (part_at cut r) c))
 
 -- the history of each part is legal there
 abbrev pub AreLegal : List Part → List PartEvent → Type 0
-AreLegal cut order = (r : ℕ) → Legal (part_at cut r).tables (events_of r order)
+AreLegal cut order = (r : ℕ) → Legal (part_at cut r).tables (events_of_part r order)
 
 -- runs of all parts in one order: each part has a legal history, and at each moment what a part was fed on a cut
 -- channel begins what was put there
@@ -77,7 +77,7 @@ pub record IsJoined (t : Tables) (cut : List Part) (order : List PartEvent) : Ty
 -- part r was fed on its channel c all that was put there in the whole
 abbrev pub HasAll : Tables → List Part → List PartEvent → (r c : ℕ) → Type 0
 HasAll t cut order r c =
-    written_on (events_of r order) c
+    written_on (events_of_part r order) c
     ≡ written_on (whole_history t cut order) (whole_channel (part_at cut r) c)
 
 -- nothing is on the way: each part was fed on each cut channel all that was put there
@@ -86,4 +86,4 @@ pub record IsDelivered (t : Tables) (cut : List Part) (order : List PartEvent) :
 
 -- each part is at rest: its processes have ended or wait on empty channels
 abbrev pub AreQuiet : List Part → List PartEvent → Type 0
-AreQuiet cut order = (r : ℕ) → IsQuiet (part_at cut r).tables (events_of r order)
+AreQuiet cut order = (r : ℕ) → IsQuiet (part_at cut r).tables (events_of_part r order)

@@ -6,42 +6,42 @@ use Rattle.kpn_net.specs.Tables.{Tables, channel_at, is_sink}
 use Rattle.kpn_history.specs.declared.event.Event.{Event}
 use Rattle.kpn_history.specs.Channels.{written_in, written_on}
 use Rattle.kpn_parts.specs.declared.order.PartEvent.{PartEvent}
-use Rattle.kpn_parts.specs.declared.link.Link.{Link}
+use Rattle.kpn_parts.specs.declared.link.PartLink.{PartLink}
 use Rattle.kpn_parts.specs.declared.joining.Carried.{Carried}
 use Rattle.kpn_parts.specs.Cut.{Part, whole_channel, part_at, IsCutSource}
-use Rattle.kpn_parts.specs.Joined.{event_of, events_of}
+use Rattle.kpn_parts.specs.Joined.{event_of, events_of_part}
 
 -- what the one part put on the link
-abbrev pub put_on : List PartEvent → Link → List ℤ
-put_on order link = written_on (events_of link.writer order) link.sink
+abbrev pub put_on_link : List PartEvent → PartLink → List ℤ
+put_on_link order link = written_on (events_of_part link.writer order) link.sink
 
 -- what the other part was fed on it
-abbrev pub fed_on : List PartEvent → Link → List ℤ
-fed_on order link = written_on (events_of link.reader order) link.source
+abbrev pub fed_on : List PartEvent → PartLink → List ℤ
+fed_on order link = written_on (events_of_part link.reader order) link.source
 
 -- at each moment, what the one part was fed on the link begins what the other put
-abbrev pub IsSentOn : List PartEvent → Link → Type 0
+abbrev pub IsSentOn : List PartEvent → PartLink → Type 0
 IsSentOn order link =
-    (begun : List PartEvent) → IsPrefix begun order → IsPrefix (fed_on begun link) (put_on begun link)
+    (begun : List PartEvent) → IsPrefix begun order → IsPrefix (fed_on begun link) (put_on_link begun link)
 
 -- the same on each of these links
-abbrev pub AreSent : List Link → List PartEvent → Type 0
+abbrev pub AreSent : List PartLink → List PartEvent → Type 0
 AreSent links order = All (IsSentOn order) links
 
 -- the link ends in source c of part r, and begins in the sink of a part that is the same channel of the whole
-pub record EndsIn (cut : List Part) (link : Link) (r c : ℕ) : Type 0 where
+pub record EndsIn (cut : List Part) (link : PartLink) (r c : ℕ) : Type 0 where
   pub reader : link.reader ≡ r
   pub source : link.source ≡ c
   pub sink : is_sink (channel_at (part_at cut link.writer).tables link.sink) ≡ true
   pub same : whole_channel (part_at cut link.writer) link.sink ≡ whole_channel (part_at cut r) c
 
-pub record HasLink (cut : List Part) (links : List Link) (r c : ℕ) : Type 0 where
-  pub link : Link
+pub record HasLink (cut : List Part) (links : List PartLink) (r c : ℕ) : Type 0 where
+  pub link : PartLink
   pub among : Contains links link
   pub ends : EndsIn cut link r c
 
 -- these are the links of a cut: one ends in each cut source
-pub record AreLinks (t : Tables) (cut : List Part) (links : List Link) : Type 0 where
+pub record AreLinks (t : Tables) (cut : List Part) (links : List PartLink) : Type 0 where
   pub each : (r c : ℕ) → IsCutSource t (part_at cut r) c → HasLink cut links r c
 
 -- ---- joins of histories
@@ -50,25 +50,25 @@ abbrev pub history_at : List (List Event) → ℕ → List Event
 history_at histories r = slice_index_or histories r []
 
 -- an order of all events of these histories, in which what each part was fed on a link was put there before
-pub record IsJoinOf (histories : List (List Event)) (links : List Link) (order : List PartEvent) : Type 0 where
-  pub whole : (r : ℕ) → events_of r order ≡ history_at histories r
+pub record IsJoinOf (histories : List (List Event)) (links : List PartLink) (order : List PartEvent) : Type 0 where
+  pub whole : (r : ℕ) → events_of_part r order ≡ history_at histories r
   pub sent : AreSent links order
 
 -- ---- scaffolding: what the code keeps
 
 -- these items were put on the link, so many were fed, and all was put before
-pub record IsCarriedOn (link : Link) (order : List PartEvent) (items : List ℤ) (fed : ℕ) : Type 0 where
-  pub put : items ≡ put_on order link
+pub record IsCarriedOn (link : PartLink) (order : List PartEvent) (items : List ℤ) (fed : ℕ) : Type 0 where
+  pub put : items ≡ put_on_link order link
   pub count : fed ≡ length (fed_on order link)
   pub sent : IsSentOn order link
 
-abbrev pub IsCarried : Link → List PartEvent → Carried → Type 0
+abbrev pub IsCarried : PartLink → List PartEvent → Carried → Type 0
 IsCarried link order carried = IsCarriedOn link order carried.items.items carried.fed
 
 -- the same of each link
-pub record AreCarried (links : List Link) (order : List PartEvent) (carried : List Carried) : Type 0 where
+pub record AreCarried (links : List PartLink) (order : List PartEvent) (carried : List Carried) : Type 0 where
   pub same : length carried ≡ length links
-  pub each : (l : ℕ) (x : Link) (d : Carried) → l < length links
+  pub each : (l : ℕ) (x : PartLink) (d : Carried) → l < length links
       → IsCarried (slice_index_or links l x) order (slice_index_or carried l d)
 
 -- nothing was put on so many links
@@ -78,7 +78,7 @@ pub record CarryNothing (carried : List Carried) (n : ℕ) : Type 0 where
       → ((slice_index_or carried l d).items.items ≡ []) × ((slice_index_or carried l d).fed ≡ 0)
 
 -- with this event behind the order all is still put before
-abbrev pub MayCome : List Link → List PartEvent → PartEvent → Type 0
+abbrev pub MayCome : List PartLink → List PartEvent → PartEvent → Type 0
 MayCome links order placed = AreSent links (order ++ placed ∷ [])
 
 -- no more items were fed than put
@@ -88,23 +88,23 @@ FedAtMost carried =
     → (slice_index_or carried l d).fed ≤ length (slice_index_or carried l d).items.items
 
 -- the links below n carry what they did and this event, if it may come, and the others what they did
-pub record CarryMore (links : List Link) (placed : PartEvent) (old new : List Carried) (n : ℕ) : Type 0 where
+pub record CarryMore (links : List PartLink) (placed : PartEvent) (old new : List Carried) (n : ℕ) : Type 0 where
   pub same : length new ≡ length old
-  pub below : (l : ℕ) (x : Link) (d : Carried) → l < n → (order : List PartEvent)
+  pub below : (l : ℕ) (x : PartLink) (d : Carried) → l < n → (order : List PartEvent)
       → IsCarried (slice_index_or links l x) order (slice_index_or old l d)
       → IsSentOn (order ++ placed ∷ []) (slice_index_or links l x)
       → IsCarried (slice_index_or links l x) (order ++ placed ∷ []) (slice_index_or new l d)
   pub above : (l : ℕ) (d : Carried) → n ≤ l → slice_index_or new l d ≡ slice_index_or old l d
 
 -- the order has so many events of each part, from the first on, and the links carry what it says
-pub record SoFar (histories : List (List Event)) (links : List Link) (at : List ℕ) (order : List PartEvent)
+pub record SoFar (histories : List (List Event)) (links : List PartLink) (at : List ℕ) (order : List PartEvent)
     (carried : List Carried) : Type 0 where
   pub parts : length at ≡ length histories
-  pub each : (r : ℕ) → events_of r order ≡ take (slice_index_or at r 0) (history_at histories r)
+  pub each : (r : ℕ) → events_of_part r order ≡ take (slice_index_or at r 0) (history_at histories r)
   pub on_links : AreCarried links order carried
 
 -- the next event of part r may not come
-abbrev pub StandsStill : List (List Event) → List Link → (at : List ℕ) → List PartEvent → (r : ℕ) → Type 0
+abbrev pub StandsStill : List (List Event) → List PartLink → (at : List ℕ) → List PartEvent → (r : ℕ) → Type 0
 StandsStill histories links at order r =
     (d : Event) → slice_index_or at r 0 < length (history_at histories r)
     → ¬ MayCome links order (record {
@@ -113,7 +113,7 @@ StandsStill histories links at order r =
     })
 
 -- no event of any part may come
-abbrev pub IsStuck : List (List Event) → List Link → (at : List ℕ) → List PartEvent → Type 0
+abbrev pub IsStuck : List (List Event) → List PartLink → (at : List ℕ) → List PartEvent → Type 0
 IsStuck histories links at order = (r : ℕ) → StandsStill histories links at order r
 
 -- the order has all events, or lacks one
@@ -142,6 +142,6 @@ IsNext items place None = Unit {0}
 IsNext items place (Some v) = slice_get items place ≡ Some v
 
 -- so many of these items are fed after this feed, which feeds the next one
-abbrev pub Feeds : List ℤ → (fed : ℕ) → Option ℤ → (now : ℕ) → Type 0
-Feeds items fed None now = now ≡ fed
-Feeds items fed (Some v) now = (now ≡ fed + 1) × (slice_get items fed ≡ Some v)
+abbrev pub FeedsNext : List ℤ → (fed : ℕ) → Option ℤ → (now : ℕ) → Type 0
+FeedsNext items fed None now = now ≡ fed
+FeedsNext items fed (Some v) now = (now ≡ fed + 1) × (slice_get items fed ≡ Some v)

@@ -3,11 +3,11 @@ ghost use Rattle.std.specs.Prelude.{◌≡◌, ◌↔◌, ◌≢◌, ◌≤◌, 
 ghost use Rattle.kpn_lang.specs.Prefix.{IsPrefix};
 ghost use Rattle.kpn_history.specs.declared.event.Event.{Event};
 ghost use Rattle.kpn_parts.specs.declared.order.PartEvent.{PartEvent};
-ghost use Rattle.kpn_parts.specs.Joined.{events_of};
+ghost use Rattle.kpn_parts.specs.Joined.{events_of_part};
 ghost use Rattle.kpn_parts.specs.Links.{IsSentOn, IsJoinOf, history_at, items_of, fed_after, IsNext, IsCarried, AreCarried, CarryNothing, CarryMore, FedAtMost, MayCome, SoFar, IsStuck, UsesAll, LacksOne};
 
 use crate::items::{item_of, push_item};
-use crate::link::Link;
+use crate::link::PartLink;
 use crate::order::PartEvent;
 use kpn_history::Event;
 use kpn_lang::Sequence;
@@ -28,7 +28,7 @@ struct Carried {
 pub fn join(
     alloc: Global,
     histories: &[Sequence<Event>],
-    links: &[Link],
+    links: &[PartLink],
 ) -> Result<Option<Sequence<PartEvent>>, AllocError>
     ensures joined { IfOk result (λ joined.
         IfSome joined (λ order. IsJoinOf histories.now links.now order)) }
@@ -53,7 +53,7 @@ fn zeros(alloc: Global, n: usize) -> Result<Vec<usize>, AllocError>
 }
 
 /// Nothing was put on any link.
-fn nothing_carried(alloc: Global, links: &[Link]) -> Result<Vec<Carried>, AllocError>
+fn nothing_carried(alloc: Global, links: &[PartLink]) -> Result<Vec<Carried>, AllocError>
     ensures { IfOk result (λ carried. CarryNothing carried.items (length links.now)) }
 {
     let mut carried = Vec::new(alloc);
@@ -70,7 +70,7 @@ fn nothing_carried(alloc: Global, links: &[Link]) -> Result<Vec<Carried>, AllocE
 /// Puts events behind the order until none may come.
 fn go_rounds(
     histories: &[Sequence<Event>],
-    links: &[Link],
+    links: &[PartLink],
     at: &mut Vec<usize>,
     order: &mut Vec<PartEvent>,
     carried: &mut Vec<Carried>,
@@ -94,7 +94,7 @@ fn go_rounds(
 /// Puts what may come of each part in turn behind the order.
 fn go_round(
     histories: &[Sequence<Event>],
-    links: &[Link],
+    links: &[PartLink],
     at: &mut Vec<usize>,
     order: &mut Vec<PartEvent>,
     carried: &mut Vec<Carried>,
@@ -118,15 +118,15 @@ fn go_on(
     history: &[Event],
     r: usize,
     from: usize,
-    links: &[Link],
+    links: &[PartLink],
     order: &mut Vec<PartEvent>,
     carried: &mut Vec<Carried>,
 ) -> Result<usize, AllocError>
-    requires part { events_of r order.old.items ≡ take from history.now }
+    requires part { events_of_part r order.old.items ≡ take from history.now }
     requires links { AreCarried links.now order.old.items carried.old.items }
-    ensures own { IfOk result (λ to. events_of r order.new.items ≡ take to history.now) }
+    ensures own { IfOk result (λ to. events_of_part r order.new.items ≡ take to history.now) }
     ensures other { OnOk result ((s : ℕ) → s ≢ r
-        → events_of s order.new.items ≡ events_of s order.old.items) }
+        → events_of_part s order.new.items ≡ events_of_part s order.old.items) }
     ensures begins { OnOk result (IsPrefix order.old.items order.new.items) }
     ensures links { OnOk result (AreCarried links.now order.new.items carried.new.items) }
     ensures still { IfOk result (λ to. (d : Event) → to < length history.now
@@ -148,7 +148,7 @@ fn go_on(
 }
 
 /// Whether an event may come now: with it, all is put before it is fed.
-fn may_come(links: &[Link], carried: &[Carried], placed: PartEvent) -> bool
+fn may_come(links: &[PartLink], carried: &[Carried], placed: PartEvent) -> bool
     requires { length carried.now ≡ length links.now }
     ensures { (order : List PartEvent) → AreCarried links.now order carried.now
         → ((result ≡ true) ↔ MayCome links.now order placed) }
@@ -162,7 +162,7 @@ fn may_come(links: &[Link], carried: &[Carried], placed: PartEvent) -> bool
 }
 
 /// Whether a link takes an event: if the event feeds an item on it, this is the next one.
-fn takes(link: Link, carried: &Carried, placed: PartEvent) -> bool
+fn takes(link: PartLink, carried: &Carried, placed: PartEvent) -> bool
     ensures { (order : List PartEvent) → IsCarried link order carried.now
         → ((result ≡ true) ↔ IsSentOn (order ++ placed ∷ []) link) }
 {
@@ -202,7 +202,11 @@ fn item_at(items: &[i64], place: usize, put: Option<i64>) -> Option<i64>
 }
 
 /// Notes on each link what an event puts there and feeds there.
-fn carry(links: &[Link], carried: &mut Vec<Carried>, placed: PartEvent) -> Result<(), AllocError>
+fn carry(
+    links: &[PartLink],
+    carried: &mut Vec<Carried>,
+    placed: PartEvent,
+) -> Result<(), AllocError>
     requires links { length carried.old.items ≡ length links.now }
     requires fed { FedAtMost carried.old.items }
     ensures { OnOk result
@@ -216,7 +220,7 @@ fn carry(links: &[Link], carried: &mut Vec<Carried>, placed: PartEvent) -> Resul
 }
 
 /// Notes what an event puts on a link and feeds there.
-fn take(link: Link, carried: &mut Carried, placed: PartEvent) -> Result<(), AllocError>
+fn take(link: PartLink, carried: &mut Carried, placed: PartEvent) -> Result<(), AllocError>
     requires { carried.old.fed ≤ length carried.old.items.items }
     ensures { OnOk result ((order : List PartEvent) → IsCarried link order carried.old
         → IsSentOn (order ++ placed ∷ []) link → IsCarried link (order ++ placed ∷ []) carried.new) }

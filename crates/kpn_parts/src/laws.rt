@@ -14,9 +14,9 @@ ghost use Rattle.kpn_history.specs.Legal.{Legal};
 ghost use Rattle.kpn_history.specs.Ends.{IsQuiet};
 ghost use Rattle.kpn_history.specs.Complete.{IsComplete, IsFedFrom};
 ghost use Rattle.kpn_parts.specs.declared.order.PartEvent.{PartEvent};
-ghost use Rattle.kpn_parts.specs.declared.link.Link.{Link};
+ghost use Rattle.kpn_parts.specs.declared.link.PartLink.{PartLink};
 ghost use Rattle.kpn_parts.specs.Cut.{Part, whole_process, whole_channel, part_at, IsCut, IsCutSource};
-ghost use Rattle.kpn_parts.specs.Joined.{events_of, whole_history, IsJoined, HasAll, IsDelivered, AreQuiet};
+ghost use Rattle.kpn_parts.specs.Joined.{events_of_part, whole_history, IsJoined, HasAll, IsDelivered, AreQuiet};
 ghost use Rattle.kpn_parts.specs.Links.{AreLinks, history_at, IsJoinOf};
 
 /// Kahn's theorem of networks in parts: in every joined run each journal of the whole is a prefix of the least solution
@@ -32,7 +32,7 @@ pub fn journals_are_below()
         → (given : Family) → IsPrefixOnSources t (fed t (whole_history t cut order)) given
         → (r c : ℕ) → c < length (part_at cut r).tables.channels
         → IsBelowLeast t given (whole_channel (part_at cut r) c)
-        (written_on (events_of r order) c) }
+        (written_on (events_of_part r order) c) }
 {}
 
 /// Parts at rest. If the processes of each part have ended or wait on empty channels, and each cut source was fed all
@@ -49,7 +49,7 @@ pub fn rest_is_least()
         → AreQuiet cut order → IsDelivered t cut order
         → (given : Family) → AgreeOnSources t (fed t (whole_history t cut order)) given
         → (r c : ℕ) → c < length (part_at cut r).tables.channels
-        → IsLeast t given (whole_channel (part_at cut r) c) (written_on (events_of r order) c) }
+        → IsLeast t given (whole_channel (part_at cut r) c) (written_on (events_of_part r order) c) }
     ensures quiet { (t : Tables) → IsNetwork t → (cut : List Part) → IsCut t cut
         → (order : List PartEvent) → IsJoined t cut order
         → IsQuiet t (whole_history t cut order)
@@ -70,11 +70,11 @@ pub fn complete_is_least()
         → (order : List PartEvent) → IsJoined t cut order
         → (r p : ℕ) → p < length (part_at cut r).tables.instances
         → has_ended (whole_history t cut order) (whole_process (part_at cut r) p)
-        ≡ has_ended (events_of r order) p }
+        ≡ has_ended (events_of_part r order) p }
     ensures waits { (t : Tables) → IsNetwork t → (cut : List Part) → IsCut t cut
         → (order : List PartEvent) → IsJoined t cut order
         → (r p c : ℕ) → p < length (part_at cut r).tables.instances
-        → wait_of (part_at cut r).tables (events_of r order) p ≡ Empty c
+        → wait_of (part_at cut r).tables (events_of_part r order) p ≡ Empty c
         → (IsCutSource t (part_at cut r) c → HasAll t cut order r c)
         → wait_of t (whole_history t cut order) (whole_process (part_at cut r) p)
         ≡ Empty (whole_channel (part_at cut r) c) }
@@ -121,7 +121,7 @@ pub fn cuts_change_no_item()
 /// An order that joins legal histories of the parts, on the links of their cut, is a joined run.
 pub fn joins_are_joined_runs()
     ensures { (t : Tables) → IsNetwork t → (cut : List Part) → IsCut t cut
-        → (links : List Link) → AreLinks t cut links
+        → (links : List PartLink) → AreLinks t cut links
         → (histories : List (List Event))
         → ((r : ℕ) → Legal (part_at cut r).tables (history_at histories r))
         → (order : List PartEvent) → IsJoinOf histories links order → IsJoined t cut order }

@@ -9,5 +9,5 @@ mod link;
 mod order;
 
 pub use joining::join;
-pub use link::Link;
+pub use link::PartLink;
 pub use order::PartEvent;

@@ -2,7 +2,7 @@
 
 /// A channel between two parts: sink `sink` of part `writer` is source `source` of part `reader`.
 #[derive(Clone, Copy, Debug, PartialEq, Eq)]
-pub struct Link {
+pub struct PartLink {
     /// The part that writes the channel.
     pub writer: usize,
     /// The channel's number there.

@@ -3,13 +3,13 @@ use Rattle.std.proofs.Common.{◌≡◌, ℕ, ◌+◌, ◌≤◌, Bool, true, fa
 use Rattle.kpn_step.specs.declared.stop.Stop.{Stop}
 use Rattle.kpn_region.specs.Batch.{Batch}
 use Rattle.kpn_book.specs.declared.answers.Done.{Done}
-use Rattle.kpn_book.specs.Book.{Book, counted}
+use Rattle.kpn_book.specs.Book.{Book, with_one_commit}
 use Rattle.kpn_book.specs.Commits.{HandlesStop, ready_if_paused}
-use Rattle.kpn_book.specs.Regions.{commits_or_not, goes_to, settles_if, has_part, Settles, SettleBelow, none_yet, one_more}
+use Rattle.kpn_book.specs.Regions.{commits_or_not, goes_to, settles_if, has_part, Settles, SettleBelow, none_yet, one_more_in}
 use Rattle.kpn_book.specs.RegionCalls.{CommitsRegion}
 use Rattle.kpn_book.specs.RegionClaims.{IsSameBook, ClaimsRegion}
 use Rattle.kpn_book.proofs.Appended.{base_tables, base_commits, commits_stay, tables_stay}
-use Rattle.kpn_region.specs.Batch.{stop_of}
+use Rattle.kpn_region.specs.Batch.{stop_in}
 use Rattle.kpn_pool_desk.proofs.InARow.{IsFurther}
 
 -- ---- a claim
@@ -54,11 +54,11 @@ then_further a b c one two =
 handled : (p : ℕ) (s : Stop) (answer : Done) (before after : Book) → HandlesStop p s answer before after
     → IsFurther before after
 handled p s answer before after is =
-    let base = ready_if_paused p answer (counted before) in
+    let base = ready_if_paused p answer (with_one_commit before) in
     let more : after.commits ≡ before.commits + 1 =
-    commits_stay is.events base after is.appends ∙ base_commits answer p (counted before) in
+    commits_stay is.events base after is.appends ∙ base_commits answer p (with_one_commit before) in
     record {
-      tables = tables_stay is.events base after is.appends ∙ base_tables answer p (counted before);
+      tables = tables_stay is.events base after is.appends ∙ base_tables answer p (with_one_commit before);
       commits = omega (arith, more);
     }
 
@@ -78,13 +78,13 @@ by_stop memory p None before after is =
 
 by_part : (part memory : Bool) (batch : Batch) (p : ℕ) (before after : Book)
     → settles_if part memory batch p before after → IsFurther before after
-by_part true memory batch p before after is = by_stop memory p (stop_of batch p) before after is
+by_part true memory batch p before after is = by_stop memory p (stop_in batch p) before after is
 by_part false memory batch p before after is = stays before after is.1
 
 settled_further : (batch : Batch) (first : Book) {n : ℕ} {memory : Bool} {after : Book}
     → SettleBelow batch first n memory after → IsFurther first after
 settled_further batch first none_yet = stays first first refl
-settled_further batch first (one_more {n} enough before after so_far settles) =
+settled_further batch first (one_more_in {n} enough before after so_far settles) =
     then_further first before after (settled_further batch first so_far)
     (by_part (has_part batch n before) enough batch n before after settles)
 

@@ -2,7 +2,7 @@
 use Rattle.std.proofs.Common.{◌≡◌, ℕ, ◌+◌, ◌≤◌, min, max, Option, Some, None, ℤ, Result, Ok, Err, IfOk, OnErr, inl, inr, refl, sym, ap, ◌∙◌, subst, arith}
 use Rattle.std.specs.Result.{result_unwrap_or}
 use Rattle.kpn_book.specs.Book.{Book}
-use Rattle.kpn_book.specs.InARow.{StepsInRow, no_step, one_step_more, ends_row, RunsOn, RunsInVain}
+use Rattle.kpn_book.specs.InARow.{StepsInRow, no_step, one_step_more, ends_row, RunsInRow, RunsInVain}
 use Rattle.kpn_book.specs.Refusals.{Takes}
 use Rattle.kpn_book.proofs.FirstOfQueue.{refused_tables}
 use Rattle.kpn_book.proofs.Stepped.{step_tables, step_commits}
@@ -60,9 +60,9 @@ row_further quota sink before after (row_in_vain most none vain) =
 -- a row that ends in either way, with what is returned then
 module _ {E : Type 0} (quota most : ℕ) (before after : Book) where
   pub row_of : (result : Result (Option ℕ) E) (sink : Option ℕ) → sink ≡ result_unwrap_or result None
-      → IfOk result (λ s. RunsOn quota most s before after) → OnErr result (RunsInVain quota most before after)
+      → IfOk result (λ s. RunsInRow quota most s before after) → OnErr result (RunsInVain quota most before after)
       → MakesRow quota sink before after
-  row_of (Ok s) sink is runs vain = row most (subst (λ x. RunsOn quota most x before after) (sym is) runs)
+  row_of (Ok s) sink is runs vain = row most (subst (λ x. RunsInRow quota most x before after) (sym is) runs)
   row_of (Err error) sink is runs vain = row_in_vain most is vain
 
 -- ---- takes

@@ -1,7 +1,7 @@
 -- What a worker does while it has the lock, beside its batch: turns in a row, and takes from the sinks.
 use Rattle.std.specs.Prelude.{◌≡◌, ℕ, ◌+◌, ◌≤◌, min, max, ◌⊎◌, ℤ, Option, Some, None}
 use Rattle.kpn_book.specs.Book.{Book}
-use Rattle.kpn_book.specs.InARow.{RunsOn, RunsInVain}
+use Rattle.kpn_book.specs.InARow.{RunsInRow, RunsInVain}
 use Rattle.kpn_book.specs.Refusals.{Takes}
 use Rattle.kpn_pool_desk.specs.declared.gate.Go.{Go}
 use Rattle.kpn_pool_desk.specs.declared.rows.Takers.{Takers}
@@ -11,7 +11,7 @@ use Rattle.kpn_pool_desk.specs.Desk.{Desk, with_total}
 
 -- a row of turns, of which the last one may have put an item on this sink, or which ends since memory is refused
 pub data MakesRow (quota : ℕ) (sink : Option ℕ) (before after : Book) : Type 0 where
-  row : (most : ℕ) → RunsOn quota most sink before after → MakesRow quota sink before after
+  row : (most : ℕ) → RunsInRow quota most sink before after → MakesRow quota sink before after
   row_in_vain : (most : ℕ) → sink ≡ None → RunsInVain quota most before after → MakesRow quota sink before after
 
 -- takes from sinks lead from the first book to this one, if the workers take

@@ -11,7 +11,7 @@ use Rattle.kpn_history.specs.Talks.{is_of_process, process_events}
 use Rattle.kpn_machine.specs.Machine.{no_frame}
 use Rattle.kpn_region.specs.Local.{SideState, no_side, claimed_with, as_claimed, Local, frame_at, with_side, IsLocal, Plays, no_event}
 use Rattle.kpn_region.specs.Batch.{Batch, batch_of, IsStuckAt, IsBatch, IsFresh, IsEmpty}
-use Rattle.kpn_region.specs.Turn.{GoesOn}
+use Rattle.kpn_region.specs.Turn.{MakesEvents}
 use Rattle.kpn_region.proofs.Turns.{as_many}
 
 -- ---- lists of one value
@@ -246,7 +246,7 @@ module _ (t : Tables) (within : List Bool) (first frames : List Frame) (sides : 
     (stops : List (Option Stop)) (b : IsBatch (batch_of t within first frames sides events stops)) where
   pub turned : (p n : ℕ) → p < length t.instances → get_or within p false ≡ true → (f g : Frame)
       → (had then : List SideState) (made more : List Event) → f ≡ get_or frames p no_frame → had ≡ sides
-      → made ≡ events → GoesOn t p n f had made g then more → (stop : Option Stop) → IfSome stop (IsStuckAt t p g)
+      → made ≡ events → MakesEvents t p n f had made g then more → (stop : Option Stop) → IfSome stop (IsStuckAt t p g)
       → IsBatch (batch_of t within first (slice_set frames p g) then more (slice_set stops p stop))
   turned p n there in_it f g had then made more stood same_sides same_events goes stop stands =
       record {
@@ -299,7 +299,7 @@ module _ (t : Tables) (within : List Bool) (first frames : List Frame) (sides : 
 
 -- as many more of its events are of processes as it has made
 pub counted : (t : Tables) (p n k : ℕ) (f g : Frame) (had then : List SideState) (events made more : List Event)
-    → k ≡ process_events events → made ≡ events → GoesOn t p n f had made g then more
+    → k ≡ process_events events → made ≡ events → MakesEvents t p n f had made g then more
     → k + n ≡ process_events more
 counted t p n k f g had then events made more count same goes =
     ap (λ j. k + j) (sym goes.count)

@@ -10,9 +10,9 @@ use Rattle.kpn_history.specs.declared.event.Event.{Event}
 use Rattle.kpn_history.specs.Stops.{OwesNothing}
 use Rattle.kpn_machine.specs.Machine.{Machine, channel_in, wait_in, end_in, frame_in}
 use Rattle.kpn_machine.specs.Run.{IsEndOf, StandsAfter, IsRun}
-use Rattle.kpn_region.specs.Local.{SideState, no_side, as_claimed, is_within, frame_at, side_at, IsLocal, Plays}
+use Rattle.kpn_region.specs.Local.{SideState, no_side, as_claimed, is_in_region, frame_at, side_at, IsLocal, Plays}
 use Rattle.kpn_region.specs.Batch.{Batch, IsBatch}
-use Rattle.kpn_region.specs.Joining.{IsClaimOf, put_on, AgreesWith, Joins}
+use Rattle.kpn_region.specs.Joining.{IsClaimOf, items_put, AgreesWith, Joins}
 use Rattle.kpn_region.proofs.OnTheWay.{put_so_far}
 use Rattle.kpn_region.proofs.Playing.{IsUnused, IsReached, within_there, sound, reaches}
 
@@ -95,7 +95,7 @@ module _ (t : Tables) (network : IsNetwork t) (b : Batch) (tables : b.tables ≡
     local : IsLocal t b.first
     local = subst (λ x. IsLocal x b.first) tables is.was
 
-    agrees_at : (p : ℕ) → is_within b.first p ≡ true
+    agrees_at : (p : ℕ) → is_in_region b.first p ≡ true
         → (end_in before p ≡ None) × (frame_in before p ≡ frame_at b.first p)
     agrees_at p in_it =
         agrees.processes p (subst (λ x. p < length x.instances) (sym tables) (within_there t b.first local p in_it)) in_it
@@ -123,7 +123,7 @@ module _ (t : Tables) (network : IsNetwork t) (b : Batch) (tables : b.tables ≡
       there_here p there = subst (λ x. p < length x.instances) (sym tables) there
 
       same_puts : (c : ℕ) (below : c < length t.channels)
-          → put_on (side_at b.now c) ≡ (reached.each_channel c below).puts
+          → items_put (side_at b.now c) ≡ (reached.each_channel c below).puts
       same_puts c below =
           put_so_far t c (side_at b.first c) (channel_in before c)
           (claims c below)

@@ -8,9 +8,9 @@ use Rattle.std.proofs.lemmas.Option.{slice_get_within, slice_get-get_or, get_or_
 use Rattle.kpn_lang.specs.Prefix.{IsPrefix}
 use Rattle.kpn_lang.proofs.Prefixes.{length_of_prefix, rest_of_prefix, same_from_prefix, IsPrefix-from_rest}
 use Rattle.kpn_net.specs.Tables.{Tables}
-use Rattle.kpn_chan.specs.Channel.{ChannelState, unread, fills, is_full, next_item, after_put, after_get, most_after_put}
-use Rattle.kpn_region.specs.Local.{SideState, untaken, next_of, with_next_taken, with_item}
-use Rattle.kpn_region.specs.Joining.{IsClaimOf, TakesInOrder, put_on, most_with, most_joined}
+use Rattle.kpn_chan.specs.Channel.{ChannelState, unread, fills, is_channel_full, next_item, after_put, after_get, most_after_put}
+use Rattle.kpn_region.specs.Local.{SideState, untaken, next_of, with_next_taken, with_item_put}
+use Rattle.kpn_region.specs.Joining.{IsClaimOf, TakesInOrder, items_put, most_with, most_joined}
 
 -- the side after some events, from its claim, and the channel after them
 pub record IsOnTheWay (claim side : SideState) (before now : ChannelState) : Type 0 where
@@ -90,7 +90,7 @@ module _ (t : Tables) (c : ℕ) (claim : SideState) (before : ChannelState) (of 
     long_items = ap length way.items ∙ length-append claim.items way.puts
 
     -- what the region has put
-    pub put_so_far : put_on side ≡ way.puts
+    pub put_so_far : items_put side ≡ way.puts
     put_so_far =
         ap (λ n. drop n side.items) (way.claimed ∙ of.count) ∙ ap (drop (length claim.items)) way.items
         ∙ drop-append_seam claim.items way.puts
@@ -197,7 +197,7 @@ module _ (t : Tables) (c : ℕ) (claim : SideState) (before : ChannelState) (of 
         let i = way.taken in
         omega (arith, shorter, a, b, d, e, f, g, h, i, sound)
 
-    pub has_room : length (untaken side) < side.room → is_full now ≡ false
+    pub has_room : length (untaken side) < side.room → is_channel_full now ≡ false
     has_room room = by_reader before.is_retired refl
       where
         fits : before.is_retired ≡ false → (cap : Option ℕ) → before.capacity ≡ cap
@@ -212,7 +212,7 @@ module _ (t : Tables) (c : ℕ) (claim : SideState) (before : ChannelState) (of 
             let d = of.count in
             lt-leb cap (length (unread now)) (omega (arith, within, count, shorter, a, b, d, room))
 
-        by_reader : (b : Bool) → before.is_retired ≡ b → is_full now ≡ false
+        by_reader : (b : Bool) → before.is_retired ≡ b → is_channel_full now ≡ false
         by_reader true gone =
             ap (λ b. not b && fills (length (unread now)) now.capacity) (way.retired ∙ gone)
         by_reader false there =
@@ -220,7 +220,7 @@ module _ (t : Tables) (c : ℕ) (claim : SideState) (before : ChannelState) (of 
             ∙ ap (fills (length (unread now))) way.capacity
             ∙ fits there before.capacity refl
 
-    pub put_more : (v : ℤ) → IsOnTheWay claim (with_item v side) before (after_put v false now)
+    pub put_more : (v : ℤ) → IsOnTheWay claim (with_item_put v side) before (after_put v false now)
     put_more v =
         record {
           puts = way.puts ++ v ∷ [];
@@ -241,7 +241,7 @@ module _ (t : Tables) (c : ℕ) (claim : SideState) (before : ChannelState) (of 
         unseen = length (unread before) - side.claimed
 
         by_reader : (b : Bool) → before.is_retired ≡ b
-            → most_after_put now ≡ most_joined (with_item v side) before
+            → most_after_put now ≡ most_joined (with_item_put v side) before
         by_reader true gone =
             ap (λ b. cond b now.most (max now.most (length (unread now) + 1))) (way.retired ∙ gone)
             ∙ way.most

@@ -9,10 +9,10 @@ use Rattle.kpn_net.specs.Waits.{wait_at, AreWaits}
 use Rattle.kpn_chan.specs.Channel.{ChannelState, unread, opened}
 use Rattle.kpn_machine.specs.Machine.{Machine, channel_in, wait_in, frame_in, no_frame, with_channel, with_frame}
 use Rattle.kpn_machine.specs.Woken.{ends_by_batch}
-use Rattle.kpn_region.specs.Local.{SideState, no_side, is_within, frame_at, side_at}
+use Rattle.kpn_region.specs.Local.{SideState, no_side, is_in_region, frame_at, side_at}
 use Rattle.kpn_region.specs.Turn.{side_in}
 use Rattle.kpn_region.specs.Batch.{Batch, IsBatch}
-use Rattle.kpn_region.specs.Joining.{put_on, has_put, has_taken, most_with, most_joined, wait_joined, IsChannelJoined, Joins}
+use Rattle.kpn_region.specs.Joining.{items_put, has_put_items, has_taken, most_with, most_joined, wait_joined, IsChannelJoined, Joins}
 use Rattle.kpn_region.specs.JoiningParts.{JoinsChannel, wait_joined_below, JoinsChannels, JoinsFrames}
 use Rattle.kpn_region.proofs.Sides.{IsSideKept}
 
@@ -23,7 +23,7 @@ none_of_either true n = refl
 none_of_either false n = refl
 
 module _ (b : Batch) (c : ℕ) (s : Machine) (waits : AreWaits b.tables s.waits)
-    (taken : (side_at b.now c).taken ≡ 0) (put : put_on (side_at b.now c) ≡ [])
+    (taken : (side_at b.now c).taken ≡ 0) (put : items_put (side_at b.now c) ≡ [])
     (kept : IsSideKept (side_at b.now c)) where
   abbrev side : SideState
   side = side_at b.now c
@@ -56,12 +56,12 @@ module _ (b : Batch) (c : ℕ) (s : Machine) (waits : AreWaits b.tables s.waits)
         kept = refl;
       }
 
-  ends_none : (wait : Wait) → ends_by_batch c (has_taken side) (has_put side) wait ≡ false
+  ends_none : (wait : Wait) → ends_by_batch c (has_taken side) (has_put_items side) wait ≡ false
   ends_none wait =
       let no_take : has_taken side ≡ false = ap (ltb 0) taken in
       let few = no_more_items in
-      let no_put : has_put side ≡ false = grind (arith, nat_tests) in
-      ap (λ x. ends_by_batch c x (has_put side) wait) no_take ∙ ap (λ x. ends_by_batch c false x wait) no_put
+      let no_put : has_put_items side ≡ false = grind (arith, nat_tests) in
+      ap (λ x. ends_by_batch c x (has_put_items side) wait) no_take ∙ ap (λ x. ends_by_batch c false x wait) no_put
 
   -- the machine stays
   pub nothing_joined : JoinsChannel b c s s
@@ -152,11 +152,11 @@ wait_on c n wait between now kind has here same none is first second =
 
 module _ (sides : List SideState) (n : ℕ) where
   abbrev kind : Wait → Bool
-  kind w = ends_by_batch n (has_taken (side_in sides n)) (has_put (side_in sides n)) w
+  kind w = ends_by_batch n (has_taken (side_in sides n)) (has_put_items (side_in sides n)) w
 
   kind_nobody : kind Nobody ≡ false
   kind_nobody =
-      ap (λ b. b || (has_taken (side_in sides n) && false)) (never (has_put (side_in sides n)))
+      ap (λ b. b || (has_taken (side_in sides n) && false)) (never (has_put_items (side_in sides n)))
       ∙ never (has_taken (side_in sides n))
 
   one_more_wait : (wait between now : Wait) → between ≡ wait_joined_below n sides wait
@@ -164,14 +164,14 @@ module _ (sides : List SideState) (n : ℕ) where
   one_more_wait Nobody between now first second =
       second ∙ ap (λ w. cond (kind w) Nobody w) first ∙ nobody (kind Nobody)
   one_more_wait (Empty c) between now first second =
-      wait_on c n (Empty c) between now kind (has_put (side_in sides c)) (has_put (side_in sides n))
-      (λ same. ap (λ d. has_put (side_in sides d)) (sym same)) kind_nobody
-      (ap (λ b. (has_put (side_in sides n) && eqb n c) || b) (never (has_taken (side_in sides n)))
-      ∙ no_more (has_put (side_in sides n) && eqb n c)) first second
+      wait_on c n (Empty c) between now kind (has_put_items (side_in sides c)) (has_put_items (side_in sides n))
+      (λ same. ap (λ d. has_put_items (side_in sides d)) (sym same)) kind_nobody
+      (ap (λ b. (has_put_items (side_in sides n) && eqb n c) || b) (never (has_taken (side_in sides n)))
+      ∙ no_more (has_put_items (side_in sides n) && eqb n c)) first second
   one_more_wait (Full c) between now first second =
       wait_on c n (Full c) between now kind (has_taken (side_in sides c)) (has_taken (side_in sides n))
       (λ same. ap (λ d. has_taken (side_in sides d)) (sym same)) kind_nobody
-      (ap (λ b. b || (has_taken (side_in sides n) && eqb n c)) (never (has_put (side_in sides n)))) first second
+      (ap (λ b. b || (has_taken (side_in sides n) && eqb n c)) (never (has_put_items (side_in sides n)))) first second
 
 not_below_zero : (c : ℕ) → ltb c 0 ≡ false
 not_below_zero c = grind (arith, nat_tests)
@@ -179,7 +179,7 @@ not_below_zero c = grind (arith, nat_tests)
 no_wait_joined : (sides : List SideState) (w : Wait) → w ≡ wait_joined_below 0 sides w
 no_wait_joined sides Nobody = refl
 no_wait_joined sides (Empty c) =
-    sym (ap (λ b. cond (b && has_put (side_in sides c)) Nobody (Empty c)) (not_below_zero c))
+    sym (ap (λ b. cond (b && has_put_items (side_in sides c)) Nobody (Empty c)) (not_below_zero c))
 no_wait_joined sides (Full c) =
     sym (ap (λ b. cond (b && has_taken (side_in sides c)) Nobody (Full c)) (not_below_zero c))
 
@@ -189,10 +189,10 @@ all_waits_joined sides Nobody = refl
 all_waits_joined sides (Empty c) =
     elim (cases_lt c (length sides)) [
       | inl below ↦
-          ap (λ b. cond (b && has_put (side_in sides c)) Nobody (Empty c))
+          ap (λ b. cond (b && has_put_items (side_in sides c)) Nobody (Empty c))
           (let e : ltb c (length sides) ≡ true = grind (arith, nat_tests) in e)
       | inr past ↦
-          let none : has_put (side_in sides c) ≡ false = ap has_put (get_or_past sides c no_side past) in
+          let none : has_put_items (side_in sides c) ≡ false = ap has_put_items (get_or_past sides c no_side past) in
           ap (λ b. cond (ltb c (length sides) && b) Nobody (Empty c)) none
           ∙ ap (λ b. cond b Nobody (Empty c)) (never (ltb c (length sides)))
           ∙ sym (ap (λ b. cond b Nobody (Empty c)) none)
@@ -281,7 +281,7 @@ module _ (b : Batch) (before : Machine) where
     at_n : frame_in between n ≡ frame_in before n
     at_n = so_far.others n (omega arith)
 
-    frame_joined : (w : Bool) → is_within b.now n ≡ w
+    frame_joined : (w : Bool) → is_in_region b.now n ≡ w
         → JoinsFrames b (n + 1) before (cond w (with_frame n (frame_at b.now n) between) between)
     frame_joined true is =
         record {
@@ -291,7 +291,7 @@ module _ (b : Batch) (before : Machine) where
               elim (cases_eq p n) [
                 | inl same ↦
                     subst (λ q. frame_in (with_frame n (frame_at b.now n) between) q
-                    ≡ cond (is_within b.now q) (frame_at b.now q) (frame_in before q)) (sym same)
+                    ≡ cond (is_in_region b.now q) (frame_at b.now q) (frame_in before q)) (sym same)
                     (get_or-set_same between.frames n (frame_at b.now n) no_frame
                     (subst (λ k. n < k) (sym so_far.frames) there)
                     ∙ sym (ap (λ x. cond x (frame_at b.now n) (frame_in before n)) is))
@@ -312,7 +312,7 @@ module _ (b : Batch) (before : Machine) where
               elim (cases_eq p n) [
                 | inl same ↦
                     subst (λ q. frame_in between q
-                    ≡ cond (is_within b.now q) (frame_at b.now q) (frame_in before q)) (sym same)
+                    ≡ cond (is_in_region b.now q) (frame_at b.now q) (frame_in before q)) (sym same)
                     (at_n ∙ sym (ap (λ x. cond x (frame_at b.now n) (frame_in before n)) is))
                 | inr differ ↦ so_far.each_frame p (omega (arith, below, differ))
               ];
@@ -320,9 +320,9 @@ module _ (b : Batch) (before : Machine) where
         }
 
     pub one_more_frame : (after : Machine)
-        → after ≡ cond (is_within b.now n) (with_frame n (frame_at b.now n) between) between
+        → after ≡ cond (is_in_region b.now n) (with_frame n (frame_at b.now n) between) between
         → JoinsFrames b (n + 1) before after
-    one_more_frame after is = subst (JoinsFrames b (n + 1) before) (sym is) (frame_joined (is_within b.now n) refl)
+    one_more_frame after is = subst (JoinsFrames b (n + 1) before) (sym is) (frame_joined (is_in_region b.now n) refl)
 
 -- ---- all of it
 
@@ -350,5 +350,5 @@ all_joined b is before between after channels frames waits =
           ∙ all_waits_joined b.now.sides (wait_in before p);
       each_frame = λ p there.
           frames.each_frame p there
-          ∙ ap (λ fs. cond (is_within b.now p) (frame_at b.now p) (get_or fs p no_frame)) channels.frames;
+          ∙ ap (λ fs. cond (is_in_region b.now p) (frame_at b.now p) (get_or fs p no_frame)) channels.frames;
     }

@@ -12,7 +12,7 @@ use Rattle.kpn_net.specs.Tables.{Tables, reader_of, writer_of, program_of}
 use Rattle.kpn_net.specs.Faults.{IsNetwork}
 use Rattle.kpn_step.specs.Frame.{Frame}
 use Rattle.kpn_step.specs.Stops.{advanced_of}
-use Rattle.kpn_chan.specs.Channel.{ChannelState, opened, is_full, next_item, after_put, after_get}
+use Rattle.kpn_chan.specs.Channel.{ChannelState, opened, is_channel_full, next_item, after_put, after_get}
 use Rattle.kpn_history.specs.declared.event.Event.{Event}
 use Rattle.kpn_history.specs.declared.event.Event.TheVariants.{Get, Put, Take}
 use Rattle.kpn_history.specs.Talks.{is_of}
@@ -35,9 +35,9 @@ use Rattle.kpn_machine.proofs.Going.{reader_is_awake, writer_is_awake}
 use Rattle.kpn_machine.proofs.Moving.{IsRun-moved}
 use Rattle.kpn_machine.proofs.Ports.{reads_own, writes_own}
 use Rattle.kpn_machine.proofs.Running.{IsRun-next}
-use Rattle.kpn_region.specs.Local.{SideState, no_side, with_next_taken, with_item, Local, is_within, frame_at, side_at, with_frame, IsLocal, Advances, Gets, Puts, Takes, LocalStep, Plays, no_event, steps_on, one_event_more}
+use Rattle.kpn_region.specs.Local.{SideState, no_side, with_next_taken, with_item_put, Local, is_in_region, frame_at, side_at, with_local_frame, IsLocal, Advances, RegionGets, RegionPuts, RegionTakes, LocalStep, Plays, no_event, steps_on, one_event_more}
 use Rattle.kpn_region.specs.Turn.{side_in}
-use Rattle.kpn_region.specs.Joining.{IsClaimOf, IsOpenSink, TakesInOrder, has_put, has_taken, wait_joined}
+use Rattle.kpn_region.specs.Joining.{IsClaimOf, IsUnclaimedSink, TakesInOrder, has_put_items, has_taken, wait_joined}
 use Rattle.kpn_region.proofs.OnTheWay.{IsOnTheWay, starts, got, gives, has_room, put_more}
 
 -- ---- frames and waits after one event
@@ -65,7 +65,7 @@ frames_step within of_region of_run of_start p g there below in_it same q =
     ]
 
 module _ (t : Tables) (e : Event) (makes_none : wait_made e ≡ Nobody) (sides then : List SideState)
-    (puts : (d : ℕ) → has_put (side_in then d) ≡ (has_put (side_in sides d) || wakes_reader d e))
+    (puts : (d : ℕ) → has_put_items (side_in then d) ≡ (has_put_items (side_in sides d) || wakes_reader d e))
     (takes : (d : ℕ) → has_taken (side_in then d) ≡ (has_taken (side_in sides d) || wakes_writer t d e)) (p : ℕ) where
   woken_or_not : (wait : Wait) (was now wakes_it : Bool) → now ≡ (was || wakes_it)
       → cond (wakes t e wait) Nobody wait ≡ cond wakes_it Nobody wait
@@ -77,7 +77,7 @@ module _ (t : Tables) (e : Event) (makes_none : wait_made e ≡ Nobody) (sides t
       → cond (wakes t e (wait_joined sides w)) Nobody (wait_joined sides w) ≡ wait_joined then w
   others Nobody = refl
   others (Empty d) =
-      woken_or_not (Empty d) (has_put (side_in sides d)) (has_put (side_in then d)) (wakes_reader d e) (puts d) refl
+      woken_or_not (Empty d) (has_put_items (side_in sides d)) (has_put_items (side_in then d)) (wakes_reader d e) (puts d) refl
   others (Full d) =
       woken_or_not (Full d) (has_taken (side_in sides d)) (has_taken (side_in then d)) (wakes_writer t d e) (takes d)
       refl
@@ -90,7 +90,7 @@ module _ (t : Tables) (e : Event) (makes_none : wait_made e ≡ Nobody) (sides t
   stays_free : (w : Wait) → wait_joined sides w ≡ Nobody → wait_joined then w ≡ Nobody
   stays_free Nobody is = refl
   stays_free (Empty d) is =
-      still_nobody (Empty d) (λ x. absurd cc) (has_put (side_in sides d)) (has_put (side_in then d)) (wakes_reader d e)
+      still_nobody (Empty d) (λ x. absurd cc) (has_put_items (side_in sides d)) (has_put_items (side_in then d)) (wakes_reader d e)
       (puts d) is
   stays_free (Full d) is =
       still_nobody (Full d) (λ x. absurd cc) (has_taken (side_in sides d)) (has_taken (side_in then d))
@@ -159,7 +159,7 @@ nothing_owed t B e none s run p there free q d owed =
 -- ---- the batch, event by event
 
 -- a process of a region is one of the network
-pub within_there : (t : Tables) (l : Local) → IsLocal t l → (p : ℕ) → is_within l p ≡ true → p < length t.instances
+pub within_there : (t : Tables) (l : Local) → IsLocal t l → (p : ℕ) → is_in_region l p ≡ true → p < length t.instances
 within_there t l shape p in_it =
     elim (cases_lt p (length l.within)) [
       | inl below ↦ subst (λ n. p < n) shape.within below
@@ -198,13 +198,13 @@ pub record IsReached (t : Tables) (H : List Event) (s : Machine) (first : Local)
   pub closed : to.closed ≡ s.closed
   pub ends : to.ends ≡ s.ends
   pub each_wait : (p : ℕ) → p < length t.instances → wait_in to p ≡ wait_joined l.sides (wait_in s p)
-  pub each_frame : (p : ℕ) → frame_in to p ≡ cond (is_within l p) (frame_at l p) (frame_in s p)
+  pub each_frame : (p : ℕ) → frame_in to p ≡ cond (is_in_region l p) (frame_at l p) (frame_in s p)
   pub begun : ((events ≡ []) × (l.sides ≡ first.sides)) ⊎ ((p : ℕ) × (p < length t.instances) × IsFree to p)
 
 module _ (t : Tables) (network : IsNetwork t) (H : List Event) (s : Machine) (run : IsRun t H s)
     (owes : OwesNothing t H) (first : Local) (shape : IsLocal t first)
-    (frames : (p : ℕ) → is_within first p ≡ true → frame_in s p ≡ frame_at first p)
-    (not_ended : (p : ℕ) → is_within first p ≡ true → end_in s p ≡ None)
+    (frames : (p : ℕ) → is_in_region first p ≡ true → frame_in s p ≡ frame_at first p)
+    (not_ended : (p : ℕ) → is_in_region first p ≡ true → end_in s p ≡ None)
     (claims : (c : ℕ) → c < length t.channels → IsClaimOf t c (side_at first c) (channel_in s c))
     (unused : (c : ℕ) → c < length t.channels → IsUnused (side_at first c)) where
   abbrev Reached : List Event → Local → Type 0
@@ -212,14 +212,14 @@ module _ (t : Tables) (network : IsNetwork t) (H : List Event) (s : Machine) (ru
 
   -- ---- no event yet
 
-  start_frames : (p : ℕ) → frame_in s p ≡ cond (is_within first p) (frame_at first p) (frame_in s p)
-  start_frames p = by_place (is_within first p) refl
+  start_frames : (p : ℕ) → frame_in s p ≡ cond (is_in_region first p) (frame_at first p) (frame_in s p)
+  start_frames p = by_place (is_in_region first p) refl
     where
-      by_place : (b : Bool) → is_within first p ≡ b → frame_in s p ≡ cond b (frame_at first p) (frame_in s p)
+      by_place : (b : Bool) → is_in_region first p ≡ b → frame_in s p ≡ cond b (frame_at first p) (frame_in s p)
       by_place true in_it = frames p in_it
       by_place false out = refl
 
-  nothing_put : (c : ℕ) → c < length t.channels → has_put (side_at first c) ≡ false
+  nothing_put : (c : ℕ) → c < length t.channels → has_put_items (side_at first c) ≡ false
   nothing_put c below =
       let count = (claims c below).count in
       le-ltb (side_at first c).claimed (length (side_at first c).items) (omega (arith, count))
@@ -233,11 +233,11 @@ module _ (t : Tables) (network : IsNetwork t) (H : List Event) (s : Machine) (ru
       past : (c : ℕ) → length t.channels ≤ c → side_at first c ≡ no_side
       past c most = get_or_past first.sides c no_side (subst (λ n. n ≤ c) (sym shape.sides) most)
 
-      puts_none : (c : ℕ) → has_put (side_at first c) ≡ false
+      puts_none : (c : ℕ) → has_put_items (side_at first c) ≡ false
       puts_none c =
           elim (cases_lt c (length t.channels)) [
             | inl below ↦ nothing_put c below
-            | inr most ↦ ap has_put (past c most)
+            | inr most ↦ ap has_put_items (past c most)
           ]
 
       takes_none : (c : ℕ) → has_taken (side_at first c) ≡ false
@@ -279,7 +279,7 @@ module _ (t : Tables) (network : IsNetwork t) (H : List Event) (s : Machine) (ru
       p : ℕ
       p = a.process
 
-      in_first : is_within first p ≡ true
+      in_first : is_in_region first p ≡ true
       in_first = ap (λ ws. get_or ws p false) (sym r.within) ∙ a.within
 
       there : p < length t.instances
@@ -288,7 +288,7 @@ module _ (t : Tables) (network : IsNetwork t) (H : List Event) (s : Machine) (ru
       stood : frame_in r.to p ≡ frame_at before p
       stood = r.each_frame p ∙ ap (λ b. cond b (frame_at before p) (frame_in s p)) a.within
 
-      moved : Reached events (with_frame p a.to before)
+      moved : Reached events (with_local_frame p a.to before)
       moved =
           record {
             to = record r.to { frames = slice_set r.to.frames p a.to };
@@ -326,13 +326,13 @@ module _ (t : Tables) (network : IsNetwork t) (H : List Event) (s : Machine) (ru
       pub reached : HasNumbers t e → IsDueNow t r.to e → Made t e r.to to
           → to.channels ≡ slice_set r.to.channels c ch → to.closed ≡ r.to.closed → to.ends ≡ r.to.ends
           → IsOnTheWay (side_at first c) side (channel_in s c) ch
-          → has_put side ≡ (has_put (side_at l c) || wakes_reader c e)
+          → has_put_items side ≡ (has_put_items (side_at l c) || wakes_reader c e)
           → has_taken side ≡ (has_taken (side_at l c) || wakes_writer t c e)
           → ((d : ℕ) → d ≢ c → wakes_reader d e ≡ false) → ((d : ℕ) → d ≢ c → wakes_writer t d e ≡ false)
           → ((p : ℕ) → is_of p e ≡ true → wait_in r.to p ≡ Nobody)
           → waiter e ≡ None → wait_made e ≡ Nobody
           → length region_frames ≡ length l.frames
-          → ((q : ℕ) → frame_in to q ≡ cond (is_within l q) (get_or region_frames q no_frame) (frame_in s q))
+          → ((q : ℕ) → frame_in to q ≡ cond (is_in_region l q) (get_or region_frames q no_frame) (frame_in s q))
           → (p : ℕ) → p < length t.instances → end_in r.to p ≡ None
           → wait_then t e p (wait_in r.to p) ≡ Nobody
           → Reached (events ++ e ∷ []) (record l { frames = region_frames; sides = slice_set l.sides c side })
@@ -397,13 +397,13 @@ module _ (t : Tables) (network : IsNetwork t) (H : List Event) (s : Machine) (ru
               made.changes.waits q less
               ∙ ap (wait_then t e q) (r.each_wait q less)
               ∙ waits_one t e makes_none l.sides (slice_set l.sides c side)
-              (test_step has_put (λ d. wakes_reader d e) l.sides c side there puts no_reader)
+              (test_step has_put_items (λ d. wakes_reader d e) l.sides c side there puts no_reader)
               (test_step has_taken (λ d. wakes_writer t d e) l.sides c side there takes no_writer) q (wait_in s q)
               (λ is. sym (r.each_wait q less) ∙ own q is)
 
     -- what an event needs before it: the region's process p stands where its frame is, and has not ended
-    module _ (p : ℕ) (in_it : is_within l p ≡ true) where
-      in_first : is_within first p ≡ true
+    module _ (p : ℕ) (in_it : is_in_region l p ≡ true) where
+      in_first : is_in_region first p ≡ true
       in_first = ap (λ ws. get_or ws p false) (sym r.within) ∙ in_it
 
       process : p < length t.instances
@@ -416,7 +416,7 @@ module _ (t : Tables) (network : IsNetwork t) (H : List Event) (s : Machine) (ru
       alive = ap (λ es. get_or es p None) r.ends ∙ not_ended p in_first
 
       goes_to : (g : Frame) (q : ℕ) → get_or (slice_set r.to.frames p g) q no_frame
-          ≡ cond (is_within l q) (get_or (slice_set l.frames p g) q no_frame) (frame_in s q)
+          ≡ cond (is_in_region l q) (get_or (slice_set l.frames p g) q no_frame) (frame_in s q)
       goes_to g =
           frames_step l.within l.frames r.to.frames s.frames p g (subst (λ n. p < n) (sym r.frames) process)
           (subst (λ n. p < n) (sym r.run.shape.frames) process) in_it r.each_frame
@@ -433,13 +433,13 @@ module _ (t : Tables) (network : IsNetwork t) (H : List Event) (s : Machine) (ru
         → TakesInOrder side (channel_in s c)
     same_side c side there side_of = subst (λ x. TakesInOrder x (channel_in s c)) (side_same l.sides c side there) side_of
 
-    get_on : (p c : ℕ) (v : ℤ) (after : Local) → Gets t p c v l after → InOrder t s after
+    get_on : (p c : ℕ) (v : ℤ) (after : Local) → RegionGets t p c v l after → InOrder t s after
         → Reached (events ++ Get p c v ∷ []) after
     get_on p c v after step order =
         subst (Reached (events ++ Get p c v ∷ [])) (sym step.there)
         (reached e c below side ch to (slice_set l.frames p step.to) (process p step.within, below) (free, reads, ready)
         made refl refl refl (got t c (side_at first c) (channel_in s c) of (side_at l c) now (sound t H s run c below) way v step.item)
-        (or_same (has_put (side_at l c)) false refl)
+        (or_same (has_put_items (side_at l c)) false refl)
         (lt-ltb 0 ((side_at l c).taken + 1) (omega arith)
         ∙ or_more (eqb c c) (eq-eqb c c refl) (has_taken (side_at l c)))
         (λ d differ. refl) (λ d differ. ne_eqb c d (λ x. differ (sym x)))
@@ -503,14 +503,14 @@ module _ (t : Tables) (network : IsNetwork t) (H : List Event) (s : Machine) (ru
             Made-got t r.to r.run.shape c v ch below (woken_at (is_wait (Full c)) r.to.waits (writer_of t c)) to refl
             (λ x. x) refl p step.to (process p step.within) free reads passes.passes refl
 
-    put_on_channel : (p c : ℕ) (v : ℤ) (after : Local) → Puts t p c v l after
+    put_on_channel : (p c : ℕ) (v : ℤ) (after : Local) → RegionPuts t p c v l after
         → Reached (events ++ Put p c v ∷ []) after
     put_on_channel p c v after step =
         subst (Reached (events ++ Put p c v ∷ [])) (sym step.there)
         (reached e c below side ch to (slice_set l.frames p step.to) (process p step.within, below) (free, writes, room)
         made refl refl refl
         (put_more t c (side_at first c) (channel_in s c) of (side_at l c) now (sound t H s run c below) way v)
-        (lt-ltb side.claimed (length side.items) more ∙ or_more (eqb c c) (eq-eqb c c refl) (has_put (side_at l c)))
+        (lt-ltb side.claimed (length side.items) more ∙ or_more (eqb c c) (eq-eqb c c refl) (has_put_items (side_at l c)))
         (or_same (has_taken (side_at l c)) false refl)
         (λ d differ. ne_eqb c d (λ x. differ (sym x))) (λ d differ. refl)
         (λ q is. subst (λ x. wait_in r.to x ≡ Nobody) (eqb-true p q is) awake)
@@ -528,7 +528,7 @@ module _ (t : Tables) (network : IsNetwork t) (H : List Event) (s : Machine) (ru
         of = claims c below
 
         side : SideState
-        side = with_item v (side_at l c)
+        side = with_item_put v (side_at l c)
 
         now : ChannelState
         now = channel_in r.to c
@@ -549,7 +549,7 @@ module _ (t : Tables) (network : IsNetwork t) (H : List Event) (s : Machine) (ru
         writes : WritesTo t r.to p c v
         writes = record { port = passes.port; channel = passes.channel; stands = passes.stood }
 
-        room : is_full now ≡ false
+        room : is_channel_full now ≡ false
         room = has_room t c (side_at first c) (channel_in s c) of (side_at l c) now (sound t H s run c below) way step.room
 
         awake : wait_in r.to p ≡ Nobody
@@ -580,13 +580,13 @@ module _ (t : Tables) (network : IsNetwork t) (H : List Event) (s : Machine) (ru
               frames = slice_set r.to.frames p f;
             }) passes.passes)
 
-    take_on : (c : ℕ) (v : ℤ) (after : Local) → Takes c v l after → InOrder t s after
+    take_on : (c : ℕ) (v : ℤ) (after : Local) → RegionTakes c v l after → InOrder t s after
         → Reached (events ++ Take c v ∷ []) after
     take_on c v after step order =
         subst (Reached (events ++ Take c v ∷ [])) (sym step.there)
         (reached e c below side ch to l.frames below (sink.sink, ready) made refl refl refl
         (got t c (side_at first c) (channel_in s c) of (side_at l c) now (sound t H s run c below) way v step.item)
-        (or_same (has_put (side_at l c)) false refl)
+        (or_same (has_put_items (side_at l c)) false refl)
         (lt-ltb 0 ((side_at l c).taken + 1) (omega arith)
         ∙ or_more (eqb c c) (eq-eqb c c refl) (has_taken (side_at l c)))
         (λ d differ. refl) (λ d differ. ne_eqb c d (λ x. differ (sym x)))
@@ -611,7 +611,7 @@ module _ (t : Tables) (network : IsNetwork t) (H : List Event) (s : Machine) (ru
         way : IsOnTheWay (side_at first c) (side_at l c) (channel_in s c) (channel_in r.to c)
         way = r.each_channel c below
 
-        sink : IsOpenSink t c (side_at first c) (channel_in s c)
+        sink : IsUnclaimedSink t c (side_at first c) (channel_in s c)
         sink = of.drained (sym way.drained ∙ step.drained)
 
         -- it was empty, so a process has put there
@@ -678,7 +678,7 @@ module _ (t : Tables) (network : IsNetwork t) (H : List Event) (s : Machine) (ru
       p c v after step order
   onward events before after (Put p c v) reach step order =
       put_on_channel events before
-      (reach (order_before before c (with_item v (side_at before c)) step.channel refl (omega arith)
+      (reach (order_before before c (with_item_put v (side_at before c)) step.channel refl (omega arith)
       (λ d below. subst (λ x. TakesInOrder (side_at x d) (channel_in s d)) step.there (order d below))))
       p c v after step
   onward events before after (Take c v) reach step order =

@@ -6,13 +6,13 @@ use Rattle.std.proofs.lemmas.Bool.Decides.{nat_tests}
 use Rattle.std.proofs.lemmas.List.{length-drop, length-take, get_or-map, length-set}
 use Rattle.std.proofs.lemmas.Option.{slice_get_within}
 use Rattle.kpn_net.specs.Tables.{Tables}
-use Rattle.kpn_chan.specs.Channel.{ChannelState, unread, MayJoin, joined, readable}
+use Rattle.kpn_chan.specs.Channel.{ChannelState, unread, MayJoin, batch_joined, readable}
 use Rattle.kpn_chan.proofs.Places.{places_are}
 use Rattle.kpn_history.specs.declared.event.Event.{Event}
 use Rattle.kpn_history.specs.declared.event.Event.TheVariants.{Get, Put, Take}
-use Rattle.kpn_region.specs.Local.{SideState, no_side, untaken, next_of, with_next_taken, with_item, as_claimed, Local, side_at, with_side, LocalStep, Plays, no_event, steps_on, one_event_more}
+use Rattle.kpn_region.specs.Local.{SideState, no_side, untaken, next_of, with_next_taken, with_item_put, as_claimed, Local, side_at, with_side, LocalStep, Plays, no_event, steps_on, one_event_more}
 use Rattle.kpn_region.specs.Batch.{Batch, IsBatch}
-use Rattle.kpn_region.specs.Joining.{ChannelAgrees, put_on, most_with, IsChannelJoined}
+use Rattle.kpn_region.specs.Joining.{ChannelAgrees, items_put, most_with, IsChannelJoined}
 use Rattle.kpn_region.specs.JoiningParts.{most_seen}
 use Rattle.kpn_region.proofs.Playing.{side_same, side_other}
 
@@ -40,7 +40,7 @@ kept_after_get side v next kept =
     }
 
 kept_after_put : (side : SideState) (v : ℤ) → length (untaken side) < side.room → IsSideKept side
-    → IsSideKept (with_item v side)
+    → IsSideKept (with_item_put v side)
 kept_after_put side v room kept =
     let longer : length (side.items ++ v ∷ []) ≡ length side.items + 1 = length-append side.items (v ∷ []) in
     let left : length (untaken side) ≡ length side.items - side.taken = length-drop side.taken side.items in
@@ -94,7 +94,7 @@ module _ (c : ℕ) where
       (kept_after_get (side_at before d) v step.item) kept)
   after_event t (Put p d v) before after step kept =
       subst (λ (x : Local). KeptIn x) (sym step.there)
-      (with_one before d (with_item v (side_at before d)) step.channel
+      (with_one before d (with_item_put v (side_at before d)) step.channel
       (kept_after_put (side_at before d) v step.room) kept)
   after_event t (Take d v) before after step kept =
       subst (λ (x : Local). KeptIn x) (sym step.there)
@@ -177,21 +177,21 @@ module _ (t : Tables) (c : ℕ) (side : SideState) (channel : ChannelState) (agr
 
     module _ (kept : IsSideKept side) (read : channel.read ≤ length channel.journal)
         (most : channel.is_retired ≡ false → length (unread channel) ≤ channel.most) where
-      long_put : length (put_on side) ≡ length side.items - side.claimed
+      long_put : length (items_put side) ≡ length side.items - side.claimed
       long_put = length-drop side.claimed side.items
 
       long_unread : length (unread channel) ≡ length channel.journal - channel.read
       long_unread = length-drop channel.read channel.journal
 
-      written : channel.read + side.taken ≤ length channel.journal + length (put_on side)
+      written : channel.read + side.taken ≤ length channel.journal + length (items_put side)
       written =
           let all = kept.taken in
           let claim = kept.claimed in
           omega (arith, long_put, long_unread, claimed_unread, all, claim, read)
 
-      within : channel.is_retired ≡ false → 0 < length (put_on side) → (capacity : ℕ)
+      within : channel.is_retired ≡ false → 0 < length (items_put side) → (capacity : ℕ)
           → channel.capacity ≡ Some capacity
-          → length (unread channel) + length (put_on side) ≤ capacity + side.taken
+          → length (unread channel) + length (items_put side) ≤ capacity + side.taken
       within there some capacity is =
           let keeps = agrees.claim.room there capacity is in
           let put : side.claimed < length side.items = omega (arith, some, long_put) in
@@ -199,7 +199,7 @@ module _ (t : Tables) (c : ℕ) (side : SideState) (channel : ChannelState) (agr
           omega (arith, keeps, fits, long_put, put)
 
       seen : channel.is_retired ≡ false
-          → length (unread channel) + length (put_on side) ≤ max channel.most (most_seen side channel) + side.taken
+          → length (unread channel) + length (items_put side) ≤ max channel.most (most_seen side channel) + side.taken
       seen there =
           let unseen = length (unread channel) - side.claimed in
           let few = most there in
@@ -214,7 +214,7 @@ module _ (t : Tables) (c : ℕ) (side : SideState) (channel : ChannelState) (agr
             | inr none ↦ omega (arith, few, long, none)
           ]
 
-      pub may_join : MayJoin side.taken (put_on side) (most_seen side channel) channel
+      pub may_join : MayJoin side.taken (items_put side) (most_seen side channel) channel
       may_join = record { places = agrees.places; written = written; within = within; seen = seen }
 
       pub bounded : length channel.journal < 2 ^ 64 → length (unread channel) + side.most < 2 ^ 64
@@ -225,15 +225,15 @@ module _ (t : Tables) (c : ℕ) (side : SideState) (channel : ChannelState) (agr
           let left = long_unread in
           elim (cases_lt side.claimed (length side.items)) [
             | inl put ↦
-                let places = (places_are (length (put_on side)) channel agrees.places (omega (arith, put, long))).bound in
+                let places = (places_are (length (items_put side)) channel agrees.places (omega (arith, put, long))).bound in
                 omega (arith, few, claim, long, left, put, places)
             | inr none ↦ let no = kept.none none in omega (arith, no, left, all)
           ]
 
     pub is_joined : (after : ChannelState)
         → after
-        ≡ joined side.taken (put_on side) (most_seen side channel) after.is_reserved after.is_roomy channel
-        → (put_on side ≡ [] → IsTrue channel.is_reserved → IsTrue after.is_reserved)
+        ≡ batch_joined side.taken (items_put side) (most_seen side channel) after.is_reserved after.is_roomy channel
+        → (items_put side ≡ [] → IsTrue channel.is_reserved → IsTrue after.is_reserved)
         → IsChannelJoined side channel after
     is_joined after is keep =
         record {
@@ -256,15 +256,15 @@ kept_of b is c below channel agrees =
 
 -- the items behind those that were claimed are those that the region has put
 pub put_of : (found side : SideState) → found ≡ side → (claimed : ℕ) (items put : List ℤ) → claimed ≡ found.claimed
-    → items ≡ found.items → put ≡ drop claimed items → put ≡ put_on side
+    → items ≡ found.items → put ≡ drop claimed items → put ≡ items_put side
 put_of found side same claimed items put c i p =
     p ∙ ap (λ n. drop n items) c ∙ ap (λ (l : List ℤ). drop found.claimed l) i
-    ∙ ap (λ (x : SideState). put_on x) same
+    ∙ ap (λ (x : SideState). items_put x) same
 
 -- what is handed on to be joined is what stands of the side
 pub record IsHanded (side : SideState) (channel : ChannelState) (taken : ℕ) (put : List ℤ) (most : ℕ) : Type 0 where
   pub taken_is : taken ≡ side.taken
-  pub put_is : put ≡ put_on side
+  pub put_is : put ≡ items_put side
   pub most_is : most ≡ most_seen side channel
 
 pub handed_on : (found side : SideState) → found ≡ side → (there channel : ChannelState) → there ≡ channel

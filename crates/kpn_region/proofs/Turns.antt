@@ -11,8 +11,8 @@ use Rattle.kpn_history.specs.declared.event.Event.TheVariants.{Get, Put, Take}
 use Rattle.kpn_history.specs.Talks.{is_of_process, process_events}
 use Rattle.kpn_machine.specs.Machine.{no_frame}
 use Rattle.kpn_machine.specs.Changes.{PassesRead, PassesWrite}
-use Rattle.kpn_region.specs.Local.{SideState, no_side, next_of, untaken, with_next_taken, with_item, as_claimed, Local, Plays, steps_on, one_event_more}
-use Rattle.kpn_region.specs.Turn.{side_in, IsGot, IsTaken, IsPut, HasPart, with_part, GoesOn}
+use Rattle.kpn_region.specs.Local.{SideState, no_side, next_of, untaken, with_next_taken, with_item_put, as_claimed, Local, Plays, steps_on, one_event_more}
+use Rattle.kpn_region.specs.Turn.{side_in, IsGot, IsTaken, IsPutOn, HasPart, with_part, MakesEvents}
 
 -- ---- what was claimed stays
 
@@ -33,7 +33,7 @@ as_many sides others same =
 
 module _ (t : Tables) (p : ℕ) where
   pub goes_nowhere : (f : Frame) (sides : List SideState) (events : List Event) → IsTrue (fits (program_of t p) f)
-      → GoesOn t p 0 f sides events f sides events
+      → MakesEvents t p 0 f sides events f sides events
   goes_nowhere f sides events fit =
       record {
         fit = fit;
@@ -52,7 +52,7 @@ module _ (t : Tables) (p : ℕ) where
           ∙ ap (λ (ss : List SideState). record before { sides = ss }) (sym part.sides_are)
 
   pub goes_by_steps : (f g : Frame) (sides : List SideState) (events : List Event) (steps : ℕ) (stop : Stop)
-      → IsAdvance (advanced_of (program_of t p) f g steps stop) → GoesOn t p 0 f sides events g sides events
+      → IsAdvance (advanced_of (program_of t p) f g steps stop) → MakesEvents t p 0 f sides events g sides events
   goes_by_steps f g sides events steps stop advance =
       record {
         fit = advance.to_fits;
@@ -76,8 +76,8 @@ module _ (t : Tables) (p : ℕ) where
       }
 
   pub goes_then : (n m : ℕ) (f g h : Frame) (sides later last : List SideState) (events more most : List Event)
-      → GoesOn t p n f sides events g later more → GoesOn t p m g later more h last most
-      → GoesOn t p (n + m) f sides events h last most
+      → MakesEvents t p n f sides events g later more → MakesEvents t p m g later more h last most
+      → MakesEvents t p (n + m) f sides events h last most
   goes_then n m f g h sides later last events more most a b =
       let few = a.few in
       let few_then = b.few in
@@ -108,14 +108,14 @@ module _ (t : Tables) (p : ℕ) where
 
   -- steps behind so many events, after which nothing came of the stop
   pub goes_and_stops : (n : ℕ) (f g h after : Frame) (sides later last : List SideState) (events more most : List Event)
-      (steps : ℕ) (stop : Stop) → GoesOn t p n f sides events g later more
+      (steps : ℕ) (stop : Stop) → MakesEvents t p n f sides events g later more
       → IsAdvance (advanced_of (program_of t p) g h steps stop) → (after ≡ h) × (last ≡ later) × (most ≡ more)
-      → GoesOn t p n f sides events after last most
+      → MakesEvents t p n f sides events after last most
   goes_and_stops n f g h after sides later last events more most steps stop a advance same =
-      subst (λ x. GoesOn t p n f sides events x last most) (sym same.0)
-      (subst (λ x. GoesOn t p n f sides events h x most) (sym same.1)
-      (subst (GoesOn t p n f sides events h later) (sym same.2)
-      (subst (λ k. GoesOn t p k f sides events h later more) (add-zero n)
+      subst (λ x. MakesEvents t p n f sides events x last most) (sym same.0)
+      (subst (λ x. MakesEvents t p n f sides events h x most) (sym same.1)
+      (subst (MakesEvents t p n f sides events h later) (sym same.2)
+      (subst (λ k. MakesEvents t p k f sides events h later more) (add-zero n)
       (goes_then n 0 f g h sides later later events more more a
       (goes_by_steps g h later more steps stop advance)))))
 
@@ -124,7 +124,7 @@ module _ (t : Tables) (p : ℕ) where
 module _ (t : Tables) (p c : ℕ) (v : ℤ) (f g : Frame) (sides : List SideState) (events : List Event)
     (there : c < length sides) (fit : IsTrue (fits (program_of t p) g)) where
   pub goes_by_get : (then : List SideState) (more : List Event) → PassesRead t p c v f g
-      → IsGot p c v sides events then more → GoesOn t p 1 f sides events g then more
+      → IsGot p c v sides events then more → MakesEvents t p 1 f sides events g then more
   goes_by_get then more passes got =
       record {
         fit = fit;
@@ -153,19 +153,19 @@ module _ (t : Tables) (p c : ℕ) (v : ℤ) (f g : Frame) (sides : List SideStat
       }
 
   abbrev after_put : List SideState
-  after_put = slice_set sides c (with_item v (side_in sides c))
+  after_put = slice_set sides c (with_item_put v (side_in sides c))
 
-  put_there : side_in after_put c ≡ with_item v (side_in sides c)
-  put_there = get_or-set_same sides c (with_item v (side_in sides c)) no_side there
+  put_there : side_in after_put c ≡ with_item_put v (side_in sides c)
+  put_there = get_or-set_same sides c (with_item_put v (side_in sides c)) no_side there
 
   put_plays : PassesWrite t p c v f g → length (untaken (side_in sides c)) < (side_in sides c).room
       → (first before : Local) → HasPart p f sides before → Plays t first events before
       → Plays t first (events ++ Put p c v ∷ []) (with_part p g after_put before)
   put_plays passes room first before part plays =
       subst (λ ss. Plays t first (events ++ Put p c v ∷ [])
-      (with_part p g (slice_set ss c (with_item v (side_in ss c))) before)) part.sides_are
+      (with_part p g (slice_set ss c (with_item_put v (side_in ss c))) before)) part.sides_are
       (one_event_more before
-      (with_part p g (slice_set before.sides c (with_item v (side_in before.sides c))) before)
+      (with_part p g (slice_set before.sides c (with_item_put v (side_in before.sides c))) before)
       (Put p c v) plays (record {
         within = part.within;
         channel = subst (λ ss. c < length ss) (sym part.sides_are) there;
@@ -178,15 +178,15 @@ module _ (t : Tables) (p c : ℕ) (v : ℤ) (f g : Frame) (sides : List SideStat
   -- the put, and the take behind it, if there is one
   put_and_taken : (then : List SideState) (more : List Event) → PassesWrite t p c v f g
       → length (untaken (side_in sides c)) < (side_in sides c).room
-      → as_claimed (with_item v (side_in sides c)) ≡ as_claimed (side_in sides c) → (taken : Option ℤ)
+      → as_claimed (with_item_put v (side_in sides c)) ≡ as_claimed (side_in sides c) → (taken : Option ℤ)
       → ((w : ℤ) → taken ≡ Some w → (side_in sides c).is_drained ≡ true)
-      → IsTaken c taken after_put (events ++ Put p c v ∷ []) then more → GoesOn t p 1 f sides events g then more
+      → IsTaken c taken after_put (events ++ Put p c v ∷ []) then more → MakesEvents t p 1 f sides events g then more
   put_and_taken then more passes room same None drained takes =
       record {
         fit = fit;
         claimed =
             ap (map as_claimed) takes.0
-            ∙ claimed_same sides c (with_item v (side_in sides c)) there same;
+            ∙ claimed_same sides c (with_item_put v (side_in sides c)) there same;
         more = Put p c v ∷ [];
         events_are = takes.1;
         count = refl;
@@ -202,7 +202,7 @@ module _ (t : Tables) (p c : ℕ) (v : ℤ) (f g : Frame) (sides : List SideStat
         claimed =
             ap (map as_claimed) takes.1
             ∙ claimed_same after_put c (with_next_taken (side_in after_put c)) still refl
-            ∙ claimed_same sides c (with_item v (side_in sides c)) there same;
+            ∙ claimed_same sides c (with_item_put v (side_in sides c)) there same;
         more = Put p c v ∷ Take c w ∷ [];
         events_are = takes.2 ∙ append_assoc events (Put p c v ∷ []) (Take c w ∷ []);
         count = refl;
@@ -222,17 +222,17 @@ module _ (t : Tables) (p c : ℕ) (v : ℤ) (f g : Frame) (sides : List SideStat
       }
     where
       still : c < length after_put
-      still = subst (λ n. c < n) (sym (length-set sides c (with_item v (side_in sides c)))) there
+      still = subst (λ n. c < n) (sym (length-set sides c (with_item_put v (side_in sides c)))) there
 
   pub goes_by_put : (then : List SideState) (more : List Event) → PassesWrite t p c v f g
-      → IsPut p c v sides events then more → GoesOn t p 1 f sides events g then more
+      → IsPutOn p c v sides events then more → MakesEvents t p 1 f sides events g then more
   goes_by_put then more passes put =
       put_and_taken then more passes put.room put.claimed put.taken put.drained put.takes
 
 -- ---- how many events there are
 
 pub few_events : (t : Tables) (p n : ℕ) (f g : Frame) (sides then : List SideState) (events more : List Event)
-    → GoesOn t p n f sides events g then more → length more ≤ length events + 2 * n
+    → MakesEvents t p n f sides events g then more → length more ≤ length events + 2 * n
 few_events t p n f g sides then events more goes =
     let few = goes.few in
     let long = ap length goes.events_are ∙ length-append events goes.more in

@@ -3,7 +3,7 @@
 use Rattle.std.specs.Prelude.{ℕ, ◌+◌, Bool, true, not, ◌&&◌, ◌||◌, nat_le, nat_eq, length, Option, Some, None}
 use Rattle.kpn_chan.specs.Channel.{ChannelState, unread, has_places_for}
 use Rattle.kpn_region.specs.Local.{SideState}
-use Rattle.kpn_region.specs.Joining.{put_on}
+use Rattle.kpn_region.specs.Joining.{items_put}
 
 -- so much is within the capacity, if there is one, and these items
 abbrev pub is_within_capacity : (wanted claimed : ℕ) → Option ℕ → Bool
@@ -28,7 +28,7 @@ takes_in_order side channel =
 
 -- what the region has put can be joined without memory
 abbrev pub has_places : SideState → ChannelState → Bool
-has_places side channel = has_places_for (length (put_on side)) channel
+has_places side channel = has_places_for (length (items_put side)) channel
 
 abbrev pub rest_agrees : (is_sink : Bool) → SideState → ChannelState → Bool
 rest_agrees is_sink side channel =

@@ -6,7 +6,7 @@ use Rattle.kpn_step.specs.Frame.{Frame}
 use Rattle.kpn_step.specs.Stops.{StandsAt, IsAtPort}
 use Rattle.kpn_history.specs.declared.event.Event.{Event}
 use Rattle.kpn_history.specs.Talks.{process_events}
-use Rattle.kpn_region.specs.Local.{SideState, as_claimed, no_side, Local, is_within, frame_at, side_at, IsLocal, Plays}
+use Rattle.kpn_region.specs.Local.{SideState, as_claimed, no_side, Local, is_in_region, frame_at, side_at, IsLocal, Plays}
 
 pub record Batch : Type 0 where
   pub tables : Tables
@@ -30,8 +30,8 @@ batch_of t within first frames sides events stops =
       stops = stops;
     }
 
-abbrev pub stop_of : Batch → (p : ℕ) → Option Stop
-stop_of b p = slice_index_or b.stops p None
+abbrev pub stop_in : Batch → (p : ℕ) → Option Stop
+stop_in b p = slice_index_or b.stops p None
 
 -- the process stands at this stop; a read or a write there is at a port of its program
 pub record IsStuckAt (t : Tables) (p : ℕ) (f : Frame) (stop : Stop) : Type 0 where
@@ -47,19 +47,19 @@ pub record IsBatch (b : Batch) : Type 0 where
   pub claimed : b.first.sides ≡ map as_claimed b.now.sides
   pub processes : length b.stops ≡ length b.tables.instances
   pub plays : Plays b.tables b.first b.events b.now
-  pub outside : (p : ℕ) → is_within b.now p ≡ false → frame_at b.now p ≡ frame_at b.first p
-  pub stuck : (p : ℕ) (stop : Stop) → p < length b.tables.instances → stop_of b p ≡ Some stop
+  pub outside : (p : ℕ) → is_in_region b.now p ≡ false → frame_at b.now p ≡ frame_at b.first p
+  pub stuck : (p : ℕ) (stop : Stop) → p < length b.tables.instances → stop_in b p ≡ Some stop
       → IsStuckAt b.tables p (frame_at b.now p) stop
 
 -- nothing has run yet
 pub record IsFresh (b : Batch) : Type 0 where
   pub same : b.now ≡ b.first
   pub no_events : b.events ≡ []
-  pub no_stops : (p : ℕ) → stop_of b p ≡ None
+  pub no_stops : (p : ℕ) → stop_in b p ≡ None
 
 -- no process is in the region, and of the channels it sees nothing
 pub record IsEmpty (s : Local) : Type 0 where
-  pub processes : (p : ℕ) → is_within s p ≡ false
+  pub processes : (p : ℕ) → is_in_region s p ≡ false
   pub channels : (c : ℕ) → side_at s c ≡ no_side
 
 -- the process is in the region too, at this frame

@@ -7,10 +7,10 @@ use Rattle.kpn_net.specs.Waits.{AreWaits}
 use Rattle.kpn_chan.specs.Channel.{ChannelState, unread}
 use Rattle.kpn_machine.specs.Machine.{Machine, channel_in, wait_in, frame_in, with_channel, with_waits}
 use Rattle.kpn_machine.specs.Woken.{AreWoken, ends_by_batch}
-use Rattle.kpn_region.specs.Local.{SideState, is_within, frame_at, side_at}
+use Rattle.kpn_region.specs.Local.{SideState, is_in_region, frame_at, side_at}
 use Rattle.kpn_region.specs.Turn.{side_in}
 use Rattle.kpn_region.specs.Batch.{Batch}
-use Rattle.kpn_region.specs.Joining.{has_put, has_taken, IsChannelJoined}
+use Rattle.kpn_region.specs.Joining.{has_put_items, has_taken, IsChannelJoined}
 
 -- the most items that were unread when the region had put one, if it has and the reader is there; else 0
 abbrev pub most_seen : SideState → ChannelState → ℕ
@@ -21,14 +21,14 @@ most_seen side channel =
 pub record JoinsChannel (b : Batch) (c : ℕ) (before after : Machine) : Type 0 where
   pub rest : after ≡ with_waits after.waits (with_channel c (channel_in after c) before)
   pub channel : IsChannelJoined (side_at b.now c) (channel_in before c) (channel_in after c)
-  pub woken : AreWoken (ends_by_batch c (has_taken (side_at b.now c)) (has_put (side_at b.now c)))
+  pub woken : AreWoken (ends_by_batch c (has_taken (side_at b.now c)) (has_put_items (side_at b.now c)))
       before.waits after.waits
   pub waits : AreWaits b.tables after.waits
 
 -- what a process waits for once the channels before this one are joined
 abbrev pub wait_joined_below : (n : ℕ) → List SideState → Wait → Wait
 wait_joined_below n sides Nobody = Nobody
-wait_joined_below n sides (Empty c) = if nat_lt c n && has_put (side_in sides c) then Nobody else Empty c
+wait_joined_below n sides (Empty c) = if nat_lt c n && has_put_items (side_in sides c) then Nobody else Empty c
 wait_joined_below n sides (Full c) = if nat_lt c n && has_taken (side_in sides c) then Nobody else Full c
 
 -- the first n channels are joined
@@ -47,5 +47,5 @@ pub record JoinsFrames (b : Batch) (n : ℕ) (before after : Machine) : Type 0 w
   pub rest : after ≡ record before { frames = after.frames }
   pub frames : length after.frames ≡ length before.frames
   pub each_frame : (p : ℕ) → p < n
-      → frame_in after p ≡ (if is_within b.now p then frame_at b.now p else frame_in before p)
+      → frame_in after p ≡ (if is_in_region b.now p then frame_at b.now p else frame_in before p)
   pub others : (p : ℕ) → n ≤ p → frame_in after p ≡ frame_in before p

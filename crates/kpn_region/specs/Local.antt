@@ -49,8 +49,8 @@ abbrev pub with_next_taken : SideState → SideState
 with_next_taken s = record s { taken = s.taken + 1 }
 
 -- one item more is put
-abbrev pub with_item : ℤ → SideState → SideState
-with_item v s = record s { items = s.items ++ v ∷ []; most = max s.most (length (untaken s) + 1) }
+abbrev pub with_item_put : ℤ → SideState → SideState
+with_item_put v s = record s { items = s.items ++ v ∷ []; most = max s.most (length (untaken s) + 1) }
 
 -- the channel when it was claimed
 abbrev pub as_claimed : SideState → SideState
@@ -65,8 +65,8 @@ pub record Local : Type 0 where
   pub frames : List Frame
   pub sides : List SideState
 
-abbrev pub is_within : Local → (p : ℕ) → Bool
-is_within s p = slice_index_or s.within p false
+abbrev pub is_in_region : Local → (p : ℕ) → Bool
+is_in_region s p = slice_index_or s.within p false
 
 abbrev pub frame_at : Local → (p : ℕ) → Frame
 frame_at s p = slice_index_or s.frames p no_frame
@@ -74,8 +74,8 @@ frame_at s p = slice_index_or s.frames p no_frame
 abbrev pub side_at : Local → (c : ℕ) → SideState
 side_at s c = slice_index_or s.sides c no_side
 
-abbrev pub with_frame : (p : ℕ) → Frame → Local → Local
-with_frame p f s = record s { frames = slice_set s.frames p f }
+abbrev pub with_local_frame : (p : ℕ) → Frame → Local → Local
+with_local_frame p f s = record s { frames = slice_set s.frames p f }
 
 abbrev pub with_side : (c : ℕ) → SideState → Local → Local
 with_side c side s = record s { sides = slice_set s.sides c side }
@@ -92,33 +92,33 @@ pub record IsLocal (t : Tables) (s : Local) : Type 0 where
 -- process p goes on from its frame by steps between its events
 pub record Advances (t : Tables) (before after : Local) : Type 0 where
   pub process : ℕ
-  pub within : is_within before process ≡ true
+  pub within : is_in_region before process ≡ true
   pub to : Frame
   pub steps : ℕ
   pub stop : Stop
   pub advance : IsAdvance (advanced_of (program_of t process) (frame_at before process) to steps stop)
-  pub there : after ≡ with_frame process to before
+  pub there : after ≡ with_local_frame process to before
 
 -- process p, which is at a read from channel c, takes the next item there, which is v, and goes past the read with it
-pub record Gets (t : Tables) (p c : ℕ) (v : ℤ) (before after : Local) : Type 0 where
-  pub within : is_within before p ≡ true
+pub record RegionGets (t : Tables) (p c : ℕ) (v : ℤ) (before after : Local) : Type 0 where
+  pub within : is_in_region before p ≡ true
   pub channel : c < length before.sides
   pub item : next_of (side_at before c) ≡ Some v
   pub to : Frame
   pub passes : PassesRead t p c v (frame_at before p) to
-  pub there : after ≡ with_frame p to (with_side c (with_next_taken (side_at before c)) before)
+  pub there : after ≡ with_local_frame p to (with_side c (with_next_taken (side_at before c)) before)
 
 -- process p, which is at a write of v to channel c, where there is room, puts it there and goes past the write
-pub record Puts (t : Tables) (p c : ℕ) (v : ℤ) (before after : Local) : Type 0 where
-  pub within : is_within before p ≡ true
+pub record RegionPuts (t : Tables) (p c : ℕ) (v : ℤ) (before after : Local) : Type 0 where
+  pub within : is_in_region before p ≡ true
   pub channel : c < length before.sides
   pub room : length (untaken (side_at before c)) < (side_at before c).room
   pub to : Frame
   pub passes : PassesWrite t p c v (frame_at before p) to
-  pub there : after ≡ with_frame p to (with_side c (with_item v (side_at before c)) before)
+  pub there : after ≡ with_local_frame p to (with_side c (with_item_put v (side_at before c)) before)
 
 -- the outside takes the next item of channel c, which is v and a sink that the region empties
-pub record Takes (c : ℕ) (v : ℤ) (before after : Local) : Type 0 where
+pub record RegionTakes (c : ℕ) (v : ℤ) (before after : Local) : Type 0 where
   pub channel : c < length before.sides
   pub drained : (side_at before c).is_drained ≡ true
   pub item : next_of (side_at before c) ≡ Some v
@@ -126,9 +126,9 @@ pub record Takes (c : ℕ) (v : ℤ) (before after : Local) : Type 0 where
 
 -- the event changes the first state into the second
 abbrev pub LocalStep : Tables → Event → (before after : Local) → Type 0
-LocalStep t (Get p c v) before after = Gets t p c v before after
-LocalStep t (Put p c v) before after = Puts t p c v before after
-LocalStep t (Take c v) before after = Takes c v before after
+LocalStep t (Get p c v) before after = RegionGets t p c v before after
+LocalStep t (Put p c v) before after = RegionPuts t p c v before after
+LocalStep t (Take c v) before after = RegionTakes c v before after
 LocalStep t event before after = ⊥
 
 -- these events lead from the first state to this one, with steps of the processes between them

@@ -10,7 +10,7 @@ use Rattle.kpn_region.specs.declared.traffic.Passed.{Passed}
 use Rattle.kpn_region.specs.declared.traffic.Passed.TheVariants.{On}
 use Rattle.kpn_region.specs.declared.traffic.Halt.{Halt}
 use Rattle.kpn_region.specs.declared.traffic.Halt.TheVariants.{Stuck}
-use Rattle.kpn_region.specs.Local.{SideState, no_side, untaken, next_of, with_next_taken, with_item, as_claimed, Local, is_within, frame_at, Plays}
+use Rattle.kpn_region.specs.Local.{SideState, no_side, untaken, next_of, with_next_taken, with_item_put, as_claimed, Local, is_in_region, frame_at, Plays}
 use Rattle.kpn_region.specs.Batch.{IsStuckAt}
 
 abbrev pub side_in : List SideState → (c : ℕ) → SideState
@@ -34,19 +34,19 @@ IsTaken c (Some v) sides events sides_then events_then =
     × (events_then ≡ events ++ Take c v ∷ [])
 
 -- an item was put on a channel with room, and, if that is a sink that the region empties, taken from it
-pub record IsPut (p c : ℕ) (v : ℤ) (sides : List SideState) (events : List Event)
+pub record IsPutOn (p c : ℕ) (v : ℤ) (sides : List SideState) (events : List Event)
     (sides_then : List SideState) (events_then : List Event) : Type 0 where
   pub room : length (untaken (side_in sides c)) < (side_in sides c).room
-  pub claimed : as_claimed (with_item v (side_in sides c)) ≡ as_claimed (side_in sides c)
+  pub claimed : as_claimed (with_item_put v (side_in sides c)) ≡ as_claimed (side_in sides c)
   pub taken : Option ℤ
   pub drained : (w : ℤ) → taken ≡ Some w → (side_in sides c).is_drained ≡ true
-  pub takes : IsTaken c taken (slice_set sides c (with_item v (side_in sides c))) (events ++ Put p c v ∷ [])
+  pub takes : IsTaken c taken (slice_set sides c (with_item_put v (side_in sides c))) (events ++ Put p c v ∷ [])
       sides_then events_then
 
 -- what came of a write
 abbrev pub puts_by : Passed → (p c : ℕ) → ℤ → (sides : List SideState) → (events : List Event)
     → (sides_then : List SideState) → (events_then : List Event) → Type 0
-puts_by On p c v sides events sides_then events_then = IsPut p c v sides events sides_then events_then
+puts_by On p c v sides events sides_then events_then = IsPutOn p c v sides events sides_then events_then
 puts_by other p c v sides events sides_then events_then = (sides_then ≡ sides) × (events_then ≡ events)
 
 -- ---- the turn of a process
@@ -54,7 +54,7 @@ puts_by other p c v sides events sides_then events_then = (sides_then ≡ sides)
 -- process p is in the region at this frame, and the channels are these
 pub record HasPart (p : ℕ) (f : Frame) (sides : List SideState) (s : Local) : Type 0 where
   pub there : p < length s.frames
-  pub within : is_within s p ≡ true
+  pub within : is_in_region s p ≡ true
   pub frame : frame_at s p ≡ f
   pub sides_are : s.sides ≡ sides
 
@@ -63,7 +63,7 @@ abbrev pub with_part : (p : ℕ) → Frame → List SideState → Local → Loca
 with_part p f sides s = record s { frames = slice_set s.frames p f; sides = sides }
 
 -- process p has made so many events: whatever events led to the state before, with these they lead to the state after
-pub record GoesOn (t : Tables) (p n : ℕ) (f : Frame) (sides : List SideState) (events : List Event)
+pub record MakesEvents (t : Tables) (p n : ℕ) (f : Frame) (sides : List SideState) (events : List Event)
     (g : Frame) (sides_then : List SideState) (events_then : List Event) : Type 0 where
   pub fit : IsTrue (fits (program_of t p) g)
   pub claimed : map as_claimed sides_then ≡ map as_claimed sides
@@ -77,7 +77,7 @@ pub record GoesOn (t : Tables) (p n : ℕ) (f : Frame) (sides : List SideState) 
 -- what came of a stop
 abbrev pub passes_by : Passed → (t : Tables) → (p : ℕ) → Frame → (sides : List SideState) → (events : List Event)
     → Frame → (sides_then : List SideState) → (events_then : List Event) → Type 0
-passes_by On t p f sides events g sides_then events_then = GoesOn t p 1 f sides events g sides_then events_then
+passes_by On t p f sides events g sides_then events_then = MakesEvents t p 1 f sides events g sides_then events_then
 passes_by other t p f sides events g sides_then events_then =
     (g ≡ f) × (sides_then ≡ sides) × (events_then ≡ events)
 

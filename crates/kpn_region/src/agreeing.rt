@@ -8,7 +8,7 @@ ghost use Rattle.kpn_region.specs.Joining.{ChannelAgrees, ProcessAgrees, Process
 ghost use Rattle.kpn_region.specs.Agreeing.{is_within_capacity, keeps_capacity, empties_a_sink, takes_in_order, has_places, rest_agrees};
 
 use crate::batch::Batch;
-use crate::side::Side;
+use crate::side::RegionSide;
 use kpn_chan::Channel;
 use kpn_machine::Machine;
 use kpn_net::Network;
@@ -101,7 +101,11 @@ fn same_frame(left: &Frame, right: &Frame) -> bool
 }
 
 /// Whether what the region sees of a channel agrees with it.
-fn agrees<A: Allocator, B: Allocator>(side: &Side<A>, channel: &Channel<B>, sink: bool) -> bool
+fn agrees<A: Allocator, B: Allocator>(
+    side: &RegionSide<A>,
+    channel: &Channel<B>,
+    sink: bool,
+) -> bool
     ensures { (t : Tables) (c : ℕ) → sink ≡ is_sink (channel_at t c)
         → (IsTrue result ↔ ChannelAgrees t c side.now channel.now) }
 {
@@ -132,7 +136,11 @@ fn begins_with<B: Allocator>(channel: &Channel<B>, items: &[i64]) -> bool
 }
 
 /// The same apart from the items.
-fn rest_agrees<A: Allocator, B: Allocator>(side: &Side<A>, channel: &Channel<B>, sink: bool) -> bool
+fn rest_agrees<A: Allocator, B: Allocator>(
+    side: &RegionSide<A>,
+    channel: &Channel<B>,
+    sink: bool,
+) -> bool
     ensures { result ≡ rest_agrees sink side.now channel.now }
 {
     keeps_capacity(side, channel)
@@ -142,7 +150,7 @@ fn rest_agrees<A: Allocator, B: Allocator>(side: &Side<A>, channel: &Channel<B>,
 }
 
 /// Whether the room and what is unread are within the capacity and what was claimed, if the reader is there.
-fn keeps_capacity<A: Allocator, B: Allocator>(side: &Side<A>, channel: &Channel<B>) -> bool
+fn keeps_capacity<A: Allocator, B: Allocator>(side: &RegionSide<A>, channel: &Channel<B>) -> bool
     ensures { result ≡ keeps_capacity side.now channel.now }
 {
     if channel.is_retired() {
@@ -163,7 +171,7 @@ fn is_within_capacity(wanted: u128, claimed: usize, capacity: Option<u32>) -> bo
 
 /// Whether the channel is a sink with a reader, of which nothing was claimed, if the region empties it.
 fn empties_a_sink<A: Allocator, B: Allocator>(
-    side: &Side<A>,
+    side: &RegionSide<A>,
     channel: &Channel<B>,
     sink: bool,
 ) -> bool
@@ -173,14 +181,14 @@ fn empties_a_sink<A: Allocator, B: Allocator>(
 }
 
 /// Whether no item was taken that was put behind one that was not claimed.
-fn takes_in_order<A: Allocator, B: Allocator>(side: &Side<A>, channel: &Channel<B>) -> bool
+fn takes_in_order<A: Allocator, B: Allocator>(side: &RegionSide<A>, channel: &Channel<B>) -> bool
     ensures { result ≡ takes_in_order side.now channel.now }
 {
     side.taken() <= side.claimed() || side.claimed() == channel.len()
 }
 
 /// Whether what the region has put can be joined to the channel without memory.
-fn has_places<A: Allocator, B: Allocator>(side: &Side<A>, channel: &Channel<B>) -> bool
+fn has_places<A: Allocator, B: Allocator>(side: &RegionSide<A>, channel: &Channel<B>) -> bool
     ensures { result ≡ has_places side.now channel.now }
 {
     side.known();

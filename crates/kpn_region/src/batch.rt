@@ -5,11 +5,11 @@ ghost use Rattle.kpn_chan.specs.Channel.{readable};
 ghost use Rattle.kpn_step.specs.Frame.{fits};
 ghost use Rattle.kpn_history.specs.Talks.{process_events};
 ghost use Rattle.kpn_machine.specs.Machine.{no_frame};
-ghost use Rattle.kpn_region.specs.Local.{claimed_with, no_side, is_within, frame_at, side_at, with_side};
-ghost use Rattle.kpn_region.specs.Batch.{stop_of, IsBatch, IsFresh, IsEmpty, with_process, RunsOn};
+ghost use Rattle.kpn_region.specs.Local.{claimed_with, no_side, is_in_region, frame_at, side_at, with_side};
+ghost use Rattle.kpn_region.specs.Batch.{stop_in, IsBatch, IsFresh, IsEmpty, with_process, RunsOn};
 
 use crate::ready::Ready;
-use crate::side::Side;
+use crate::side::RegionSide;
 use crate::traffic::{Halt, SHORT_TURN, Traffic, turn_with};
 use kpn_chan::Channel;
 use kpn_history::Event;
@@ -198,7 +198,7 @@ impl<'n, A: Allocator> Batch<'n, A> {
     /// Whether process `p` is in the region.
     pub fn is_within(&self, p: usize) -> bool
         requires { p < length self.now.tables.instances }
-        ensures { result ≡ is_within self.now.now p }
+        ensures { result ≡ is_in_region self.now.now p }
     {
         self.within[p]
     }
@@ -222,13 +222,13 @@ impl<'n, A: Allocator> Batch<'n, A> {
     /// The stop at which process `p` can't go on, if it came to one.
     pub fn stop(&self, p: usize) -> Option<Stop>
         requires { p < length self.now.tables.instances }
-        ensures { result ≡ stop_of self.now p }
+        ensures { result ≡ stop_in self.now p }
     {
         self.stops[p]
     }
 
     /// Channel `c`, as far as the region sees it.
-    pub fn side(&self, c: usize) -> &Side<A>
+    pub fn side(&self, c: usize) -> &RegionSide<A>
         requires { c < length self.now.tables.channels }
         ensures { result.now ≡ side_at self.now.now c }
     {
@@ -326,13 +326,16 @@ fn no_stops<A: Allocator>(alloc: A, network: &Network) -> Result<Vec<Option<Stop
 }
 
 /// For each channel of a network one of which the region sees nothing.
-fn no_sides<A: Allocator + Copy>(alloc: A, network: &Network) -> Result<Vec<Side<A>, A>, AllocError>
+fn no_sides<A: Allocator + Copy>(
+    alloc: A,
+    network: &Network,
+) -> Result<Vec<RegionSide<A>, A>, AllocError>
     ensures { IfOk result (λ sides.
         sides.items ≡ replicate (length network.now.channels) no_side) }
 {
     let mut sides = Vec::with_capacity(alloc, network.channels())?;
     for _c in 0..network.channels() {
-        sides.push(Side::new(alloc))?;
+        sides.push(RegionSide::new(alloc))?;
     }
     Ok(sides)
 }
@@ -367,7 +370,7 @@ fn clear_processes<A: Allocator>(
 }
 
 /// Makes each channel one of which the region sees nothing.
-fn clear_sides<A: Allocator>(sides: &mut Vec<Side<A>, A>)
+fn clear_sides<A: Allocator>(sides: &mut Vec<RegionSide<A>, A>)
     ensures { sides.new.items ≡ replicate (length sides.old.items) no_side }
 {
     'sides: for c in 0..sides.len() {

@@ -5,12 +5,12 @@ ghost use Rattle.kpn_net.specs.Waits.{AreWaits};
 ghost use Rattle.kpn_step.specs.Frame.{fits};
 ghost use Rattle.kpn_chan.specs.Channel.{unread};
 ghost use Rattle.kpn_machine.specs.Machine.{channel_in, frame_in, with_frame, IsMachine};
-ghost use Rattle.kpn_region.specs.Local.{is_within, frame_at, side_at};
+ghost use Rattle.kpn_region.specs.Local.{is_in_region, frame_at, side_at};
 ghost use Rattle.kpn_region.specs.Joining.{ChannelAgrees, AgreesWith, Joins};
 ghost use Rattle.kpn_region.specs.JoiningParts.{most_seen, JoinsChannel, JoinsChannels, JoinsFrames};
 
 use crate::batch::Batch;
-use crate::side::Side;
+use crate::side::RegionSide;
 use kpn_chan::Channel;
 use kpn_machine::Machine;
 use kpn_net::Network;
@@ -92,7 +92,7 @@ impl<'n, A: Allocator> Batch<'n, A> {
         requires frames { length machine.old.frames ≡ length self.now.tables.instances }
         requires size { length (frame_at self.now.now p).variables
             ≡ length (frame_in machine.old p).variables }
-        ensures { machine.new ≡ (if is_within self.now.now p
+        ensures { machine.new ≡ (if is_in_region self.now.now p
             then with_frame p (frame_at self.now.now p) machine.old else machine.old) }
     {
         if self.is_within(p) {
@@ -103,7 +103,7 @@ impl<'n, A: Allocator> Batch<'n, A> {
 
 /// The most items that were unread on a channel when the region had put one; 0 if it has put none, or the reader is
 /// gone.
-fn most_seen<A: Allocator, B: Allocator>(side: &Side<A>, channel: &Channel<B>) -> usize
+fn most_seen<A: Allocator, B: Allocator>(side: &RegionSide<A>, channel: &Channel<B>) -> usize
     requires claimed { side.now.claimed ≤ length (unread channel.now) }
     requires bound { length (unread channel.now) + side.now.most < 2 ^ 64 }
     ensures { result ≡ most_seen side.now channel.now }

@@ -11,4 +11,4 @@ mod side;
 mod traffic;
 
 pub use batch::Batch;
-pub use side::Side;
+pub use side::RegionSide;

@@ -1,7 +1,7 @@
 //! A channel, as far as a region sees it.
 ghost use Rattle.std.specs.Prelude.{◌≡◌, ◌<◌, ◌≤◌, ◌++◌, true, false, [], length, take, IsTrue, OnOk, OnErr, is_ok, if◌then◌else◌, IfSome, IfNone};
 ghost use Rattle.kpn_chan.specs.Channel.{readable};
-ghost use Rattle.kpn_region.specs.Local.{claimed_with, no_side, untaken, next_of, with_next_taken, with_item, as_claimed};
+ghost use Rattle.kpn_region.specs.Local.{claimed_with, no_side, untaken, next_of, with_next_taken, with_item_put, as_claimed};
 
 use kpn_chan::Channel;
 use std::alloc::{AllocError, Allocator, Global};
@@ -13,7 +13,7 @@ const NOBODY: u16 = u16::MAX;
 /// The items of a channel that were claimed, and then those that the region has put; how many of them were taken; how
 /// many may be there that are not taken; and whether it is a sink that the region empties.
 #[derive(Debug, Drop)]
-pub struct Side<A: Allocator = Global> {
+pub struct RegionSide<A: Allocator = Global> {
     items: Vec<i64, A>,
     claimed: usize,
     taken: usize,
@@ -25,7 +25,7 @@ pub struct Side<A: Allocator = Global> {
     stuck: u16,
 }
 
-impl<A: Allocator> Model for Side<A> {
+impl<A: Allocator> Model for RegionSide<A> {
     ghost use Rattle.std.specs.Prelude.{◌≤◌, length};
     ghost use Rattle.kpn_region.specs.Local.{SideState};
 
@@ -43,12 +43,12 @@ impl<A: Allocator> Model for Side<A> {
     ghost invariant = { λ s. (s.claimed ≤ length s.items.items) × (s.taken ≤ length s.items.items) };
 }
 
-impl<A: Allocator> Side<A> {
+impl<A: Allocator> RegionSide<A> {
     /// A channel of which the region sees nothing.
     pub(crate) fn new(alloc: A) -> Self
         ensures { result ≡ no_side }
     {
-        Side {
+        RegionSide {
             items: Vec::new(alloc),
             claimed: 0,
             taken: 0,
@@ -190,7 +190,7 @@ impl<A: Allocator> Side<A> {
     /// Puts an item behind the others. The error is that memory ran out, and then the channel is as before.
     #[inline(always)]
     pub(crate) fn put(&mut self, item: i64) -> Result<(), AllocError>
-        ensures after { self.new ≡ (if is_ok result then with_item item self.old else self.old) }
+        ensures after { self.new ≡ (if is_ok result then with_item_put item self.old else self.old) }
         ensures claimed { as_claimed self.new ≡ as_claimed self.old }
     {
         self.items.push(item)?;

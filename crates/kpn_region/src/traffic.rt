@@ -4,10 +4,10 @@ ghost use Rattle.kpn_net.specs.Tables.{Tables, program_of};
 ghost use Rattle.kpn_step.specs.Frame.{Frame, fits};
 ghost use Rattle.kpn_step.specs.Stops.{StandsAt, IsAtPort};
 ghost use Rattle.kpn_region.specs.Batch.{IsStuckAt};
-ghost use Rattle.kpn_region.specs.Turn.{IsGot, puts_by, IsTaken, GoesOn, passes_by, halts_at};
+ghost use Rattle.kpn_region.specs.Turn.{IsGot, puts_by, IsTaken, MakesEvents, passes_by, halts_at};
 
 use crate::ready::Ready;
-use crate::side::Side;
+use crate::side::RegionSide;
 use kpn_history::Event;
 use kpn_machine::{in_channel, out_channel};
 use kpn_net::Network;
@@ -27,7 +27,7 @@ const WIDE: u64 = 8;
 /// The channels of a region, the events that it has made, and the processes that may go on.
 #[derive(Debug, Drop)]
 pub(crate) struct Traffic<A: Allocator> {
-    pub(crate) sides: Vec<Side<A>, A>,
+    pub(crate) sides: Vec<RegionSide<A>, A>,
     pub(crate) events: Vec<Event, A>,
     pub(crate) ready: Ready,
     // so many events a process makes at most before the next one has its turn
@@ -118,7 +118,7 @@ impl<A: Allocator> Traffic<A> {
         requires sides { length self.old.sides.items ≡ length network.now.channels }
         requires fits { IsTrue (fits (program_of network.now p) frame.old) }
         requires room { vec_len self.old.events + 2 * left ≤ vec_capacity self.old.events }
-        ensures goes { GoesOn network.now p result.made
+        ensures goes { MakesEvents network.now p result.made
             frame.old self.old.sides.items self.old.events.items
             frame.new self.new.sides.items self.new.events.items }
         ensures most { result.made ≤ left }

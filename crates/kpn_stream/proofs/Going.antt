@@ -15,17 +15,17 @@ use Rattle.kpn_book.specs.Book.{Book, standing_at}
 use Rattle.kpn_book.specs.Appending.{IsGrowthOwed, Happens}
 use Rattle.kpn_book.specs.Commits.{HasToWait, IsAnswer}
 use Rattle.kpn_book.specs.Stepping.{StepsNext}
-use Rattle.kpn_book.specs.InARow.{StepsInRow, no_step, one_step_more, ends_row, RunsOn, RunsInVain}
+use Rattle.kpn_book.specs.InARow.{StepsInRow, no_step, one_step_more, ends_row, RunsInRow, RunsInVain}
 use Rattle.kpn_book.specs.declared.outcome.Limits.{Limits}
 use Rattle.kpn_book.proofs.Happening.{happens_tables, happens_history}
 use Rattle.kpn_book.proofs.Stepped.{step_tables, step_history}
 use Rattle.kpn_stream.specs.declared.faults.SourceFault.{SourceFault}
 use Rattle.kpn_stream.specs.declared.faults.SinkFault.{SinkFault}
-use Rattle.kpn_stream.specs.declared.ending.Ending.{Ending}
-use Rattle.kpn_stream.specs.declared.ending.Ending.TheVariants.{SourceFailed, SinkFailed}
+use Rattle.kpn_stream.specs.declared.ending.StreamEnding.{StreamEnding}
+use Rattle.kpn_stream.specs.declared.ending.StreamEnding.TheVariants.{SourceFailed, SinkFailed}
 use Rattle.kpn_stream.specs.Ending.{end_numbers, AreTaken, failed_sink}
 use Rattle.kpn_stream.specs.Devices.{is_of_outside, is_elsewhere, is_no_growth, NoneIs, is_of_source, is_of_sink, Fed, by_others, by_look, ServedSince, none_yet, meanwhile, took, took_not, took_in_vain, flushed, flushed_not, left, left_not, had_enough, had_enough_not, IsFlushed, AreFlushed, AreFlushedLast, EndsFlushed, AreLookedAt, not_yet, once_more, Called, by_process, by_sinks, looked, read_at_once, waited_for}
-use Rattle.kpn_stream.specs.Streaming.{HappensBesides, MayEnd, MayEndWell, IsStepped, Serves, MayFail, Reads, ReadsAtHand, not_read, is_read, GoesOn}
+use Rattle.kpn_stream.specs.Streaming.{HappensBesides, MayEnd, MayEndWell, StepsProcesses, Serves, MayFail, ReadsSource, ReadsAtHand, not_read, is_read, StreamGoesOn}
 
 -- ---- events of other kinds
 
@@ -250,7 +250,7 @@ module _ {K : Type 0} (takes : K → ℕ → ℤ → Result (Unit {0}) SinkFault
 
     -- the last calls stay the last ones
     pub flushed-trans : (t : Tables) (H : List Event) (j : K)
-        → ServedSince takes flushes wanted start first H None j → (ended : Option Ending) (G : List Event) (k : K)
+        → ServedSince takes flushes wanted start first H None j → (ended : Option StreamEnding) (G : List Event) (k : K)
         → EndsFlushed takes flushes wanted t H j ended G k → EndsFlushed takes flushes wanted t start first ended G k
     flushed-trans t H j one None G k is = tt
     flushed-trans t H j one (Some (SourceFailed c fault)) G k is = tt
@@ -262,7 +262,7 @@ module _ {K : Type 0} (takes : K → ℕ → ℤ → Result (Unit {0}) SinkFault
       last = is.last;
     }
 
-    pub ends_flushed : (t : Tables) (ended : Option Ending) (H : List Event) (now : K)
+    pub ends_flushed : (t : Tables) (ended : Option StreamEnding) (H : List Event) (now : K)
         → AreFlushedLast takes flushes wanted t start first H now
         → EndsFlushed takes flushes wanted t start first ended H now
     ends_flushed t None H now last = tt
@@ -271,7 +271,7 @@ module _ {K : Type 0} (takes : K → ℕ → ℤ → Result (Unit {0}) SinkFault
     ends_flushed t (Some ending) H now last = last
 
     -- a source has failed, or nothing
-    pub unflushed : (t : Tables) (c : ℕ) (ended : Option Ending) (H : List Event) (now : K) → MayFail c ended
+    pub unflushed : (t : Tables) (c : ℕ) (ended : Option StreamEnding) (H : List Event) (now : K) → MayFail c ended
         → EndsFlushed takes flushes wanted t start first ended H now
     unflushed t c ended H now may =
         elim may [
@@ -348,19 +348,19 @@ last_besides quota (Some c) last after step = step_besides quota step.answer las
 last_besides quota None last after same =
     subst (HappensBesides is_of_outside last) (sym same) (besides-refl is_of_outside last)
 
-pub stepped-refl : (limits : Limits) (b : Book) → IsStepped limits b b
+pub stepped-refl : (limits : Limits) (b : Book) → StepsProcesses limits b b
 stepped-refl limits b = record { besides = besides-refl is_of_outside b; commits = λ below. below }
 
-pub stepped-trans : (limits : Limits) (a b c : Book) → IsStepped limits a b → IsStepped limits b c
-    → IsStepped limits a c
+pub stepped-trans : (limits : Limits) (a b c : Book) → StepsProcesses limits a b → StepsProcesses limits b c
+    → StepsProcesses limits a c
 stepped-trans limits a b c one two = record {
   besides = besides-trans is_of_outside a b c one.besides two.besides;
   commits = λ below. two.commits (one.commits below);
 }
 
 stepped : (limits : Limits) (quota most : ℕ) (sink : Option ℕ) (before after : Book)
-    → (before.commits ≤ limits.commits → before.commits + most ≤ limits.commits) → RunsOn quota most sink before after
-    → IsStepped limits before after
+    → (before.commits ≤ limits.commits → before.commits + most ≤ limits.commits) → RunsInRow quota most sink before after
+    → StepsProcesses limits before after
 stepped limits quota most sink before after fits is = record {
   besides =
       besides-trans is_of_outside before is.last after (row_besides quota before is.row)
@@ -370,7 +370,7 @@ stepped limits quota most sink before after fits is = record {
 
 in_vain : (limits : Limits) (quota most : ℕ) (before after : Book)
     → (before.commits ≤ limits.commits → before.commits + most ≤ limits.commits) → RunsInVain quota most before after
-    → IsStepped limits before after
+    → StepsProcesses limits before after
 in_vain limits quota most before after fits is = record {
   besides = elim is.ends [
     | inl last ↦ subst (HappensBesides is_of_outside before) (sym last) (row_besides quota before is.row)
@@ -393,8 +393,8 @@ in_vain limits quota most before after fits is = record {
 -- steps in a row, also if memory runs out behind them
 pub stepped_row : {E : Type 0} (limits : Limits) (quota most : ℕ) (result : Result (Option ℕ) E) (before after : Book)
     → (before.commits ≤ limits.commits → before.commits + most ≤ limits.commits)
-    → IfOk result (λ sink. RunsOn quota most sink before after) → OnErr result (RunsInVain quota most before after)
-    → IsStepped limits before after
+    → IfOk result (λ sink. RunsInRow quota most sink before after) → OnErr result (RunsInVain quota most before after)
+    → StepsProcesses limits before after
 stepped_row limits quota most (Ok sink) before after fits runs vain =
     stepped limits quota most sink before after fits runs
 stepped_row limits quota most (Err error) before after fits runs vain =
@@ -419,7 +419,7 @@ module _ {K : Type 0} (takes : K → ℕ → ℤ → Result (Unit {0}) SinkFault
     flushed = tt;
   }
 
-  pub serves-trans : (ended : Option Ending) (a b c : Book) (i j k : K) → Serves takes flushes limits None a b i j
+  pub serves-trans : (ended : Option StreamEnding) (a b c : Book) (i j k : K) → Serves takes flushes limits None a b i j
       → Serves takes flushes limits ended b c j k → Serves takes flushes limits ended a c i k
   serves-trans ended a b c i j k one two = record {
     besides = besides-trans is_elsewhere a b c one.besides two.besides;
@@ -434,7 +434,7 @@ module _ {K : Type 0} (takes : K → ℕ → ℤ → Result (Unit {0}) SinkFault
   }
 
   -- an ending is found once all sinks were flushed
-  pub serves_ending : (ended : Option Ending) (a b : Book) (i j : K) (xs : List ℕ)
+  pub serves_ending : (ended : Option StreamEnding) (a b : Book) (i j : K) (xs : List ℕ)
       → Serves takes flushes limits None a b i j → xs ≡ end_numbers is_sink a.tables
       → AreFlushed flushes xs a.history i b.history j → MayEndWell limits ended b
       → Serves takes flushes limits ended a b i j
@@ -460,23 +460,23 @@ module _ {K : Type 0} (takes : K → ℕ → ℤ → Result (Unit {0}) SinkFault
   }
 
   -- what was taken stays taken
-  pub serves_taken : (ended : Option Ending) (a b : Book) (i j : K) → Serves takes flushes limits ended a b i j
+  pub serves_taken : (ended : Option StreamEnding) (a b : Book) (i j : K) → Serves takes flushes limits ended a b i j
       → AreTaken a.tables a.history → AreTaken b.tables b.history
   serves_taken ended a b i j is taken c sink =
       is.stay_taken c (taken c (subst (λ t. is_sink (channel_at t c) ≡ true) is.besides.tables sink))
 
   -- the stream goes on
-  pub serves_on : (ended : Option Ending) (a b : Book) (i j : K) → is_some ended ≡ false
+  pub serves_on : (ended : Option StreamEnding) (a b : Book) (i j : K) → is_some ended ≡ false
       → Serves takes flushes limits ended a b i j → Serves takes flushes limits None a b i j
   serves_on ended a b i j on is = subst (λ e. Serves takes flushes limits e a b i j) (none_of ended on) is
 
 -- ---- a source is read
 
-no_sink_failed : (c : ℕ) (ended : Option Ending) → MayFail c ended → failed_sink ended ≡ None
+no_sink_failed : (c : ℕ) (ended : Option StreamEnding) → MayFail c ended → failed_sink ended ≡ None
 no_sink_failed c ended may =
     elim may [ inl on ↦ ap failed_sink on | inr (fault, over) ↦ ap failed_sink over ]
 
-may_end : (limits : Limits) (c : ℕ) (ended : Option Ending) (b : Book) → MayFail c ended → AreTaken b.tables b.history
+may_end : (limits : Limits) (c : ℕ) (ended : Option StreamEnding) (b : Book) → MayFail c ended → AreTaken b.tables b.history
     → MayEnd limits ended b
 may_end limits c ended b may taken =
     elim may [
@@ -489,7 +489,7 @@ module _ {S K : Type 0} (gives : S → ℕ → Result (Option ℤ) SourceFault �
     (flushes : K → ℕ → Result (Unit {0}) SinkFault → K → Type 0) (limits : Limits) where
   -- devices are looked at
   pub looks_go_on : (b : Book) (r s : S) (k : K) → AreLookedAt looks r s
-      → GoesOn gives looks at_hand takes flushes limits None b b r s k k
+      → StreamGoesOn gives looks at_hand takes flushes limits None b b r s k k
   looks_go_on b r s k around = record {
     tables = refl;
     commits = λ below. below;
@@ -501,13 +501,13 @@ module _ {S K : Type 0} (gives : S → ℕ → Result (Option ℤ) SourceFault �
     flushed = tt;
   }
 
-  pub goes_on-refl : (b : Book) (s : S) (k : K) → GoesOn gives looks at_hand takes flushes limits None b b s s k k
+  pub goes_on-refl : (b : Book) (s : S) (k : K) → StreamGoesOn gives looks at_hand takes flushes limits None b b s s k k
   goes_on-refl b s k = looks_go_on b s s k not_yet
 
-  pub goes_on-trans : (ended : Option Ending) (a b c : Book) (r s u : S) (i j k : K)
-      → GoesOn gives looks at_hand takes flushes limits None a b r s i j
-      → GoesOn gives looks at_hand takes flushes limits ended b c s u j k
-      → GoesOn gives looks at_hand takes flushes limits ended a c r u i k
+  pub goes_on-trans : (ended : Option StreamEnding) (a b c : Book) (r s u : S) (i j k : K)
+      → StreamGoesOn gives looks at_hand takes flushes limits None a b r s i j
+      → StreamGoesOn gives looks at_hand takes flushes limits ended b c s u j k
+      → StreamGoesOn gives looks at_hand takes flushes limits ended a c r u i k
   goes_on-trans ended a b c r s u i j k one two = record {
     tables = two.tables ∙ one.tables;
     commits = λ below. two.commits (one.commits below);
@@ -521,8 +521,8 @@ module _ {S K : Type 0} (gives : S → ℕ → Result (Option ℤ) SourceFault �
         two.flushed;
   }
 
-  pub serves_goes_on : (ended : Option Ending) (a b : Book) (s : S) (i j : K)
-      → Serves takes flushes limits ended a b i j → GoesOn gives looks at_hand takes flushes limits ended a b s s i j
+  pub serves_goes_on : (ended : Option StreamEnding) (a b : Book) (s : S) (i j : K)
+      → Serves takes flushes limits ended a b i j → StreamGoesOn gives looks at_hand takes flushes limits ended a b s s i j
   serves_goes_on ended a b s i j is = record {
     tables = is.besides.tables;
     commits = λ below. let same = is.commits in omega arith;
@@ -540,8 +540,8 @@ module _ {S K : Type 0} (gives : S → ℕ → Result (Option ℤ) SourceFault �
     flushed = is.flushed;
   }
 
-  pub steps_go_on : (a b : Book) (s : S) (k : K) → IsStepped limits a b
-      → GoesOn gives looks at_hand takes flushes limits None a b s s k k
+  pub steps_go_on : (a b : Book) (s : S) (k : K) → StepsProcesses limits a b
+      → StreamGoesOn gives looks at_hand takes flushes limits None a b s s k k
   steps_go_on a b s k is = record {
     tables = is.besides.tables;
     commits = is.commits;
@@ -558,7 +558,7 @@ module _ {S K : Type 0} (gives : S → ℕ → Result (Option ℤ) SourceFault �
   }
 
   -- nothing happens to sinks while a source is read
-  sinks_wait : (c : ℕ) (ended : Option Ending) (a b : Book) (r s : S) (k : K) → Reads gives looks c ended a b r s
+  sinks_wait : (c : ℕ) (ended : Option StreamEnding) (a b : Book) (r s : S) (k : K) → ReadsSource gives looks c ended a b r s
       → ServedSince takes flushes limits.take a.history k b.history (failed_sink ended) k
   sinks_wait c ended a b r s k is =
       subst (λ f. ServedSince takes flushes limits.take a.history k b.history f k)
@@ -566,8 +566,8 @@ module _ {S K : Type 0} (gives : S → ℕ → Result (Option ℤ) SourceFault �
       (served_besides takes flushes limits.take a.history k None k a b is.besides none_yet)
 
   -- after the answer of a source
-  called_then : (c : ℕ) (ended : Option Ending) (a b : Book) (r s : S) (k : K)
-      → (is : Reads gives looks c ended a b r s)
+  called_then : (c : ℕ) (ended : Option StreamEnding) (a b : Book) (r s : S) (k : K)
+      → (is : ReadsSource gives looks c ended a b r s)
       → (t : Tables) (u : S) (j : K)
       → Called t gives looks at_hand takes flushes limits.take u j (a.history ++ is.events) s k
       → Called t gives looks at_hand takes flushes limits.take u j b.history s k
@@ -577,8 +577,8 @@ module _ {S K : Type 0} (gives : S → ℕ → Result (Option ℤ) SourceFault �
       (none_weaker is_no_growth is_of_outside growth_of_none is.growth is.grown) called)
 
   -- a source is read whose item is at hand
-  pub reads_at_once : (c : ℕ) (ended : Option Ending) (a b : Book) (r s : S) (k : K) → at_hand r c
-      → Reads gives looks c ended a b r s → GoesOn gives looks at_hand takes flushes limits ended a b r s k k
+  pub reads_at_once : (c : ℕ) (ended : Option StreamEnding) (a b : Book) (r s : S) (k : K) → at_hand r c
+      → ReadsSource gives looks c ended a b r s → StreamGoesOn gives looks at_hand takes flushes limits ended a b r s k k
   reads_at_once c ended a b r s k hand is = record {
     tables = is.besides.tables;
     commits = λ below. let same = is.commits in omega arith;
@@ -592,22 +592,22 @@ module _ {S K : Type 0} (gives : S → ℕ → Result (Option ℤ) SourceFault �
   }
 
   -- a source is read if its item is at hand
-  pub reads_at_hand : (c : ℕ) (ended : Option Ending) (a b : Book) (r s : S) (k : K)
+  pub reads_at_hand : (c : ℕ) (ended : Option StreamEnding) (a b : Book) (r s : S) (k : K)
       → ReadsAtHand gives looks at_hand c ended a b r s
-      → GoesOn gives looks at_hand takes flushes limits ended a b r s k k
+      → StreamGoesOn gives looks at_hand takes flushes limits ended a b r s k k
   reads_at_hand c ended a b r s k (not_read same on around) =
-      subst (λ e. GoesOn gives looks at_hand takes flushes limits e a b r s k k) (sym on)
-      (subst (λ x. GoesOn gives looks at_hand takes flushes limits None a x r s k k) (sym same)
+      subst (λ e. StreamGoesOn gives looks at_hand takes flushes limits e a b r s k k) (sym on)
+      (subst (λ x. StreamGoesOn gives looks at_hand takes flushes limits None a x r s k k) (sym same)
       (looks_go_on a r s k around))
   reads_at_hand c ended a b r s k (is_read between around hand is) =
       goes_on-trans ended a a b r between s k k k (looks_go_on a r between k around)
       (reads_at_once c ended a b between s k hand is)
 
   -- a source is read once the devices of the sinks have handed on what they kept
-  pub reads_flushed : (c : ℕ) (ended : Option Ending) (a b d : Book) (r u s : S) (i j : K) (xs : List ℕ)
+  pub reads_flushed : (c : ℕ) (ended : Option StreamEnding) (a b d : Book) (r u s : S) (i j : K) (xs : List ℕ)
       → Serves takes flushes limits None a b i j → xs ≡ end_numbers is_sink a.tables
       → AreFlushed flushes xs a.history i b.history j → HaveStopped b.tables b.history → AreLookedAt looks r u
-      → Reads gives looks c ended b d u s → GoesOn gives looks at_hand takes flushes limits ended a d r s i j
+      → ReadsSource gives looks c ended b d u s → StreamGoesOn gives looks at_hand takes flushes limits ended a d r s i j
   reads_flushed c ended a b d r u s i j xs serves all handed_on stopped around is = record {
     tables = is.besides.tables ∙ serves.besides.tables;
     commits = λ below. let same = is.commits in let as_before = serves.commits in omega arith;
@@ -630,14 +630,14 @@ module _ {S K : Type 0} (gives : S → ℕ → Result (Option ℤ) SourceFault �
   }
 
   -- the processes make steps, and the sinks are served
-  pub taken_then : (ended : Option Ending) (a b c : Book) (s : S) (i j : K) → IsStepped limits a b
-      → Serves takes flushes limits ended b c i j → GoesOn gives looks at_hand takes flushes limits ended a c s s i j
+  pub taken_then : (ended : Option StreamEnding) (a b c : Book) (s : S) (i j : K) → StepsProcesses limits a b
+      → Serves takes flushes limits ended b c i j → StreamGoesOn gives looks at_hand takes flushes limits ended a c s s i j
   taken_then ended a b c s i j one two =
       goes_on-trans ended a b c s s s i i j (steps_go_on a b s i one) (serves_goes_on ended b c s i j two)
 
 -- what was taken stays taken
 pub at_hand_taken : {S : Type 0} (gives : S → ℕ → Result (Option ℤ) SourceFault → S → Type 0)
-    (looks : S → ℕ → S → Type 0) (at_hand : S → ℕ → Type 0) (c : ℕ) (ended : Option Ending) (a b : Book) (r s : S)
+    (looks : S → ℕ → S → Type 0) (at_hand : S → ℕ → Type 0) (c : ℕ) (ended : Option StreamEnding) (a b : Book) (r s : S)
     → ReadsAtHand gives looks at_hand c ended a b r s → AreTaken a.tables a.history → AreTaken b.tables b.history
 at_hand_taken gives looks at_hand c ended a b r s (not_read same on around) taken =
     subst (λ x. AreTaken x.tables x.history) (sym same) taken

@@ -27,11 +27,11 @@ use Rattle.kpn_stream.specs.declared.faults.SourceFault.{SourceFault}
 use Rattle.kpn_stream.specs.declared.faults.SourceFault.TheVariants as source_fault
 use Rattle.kpn_stream.specs.declared.faults.SinkFault.{SinkFault}
 use Rattle.kpn_stream.specs.declared.faults.SinkFault.TheVariants.{Gone, NoSample, Write, NoMemory}
-use Rattle.kpn_stream.specs.declared.ending.Ending.{Ending}
-use Rattle.kpn_stream.specs.declared.ending.Ending.TheVariants.{SourceFailed, SinkFailed}
+use Rattle.kpn_stream.specs.declared.ending.StreamEnding.{StreamEnding}
+use Rattle.kpn_stream.specs.declared.ending.StreamEnding.TheVariants.{SourceFailed, SinkFailed}
 use Rattle.kpn_stream.specs.Devices.{is_elsewhere, is_no_growth, is_of_sink, HasGiven, MayRead, Fed, by_item, by_end, by_fault, by_no_memory, ServedSince, none_yet, took, took_not, took_in_vain, flushed, flushed_not, left, left_not, had_enough, had_enough_not, IsFlushed, AreFlushed, EndsFlushed, answered}
-use Rattle.kpn_stream.specs.Ending.{end_numbers, AreLeft, IsTaken}
-use Rattle.kpn_stream.specs.Streaming.{MayEndWell, IsHandled, IsLeaving, leaves, stays, Serves, IsUnfed, Reads}
+use Rattle.kpn_stream.specs.Ending.{end_numbers, AreLeft, IsSinkTaken}
+use Rattle.kpn_stream.specs.Streaming.{MayEndWell, IsHandled, IsLeaving, leaves, stays, Serves, IsUnfed, ReadsSource}
 use Rattle.kpn_stream.proofs.Going.{besides-refl, happens_besides, growth_none, fed_happens, served_happens, ends_flushed}
 use Rattle.kpn_stream.proofs.Moments.{happens_taken, left_then}
 
@@ -202,7 +202,7 @@ module _ {K : Type 0} (takes : K → ℕ → ℤ → Result (Unit {0}) SinkFault
     flushed = tt;
   }
 
-  serves_over : (c : ℕ) (fault : SinkFault) (ended : Option Ending) (before after : Book) (k now : K)
+  serves_over : (c : ℕ) (fault : SinkFault) (ended : Option StreamEnding) (before after : Book) (k now : K)
       → ServedSince takes flushes limits.take before.history k before.history (Some (c, fault)) now
       → after ≡ before → ended ≡ Some (SinkFailed c fault) → Serves takes flushes limits ended before after k now
   serves_over c fault ended before after k now fails same over =
@@ -227,7 +227,7 @@ module _ {K : Type 0} (takes : K → ℕ → ℤ → Result (Unit {0}) SinkFault
       (took_in_vain before.history c v k now none_yet few answer) same refl
 
   -- the sink was left
-  serves_left : (c : ℕ) (ended : Option Ending) (before after : Book) (k now : K)
+  serves_left : (c : ℕ) (ended : Option StreamEnding) (before after : Book) (k now : K)
       → ServedSince takes flushes limits.take before.history k (before.history ++ event.Leave c ∷ []) None now
       → Happens (event.Leave c) before after → MayEndWell limits ended after
       → (is_some ended ≡ true → AreLeft after.tables after.history)
@@ -247,7 +247,7 @@ module _ {K : Type 0} (takes : K → ℕ → ℤ → Result (Unit {0}) SinkFault
       later : ServedSince takes flushes limits.take before.history k after.history None now
       later = served_happens takes flushes limits.take before.history k None now (event.Leave c) before after is served
 
-      by : (ended : Option Ending) → (is_some ended ≡ true → AreLeft after.tables after.history)
+      by : (ended : Option StreamEnding) → (is_some ended ≡ true → AreLeft after.tables after.history)
           → EndsFlushed takes flushes limits.take after.tables before.history k ended after.history now
       by None all = tt
       by (Some ending) all =
@@ -260,7 +260,7 @@ module _ {K : Type 0} (takes : K → ℕ → ℤ → Result (Unit {0}) SinkFault
           })
 
   -- the device has failed
-  serves_failed : (c : ℕ) (fault : SinkFault) (ended : Option Ending) (before after : Book) (k now : K)
+  serves_failed : (c : ℕ) (fault : SinkFault) (ended : Option StreamEnding) (before after : Book) (k now : K)
       → ServedSince takes flushes limits.take before.history k before.history (Some (c, fault)) now
       → IsHandled limits c fault ended before after → Serves takes flushes limits ended before after k now
   serves_failed c Gone ended before after k now fails (leaves is ends all) =
@@ -274,14 +274,14 @@ module _ {K : Type 0} (takes : K → ℕ → ℤ → Result (Unit {0}) SinkFault
   serves_failed c NoMemory ended before after k now fails is =
       serves_over c NoMemory ended before after k now fails is.0 is.1
 
-  pub serves_not : (c : ℕ) (v : ℤ) (fault : SinkFault) (ended : Option Ending) (before after : Book) (k now : K)
+  pub serves_not : (c : ℕ) (v : ℤ) (fault : SinkFault) (ended : Option StreamEnding) (before after : Book) (k now : K)
       → (HasGiven limits.take before.history c → ⊥) → takes k c v (Err fault) now
       → IsHandled limits c fault ended before after → Serves takes flushes limits ended before after k now
   serves_not c v fault ended before after k now few answer is =
       serves_failed c fault ended before after k now
       (took_not before.history c v fault k now none_yet few answer) is
 
-  pub flushes_not : (c : ℕ) (fault : SinkFault) (ended : Option Ending) (before after : Book) (k now : K)
+  pub flushes_not : (c : ℕ) (fault : SinkFault) (ended : Option StreamEnding) (before after : Book) (k now : K)
       → flushes k c (Err fault) now → IsHandled limits c fault ended before after
       → Serves takes flushes limits ended before after k now
   flushes_not c fault ended before after k now answer is =
@@ -289,7 +289,7 @@ module _ {K : Type 0} (takes : K → ℕ → ℤ → Result (Unit {0}) SinkFault
       (flushed_not before.history c fault k now none_yet answer) is
 
   -- its device has handed on as many items as are wanted
-  pub serves_enough : (c : ℕ) (ended : Option Ending) (before after : Book) (k now : K)
+  pub serves_enough : (c : ℕ) (ended : Option StreamEnding) (before after : Book) (k now : K)
       → HasGiven limits.take before.history c → flushes k c (Ok tt) now → IsLeaving limits c ended before after
       → Serves takes flushes limits ended before after k now
   serves_enough c ended before after k now enough answer (leaves is ends all) =
@@ -298,19 +298,19 @@ module _ {K : Type 0} (takes : K → ℕ → ℤ → Result (Unit {0}) SinkFault
       serves_over c NoMemory ended before after k now (had_enough_not before.history c k now none_yet enough answer)
       same over
 
-no_ending : (ending : Ending) (ended : Option Ending) → ended ≡ Some ending → ended ≡ None → ⊥
+no_ending : (ending : StreamEnding) (ended : Option StreamEnding) → ended ≡ Some ending → ended ≡ None → ⊥
 no_ending ending ended over on = let clash : Some ending ≡ None = sym over ∙ on in cc
 
 -- a sink that is left was taken, or the stream has ended
-pub leaving_taken : (limits : Limits) (c : ℕ) (ended : Option Ending) (before after : Book)
-    → IsLeaving limits c ended before after → ended ≡ None → IsTaken after.history c
+pub leaving_taken : (limits : Limits) (c : ℕ) (ended : Option StreamEnding) (before after : Book)
+    → IsLeaving limits c ended before after → ended ≡ None → IsSinkTaken after.history c
 leaving_taken limits c ended before after (leaves is ends all) on = left_then c before after is
 leaving_taken limits c ended before after (stays same over) on =
     absurd (no_ending (SinkFailed c NoMemory) ended over on)
 
 -- a sink whose device has failed was left, or the stream has ended
-pub handled_taken : (limits : Limits) (c : ℕ) (fault : SinkFault) (ended : Option Ending) (before after : Book)
-    → IsHandled limits c fault ended before after → ended ≡ None → IsTaken after.history c
+pub handled_taken : (limits : Limits) (c : ℕ) (fault : SinkFault) (ended : Option StreamEnding) (before after : Book)
+    → IsHandled limits c fault ended before after → ended ≡ None → IsSinkTaken after.history c
 handled_taken limits c Gone ended before after is on = leaving_taken limits c ended before after is on
 handled_taken limits c (NoSample v) ended before after is on =
     absurd (no_ending (SinkFailed c (NoSample v)) ended is.1 on)
@@ -319,7 +319,7 @@ handled_taken limits c NoMemory ended before after is on = absurd (no_ending (Si
 
 -- a sink whose device can't hand on was left, or the stream has ended
 pub handled_flushed : {K : Type 0} (flushes : K → ℕ → Result (Unit {0}) SinkFault → K → Type 0) (limits : Limits)
-    (c : ℕ) (fault : SinkFault) (ended : Option Ending) (before after : Book) (k now : K) → flushes k c (Err fault) now
+    (c : ℕ) (fault : SinkFault) (ended : Option StreamEnding) (before after : Book) (k now : K) → flushes k c (Err fault) now
     → IsHandled limits c fault ended before after → ended ≡ None
     → IsFlushed flushes c before.history k after.history now
 handled_flushed flushes limits c Gone ended before after k now answer (leaves h ends all) on =
@@ -361,7 +361,7 @@ module _ {S : Type 0} (gives : S → ℕ → Result (Option ℤ) SourceFault →
       → ((d : ℕ) → is_sink (channel_at before.tables d) ≡ true → written_in d e ≡ []) → Happens e before after
       → ((first : S) → Fed before.tables gives looks first before.history None s
       → Fed before.tables gives looks first (before.history ++ e ∷ []) None now)
-      → Reads gives looks c None before after s now
+      → ReadsSource gives looks c None before after s now
   reads_event e answer after follows gave other writes_none is feeds = record {
     besides = happens_besides is_of_sink (λ p d n. refl) e other before after is;
     commits = happens_commits e before after is;
@@ -383,7 +383,7 @@ module _ {S : Type 0} (gives : S → ℕ → Result (Option ℤ) SourceFault →
   reads_over : (fault : SourceFault) (answer : Result (Option ℤ) SourceFault) → gives s c answer now
       → ((first : S) → Fed before.tables gives looks first before.history None s
       → Fed before.tables gives looks first before.history (Some (c, fault)) now)
-      → Reads gives looks c (Some (SourceFailed c fault)) before before s now
+      → ReadsSource gives looks c (Some (SourceFailed c fault)) before before s now
   reads_over fault answer gave fails = record {
     besides = besides-refl is_of_sink before;
     commits = refl;
@@ -400,31 +400,31 @@ module _ {S : Type 0} (gives : S → ℕ → Result (Option ℤ) SourceFault →
   }
 
   pub reads_fault : (fault : SourceFault) → gives s c (Err fault) now
-      → Reads gives looks c (Some (SourceFailed c fault)) before before s now
+      → ReadsSource gives looks c (Some (SourceFailed c fault)) before before s now
   reads_fault fault answer =
       reads_over fault (Err fault) answer
       (λ first fed. by_fault before.history c fault s now fed may answer)
 
-  unfed : (given : Option ℤ) (ending : Ending) (after : Book) → gives s c (Ok given) now
-      → IsUnfed c before after ending → Reads gives looks c (Some ending) before after s now
+  unfed : (given : Option ℤ) (ending : StreamEnding) (after : Book) → gives s c (Ok given) now
+      → IsUnfed c before after ending → ReadsSource gives looks c (Some ending) before after s now
   unfed given ending after answer is =
-      subst (λ e. Reads gives looks c (Some e) before after s now) (sym is.0)
-      (subst (λ b. Reads gives looks c (Some (SourceFailed c source_fault.NoMemory)) before b s now) (sym is.1)
+      subst (λ e. ReadsSource gives looks c (Some e) before after s now) (sym is.0)
+      (subst (λ b. ReadsSource gives looks c (Some (SourceFailed c source_fault.NoMemory)) before b s now) (sym is.1)
       (reads_over source_fault.NoMemory (Ok given) answer
       (λ first fed. by_no_memory before.history c given s now fed may answer)))
 
-  pub reads_item : (v : ℤ) (ended : Option Ending) (after : Book) → gives s c (Ok (Some v)) now
+  pub reads_item : (v : ℤ) (ended : Option StreamEnding) (after : Book) → gives s c (Ok (Some v)) now
       → IfNone ended (Happens (event.Feed c v) before after) → IfSome ended (IsUnfed c before after)
-      → Reads gives looks c ended before after s now
+      → ReadsSource gives looks c ended before after s now
   reads_item v None after answer fed refused =
       reads_event (event.Feed c v) (Ok (Some v)) after refl answer refl
       (λ d. feed_elsewhere before.tables c d v may.may_feed.source) fed
       (λ first so_far. by_item before.history c v s now so_far may answer)
   reads_item v (Some ending) after answer fed refused = unfed (Some v) ending after answer refused
 
-  pub reads_end : (ended : Option Ending) (after : Book) → gives s c (Ok None) now
+  pub reads_end : (ended : Option StreamEnding) (after : Book) → gives s c (Ok None) now
       → IfNone ended (Happens (event.Close c) before after) → IfSome ended (IsUnfed c before after)
-      → Reads gives looks c ended before after s now
+      → ReadsSource gives looks c ended before after s now
   reads_end None after answer closed refused =
       reads_event (event.Close c) (Ok None) after refl answer refl (λ d _. refl) closed
       (λ first so_far. by_end before.history c s now so_far may answer)

@@ -28,7 +28,7 @@ use Rattle.kpn_stream.specs.declared.faults.SourceFault.TheVariants as source_fa
 use Rattle.kpn_stream.specs.declared.faults.SinkFault.{SinkFault}
 use Rattle.kpn_stream.specs.declared.faults.SinkFault.TheVariants as sink_fault
 use Rattle.kpn_stream.specs.Devices.{is_of_source, is_of_sink, MayRead, Fed, at_first, by_others, by_look, by_item, by_end, by_fault, by_no_memory, HasGiven, Served, none_yet, meanwhile, took, took_not, took_in_vain, flushed, flushed_not, left, left_not, had_enough, had_enough_not}
-use Rattle.kpn_stream.specs.Ending.{IsTaken}
+use Rattle.kpn_stream.specs.Ending.{IsSinkTaken}
 use Rattle.kpn_stream.specs.Lists.{Gave, nothing_given, gave, told_end, gave_not, any_looked, another_gave, WasGiven, GivesList, GiveInTurn, Took, nothing_taken, took_item, took_none, another_took, any_flushed, WasTaken}
 use Rattle.kpn_stream.proofs.Going.{closed_same}
 
@@ -547,7 +547,7 @@ module _ (t : Tables) (network : IsNetwork t) (H : List Event) (legal : Legal t 
             (reads_begin_writes t H legal c) is.below;
       }
 
-  pub taken_whole : IsComplete t H c → IsTaken H c → is_left H c ≡ false → IsLeast t given c (read_on H c)
+  pub taken_whole : IsComplete t H c → IsSinkTaken H c → is_left H c ≡ false → IsLeast t given c (read_on H c)
   taken_whole complete taken not_left =
       elim taken [
         | inl empty ↦

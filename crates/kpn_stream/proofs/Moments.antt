@@ -28,7 +28,7 @@ use Rattle.kpn_book.proofs.Standing.{states_now}
 use Rattle.kpn_book.proofs.Ends.{AddNothing}
 use Rattle.kpn_book.proofs.Happening.{happens_history, happens_written, happens_read}
 use Rattle.kpn_stream.specs.Devices.{IsAwaited}
-use Rattle.kpn_stream.specs.Ending.{AreLeft, IsTaken, AreTaken}
+use Rattle.kpn_stream.specs.Ending.{AreLeft, IsSinkTaken, AreTaken}
 
 -- ---- who waits
 
@@ -83,7 +83,7 @@ left_if_retired b book c sink retired =
     both false is = absurd (false≢true is)
 
 pub taken_if_retired : (b : Book) → IsBook b → (c : ℕ) → is_sink (channel_at b.tables c) ≡ true
-    → (channel_in b.machine c).is_retired ≡ true → IsTaken b.history c
+    → (channel_in b.machine c).is_retired ≡ true → IsSinkTaken b.history c
 taken_if_retired b book c sink retired = inr (left_if_retired b book c sink retired)
 
 pub taken_if_left : (t : Tables) (H : List Event) → AreLeft t H → AreTaken t H
@@ -95,13 +95,13 @@ none_unread (x ∷ xs) is = absurd cc
 
 -- there is no next item: the sink is empty, or it was left
 pub taken_if_none : (b : Book) → IsBook b → (c : ℕ) → is_sink (channel_at b.tables c) ≡ true
-    → next_item (channel_in b.machine c) ≡ None → IsTaken b.history c
+    → next_item (channel_in b.machine c) ≡ None → IsSinkTaken b.history c
 taken_if_none b book c sink = by ch.is_retired refl
   where
     ch : ChannelState
     ch = channel_in b.machine c
 
-    by : (r : Bool) → ch.is_retired ≡ r → cond r None (slice_get (unread ch) 0) ≡ None → IsTaken b.history c
+    by : (r : Bool) → ch.is_retired ≡ r → cond r None (slice_get (unread ch) 0) ≡ None → IsSinkTaken b.history c
     by true is none = taken_if_retired b book c sink is
     by false is none =
         let same = unread_now b book c (sink_there b.tables c sink) in
@@ -127,7 +127,7 @@ some_unread b book c v sink = by ch.is_retired
 
 -- ---- what events leave of it
 
-taken_next : (H : List Event) (e : Event) (c : ℕ) → written_in c e ≡ [] → IsTaken H c → IsTaken (H ++ e ∷ []) c
+taken_next : (H : List Event) (e : Event) (c : ℕ) → written_in c e ≡ [] → IsSinkTaken H c → IsSinkTaken (H ++ e ∷ []) c
 taken_next H e c none taken =
     elim taken [
       | inl empty ↦
@@ -139,10 +139,10 @@ taken_next H e c none taken =
       | inr left ↦ inr (is_left-next H e c ∙ or_left (is_left H c) (is_leave_of c e) left)
     ]
 
-taken_along : (es H : List Event) (c : ℕ) → AddNothing (written_in c) es → IsTaken H c → IsTaken (H ++ es) c
-taken_along [] H c none taken = subst (λ X. IsTaken X c) (sym (append-nil H)) taken
+taken_along : (es H : List Event) (c : ℕ) → AddNothing (written_in c) es → IsSinkTaken H c → IsSinkTaken (H ++ es) c
+taken_along [] H c none taken = subst (λ X. IsSinkTaken X c) (sym (append-nil H)) taken
 taken_along (e ∷ es) H c none taken =
-    subst (λ X. IsTaken X c) (append_assoc H (e ∷ []) es)
+    subst (λ X. IsSinkTaken X c) (append_assoc H (e ∷ []) es)
     (taken_along es (H ++ e ∷ []) c none.1 (taken_next H e c none.0 taken))
 
 growth_adds : (t : Tables) (H growth : List Event) (c : ℕ) → IsGrowthOwed t H growth → AddNothing (written_in c) growth
@@ -152,26 +152,26 @@ growth_adds t H growth c owed = absurd owed
 
 -- an event that writes nothing on a sink
 pub happens_taken : (e : Event) (c : ℕ) → written_in c e ≡ [] → (before after : Book) → Happens e before after
-    → IsTaken before.history c → IsTaken after.history c
+    → IsSinkTaken before.history c → IsSinkTaken after.history c
 happens_taken e c none before after is taken =
-    subst (λ X. IsTaken X c) (sym (happens_history e before after is))
+    subst (λ X. IsSinkTaken X c) (sym (happens_history e before after is))
     (taken_along (e ∷ is.growth) before.history c
     (none, growth_adds before.tables (before.history ++ e ∷ []) is.growth c is.owed) taken)
 
 -- a sink that was left
-pub left_then : (c : ℕ) (before after : Book) → Happens (event.Leave c) before after → IsTaken after.history c
+pub left_then : (c : ℕ) (before after : Book) → Happens (event.Leave c) before after → IsSinkTaken after.history c
 left_then c before after is =
     let here : is_left (before.history ++ event.Leave c ∷ []) c ≡ true =
     is_left-next before.history (event.Leave c) c
     ∙ or_right (is_left before.history c) (is_leave_of c (event.Leave c)) (eq-eqb c c refl) in
-    subst (λ X. IsTaken X c)
+    subst (λ X. IsSinkTaken X c)
     (append_assoc before.history (event.Leave c ∷ []) is.growth ∙ sym (happens_history (event.Leave c) before after is))
     (taken_along is.growth (before.history ++ event.Leave c ∷ []) c
     (growth_adds before.tables (before.history ++ event.Leave c ∷ []) is.growth c is.owed) (inr here))
 
 -- nothing comes to the sinks before the first event
 pub taken_at_start : (b : Book) → b.history ≡ [] → AreTaken b.tables b.history
-taken_at_start b start c sink = subst (λ H. IsTaken H c) (sym start) (inl refl)
+taken_at_start b start c sink = subst (λ H. IsSinkTaken H c) (sym start) (inl refl)
 
 -- an item less is unread once one was taken
 pub less_unread : (c : ℕ) (v : ℤ) (before after : Book) → Happens (event.Take c v) before after

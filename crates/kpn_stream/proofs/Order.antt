@@ -11,7 +11,7 @@ use Rattle.kpn_history.specs.declared.event.Event.TheVariants as event
 use Rattle.kpn_history.specs.Ends.{HaveStopped}
 use Rattle.kpn_stream.specs.declared.faults.SourceFault.{SourceFault}
 use Rattle.kpn_stream.specs.declared.faults.SinkFault.{SinkFault}
-use Rattle.kpn_stream.specs.Devices.{is_of_source, is_elsewhere, is_no_growth, NoneIs, IsFlushed, AreFlushed, answered, Follows, Called, at_start, by_process, by_sinks, looked, read_at_once, waited_for}
+use Rattle.kpn_stream.specs.Devices.{is_of_source, is_elsewhere, is_no_growth, NoneIs, IsFlushed, AreFlushed, answered, IsAnswered, Called, at_start, by_process, by_sinks, looked, read_at_once, waited_for}
 use Rattle.kpn_stream.proofs.Going.{elsewhere_no_source, outside_no_source, growth_no_source}
 
 -- what an event of a source needs
@@ -70,7 +70,7 @@ module _ (t : Tables) where
     flushed_all (c ∷ xs) H k later now is was =
         flushed_all xs is.0 is.1 later now is.3 (flushed_one c H k is.0 is.1 is.2 was)
 
-  answers_rest : (H events : List Event) (c : ℕ) (answer : Result (Option ℤ) SourceFault) → Follows c answer events
+  answers_rest : (H events : List Event) (c : ℕ) (answer : Result (Option ℤ) SourceFault) → IsAnswered c answer events
       → HaveStopped t H → WasAtRest t H → WasAtRest t (H ++ events)
   answers_rest H events c answer follows stopped was =
       elim follows [

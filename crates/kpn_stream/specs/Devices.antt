@@ -15,8 +15,8 @@ use Rattle.kpn_stream.specs.declared.faults.SourceFault.{SourceFault}
 use Rattle.kpn_stream.specs.declared.faults.SourceFault.TheVariants as source_fault
 use Rattle.kpn_stream.specs.declared.faults.SinkFault.{SinkFault}
 use Rattle.kpn_stream.specs.declared.faults.SinkFault.TheVariants as sink_fault
-use Rattle.kpn_stream.specs.declared.ending.Ending.{Ending}
-use Rattle.kpn_stream.specs.declared.ending.Ending.TheVariants.{SourceFailed, SinkFailed}
+use Rattle.kpn_stream.specs.declared.ending.StreamEnding.{StreamEnding}
+use Rattle.kpn_stream.specs.declared.ending.StreamEnding.TheVariants.{SourceFailed, SinkFailed}
 use Rattle.kpn_stream.specs.Ending.{end_numbers, AreTaken}
 
 -- ---- the events of the outside
@@ -63,7 +63,7 @@ pub record IsAwaited (t : Tables) (H : List Event) (c : ℕ) : Type 0 where
   pub waits : wait_of t H reader ≡ Empty c
 
 -- no process can go on, under the policy `all`: a channel may grow once all inputs have ended
-pub record IsStuck (t : Tables) (H : List Event) : Type 0 where
+pub record IsStuckUnderAll (t : Tables) (H : List Event) : Type 0 where
   pub policy : t.policy ≡ All
   pub stopped : HaveStopped t H
 
@@ -71,7 +71,7 @@ pub record IsStuck (t : Tables) (H : List Event) : Type 0 where
 -- that came to a sink was taken
 pub record MayRead (t : Tables) (H : List Event) (c : ℕ) : Type 0 where
   pub may_feed : MayFeed t H c
-  pub needed : IsAwaited t H c ⊎ IsStuck t H
+  pub needed : IsAwaited t H c ⊎ IsStuckUnderAll t H
   pub taken : AreTaken t H
 
 -- ---- the sources
@@ -183,7 +183,7 @@ pub record AreFlushedLast {K : Type 0} (takes : K → ℕ → ℤ → Result (Un
 -- so it is once a stream has ended, unless a device has failed
 abbrev pub EndsFlushed : {K : Type 0} → (takes : K → ℕ → ℤ → Result (Unit {0}) SinkFault → K → Type 0)
     → (flushes : K → ℕ → Result (Unit {0}) SinkFault → K → Type 0) → (wanted : Option ℕ) → Tables
-    → (start : List Event) → (first : K) → (ended : Option Ending) → List Event → K → Type 0
+    → (start : List Event) → (first : K) → (ended : Option StreamEnding) → List Event → K → Type 0
 EndsFlushed takes flushes wanted t start first None H now = Unit {0}
 EndsFlushed takes flushes wanted t start first (Some (SourceFailed c fault)) H now = Unit {0}
 EndsFlushed takes flushes wanted t start first (Some (SinkFailed c fault)) H now = Unit {0}
@@ -203,8 +203,8 @@ answered c (Ok None) = Close c ∷ []
 answered c (Err fault) = []
 
 -- the same, or nothing if memory ran out
-abbrev pub Follows : (c : ℕ) → Result (Option ℤ) SourceFault → List Event → Type 0
-Follows c answer events = (events ≡ answered c answer) ⊎ (events ≡ [])
+abbrev pub IsAnswered : (c : ℕ) → Result (Option ℤ) SourceFault → List Event → Type 0
+IsAnswered c answer events = (events ≡ answered c answer) ⊎ (events ≡ [])
 
 -- All calls in their order, from the first devices to these. A source is read at once only if its item is at hand. Else
 -- it is waited for, and that is only where each process has ended or waits, right after all sinks were flushed. So
@@ -228,9 +228,9 @@ pub data Called {S K : Type 0} (t : Tables) (gives : S → ℕ → Result (Optio
       Called t gives looks at_hand takes flushes wanted s k H now j
   read_at_once : (H events : List Event) (c : ℕ) (answer : Result (Option ℤ) SourceFault) (r now : S) (j : K) →
       Called t gives looks at_hand takes flushes wanted s k H r j → at_hand r c → gives r c answer now →
-      Follows c answer events → Called t gives looks at_hand takes flushes wanted s k (H ++ events) now j
+      IsAnswered c answer events → Called t gives looks at_hand takes flushes wanted s k (H ++ events) now j
   waited_for : (H later events : List Event) (c : ℕ) (answer : Result (Option ℤ) SourceFault) (r u now : S)
       (j i : K) → Called t gives looks at_hand takes flushes wanted s k H r j →
       AreFlushed flushes (end_numbers is_sink t) H j later i → HaveStopped t later → AreLookedAt looks r u →
-      gives u c answer now → Follows c answer events →
+      gives u c answer now → IsAnswered c answer events →
       Called t gives looks at_hand takes flushes wanted s k (later ++ events) now i

@@ -14,8 +14,8 @@ use Rattle.kpn_book.specs.declared.outcome.Limits.{Limits}
 use Rattle.kpn_book.specs.Outcomes.{IsOutcome}
 use Rattle.kpn_stream.specs.declared.faults.SourceFault.{SourceFault}
 use Rattle.kpn_stream.specs.declared.faults.SinkFault.{SinkFault}
-use Rattle.kpn_stream.specs.declared.ending.Ending.{Ending}
-use Rattle.kpn_stream.specs.declared.ending.Ending.TheVariants.{Outcome, Resting, Left, NoMemory, SourceFailed, SinkFailed}
+use Rattle.kpn_stream.specs.declared.ending.StreamEnding.{StreamEnding}
+use Rattle.kpn_stream.specs.declared.ending.StreamEnding.TheVariants.{Outcome, Resting, Left, NoMemory, SourceFailed, SinkFailed}
 
 -- the channels that are ends of this kind, in order of number
 abbrev pub end_numbers : (ChannelSpec → Bool) → Tables → List ℕ
@@ -43,15 +43,15 @@ abbrev pub AreLeft : Tables → List Event → Type 0
 AreLeft t H = (c : ℕ) → is_sink (channel_at t c) ≡ true → is_left H c ≡ true
 
 -- nothing is unread on this sink, or it was left
-abbrev pub IsTaken : List Event → (c : ℕ) → Type 0
-IsTaken H c = (is_empty H c ≡ true) ⊎ (is_left H c ≡ true)
+abbrev pub IsSinkTaken : List Event → (c : ℕ) → Type 0
+IsSinkTaken H c = (is_empty H c ≡ true) ⊎ (is_left H c ≡ true)
 
 -- all that came to the sinks was taken
 abbrev pub AreTaken : Tables → List Event → Type 0
-AreTaken t H = (c : ℕ) → is_sink (channel_at t c) ≡ true → IsTaken H c
+AreTaken t H = (c : ℕ) → is_sink (channel_at t c) ≡ true → IsSinkTaken H c
 
 -- a stream leaves nothing unread on a sink that was not left, unless the device of a sink has failed
-abbrev pub LeavesNothing : Ending → Book → Type 0
+abbrev pub LeavesNothing : StreamEnding → Book → Type 0
 LeavesNothing (SinkFailed c fault) b = Unit {0}
 LeavesNothing ending b = AreTaken b.tables b.history
 
@@ -60,7 +60,7 @@ abbrev pub HasNoOutcome : Limits → Book → Type 0
 HasNoOutcome limits b = IsOutcome b.tables b.history b.commits limits None
 
 -- what an ending says of the book
-abbrev pub IsEnding : Limits → Ending → Book → Type 0
+abbrev pub IsEnding : Limits → StreamEnding → Book → Type 0
 IsEnding limits (Outcome outcome) b = IsOutcome b.tables b.history b.commits limits (Some outcome)
 IsEnding limits Resting b = IsResting b × HasNoOutcome limits b
 IsEnding limits Left b = HasSink b.tables × AreLeft b.tables b.history × HasNoOutcome limits b
@@ -69,11 +69,11 @@ IsEnding limits (SourceFailed c fault) b = Unit {0}
 IsEnding limits (SinkFailed c fault) b = Unit {0}
 
 -- the source whose device failed, if the stream has ended so
-abbrev pub failed_source : Option Ending → Option (ℕ × SourceFault)
+abbrev pub failed_source : Option StreamEnding → Option (ℕ × SourceFault)
 failed_source (Some (SourceFailed c fault)) = Some (c, fault)
 failed_source ending = None
 
 -- the sink whose device failed
-abbrev pub failed_sink : Option Ending → Option (ℕ × SinkFault)
+abbrev pub failed_sink : Option StreamEnding → Option (ℕ × SinkFault)
 failed_sink (Some (SinkFailed c fault)) = Some (c, fault)
 failed_sink ending = None

@@ -9,11 +9,11 @@ use Rattle.kpn_stream.specs.declared.faults.SourceFault.{SourceFault}
 use Rattle.kpn_stream.specs.declared.faults.SourceFault.TheVariants as source_fault
 use Rattle.kpn_stream.specs.declared.faults.SinkFault.{SinkFault}
 use Rattle.kpn_stream.specs.declared.faults.SinkFault.TheVariants as sink_fault
-use Rattle.kpn_stream.specs.declared.ending.Ending.{Ending}
-use Rattle.kpn_stream.specs.declared.ending.Ending.TheVariants.{SourceFailed, SinkFailed}
+use Rattle.kpn_stream.specs.declared.ending.StreamEnding.{StreamEnding}
+use Rattle.kpn_stream.specs.declared.ending.StreamEnding.TheVariants.{SourceFailed, SinkFailed}
 use Rattle.kpn_book.specs.declared.outcome.Limits.{Limits}
-use Rattle.kpn_stream.specs.Devices.{is_of_sink, is_of_outside, is_elsewhere, is_no_growth, NoneIs, Fed, ServedSince, EndsFlushed, AreLookedAt, Follows, Called}
-use Rattle.kpn_stream.specs.Ending.{AreLeft, IsTaken, AreTaken, LeavesNothing, IsEnding, failed_source, failed_sink}
+use Rattle.kpn_stream.specs.Devices.{is_of_sink, is_of_outside, is_elsewhere, is_no_growth, NoneIs, Fed, ServedSince, EndsFlushed, AreLookedAt, IsAnswered, Called}
+use Rattle.kpn_stream.specs.Ending.{AreLeft, IsSinkTaken, AreTaken, LeavesNothing, IsEnding, failed_source, failed_sink}
 
 -- events happened, but none of this kind
 pub record HappensBesides (kind : Event → Bool) (before after : Book) : Type 0 where
@@ -23,56 +23,56 @@ pub record HappensBesides (kind : Event → Bool) (before after : Book) : Type 0
   pub none : NoneIs kind events
 
 -- the stream goes on, or has ended so
-abbrev pub MayEnd : Limits → Option Ending → Book → Type 0
+abbrev pub MayEnd : Limits → Option StreamEnding → Book → Type 0
 MayEnd limits None b = Unit {0}
 MayEnd limits (Some ending) b = IsEnding limits ending b × LeavesNothing ending b
 
 -- the stream goes on, or has ended in such a way, but no device has failed
-pub record MayEndWell (limits : Limits) (ended : Option Ending) (b : Book) : Type 0 where
+pub record MayEndWell (limits : Limits) (ended : Option StreamEnding) (b : Book) : Type 0 where
   pub no_sink : failed_sink ended ≡ None
   pub no_source : failed_source ended ≡ None
   pub ending : MayEnd limits ended b
 
 -- sink c is left, or memory ran out; if the stream has ended, each sink was left
-pub data IsLeaving (limits : Limits) (c : ℕ) (ended : Option Ending) (before after : Book) : Type 0 where
+pub data IsLeaving (limits : Limits) (c : ℕ) (ended : Option StreamEnding) (before after : Book) : Type 0 where
   leaves : Happens (Leave c) before after → MayEndWell limits ended after →
       (is_some ended ≡ true → AreLeft after.tables after.history) → IsLeaving limits c ended before after
   stays : after ≡ before → ended ≡ Some (SinkFailed c sink_fault.NoMemory) → IsLeaving limits c ended before after
 
 -- what becomes of a fault of the device of sink c: the sink is left if nobody reads, else the stream ends
-abbrev pub IsHandled : Limits → (c : ℕ) → SinkFault → Option Ending → (before after : Book) → Type 0
+abbrev pub IsHandled : Limits → (c : ℕ) → SinkFault → Option StreamEnding → (before after : Book) → Type 0
 IsHandled limits c sink_fault.Gone ended before after = IsLeaving limits c ended before after
 IsHandled limits c fault ended before after = (after ≡ before) × (ended ≡ Some (SinkFailed c fault))
 
 -- processes make steps, and do not go beyond the limit of commits
-pub record IsStepped (limits : Limits) (before after : Book) : Type 0 where
+pub record StepsProcesses (limits : Limits) (before after : Book) : Type 0 where
   pub besides : HappensBesides is_of_outside before after
   pub commits : before.commits ≤ limits.commits → after.commits ≤ limits.commits
 
 -- The sinks are served: their devices take items or hand them on. Nothing happens elsewhere, and nothing comes to
 -- sinks.
 pub record Serves {K : Type 0} (takes : K → ℕ → ℤ → Result (Unit {0}) SinkFault → K → Type 0)
-    (flushes : K → ℕ → Result (Unit {0}) SinkFault → K → Type 0) (limits : Limits) (ended : Option Ending)
+    (flushes : K → ℕ → Result (Unit {0}) SinkFault → K → Type 0) (limits : Limits) (ended : Option StreamEnding)
     (before after : Book) (sinks served : K) : Type 0 where
   pub besides : HappensBesides is_elsewhere before after
   pub commits : after.commits ≡ before.commits
   pub sinks_go_on : ServedSince takes flushes limits.take before.history sinks after.history (failed_sink ended) served
   pub no_source : failed_source ended ≡ None
-  pub stay_taken : (c : ℕ) → IsTaken before.history c → IsTaken after.history c
+  pub stay_taken : (c : ℕ) → IsSinkTaken before.history c → IsSinkTaken after.history c
   pub ending : MayEnd limits ended after
   pub flushed : EndsFlushed takes flushes limits.take after.tables before.history sinks ended after.history served
 
 -- the stream goes on, or source c has failed
-abbrev pub MayFail : (c : ℕ) → Option Ending → Type 0
+abbrev pub MayFail : (c : ℕ) → Option StreamEnding → Type 0
 MayFail c ended = (ended ≡ None) ⊎ ((fault : SourceFault) × (ended ≡ Some (SourceFailed c fault)))
 
 -- memory ran out before what source c gave could be fed
-abbrev pub IsUnfed : (c : ℕ) → (before after : Book) → Ending → Type 0
+abbrev pub IsUnfed : (c : ℕ) → (before after : Book) → StreamEnding → Type 0
 IsUnfed c before after ending = (ending ≡ SourceFailed c source_fault.NoMemory) × (after ≡ before)
 
 -- Source c is read. Nothing happens to sinks.
-pub record Reads {S : Type 0} (gives : S → ℕ → Result (Option ℤ) SourceFault → S → Type 0)
-    (looks : S → ℕ → S → Type 0) (c : ℕ) (ended : Option Ending) (before after : Book) (sources read : S) : Type 0
+pub record ReadsSource {S : Type 0} (gives : S → ℕ → Result (Option ℤ) SourceFault → S → Type 0)
+    (looks : S → ℕ → S → Type 0) (c : ℕ) (ended : Option StreamEnding) (before after : Book) (sources read : S) : Type 0
   where
     pub besides : HappensBesides is_of_sink before after
     pub commits : after.commits ≡ before.commits
@@ -83,26 +83,26 @@ pub record Reads {S : Type 0} (gives : S → ℕ → Result (Option ℤ) SourceF
     pub answer : Result (Option ℤ) SourceFault
     pub answers : gives sources c answer read
     pub events : List Event
-    pub follows : Follows c answer events
+    pub follows : IsAnswered c answer events
     pub growth : List Event
     pub grown : NoneIs is_no_growth growth
     pub then : after.history ≡ (before.history ++ events) ++ growth
 
 -- Source c is not read, or it is read since its answer is at hand.
 pub data ReadsAtHand {S : Type 0} (gives : S → ℕ → Result (Option ℤ) SourceFault → S → Type 0)
-    (looks : S → ℕ → S → Type 0) (at_hand : S → ℕ → Type 0) (c : ℕ) (ended : Option Ending) (before after : Book)
+    (looks : S → ℕ → S → Type 0) (at_hand : S → ℕ → Type 0) (c : ℕ) (ended : Option StreamEnding) (before after : Book)
     (sources read : S) : Type 0 where
   not_read : after ≡ before → ended ≡ None → AreLookedAt looks sources read →
       ReadsAtHand gives looks at_hand c ended before after sources read
   is_read : (between : S) → AreLookedAt looks sources between → at_hand between c →
-      Reads gives looks c ended before after between read →
+      ReadsSource gives looks c ended before after between read →
       ReadsAtHand gives looks at_hand c ended before after sources read
 
 -- The stream goes on.
-pub record GoesOn {S K : Type 0} (gives : S → ℕ → Result (Option ℤ) SourceFault → S → Type 0)
+pub record StreamGoesOn {S K : Type 0} (gives : S → ℕ → Result (Option ℤ) SourceFault → S → Type 0)
     (looks : S → ℕ → S → Type 0) (at_hand : S → ℕ → Type 0)
     (takes : K → ℕ → ℤ → Result (Unit {0}) SinkFault → K → Type 0)
-    (flushes : K → ℕ → Result (Unit {0}) SinkFault → K → Type 0) (limits : Limits) (ended : Option Ending)
+    (flushes : K → ℕ → Result (Unit {0}) SinkFault → K → Type 0) (limits : Limits) (ended : Option StreamEnding)
     (before after : Book) (sources read : S) (sinks served : K) : Type 0 where
   pub tables : after.tables ≡ before.tables
   pub commits : before.commits ≤ limits.commits → after.commits ≤ limits.commits

@@ -1,6 +1,6 @@
 //! What stands at the sources and at the sinks of a network while it runs.
 ghost use Rattle.std.specs.Prelude.{◌≡◌, ℕ, ℤ, IsTrue, Option as Maybe, Result as Answer};
-ghost use Rattle.kpn_stream.specs.declared.devices.Look.TheVariants as look;
+ghost use Rattle.kpn_stream.specs.declared.devices.Readiness.TheVariants as look;
 ghost use Rattle.kpn_stream.specs.declared.faults.SourceFault.{SourceFault as Refusal};
 ghost use Rattle.kpn_stream.specs.declared.faults.SinkFault.{SinkFault as Failure};
 
@@ -8,7 +8,7 @@ use crate::faults::{SinkFault, SourceFault};
 
 /// What a look at a source shows.
 #[derive(Clone, Copy, Debug, PartialEq, Eq)]
-pub enum Look {
+pub enum Readiness {
     /// Its answer is at hand.
     AtHand,
     /// Its answer has not come yet.
@@ -39,7 +39,7 @@ pub trait Sources {
         ensures { IsTrue result → at_hand self.now source };
 
     /// Takes in what has come for a source, and shows whether its answer is at hand now. It never waits.
-    fn look(&mut self, source: usize) -> Look
+    fn look(&mut self, source: usize) -> Readiness
         ensures looks { looks self.old source self.new }
         ensures at_hand { result ≡ look.AtHand → at_hand self.new source };
 

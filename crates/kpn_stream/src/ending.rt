@@ -5,7 +5,7 @@ use kpn_book::{Book, Outcome};
 
 /// Why a stream goes on no more.
 #[derive(Clone, Copy, Debug, PartialEq, Eq)]
-pub enum Ending {
+pub enum StreamEnding {
     /// The run has come to this outcome.
     Outcome(Outcome),
     /// No process is ready, and none waits for an item of an open source. Under the policy `cycles` nothing can follow
@@ -26,7 +26,7 @@ pub enum Ending {
 /// A stream that has ended.
 #[derive(Drop)]
 pub struct Streamed<'n> {
-    pub ending: Ending,
+    pub ending: StreamEnding,
     /// The book of its run.
     pub book: Book<'n>,
 }

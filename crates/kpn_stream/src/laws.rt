@@ -17,7 +17,7 @@ ghost use Rattle.kpn_book.specs.Outcomes.{IsOutcome};
 ghost use Rattle.kpn_stream.specs.declared.faults.SourceFault.{SourceFault};
 ghost use Rattle.kpn_stream.specs.declared.faults.SinkFault.{SinkFault};
 ghost use Rattle.kpn_stream.specs.Devices.{MayRead, Fed, Served};
-ghost use Rattle.kpn_stream.specs.Ending.{IsTaken};
+ghost use Rattle.kpn_stream.specs.Ending.{IsSinkTaken};
 ghost use Rattle.kpn_stream.specs.Lists.{WasGiven, GivesList, GiveInTurn, WasTaken};
 
 use crate::devices::{Sinks, Sources};
@@ -95,6 +95,6 @@ pub fn taken_is_least()
         → (c : ℕ) → IsBelowLeast t given c (read_on H c) }
     ensures whole { (t : Tables) → IsNetwork t → (H : List Event) → Legal t H
         → (given : Family) → IsFedFrom t H given
-        → (c : ℕ) → IsComplete t H c → IsTaken H c → is_left H c ≡ false
+        → (c : ℕ) → IsComplete t H c → IsSinkTaken H c → is_left H c ≡ false
         → IsLeast t given c (read_on H c) }
 {}

@@ -15,8 +15,8 @@ mod stepping;
 mod taking;
 
 pub use closing::close_sources;
-pub use devices::{Look, Sinks, Sources};
-pub use ending::{Ending, Streamed};
+pub use devices::{Readiness, Sinks, Sources};
+pub use ending::{StreamEnding, Streamed};
 pub use ends::{EndNumbers, end_numbers_of};
 pub use faults::{SinkFault, SourceFault};
 pub use kpn_book::{Keeping, Limits, Outcome};

@@ -1,13 +1,13 @@
 //! Looks at sources: whose answer has come, without waiting for it.
 ghost use Rattle.std.specs.Prelude.{◌≡◌, ◌≢◌, ◌<◌, true, length, IfSome, IsTrue};
 ghost use Rattle.kpn_net.specs.Tables.{channel_at, is_source, is_sink};
-ghost use Rattle.kpn_stream.specs.declared.devices.Look.TheVariants as look;
+ghost use Rattle.kpn_stream.specs.declared.devices.Readiness.TheVariants as look;
 ghost use Rattle.kpn_stream.specs.Devices.{MayRead, AreLookedAt};
 ghost use Rattle.kpn_stream.specs.Ending.{end_numbers, AreTaken};
-ghost use Rattle.kpn_stream.specs.Streaming.{GoesOn, ReadsAtHand};
+ghost use Rattle.kpn_stream.specs.Streaming.{StreamGoesOn, ReadsAtHand};
 
-use crate::devices::{Look, Sinks, Sources};
-use crate::ending::Ending;
+use crate::devices::{Readiness, Sinks, Sources};
+use crate::ending::StreamEnding;
 use crate::ends::EndNumbers;
 use crate::reading::{is_due, read};
 use crate::taking::flush_all;
@@ -23,11 +23,11 @@ pub(crate) fn end_stretch<S: Sources, K: Sinks>(
     sources: &mut S,
     sinks: &mut K,
     limits: &Limits,
-) -> Option<Ending>
+) -> Option<StreamEnding>
     requires sources { ends.now.sources.items ≡ end_numbers is_source book.old.tables }
     requires sinks { ends.now.sinks.items ≡ end_numbers is_sink book.old.tables }
     requires taken { AreTaken book.old.tables book.old.history }
-    ensures goes_on { GoesOn S.gives S.looks S.at_hand K.takes K.flushes limits.now result
+    ensures goes_on { StreamGoesOn S.gives S.looks S.at_hand K.takes K.flushes limits.now result
         book.old book.new sources.old sources.new sinks.old sinks.new }
     ensures taken { AreTaken book.new.tables book.new.history }
 {
@@ -45,7 +45,7 @@ pub(crate) fn end_stretch<S: Sources, K: Sinks>(
 }
 
 /// Reads source `c` if it is awaited and its answer is at hand.
-fn read_at_hand<S: Sources>(book: &mut Book<'_>, sources: &mut S, c: usize) -> Option<Ending>
+fn read_at_hand<S: Sources>(book: &mut Book<'_>, sources: &mut S, c: usize) -> Option<StreamEnding>
     requires source { is_source (channel_at book.old.tables c) ≡ true }
     requires taken { AreTaken book.old.tables book.old.history }
     ensures { ReadsAtHand S.gives S.looks S.at_hand c result
@@ -69,7 +69,7 @@ fn has_come<S: Sources>(sources: &mut S, c: usize) -> bool
         return true;
     }
     match sources.look(c) {
-        Look::AtHand => true,
+        Readiness::AtHand => true,
         _ => false,
     }
 }
@@ -128,23 +128,23 @@ fn look_around<S: Sources>(book: &Book<'_>, ends: &EndNumbers, sources: &mut S) 
     'sources: for i in 0..ends.sources.len() {
         let c = ends.sources[i];
         match look_at(book, sources, c) {
-            Look::AtHand => return Some(c),
-            Look::Unknown => unknown = unknown.or(Some(c)),
-            Look::NotYet => {}
+            Readiness::AtHand => return Some(c),
+            Readiness::Unknown => unknown = unknown.or(Some(c)),
+            Readiness::NotYet => {}
         }
     }
     unknown
 }
 
 /// Looks at source `c` if it is awaited.
-fn look_at<S: Sources>(book: &Book<'_>, sources: &mut S, c: usize) -> Look
+fn look_at<S: Sources>(book: &Book<'_>, sources: &mut S, c: usize) -> Readiness
     requires source { is_source (channel_at book.now.tables c) ≡ true }
     requires taken { AreTaken book.now.tables book.now.history }
     ensures looked { AreLookedAt S.looks sources.old sources.new }
     ensures may_read { result ≢ look.NotYet → MayRead book.now.tables book.now.history c }
 {
     if !is_due(book, c, true) {
-        return Look::NotYet;
+        return Readiness::NotYet;
     }
     sources.look(c)
 }

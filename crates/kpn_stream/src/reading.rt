@@ -5,12 +5,12 @@ ghost use Rattle.kpn_history.specs.declared.event.Event.TheVariants as event;
 ghost use Rattle.kpn_history.specs.Channels.{is_closed};
 ghost use Rattle.kpn_history.specs.Legal.{MayFeed};
 ghost use Rattle.kpn_book.specs.Appending.{Happens};
-ghost use Rattle.kpn_stream.specs.Devices.{IsAwaited, IsStuck, MayRead};
+ghost use Rattle.kpn_stream.specs.Devices.{IsAwaited, IsStuckUnderAll, MayRead};
 ghost use Rattle.kpn_stream.specs.Ending.{end_numbers, IsUnwanted, AreTaken};
-ghost use Rattle.kpn_stream.specs.Streaming.{GoesOn, IsUnfed, MayEndWell, Reads, Serves};
+ghost use Rattle.kpn_stream.specs.Streaming.{StreamGoesOn, IsUnfed, MayEndWell, ReadsSource, Serves};
 
 use crate::devices::{Sinks, Sources};
-use crate::ending::Ending;
+use crate::ending::StreamEnding;
 use crate::ends::EndNumbers;
 use crate::faults::SourceFault;
 use crate::looking::first_to_come;
@@ -28,11 +28,11 @@ pub(crate) fn read_one<S: Sources, K: Sinks>(
     sources: &mut S,
     sinks: &mut K,
     limits: &Limits,
-) -> Option<Ending>
+) -> Option<StreamEnding>
     requires sources { ends.now.sources.items ≡ end_numbers is_source book.old.tables }
     requires sinks { ends.now.sinks.items ≡ end_numbers is_sink book.old.tables }
     requires taken { AreTaken book.old.tables book.old.history }
-    ensures goes_on { GoesOn S.gives S.looks S.at_hand K.takes K.flushes limits.now result
+    ensures goes_on { StreamGoesOn S.gives S.looks S.at_hand K.takes K.flushes limits.now result
         book.old book.new sources.old sources.new sinks.old sinks.new }
     ensures taken { AreTaken book.new.tables book.new.history }
 {
@@ -53,11 +53,11 @@ fn wait_for_one<S: Sources, K: Sinks>(
     sources: &mut S,
     sinks: &mut K,
     limits: &Limits,
-) -> Option<Ending>
+) -> Option<StreamEnding>
     requires sources { ends.now.sources.items ≡ end_numbers is_source book.old.tables }
     requires sinks { ends.now.sinks.items ≡ end_numbers is_sink book.old.tables }
     requires taken { AreTaken book.old.tables book.old.history }
-    ensures goes_on { GoesOn S.gives S.looks S.at_hand K.takes K.flushes limits.now result
+    ensures goes_on { StreamGoesOn S.gives S.looks S.at_hand K.takes K.flushes limits.now result
         book.old book.new sources.old sources.new sinks.old sinks.new }
     ensures taken { AreTaken book.new.tables book.new.history }
 {
@@ -81,7 +81,7 @@ fn rest<K: Sinks>(
     ends: &EndNumbers,
     sinks: &mut K,
     limits: &Limits,
-) -> Option<Ending>
+) -> Option<StreamEnding>
     requires sources { ends.now.sources.items ≡ end_numbers is_source book.old.tables }
     requires sinks { ends.now.sinks.items ≡ end_numbers is_sink book.old.tables }
     requires taken { AreTaken book.old.tables book.old.history }
@@ -95,7 +95,7 @@ fn rest<K: Sinks>(
 }
 
 /// The ending of a stream that rests: its outcome if it has one.
-fn ending_at_rest(book: &Book<'_>, ends: &EndNumbers, limits: &Limits) -> Option<Ending>
+fn ending_at_rest(book: &Book<'_>, ends: &EndNumbers, limits: &Limits) -> Option<StreamEnding>
     requires sources { ends.now.sources.items ≡ end_numbers is_source book.now.tables }
     requires taken { AreTaken book.now.tables book.now.history }
     ensures { MayEndWell limits.now result book.now }
@@ -109,23 +109,27 @@ fn ending_at_rest(book: &Book<'_>, ends: &EndNumbers, limits: &Limits) -> Option
     }
     match least_open(book, ends, true) {
         Some(_) => None,
-        None => Some(Ending::Resting),
+        None => Some(StreamEnding::Resting),
     }
 }
 
 /// Reads source `c`.
-pub(crate) fn read<S: Sources>(book: &mut Book<'_>, sources: &mut S, c: usize) -> Option<Ending>
+pub(crate) fn read<S: Sources>(
+    book: &mut Book<'_>,
+    sources: &mut S,
+    c: usize,
+) -> Option<StreamEnding>
     requires { MayRead book.old.tables book.old.history c }
-    ensures { Reads S.gives S.looks c result book.old book.new sources.old sources.new }
+    ensures { ReadsSource S.gives S.looks c result book.old book.new sources.old sources.new }
 {
     match sources.next(c) {
         Ok(Some(item)) => feed(book, c, item),
         Ok(None) => close(book, c),
-        Err(fault) => Some(Ending::SourceFailed(c, fault)),
+        Err(fault) => Some(StreamEnding::SourceFailed(c, fault)),
     }
 }
 
-fn feed(book: &mut Book<'_>, c: usize, item: i64) -> Option<Ending>
+fn feed(book: &mut Book<'_>, c: usize, item: i64) -> Option<StreamEnding>
     ensures fed { IfNone result (Happens (event.Feed c item) book.old book.new) }
     ensures refused { IfSome result (IsUnfed c book.old book.new) }
 {
@@ -134,11 +138,11 @@ fn feed(book: &mut Book<'_>, c: usize, item: i64) -> Option<Ending>
             book.known();
             None
         }
-        Err(_) => Some(Ending::SourceFailed(c, SourceFault::NoMemory)),
+        Err(_) => Some(StreamEnding::SourceFailed(c, SourceFault::NoMemory)),
     }
 }
 
-fn close(book: &mut Book<'_>, c: usize) -> Option<Ending>
+fn close(book: &mut Book<'_>, c: usize) -> Option<StreamEnding>
     requires { is_closed book.old.history c ≡ false }
     ensures closed { IfNone result (Happens (event.Close c) book.old book.new) }
     ensures refused { IfSome result (IsUnfed c book.old book.new) }
@@ -146,7 +150,7 @@ fn close(book: &mut Book<'_>, c: usize) -> Option<Ending>
     book.known();
     match book.close_source(c) {
         Ok(()) => None,
-        Err(_) => Some(Ending::SourceFailed(c, SourceFault::NoMemory)),
+        Err(_) => Some(StreamEnding::SourceFailed(c, SourceFault::NoMemory)),
     }
 }
 
@@ -169,7 +173,7 @@ fn source_due(book: &Book<'_>, ends: &EndNumbers) -> Option<usize>
 
 /// Whether no process can go on, under the policy `all`: a growth may wait for the end of all inputs.
 fn is_stuck(book: &Book<'_>) -> bool
-    ensures { IsTrue result → IsStuck book.now.tables book.now.history }
+    ensures { IsTrue result → IsStuckUnderAll book.now.tables book.now.history }
 {
     match book.network().policy() {
         Policy::All => is_idle(book),

@@ -5,10 +5,10 @@ ghost use Rattle.kpn_history.specs.Ends.{IsSettled};
 ghost use Rattle.kpn_book.specs.Kept.{IsBook};
 ghost use Rattle.kpn_stream.specs.Devices.{Fed, Served, EndsFlushed, Called};
 ghost use Rattle.kpn_stream.specs.Ending.{end_numbers, failed_source, failed_sink, IsEnding, HasNoOutcome, AreTaken, LeavesNothing};
-ghost use Rattle.kpn_stream.specs.Streaming.{GoesOn, MayEndWell, Serves};
+ghost use Rattle.kpn_stream.specs.Streaming.{StreamGoesOn, MayEndWell, Serves};
 
 use crate::devices::{Sinks, Sources};
-use crate::ending::{Ending, Streamed};
+use crate::ending::{StreamEnding, Streamed};
 use crate::ends::{EndNumbers, end_numbers_of};
 use crate::looking::end_stretch;
 use crate::reading::read_one;
@@ -73,11 +73,11 @@ fn run<S: Sources, K: Sinks>(
     sources: &mut S,
     sinks: &mut K,
     limits: &Limits,
-) -> Ending
+) -> StreamEnding
     requires sources { ends.now.sources.items ≡ end_numbers is_source book.old.tables }
     requires sinks { ends.now.sinks.items ≡ end_numbers is_sink book.old.tables }
     requires start { book.old.history ≡ [] }
-    ensures { GoesOn S.gives S.looks S.at_hand K.takes K.flushes limits.now (Some result)
+    ensures { StreamGoesOn S.gives S.looks S.at_hand K.takes K.flushes limits.now (Some result)
         book.old book.new sources.old sources.new sinks.old sinks.new }
 {
     let over = come_to_outcome(book, ends, sinks, limits);
@@ -94,11 +94,11 @@ fn make_turns<S: Sources, K: Sinks>(
     sources: &mut S,
     sinks: &mut K,
     limits: &Limits,
-) -> Ending
+) -> StreamEnding
     requires sources { ends.now.sources.items ≡ end_numbers is_source book.old.tables }
     requires sinks { ends.now.sinks.items ≡ end_numbers is_sink book.old.tables }
     requires taken { AreTaken book.old.tables book.old.history }
-    ensures { GoesOn S.gives S.looks S.at_hand K.takes K.flushes limits.now (Some result)
+    ensures { StreamGoesOn S.gives S.looks S.at_hand K.takes K.flushes limits.now (Some result)
         book.old book.new sources.old sources.new sinks.old sinks.new }
 {
     let mut goal = STRETCH;
@@ -119,10 +119,10 @@ fn turn<S: Sources, K: Sinks>(
     sinks: &mut K,
     limits: &Limits,
     goal: &mut u64,
-) -> Option<Ending>
+) -> Option<StreamEnding>
     requires sources { ends.now.sources.items ≡ end_numbers is_source book.old.tables }
     requires sinks { ends.now.sinks.items ≡ end_numbers is_sink book.old.tables }
-    ensures goes_on { GoesOn S.gives S.looks S.at_hand K.takes K.flushes limits.now result
+    ensures goes_on { StreamGoesOn S.gives S.looks S.at_hand K.takes K.flushes limits.now result
         book.old book.new sources.old sources.new sinks.old sinks.new }
     ensures taken { result ≡ None → AreTaken book.new.tables book.new.history }
 {
@@ -145,11 +145,11 @@ fn come_to_read<S: Sources, K: Sinks>(
     sinks: &mut K,
     limits: &Limits,
     goal: &mut u64,
-) -> Option<Ending>
+) -> Option<StreamEnding>
     requires sources { ends.now.sources.items ≡ end_numbers is_source book.old.tables }
     requires sinks { ends.now.sinks.items ≡ end_numbers is_sink book.old.tables }
     requires taken { AreTaken book.old.tables book.old.history }
-    ensures goes_on { GoesOn S.gives S.looks S.at_hand K.takes K.flushes limits.now result
+    ensures goes_on { StreamGoesOn S.gives S.looks S.at_hand K.takes K.flushes limits.now result
         book.old book.new sources.old sources.new sinks.old sinks.new }
     ensures taken { AreTaken book.new.tables book.new.history }
 {
@@ -175,7 +175,7 @@ fn out_of_memory<K: Sinks>(
     ends: &EndNumbers,
     sinks: &mut K,
     limits: &Limits,
-) -> Ending
+) -> StreamEnding
     requires ends { ends.now.sinks.items ≡ end_numbers is_sink book.old.tables }
     requires taken { AreTaken book.old.tables book.old.history }
     ensures { Serves K.takes K.flushes limits.now (Some result) book.old book.new
@@ -185,7 +185,7 @@ fn out_of_memory<K: Sinks>(
     if let Some(ending) = ended {
         return ending;
     }
-    Ending::NoMemory
+    StreamEnding::NoMemory
 }
 
 /// The outcome of the run, if it has come to one. Before it is told, the devices of the sinks hand on all that they
@@ -195,7 +195,7 @@ fn come_to_outcome<K: Sinks>(
     ends: &EndNumbers,
     sinks: &mut K,
     limits: &Limits,
-) -> Option<Ending>
+) -> Option<StreamEnding>
     requires ends { ends.now.sinks.items ≡ end_numbers is_sink book.old.tables }
     requires taken { AreTaken book.old.tables book.old.history }
     ensures { Serves K.takes K.flushes limits.now result book.old book.new sinks.old sinks.new }
@@ -211,14 +211,14 @@ fn come_to_outcome<K: Sinks>(
 }
 
 /// The outcome as an ending.
-pub(crate) fn ending_of(book: &Book<'_>, limits: &Limits) -> Option<Ending>
+pub(crate) fn ending_of(book: &Book<'_>, limits: &Limits) -> Option<StreamEnding>
     requires { AreTaken book.now.tables book.now.history }
     ensures well { MayEndWell limits.now result book.now }
     ensures none { IfNone result (¬ IsSettled book.now.tables book.now.history) }
     ensures no_outcome { IfNone result (HasNoOutcome limits.now book.now) }
 {
     match outcome_of(book, limits) {
-        Some(outcome) => Some(Ending::Outcome(outcome)),
+        Some(outcome) => Some(StreamEnding::Outcome(outcome)),
         None => None,
     }
 }

@@ -6,11 +6,11 @@ ghost use Rattle.kpn_history.specs.declared.event.Event.TheVariants as event;
 ghost use Rattle.kpn_machine.specs.Machine.{channel_in};
 ghost use Rattle.kpn_book.specs.Appending.{Happens};
 ghost use Rattle.kpn_stream.specs.Devices.{HasGiven, IsFlushed, AreFlushed};
-ghost use Rattle.kpn_stream.specs.Ending.{end_numbers, HasSink, AreLeft, IsTaken, AreTaken};
+ghost use Rattle.kpn_stream.specs.Ending.{end_numbers, HasSink, AreLeft, IsSinkTaken, AreTaken};
 ghost use Rattle.kpn_stream.specs.Streaming.{IsHandled, IsLeaving, MayEndWell, Serves};
 
 use crate::devices::Sinks;
-use crate::ending::Ending;
+use crate::ending::StreamEnding;
 use crate::ends::EndNumbers;
 use crate::faults::SinkFault;
 use kpn_book::{Book, Limits, outcome_of};
@@ -23,7 +23,7 @@ pub(crate) fn take_all<K: Sinks>(
     ends: &EndNumbers,
     sinks: &mut K,
     limits: &Limits,
-) -> Option<Ending>
+) -> Option<StreamEnding>
     requires { ends.now.sinks.items ≡ end_numbers is_sink book.old.tables }
     ensures serves { Serves K.takes K.flushes limits.now result book.old book.new
         sinks.old sinks.new }
@@ -45,12 +45,12 @@ fn take_each<K: Sinks>(
     sinks: &mut K,
     limits: &Limits,
     c: usize,
-) -> Option<Ending>
+) -> Option<StreamEnding>
     requires ends { ends.now.sinks.items ≡ end_numbers is_sink book.old.tables }
     requires sink { is_sink (channel_at book.old.tables c) ≡ true }
     ensures serves { Serves K.takes K.flushes limits.now result book.old book.new
         sinks.old sinks.new }
-    ensures taken { result ≡ None → IsTaken book.new.history c }
+    ensures taken { result ≡ None → IsSinkTaken book.new.history c }
 {
     let ended = put_each(book, ends, sinks, limits, c);
     if ended.is_some() {
@@ -69,13 +69,13 @@ fn put_each<K: Sinks>(
     sinks: &mut K,
     limits: &Limits,
     c: usize,
-) -> Option<Ending>
+) -> Option<StreamEnding>
     requires ends { ends.now.sinks.items ≡ end_numbers is_sink book.old.tables }
     requires sink { is_sink (channel_at book.old.tables c) ≡ true }
     ensures serves { Serves K.takes K.flushes limits.now result book.old book.new
         sinks.old sinks.new }
     ensures all { result ≡ None
-        → (IsTaken book.new.history c ⊎ HasGiven limits.now.take book.new.history c) }
+        → (IsSinkTaken book.new.history c ⊎ HasGiven limits.now.take book.new.history c) }
 {
     'items: while let Some(item) = book.next_item(c) {
         book.known();
@@ -86,7 +86,7 @@ fn put_each<K: Sinks>(
             return handle(book, ends, limits, c, fault);
         }
         if take(book, c).is_err() {
-            return Some(Ending::SinkFailed(c, SinkFault::NoMemory));
+            return Some(StreamEnding::SinkFailed(c, SinkFault::NoMemory));
         }
     }
     book.known();
@@ -100,13 +100,13 @@ fn finish<K: Sinks>(
     sinks: &mut K,
     limits: &Limits,
     c: usize,
-) -> Option<Ending>
+) -> Option<StreamEnding>
     requires ends { ends.now.sinks.items ≡ end_numbers is_sink book.old.tables }
     requires sink { is_sink (channel_at book.old.tables c) ≡ true }
     requires given { HasGiven limits.now.take book.old.history c }
     ensures serves { Serves K.takes K.flushes limits.now result book.old book.new
         sinks.old sinks.new }
-    ensures taken { result ≡ None → IsTaken book.new.history c }
+    ensures taken { result ≡ None → IsSinkTaken book.new.history c }
 {
     book.known();
     if book.is_left(c) {
@@ -148,31 +148,31 @@ fn handle(
     limits: &Limits,
     c: usize,
     fault: SinkFault,
-) -> Option<Ending>
+) -> Option<StreamEnding>
     requires ends { ends.now.sinks.items ≡ end_numbers is_sink book.old.tables }
     requires not_left { (channel_in book.old.machine c).is_retired ≡ false }
     ensures { IsHandled limits.now c fault result book.old book.new }
 {
     match fault {
         SinkFault::Gone => leave(book, ends, limits, c),
-        _ => Some(Ending::SinkFailed(c, fault)),
+        _ => Some(StreamEnding::SinkFailed(c, fault)),
     }
 }
 
 /// Leaves sink `c`. If it was the last one, or memory runs out, the stream has ended.
-fn leave(book: &mut Book<'_>, ends: &EndNumbers, limits: &Limits, c: usize) -> Option<Ending>
+fn leave(book: &mut Book<'_>, ends: &EndNumbers, limits: &Limits, c: usize) -> Option<StreamEnding>
     requires ends { ends.now.sinks.items ≡ end_numbers is_sink book.old.tables }
     requires not_left { (channel_in book.old.machine c).is_retired ≡ false }
     ensures { IsLeaving limits.now c result book.old book.new }
 {
     match book.leave_sink(c) {
         Ok(()) => ending_if_left(book, ends, limits),
-        Err(_) => Some(Ending::SinkFailed(c, SinkFault::NoMemory)),
+        Err(_) => Some(StreamEnding::SinkFailed(c, SinkFault::NoMemory)),
     }
 }
 
 /// The ending of a stream whose sinks were all left: its outcome if it has one.
-fn ending_if_left(book: &Book<'_>, ends: &EndNumbers, limits: &Limits) -> Option<Ending>
+fn ending_if_left(book: &Book<'_>, ends: &EndNumbers, limits: &Limits) -> Option<StreamEnding>
     requires ends { ends.now.sinks.items ≡ end_numbers is_sink book.now.tables }
     requires sink { HasSink book.now.tables }
     ensures well { MayEndWell limits.now result book.now }
@@ -183,8 +183,8 @@ fn ending_if_left(book: &Book<'_>, ends: &EndNumbers, limits: &Limits) -> Option
         return None;
     }
     match outcome_of(book, limits) {
-        Some(outcome) => Some(Ending::Outcome(outcome)),
-        None => Some(Ending::Left),
+        Some(outcome) => Some(StreamEnding::Outcome(outcome)),
+        None => Some(StreamEnding::Left),
     }
 }
 
@@ -208,7 +208,7 @@ pub(crate) fn flush_all<K: Sinks>(
     ends: &EndNumbers,
     sinks: &mut K,
     limits: &Limits,
-) -> Option<Ending>
+) -> Option<StreamEnding>
     requires { ends.now.sinks.items ≡ end_numbers is_sink book.old.tables }
     ensures serves { Serves K.takes K.flushes limits.now result book.old book.new
         sinks.old sinks.new }
@@ -230,7 +230,7 @@ fn flush<K: Sinks>(
     sinks: &mut K,
     limits: &Limits,
     c: usize,
-) -> Option<Ending>
+) -> Option<StreamEnding>
     requires ends { ends.now.sinks.items ≡ end_numbers is_sink book.old.tables }
     requires sink { is_sink (channel_at book.old.tables c) ≡ true }
     ensures serves { Serves K.takes K.flushes limits.now result book.old book.new

@@ -3,13 +3,13 @@ ghost use Rattle.std.specs.Prelude.{◌≡◌, false, None, OnOk, IfErr};
 ghost use Rattle.std.specs.Io.{ReadsAtMost};
 ghost use Rattle.std.specs.Io.KnownBytes.{ReadConsumes};
 ghost use Rattle.kpn_shelf.specs.Look.{LookConsumes, LooksAtMost};
-ghost use Rattle.kpn_stream.specs.declared.devices.Look.TheVariants as look;
+ghost use Rattle.kpn_stream.specs.declared.devices.Readiness.TheVariants as look;
 ghost use Rattle.kpn_stream_devices.specs.Inputs.{device_left, input_of, kept_fault, FailsToRead, HaveMoved, InputGives, InputLooks, ReadsOnly, Waits};
 
 use crate::formats::ItemFormat;
 use crate::window::{Answer, Window};
 use kpn_shelf::Look;
-use kpn_stream::{Look as Shown, SourceFault, Sources};
+use kpn_stream::{Readiness as Shown, SourceFault, Sources};
 use kpn_text_items::{ItemFault, read_some};
 use std::io;
 use std::io::Read;

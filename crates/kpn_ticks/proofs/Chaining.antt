@@ -17,12 +17,12 @@ use Rattle.kpn_history.specs.OneMore.{IsOwn}
 use Rattle.kpn_history.proofs.Journals.{no_sink}
 use Rattle.kpn_history.proofs.Legality.{Legal-nil, Legal-before, Legal-last, by_events}
 use Rattle.kpn_history.proofs.Ownership.{IsOwn-last}
-use Rattle.kpn_ticks.specs.declared.moves.Cause.{Cause}
-use Rattle.kpn_ticks.specs.declared.moves.Cause.TheVariants.{Own, Item, Room}
+use Rattle.kpn_ticks.specs.declared.moves.WaitCause.{WaitCause}
+use Rattle.kpn_ticks.specs.declared.moves.WaitCause.TheVariants.{Own, Item, Room}
 use Rattle.kpn_ticks.specs.declared.moves.Move.{Move}
-use Rattle.kpn_ticks.specs.Ticks.{Clocks, latest_of, written_of, read_of, item_there, room_there, latest_at, get_tick, put_tick, after, start, clocks_after}
+use Rattle.kpn_ticks.specs.Ticks.{Clocks, latest_of, written_of, read_of, item_there, room_there, latest_at, get_tick, put_tick, clocks_with_event, start, clocks_after}
 use Rattle.kpn_ticks.specs.Schedules.{tick_in, ticks_of}
-use Rattle.kpn_ticks.specs.Chain.{cause_of, move_at, move_of, with_move, Course, course_then, course_of, process_at, awaited, Walk, walk_past, walk_then, walk_back, last_process, walk_start, shares_of}
+use Rattle.kpn_ticks.specs.Chain.{wait_cause, move_at, move_of, with_move, Course, course_then, course_of, process_or, awaited_process, Walk, walk_past, walk_then, walk_back, last_process, walk_start, shares_of}
 use Rattle.kpn_ticks.proofs.Counting.{clocks_are, room_from}
 use Rattle.kpn_ticks.proofs.Course.{course_clocks}
 use Rattle.kpn_ticks.proofs.Seen.{seen_push, clocks_push, HasPlaces, have_places, wrote, took, written_then, read_then, written_seen, read_seen, last_tick, latest_then, latest_seen}
@@ -164,7 +164,7 @@ module _ (t : Tables) (network : IsNetwork t) where
   -- ---- what a get or put waited for ends at the tick before
 
   item_by : (B : List Event) → Legal t B → (c p k : ℕ) (end : End) → writer_of t c ≡ end
-      → IsNoneOrIn (get_or (written_of (clocks B) c) k 0) (ticks B (process_at end p))
+      → IsNoneOrIn (get_or (written_of (clocks B) c) k 0) (ticks B (process_or end p))
   item_by B legal c p k (Process q) is = written_in_ticks c q is B legal k
   item_by B legal c p k Source is =
       let early = fed_at_start t network true c (not_source (writer_of t c) is) B legal k in inl (omega (arith, early))
@@ -189,7 +189,7 @@ module _ (t : Tables) (network : IsNetwork t) where
       → latest_of (clocks B) p < room_there cap (written_of (clocks B) c) (read_of (clocks B) c)
       (latest_at (clocks B) end)
       → IsNoneOrIn (room_there cap (written_of (clocks B) c) (read_of (clocks B) c) (latest_at (clocks B) end))
-      (ticks B (process_at end p))
+      (ticks B (process_or end p))
   room_by B legal cap c p writes (Process q) is late =
       room_of cap (written_of (clocks B) c) (read_of (clocks B) c) (ticks B q) (latest_of (clocks B) q)
       (read_in_ticks c q is B legal) (latest_in B legal q)
@@ -202,36 +202,36 @@ module _ (t : Tables) (network : IsNetwork t) where
       (in_time t network true p c writes (not_sink (reader_of t c) is) B legal).read (omega arith) in
       absurd (omega (arith, early, late))
 
-  by_cause : (B : List Event) (p latest tick : ℕ) (other : Cause)
+  by_cause : (B : List Event) (p latest tick : ℕ) (other : WaitCause)
       → (tick - latest ≡ 1 → IsNoneOrIn (tick - 1) (ticks B p))
-      → (tick - latest ≢ 1 → IsNoneOrIn (tick - 1) (ticks B (awaited t p other)))
-      → IsNoneOrIn (tick - 1) (ticks B (awaited t p (cause_of latest tick other)))
+      → (tick - latest ≢ 1 → IsNoneOrIn (tick - 1) (ticks B (awaited_process t p other)))
+      → IsNoneOrIn (tick - 1) (ticks B (awaited_process t p (wait_cause latest tick other)))
   by_cause B p latest tick other own waits =
       elim (eqb_tells (tick - latest) 1) [
         | inl same ↦
-            subst (λ b. IsNoneOrIn (tick - 1) (ticks B (awaited t p (cond b Own other)))) (sym same.0) (own same.1)
+            subst (λ b. IsNoneOrIn (tick - 1) (ticks B (awaited_process t p (cond b Own other)))) (sym same.0) (own same.1)
         | inr differ ↦
-            subst (λ b. IsNoneOrIn (tick - 1) (ticks B (awaited t p (cond b Own other)))) (sym differ.0)
+            subst (λ b. IsNoneOrIn (tick - 1) (ticks B (awaited_process t p (cond b Own other)))) (sym differ.0)
             (waits differ.1)
       ]
 
   get_waits : (B : List Event) → Legal t B → (p c : ℕ) → c < length t.channels
       → IsNoneOrIn (get_tick (clocks B) p c - 1)
-      (ticks B (awaited t p (cause_of (latest_of (clocks B) p) (get_tick (clocks B) p c) (Item c))))
+      (ticks B (awaited_process t p (wait_cause (latest_of (clocks B) p) (get_tick (clocks B) p c) (Item c))))
   get_waits B legal p c there =
       let s = clocks B in
       by_cause B p (latest_of s p) (get_tick s p c) (Item c)
       (λ is. let here : latest_of s p ≡ get_tick s p c - 1 = omega (arith, is) in
       subst (λ n. IsNoneOrIn n (ticks B p)) here (latest_in B legal p))
       (λ differ. let here : item_there s c ≡ get_tick s p c - 1 = omega (arith, differ) in
-      subst (λ b. IsNoneOrIn (get_tick s p c - 1) (ticks B (cond b (process_at (writer_of t c) p) p)))
+      subst (λ b. IsNoneOrIn (get_tick s p c - 1) (ticks B (cond b (process_or (writer_of t c) p) p)))
       (sym (lt-ltb c (length t.channels) there))
-      (subst (λ n. IsNoneOrIn n (ticks B (process_at (writer_of t c) p))) here
+      (subst (λ n. IsNoneOrIn n (ticks B (process_or (writer_of t c) p))) here
       (item_by B legal c p (length (read_of s c)) (writer_of t c) refl)))
 
   put_waits : (B : List Event) → Legal t B → (p c : ℕ) → c < length t.channels → writer_of t c ≡ Process p
       → IsNoneOrIn (put_tick t (clocks B) p c - 1)
-      (ticks B (awaited t p (cause_of (latest_of (clocks B) p) (put_tick t (clocks B) p c) (Room c))))
+      (ticks B (awaited_process t p (wait_cause (latest_of (clocks B) p) (put_tick t (clocks B) p c) (Room c))))
   put_waits B legal p c there writes =
       let s = clocks B in
       let cap = get_or s.capacities c None in
@@ -240,9 +240,9 @@ module _ (t : Tables) (network : IsNetwork t) where
       (λ is. let here : latest_of s p ≡ put_tick t s p c - 1 = omega (arith, is) in
       subst (λ n. IsNoneOrIn n (ticks B p)) here (latest_in B legal p))
       (λ differ. let here : room ≡ put_tick t s p c - 1 = omega (arith, differ) in
-      subst (λ b. IsNoneOrIn (put_tick t s p c - 1) (ticks B (cond b (process_at (reader_of t c) p) p)))
+      subst (λ b. IsNoneOrIn (put_tick t s p c - 1) (ticks B (cond b (process_or (reader_of t c) p) p)))
       (sym (lt-ltb c (length t.channels) there))
-      (subst (λ n. IsNoneOrIn n (ticks B (process_at (reader_of t c) p))) here
+      (subst (λ n. IsNoneOrIn n (ticks B (process_or (reader_of t c) p))) here
       (room_by B legal cap c p writes (reader_of t c) refl (omega (arith, differ)))))
 
   -- ---- the walk
@@ -283,8 +283,8 @@ module _ (t : Tables) (network : IsNetwork t) where
   by_tests P false b past w both first second = first refl
 
   -- one get or put of a process behind these events
-  one_move : (B : List Event) → AllCount B → (p latest tick : ℕ) (other : Cause) → p < length t.instances → 0 < tick
-      → IsNoneOrIn (tick - 1) (ticks B (awaited t p (cause_of latest tick other))) → (w : Walk)
+  one_move : (B : List Event) → AllCount B → (p latest tick : ℕ) (other : WaitCause) → p < length t.instances → 0 < tick
+      → IsNoneOrIn (tick - 1) (ticks B (awaited_process t p (wait_cause latest tick other))) → (w : Walk)
       → length w.shares ≡ length t.instances
       → IsNoneOrIn w.tick (ticks B w.process ++ cond (eqb p w.process) (tick ∷ []) [])
       → CountsTo ((course_of t B).moves ++ move_at p latest tick other ∷ []) w
@@ -298,7 +298,7 @@ module _ (t : Tables) (network : IsNetwork t) where
       let now = eqb-true tick w.tick at in
       let left = count (walk_past t w m) (record {
         shares = length-set w.shares p (get_or w.shares p 0 + 1) ∙ long;
-        here = subst (λ n. IsNoneOrIn (n - 1) (ticks B (awaited t p (cause_of latest tick other)))) now waits;
+        here = subst (λ n. IsNoneOrIn (n - 1) (ticks B (awaited_process t p (wait_cause latest tick other)))) now waits;
       }) in
       let added = one_more w.shares p (subst (λ n. p < n) (sym long) below) in
       omega (arith, left, added, now, some))
@@ -385,12 +385,12 @@ module _ (t : Tables) (network : IsNetwork t) where
                 latest q ∙ ap (λ b. last_tick (latest_of s q) (cond b (tick ∷ []) [])) differ.0 ∙ is ∙ kept
           ]
 
-  last_then : (s : Clocks) (e : Event) → HasPlaces t s → HasNumbers t e → HasLast s → HasLast (after t s e)
+  last_then : (s : Clocks) (e : Event) → HasPlaces t s → HasNumbers t e → HasLast s → HasLast (clocks_with_event t s e)
   last_then s (Get p c v) has numbers so_far =
-      moved s (after t s (Get p c v)) p (get_tick s p c) (latest_then t s (Get p c v) has numbers) refl (omega arith)
+      moved s (clocks_with_event t s (Get p c v)) p (get_tick s p c) (latest_then t s (Get p c v) has numbers) refl (omega arith)
       so_far
   last_then s (Put p c v) has numbers so_far =
-      moved s (after t s (Put p c v)) p (put_tick t s p c) (latest_then t s (Put p c v) has numbers) refl (omega arith)
+      moved s (clocks_with_event t s (Put p c v)) p (put_tick t s p c) (latest_then t s (Put p c v) has numbers) refl (omega arith)
       so_far
   last_then s e has numbers so_far = so_far
 

@@ -11,7 +11,7 @@ use Rattle.kpn_net.specs.declared.tables.End.{End}
 use Rattle.kpn_net.specs.declared.tables.End.TheVariants.{Process, Source, Sink}
 use Rattle.kpn_history.specs.declared.event.Event.{Event}
 use Rattle.kpn_history.specs.declared.event.Event.TheVariants.{Get, Put, Feed, Take, Grow}
-use Rattle.kpn_ticks.specs.Ticks.{Clocks, written_of, read_of, item_there, room_there, latest_at, get_tick, put_tick, with_tick, after_get, after_put, grown_from, after, start, clocks_after}
+use Rattle.kpn_ticks.specs.Ticks.{Clocks, written_of, read_of, item_there, room_there, latest_at, get_tick, put_tick, with_tick, clocks_with_get, clocks_with_put, grown_from, clocks_with_event, start, clocks_after}
 use Rattle.kpn_ticks.specs.Shown.{AreClocks}
 
 -- ---- lists
@@ -102,7 +102,7 @@ put_up_to t s p c are = let own = are.latest p in let room = room_up_to t s c ar
 
 -- ---- events
 
-after_get_are : (t : Tables) (s : Clocks) (p c tick : ℕ) → AreClocks t s → AreClocks t (after_get s p c tick)
+after_get_are : (t : Tables) (s : Clocks) (p c tick : ℕ) → AreClocks t s → AreClocks t (clocks_with_get s p c tick)
 after_get_are t s p c tick are =
     let last = max s.last tick in
     record {
@@ -113,7 +113,7 @@ after_get_are t s p c tick are =
           with_tick_up_to last s.read c tick (larger s.last last s.read (omega arith) are.read) (omega arith);
     }
 
-after_put_are : (t : Tables) (s : Clocks) (p c tick : ℕ) → AreClocks t s → AreClocks t (after_put s p c tick)
+after_put_are : (t : Tables) (s : Clocks) (p c tick : ℕ) → AreClocks t s → AreClocks t (clocks_with_put s p c tick)
 after_put_are t s p c tick are =
     let last = max s.last tick in
     record {
@@ -124,7 +124,7 @@ after_put_are t s p c tick are =
       read = larger s.last last s.read (omega arith) are.read;
     }
 
-after_are : (t : Tables) (s : Clocks) (event : Event) → AreClocks t s → AreClocks t (after t s event)
+after_are : (t : Tables) (s : Clocks) (event : Event) → AreClocks t s → AreClocks t (clocks_with_event t s event)
 after_are t s (Get p c v) are = after_get_are t s p c (get_tick s p c) are
 after_are t s (Put p c v) are = after_put_are t s p c (put_tick t s p c) are
 after_are t s (Feed c v) are =
@@ -150,22 +150,22 @@ after_are t s (Grow p c n) are =
     }
 after_are t s event are = are
 
-after_few : (t : Tables) (s : Clocks) (event : Event) → AreClocks t s → (after t s event).last ≤ s.last + 1
+after_few : (t : Tables) (s : Clocks) (event : Event) → AreClocks t s → (clocks_with_event t s event).last ≤ s.last + 1
 after_few t s (Get p c v) are = let tick = get_up_to t s p c are in omega (arith, tick)
 after_few t s (Put p c v) are = let tick = put_up_to t s p c are in omega (arith, tick)
 after_few t s event are = omega arith
 
 -- ---- all events
 
-all_are : (t : Tables) (events : List Event) (s : Clocks) → AreClocks t s → AreClocks t (fold (after t) s events)
+all_are : (t : Tables) (events : List Event) (s : Clocks) → AreClocks t s → AreClocks t (fold (clocks_with_event t) s events)
 all_are t [] s are = are
-all_are t (event ∷ events) s are = all_are t events (after t s event) (after_are t s event are)
+all_are t (event ∷ events) s are = all_are t events (clocks_with_event t s event) (after_are t s event are)
 
 all_few : (t : Tables) (events : List Event) (s : Clocks) → AreClocks t s
-    → (fold (after t) s events).last ≤ s.last + length events
+    → (fold (clocks_with_event t) s events).last ≤ s.last + length events
 all_few t [] s are = omega arith
 all_few t (event ∷ events) s are =
-    let more = all_few t events (after t s event) (after_are t s event are) in
+    let more = all_few t events (clocks_with_event t s event) (after_are t s event are) in
     let one = after_few t s event are in
     let count : length (event ∷ events) ≡ length events + 1 = omega arith in
     omega (arith, more, one, count)

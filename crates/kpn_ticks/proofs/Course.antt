@@ -5,14 +5,14 @@ use Rattle.std.proofs.lemmas.List.{drop_more}
 use Rattle.kpn_net.specs.Tables.{Tables}
 use Rattle.kpn_history.specs.declared.event.Event.{Event}
 use Rattle.kpn_ticks.specs.declared.moves.Move.{Move}
-use Rattle.kpn_ticks.specs.Ticks.{after, clocks_after}
+use Rattle.kpn_ticks.specs.Ticks.{clocks_with_event, clocks_after}
 use Rattle.kpn_ticks.specs.Chain.{Course, course_then, course_of, Walk, walk_then, walk_back}
 use Rattle.kpn_ticks.proofs.Counting.{set_up_to}
 
 -- ---- clocks
 
 clocks_along : (t : Tables) (x : Course) (events : List Event)
-    → (fold (course_then t) x events).clocks ≡ fold (after t) x.clocks events
+    → (fold (course_then t) x events).clocks ≡ fold (clocks_with_event t) x.clocks events
 clocks_along t x [] = refl
 clocks_along t x (event ∷ events) = clocks_along t (course_then t x event) events
 

@@ -8,8 +8,8 @@ use Rattle.kpn_net.specs.Tables.{Tables, reader_of}
 use Rattle.kpn_history.specs.declared.event.Event.{Event}
 use Rattle.kpn_history.specs.declared.event.Event.TheVariants.{Get, Put, WaitEmpty, WaitFull, Ended, Feed, Close, Take, Leave, Grow}
 use Rattle.kpn_history.specs.Talks.{process_of}
-use Rattle.kpn_ticks.specs.Ticks.{Clocks, latest_of, latest_at, written_of, read_of, item_there, room_there, get_tick, put_tick, with_tick, after_get, after_put, after, start, clocks_after}
-use Rattle.kpn_ticks.specs.Reordered.{HasItem, HasRoom, CanBegin, adds_to, takes_from, Differ, AreApart, CanChange, IsIdle, AreReordered, same, changed, with_idle, without_idle}
+use Rattle.kpn_ticks.specs.Ticks.{Clocks, latest_of, latest_at, written_of, read_of, item_there, room_there, get_tick, put_tick, with_tick, clocks_with_get, clocks_with_put, clocks_with_event, start, clocks_after}
+use Rattle.kpn_ticks.specs.Reordered.{HasItem, HasRoom, CanBegin, adds_to, takes_from, Differ, AreIndependent, CanChange, IsIdle, AreReordered, same, changed, with_idle, without_idle}
 use Rattle.kpn_ticks.proofs.Counting.{set_cases}
 
 -- ---- lists of ticks
@@ -45,8 +45,8 @@ lists_change lists c d m n differ =
 -- ---- what an event does
 
 abbrev effect : Event → (tick : ℕ) → Clocks → Clocks
-effect (Get p c v) n s = after_get s p c n
-effect (Put p c v) n s = after_put s p c n
+effect (Get p c v) n s = clocks_with_get s p c n
+effect (Put p c v) n s = clocks_with_put s p c n
 effect (Feed c v) n s = record s { written = with_tick s.written c 0 }
 effect (Take c v) n s = record s { read = with_tick s.read c n }
 effect event n s = s
@@ -58,7 +58,7 @@ tick_at t s (Take c v) = item_there s c
 tick_at t s event = 0
 
 has_effect : (t : Tables) (s now : Clocks) (event : Event) → CanBegin now event
-    → after t s event ≡ effect event (tick_at t s event) s
+    → clocks_with_event t s event ≡ effect event (tick_at t s event) s
 has_effect t s now (Get p c v) can = refl
 has_effect t s now (Put p c v) can = refl
 has_effect t s now (Feed c v) can = refl
@@ -114,7 +114,7 @@ room_stays t (Get p c v) n s d differ has =
     (element_stays s.read c d n)
 room_stays t (Put p c v) n s d differ has =
     ap (λ xs. room_there (get_or s.capacities d None) xs (read_of s d)
-    (latest_at (after_put s p c n) (reader_of t d))) (list_other s.written c d n differ)
+    (latest_at (clocks_with_put s p c n) (reader_of t d))) (list_other s.written c d n differ)
     ∙ room_from_reads (get_or s.capacities d None) (written_of s d) (read_of s d) (read_of s d) _ _ has
     (λ k z below. refl)
 room_stays t (Feed c v) n s d differ has =
@@ -127,7 +127,7 @@ room_stays t (Take c v) n s d differ has =
     (element_stays s.read c d n)
 room_stays t event n s d differ has = refl
 
-tick_stays : (t : Tables) (event other : Event) (n : ℕ) (s : Clocks) → CanBegin s other → AreApart event other
+tick_stays : (t : Tables) (event other : Event) (n : ℕ) (s : Clocks) → CanBegin s other → AreIndependent event other
     → tick_at t (effect event n s) other ≡ tick_at t s other
 tick_stays t event (Get q d w) n s can apart =
     ap (λ l. max l (item_there (effect event n s) d) + 1) (latest_stays event n s q apart.processes)
@@ -155,7 +155,7 @@ last_changes : (last m n : ℕ) → max (max last m) n ≡ max (max last n) m
 last_changes last m n = omega arith
 
 effects_change : (event other : Event) (m n : ℕ) (s now : Clocks) → CanBegin now event → CanBegin now other
-    → AreApart event other → effect other n (effect event m s) ≡ effect event m (effect other n s)
+    → AreIndependent event other → effect other n (effect event m s) ≡ effect event m (effect other n s)
 effects_change (Get p c v) (Get q d w) m n s now a b apart =
     alike _ _ _ _ _ _ s.capacities _ _ (set_comm s.latest p q m n apart.processes) refl
     (lists_change s.read c d m n apart.read) (last_changes s.last m n)
@@ -200,7 +200,7 @@ differ_back None None differ = differ
 differ_back None (Some n) differ = differ
 differ_back (Some m) None differ = differ
 
-apart_back : (event other : Event) → AreApart event other → AreApart other event
+apart_back : (event other : Event) → AreIndependent event other → AreIndependent other event
 apart_back event other apart =
     record {
       processes = differ_back (process_of event) (process_of other) apart.processes;
@@ -208,15 +208,15 @@ apart_back event other apart =
       read = differ_back (takes_from event) (takes_from other) apart.read;
     }
 
-behind : (t : Tables) (s : Clocks) (event other : Event) → CanBegin s event → CanBegin s other → AreApart event other
-    → after t (after t s event) other ≡ effect other (tick_at t s other) (effect event (tick_at t s event) s)
+behind : (t : Tables) (s : Clocks) (event other : Event) → CanBegin s event → CanBegin s other → AreIndependent event other
+    → clocks_with_event t (clocks_with_event t s event) other ≡ effect other (tick_at t s other) (effect event (tick_at t s event) s)
 behind t s event other a b apart =
     let first = effect event (tick_at t s event) s in
-    ap (λ x. after t x other) (has_effect t s s event a) ∙ has_effect t first s other b
+    ap (λ x. clocks_with_event t x other) (has_effect t s s event a) ∙ has_effect t first s other b
     ∙ ap (λ m. effect other m first) (tick_stays t event other (tick_at t s event) s b apart)
 
 both_orders : (t : Tables) (s : Clocks) (event other : Event) → CanChange s event other
-    → after t (after t s event) other ≡ after t (after t s other) event
+    → clocks_with_event t (clocks_with_event t s event) other ≡ clocks_with_event t (clocks_with_event t s other) event
 both_orders t s event other can =
     behind t s event other can.first can.second can.apart
     ∙ effects_change event other (tick_at t s event) (tick_at t s other) s s can.first can.second can.apart
@@ -225,11 +225,11 @@ both_orders t s event other can =
 -- ---- histories
 
 pub fold_along : (t : Tables) (s : Clocks) (B more : List Event)
-    → fold (after t) s (B ++ more) ≡ fold (after t) (fold (after t) s B) more
+    → fold (clocks_with_event t) s (B ++ more) ≡ fold (clocks_with_event t) (fold (clocks_with_event t) s B) more
 fold_along t s [] more = refl
-fold_along t s (event ∷ B) more = fold_along t (after t s event) B more
+fold_along t s (event ∷ B) more = fold_along t (clocks_with_event t s event) B more
 
-idle_stays : (t : Tables) (s : Clocks) (event : Event) → IsIdle event → after t s event ≡ s
+idle_stays : (t : Tables) (s : Clocks) (event : Event) → IsIdle event → clocks_with_event t s event ≡ s
 idle_stays t s (Get p c v) idle = absurd idle
 idle_stays t s (Put p c v) idle = absurd idle
 idle_stays t s (Feed c v) idle = absurd idle
@@ -238,10 +238,10 @@ idle_stays t s (Grow p c n) idle = absurd idle
 idle_stays t s event idle = refl
 
 without_event : (t : Tables) (s : Clocks) (B : List Event) (event : Event) (more : List Event) → IsIdle event
-    → fold (after t) s (B ++ event ∷ more) ≡ fold (after t) s (B ++ more)
+    → fold (clocks_with_event t) s (B ++ event ∷ more) ≡ fold (clocks_with_event t) s (B ++ more)
 without_event t s B event more idle =
     fold_along t s B (event ∷ more)
-    ∙ ap (λ x. fold (after t) x more) (idle_stays t (fold (after t) s B) event idle)
+    ∙ ap (λ x. fold (clocks_with_event t) x more) (idle_stays t (fold (clocks_with_event t) s B) event idle)
     ∙ sym (fold_along t s B more)
 
 pub reordered_clocks : (t : Tables) (b : Bool) (H G : List Event) → AreReordered t b H G
@@ -250,7 +250,7 @@ reordered_clocks t b H _ same = refl
 reordered_clocks t b H _ (changed B event other more from can) =
     let s = start t b in
     reordered_clocks t b H (B ++ event ∷ other ∷ more) from ∙ fold_along t s B (event ∷ other ∷ more)
-    ∙ ap (λ x. fold (after t) x more) (both_orders t (fold (after t) s B) event other can)
+    ∙ ap (λ x. fold (clocks_with_event t) x more) (both_orders t (fold (clocks_with_event t) s B) event other can)
     ∙ sym (fold_along t s B (other ∷ event ∷ more))
 reordered_clocks t b H _ (with_idle B event more from idle) =
     reordered_clocks t b H (B ++ more) from ∙ sym (without_event t (start t b) B event more idle)

@@ -4,7 +4,7 @@ use Rattle.std.specs.List.{fold}
 use Rattle.kpn_net.specs.Tables.{Tables}
 use Rattle.kpn_history.specs.declared.event.Event.{Event}
 use Rattle.kpn_history.specs.declared.event.Event.TheVariants.{Get, Put}
-use Rattle.kpn_ticks.specs.Ticks.{Clocks, get_tick, put_tick, after, start, clocks_after}
+use Rattle.kpn_ticks.specs.Ticks.{Clocks, get_tick, put_tick, clocks_with_event, start, clocks_after}
 use Rattle.kpn_ticks.specs.Schedules.{seen_from, tick_in, ticks_of}
 
 without_first : (b : Bool) (x m : ℕ) (rest : List ℕ) → ((k : ℕ) → get_or (cond b (x ∷ []) [] ++ rest) k 0 ≤ m)
@@ -18,31 +18,31 @@ with_first true x m rest first all zero = first
 with_first true x m rest first all (suc k) = all k
 with_first false x m rest first all k = all k
 
-last_grows : (t : Tables) (s : Clocks) (e : Event) → s.last ≤ (after t s e).last
+last_grows : (t : Tables) (s : Clocks) (e : Event) → s.last ≤ (clocks_with_event t s e).last
 last_grows t s (Get p c v) = omega arith
 last_grows t s (Put p c v) = omega arith
 last_grows t s e = omega arith
 
-last_stays : (t : Tables) (H : List Event) (s : Clocks) → s.last ≤ (fold (after t) s H).last
+last_stays : (t : Tables) (H : List Event) (s : Clocks) → s.last ≤ (fold (clocks_with_event t) s H).last
 last_stays t [] s = omega arith
 last_stays t (e ∷ H) s =
-    let one = last_grows t s e in let more = last_stays t H (after t s e) in omega (arith, one, more)
+    let one = last_grows t s e in let more = last_stays t H (clocks_with_event t s e) in omega (arith, one, more)
 
 -- no tick of a process is later
 each_by_last : (t : Tables) (p : ℕ) (H : List Event) (s : Clocks) (k : ℕ)
-    → get_or (seen_from (tick_in t p) t s H) k 0 ≤ (fold (after t) s H).last
+    → get_or (seen_from (tick_in t p) t s H) k 0 ≤ (fold (clocks_with_event t) s H).last
 each_by_last t p [] s k = omega arith
 each_by_last t p (Get q c v ∷ H) s k =
-    let later = last_stays t H (after t s (Get q c v)) in
-    with_first (eqb q p) (get_tick s q c) (fold (after t) (after t s (Get q c v)) H).last
-    (seen_from (tick_in t p) t (after t s (Get q c v)) H) (omega (arith, later))
-    (each_by_last t p H (after t s (Get q c v))) k
+    let later = last_stays t H (clocks_with_event t s (Get q c v)) in
+    with_first (eqb q p) (get_tick s q c) (fold (clocks_with_event t) (clocks_with_event t s (Get q c v)) H).last
+    (seen_from (tick_in t p) t (clocks_with_event t s (Get q c v)) H) (omega (arith, later))
+    (each_by_last t p H (clocks_with_event t s (Get q c v))) k
 each_by_last t p (Put q c v ∷ H) s k =
-    let later = last_stays t H (after t s (Put q c v)) in
-    with_first (eqb q p) (put_tick t s q c) (fold (after t) (after t s (Put q c v)) H).last
-    (seen_from (tick_in t p) t (after t s (Put q c v)) H) (omega (arith, later))
-    (each_by_last t p H (after t s (Put q c v))) k
-each_by_last t p (e ∷ H) s k = each_by_last t p H (after t s e) k
+    let later = last_stays t H (clocks_with_event t s (Put q c v)) in
+    with_first (eqb q p) (put_tick t s q c) (fold (clocks_with_event t) (clocks_with_event t s (Put q c v)) H).last
+    (seen_from (tick_in t p) t (clocks_with_event t s (Put q c v)) H) (omega (arith, later))
+    (each_by_last t p H (clocks_with_event t s (Put q c v))) k
+each_by_last t p (e ∷ H) s k = each_by_last t p H (clocks_with_event t s e) k
 
 own_tick : (q tick m : ℕ) (rest : List ℕ) → ((k : ℕ) → get_or (cond (eqb q q) (tick ∷ []) [] ++ rest) k 0 ≤ m)
     → tick ≤ m
@@ -51,19 +51,19 @@ own_tick q tick m rest all =
 
 -- nothing smaller has all ticks up to it
 last_is_least : (t : Tables) (m : ℕ) (H : List Event) (s : Clocks) → s.last ≤ m
-    → ((p k : ℕ) → get_or (seen_from (tick_in t p) t s H) k 0 ≤ m) → (fold (after t) s H).last ≤ m
+    → ((p k : ℕ) → get_or (seen_from (tick_in t p) t s H) k 0 ≤ m) → (fold (clocks_with_event t) s H).last ≤ m
 last_is_least t m [] s less all = less
 last_is_least t m (Get q c v ∷ H) s less all =
-    let rest : ℕ → List ℕ = λ p. seen_from (tick_in t p) t (after t s (Get q c v)) H in
+    let rest : ℕ → List ℕ = λ p. seen_from (tick_in t p) t (clocks_with_event t s (Get q c v)) H in
     let tick = own_tick q (get_tick s q c) m (rest q) (all q) in
-    last_is_least t m H (after t s (Get q c v)) (omega (arith, less, tick))
+    last_is_least t m H (clocks_with_event t s (Get q c v)) (omega (arith, less, tick))
     (λ p. without_first (eqb q p) (get_tick s q c) m (rest p) (all p))
 last_is_least t m (Put q c v ∷ H) s less all =
-    let rest : ℕ → List ℕ = λ p. seen_from (tick_in t p) t (after t s (Put q c v)) H in
+    let rest : ℕ → List ℕ = λ p. seen_from (tick_in t p) t (clocks_with_event t s (Put q c v)) H in
     let tick = own_tick q (put_tick t s q c) m (rest q) (all q) in
-    last_is_least t m H (after t s (Put q c v)) (omega (arith, less, tick))
+    last_is_least t m H (clocks_with_event t s (Put q c v)) (omega (arith, less, tick))
     (λ p. without_first (eqb q p) (put_tick t s q c) m (rest p) (all p))
-last_is_least t m (e ∷ H) s less all = last_is_least t m H (after t s e) less all
+last_is_least t m (e ∷ H) s less all = last_is_least t m H (clocks_with_event t s e) less all
 
 up_to : (t : Tables) (b : Bool) (H G : List Event) → ((p : ℕ) → ticks_of t b H p ≡ ticks_of t b G p)
     → (clocks_after t b H).last ≤ (clocks_after t b G).last

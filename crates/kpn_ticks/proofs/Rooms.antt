@@ -27,7 +27,7 @@ use Rattle.kpn_history.proofs.Capacities.{capacity_after-same, capacity_of_growt
 use Rattle.kpn_history.proofs.OneMore.{KeepsConsistent-last, unread_length}
 use Rattle.kpn_history.proofs.AfterEvent.{has_ended-next}
 use Rattle.kpn_history.proofs.WaitsAfter.{alive_before}
-use Rattle.kpn_ticks.specs.Ticks.{Clocks, latest_of, written_of, read_of, item_there, get_tick, put_tick, grown_from, after, start, clocks_after}
+use Rattle.kpn_ticks.specs.Ticks.{Clocks, latest_of, written_of, read_of, item_there, get_tick, put_tick, grown_from, clocks_with_event, start, clocks_after}
 use Rattle.kpn_ticks.specs.Schedules.{tick_in, capacity_in, capacities_of}
 use Rattle.kpn_ticks.proofs.Counting.{all_alike, pushed_cases}
 use Rattle.kpn_ticks.proofs.Seen.{seen_push, seen_length, clocks_push, have_places, wrote, took, written_then, read_then, written_seen, read_seen, last_tick, latest_then}
@@ -121,7 +121,7 @@ grown_is t B p d m cap legal (Some n) before is =
 
 capacity_then : (t : Tables) (s : Clocks) (B : List Event) (e : Event) → Legal t (B ++ e ∷ [])
     → ((c cap : ℕ) → get_or s.capacities c None ≡ Some cap → capacity_after t B c ≡ Some cap) → (c cap : ℕ)
-    → get_or (after t s e).capacities c None ≡ Some cap → capacity_after t (B ++ e ∷ []) c ≡ Some cap
+    → get_or (clocks_with_event t s e).capacities c None ≡ Some cap → capacity_after t (B ++ e ∷ []) c ≡ Some cap
 capacity_then t s B (Grow p d m) legal before c cap is =
     let o = get_or s.capacities d None in
     let new = grown_from t o in
@@ -325,12 +325,12 @@ in_time t network b p c writes none =
         let m = next_latest t p s e in
         let at_most : (n : ℕ) → n ≤ latest_of s p → n ≤ m = λ n less. omega (arith, less, grows) in
         let now = latest_then t s e places numbers p in
-        let after_e : IsInTime (after t s e) p c =
+        let after_e : IsInTime (clocks_with_event t s e) p c =
         record {
-          written = λ k. subst (λ n. get_or (written_of (after t s e) c) k 0 ≤ n) (sym now)
+          written = λ k. subst (λ n. get_or (written_of (clocks_with_event t s e) c) k 0 ≤ n) (sym now)
               (subst (λ xs. get_or xs k 0 ≤ m) (sym (written_then t s e places numbers c))
               (writes_in_time t s p c writes e own (λ j. at_most _ (h.written j)) k));
-          read = λ k. subst (λ n. get_or (read_of (after t s e) c) k 0 ≤ n) (sym now)
+          read = λ k. subst (λ n. get_or (read_of (clocks_with_event t s e) c) k 0 ≤ n) (sym now)
               (subst (λ xs. get_or xs k 0 ≤ m) (sym (read_then t s e places numbers c))
               (reads_in_time t s c none e own m (at_most _ (h.written (length (read_of s c))))
               (λ j. at_most _ (h.read j)) k));

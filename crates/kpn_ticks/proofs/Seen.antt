@@ -10,7 +10,7 @@ use Rattle.kpn_history.specs.declared.event.Event.{Event}
 use Rattle.kpn_history.specs.declared.event.Event.TheVariants.{Get, Put, Feed, Take, Grow}
 use Rattle.kpn_history.specs.Legal.{HasNumbers, Legal}
 use Rattle.kpn_history.proofs.Legality.{Legal-last, by_events}
-use Rattle.kpn_ticks.specs.Ticks.{Clocks, latest_of, written_of, read_of, item_there, get_tick, put_tick, with_tick, after, start, clocks_after}
+use Rattle.kpn_ticks.specs.Ticks.{Clocks, latest_of, written_of, read_of, item_there, get_tick, put_tick, with_tick, clocks_with_event, start, clocks_after}
 use Rattle.kpn_ticks.specs.Schedules.{seen_from, tick_in, ticks_of}
 use Rattle.kpn_ticks.proofs.Counting.{all_alike}
 use Rattle.kpn_ticks.proofs.Exchanging.{fold_along}
@@ -21,12 +21,12 @@ abbrev pub seen : {A : Type 0} (see : Clocks → Event → List A) (t : Tables) 
 seen see t b H = seen_from see t (start t b) H
 
 seen_along : {A : Type 0} (see : Clocks → Event → List A) (t : Tables) (s : Clocks) (B more : List Event)
-    → seen_from see t s (B ++ more) ≡ seen_from see t s B ++ seen_from see t (fold (after t) s B) more
+    → seen_from see t s (B ++ more) ≡ seen_from see t s B ++ seen_from see t (fold (clocks_with_event t) s B) more
 seen_along see t s [] more = refl
 seen_along see t s (e ∷ B) more =
-    ap (λ xs. see s e ++ xs) (seen_along see t (after t s e) B more)
-    ∙ sym (append_assoc (see s e) (seen_from see t (after t s e) B)
-    (seen_from see t (fold (after t) (after t s e) B) more))
+    ap (λ xs. see s e ++ xs) (seen_along see t (clocks_with_event t s e) B more)
+    ∙ sym (append_assoc (see s e) (seen_from see t (clocks_with_event t s e) B)
+    (seen_from see t (fold (clocks_with_event t) (clocks_with_event t s e) B) more))
 
 pub seen_push : {A : Type 0} (see : Clocks → Event → List A) (t : Tables) (b : Bool) (B : List Event) (e : Event)
     → seen see t b (B ++ e ∷ []) ≡ seen see t b B ++ see (clocks_after t b B) e
@@ -47,15 +47,15 @@ pub seen_length : {A C : Type 0} (see : Clocks → Event → List A) (say : Even
     → length (seen_from see t s H) ≡ length (flat_map say H)
 seen_length see say same t s [] = refl
 seen_length see say same t s (e ∷ H) =
-    length-append (see s e) (seen_from see t (after t s e) H)
-    ∙ ap (λ n. n + length (seen_from see t (after t s e) H)) (same s e)
-    ∙ ap (λ n. length (say e) + n) (seen_length see say same t (after t s e) H)
+    length-append (see s e) (seen_from see t (clocks_with_event t s e) H)
+    ∙ ap (λ n. n + length (seen_from see t (clocks_with_event t s e) H)) (same s e)
+    ∙ ap (λ n. length (say e) + n) (seen_length see say same t (clocks_with_event t s e) H)
     ∙ sym (length-append (say e) (flat_map say H))
 
 -- ---- the clocks
 
 pub clocks_push : (t : Tables) (b : Bool) (B : List Event) (e : Event)
-    → clocks_after t b (B ++ e ∷ []) ≡ after t (clocks_after t b B) e
+    → clocks_after t b (B ++ e ∷ []) ≡ clocks_with_event t (clocks_after t b B) e
 clocks_push t b B e = fold_along t (start t b) B (e ∷ [])
 
 -- each process and each channel has a place
@@ -64,7 +64,7 @@ pub record HasPlaces (t : Tables) (s : Clocks) : Type 0 where
   pub written : length s.written ≡ length t.channels
   pub read : length s.read ≡ length t.channels
 
-after_has : (t : Tables) (s : Clocks) (e : Event) → HasPlaces t s → HasPlaces t (after t s e)
+after_has : (t : Tables) (s : Clocks) (e : Event) → HasPlaces t s → HasPlaces t (clocks_with_event t s e)
 after_has t s (Get p c v) has =
     record {
       latest = length-set s.latest p (get_tick s p c) ∙ has.latest;
@@ -92,9 +92,9 @@ after_has t s (Take c v) has =
 after_has t s (Grow p c n) has = record { latest = has.latest; written = has.written; read = has.read }
 after_has t s e has = has
 
-all_have : (t : Tables) (H : List Event) (s : Clocks) → HasPlaces t s → HasPlaces t (fold (after t) s H)
+all_have : (t : Tables) (H : List Event) (s : Clocks) → HasPlaces t s → HasPlaces t (fold (clocks_with_event t) s H)
 all_have t [] s has = has
-all_have t (e ∷ H) s has = all_have t H (after t s e) (after_has t s e has)
+all_have t (e ∷ H) s has = all_have t H (clocks_with_event t s e) (after_has t s e has)
 
 pub have_places : (t : Tables) (b : Bool) (H : List Event) → HasPlaces t (clocks_after t b H)
 have_places t b H =
@@ -134,7 +134,7 @@ took t c s (Take d v) = cond (eqb d c) (item_there s d ∷ []) []
 took t c s event = []
 
 pub written_then : (t : Tables) (s : Clocks) (e : Event) → HasPlaces t s → HasNumbers t e → (c : ℕ)
-    → written_of (after t s e) c ≡ written_of s c ++ wrote t c s e
+    → written_of (clocks_with_event t s e) c ≡ written_of s c ++ wrote t c s e
 written_then t s (Put p d v) has numbers c =
     with_tick_at s.written d (put_tick t s p d) c (subst (λ n. d < n) (sym has.written) numbers.1)
 written_then t s (Feed d v) has numbers c =
@@ -142,7 +142,7 @@ written_then t s (Feed d v) has numbers c =
 written_then t s event has numbers c = sym (append-nil (written_of s c))
 
 pub read_then : (t : Tables) (s : Clocks) (e : Event) → HasPlaces t s → HasNumbers t e → (c : ℕ)
-    → read_of (after t s e) c ≡ read_of s c ++ took t c s e
+    → read_of (clocks_with_event t s e) c ≡ read_of s c ++ took t c s e
 read_then t s (Get p d v) has numbers c =
     with_tick_at s.read d (get_tick s p d) c (subst (λ n. d < n) (sym has.read) numbers.1)
 read_then t s (Take d v) has numbers c =
@@ -194,7 +194,7 @@ set_at xs q tick p below =
     ]
 
 pub latest_then : (t : Tables) (s : Clocks) (e : Event) → HasPlaces t s → HasNumbers t e → (p : ℕ)
-    → latest_of (after t s e) p ≡ last_tick (latest_of s p) (tick_in t p s e)
+    → latest_of (clocks_with_event t s e) p ≡ last_tick (latest_of s p) (tick_in t p s e)
 latest_then t s (Get q c v) has numbers p =
     set_at s.latest q (get_tick s q c) p (subst (λ n. q < n) (sym has.latest) numbers.0)
 latest_then t s (Put q c v) has numbers p =

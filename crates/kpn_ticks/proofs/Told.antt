@@ -8,21 +8,21 @@ use Rattle.kpn_history.specs.declared.event.Event.TheVariants.{Grow}
 use Rattle.kpn_history.specs.declared.stored.Version.{Version}
 use Rattle.kpn_history.specs.declared.stored.Version.TheVariants.{One, Two}
 use Rattle.kpn_audit.specs.Stored.{told, told_behind, history_of}
-use Rattle.kpn_ticks.specs.Ticks.{Clocks, after, start, clocks_after}
+use Rattle.kpn_ticks.specs.Ticks.{Clocks, clocks_with_event, start, clocks_after}
 use Rattle.kpn_ticks.specs.Chain.{Course, course_then, walk_back, walk_start, shares_of}
 
 pub same_after : (t told_of : Tables) (s : Clocks) (B : List Event) (event : Event)
-    → after t s (told told_of B event) ≡ after t s event
+    → clocks_with_event t s (told told_of B event) ≡ clocks_with_event t s event
 same_after t told_of s B (Grow p c n) = refl
 same_after t told_of s B event = refl
 
 told_clocks : (t told_of : Tables) (s : Clocks) (B events : List Event)
-    → fold (after t) s (told_behind told_of B events) ≡ fold (after t) s events
+    → fold (clocks_with_event t) s (told_behind told_of B events) ≡ fold (clocks_with_event t) s events
 told_clocks t told_of s B [] = refl
 told_clocks t told_of s B (event ∷ events) =
-    ap (λ (s : Clocks). fold (after t) s (told_behind told_of (B ++ told told_of B event ∷ []) events))
+    ap (λ (s : Clocks). fold (clocks_with_event t) s (told_behind told_of (B ++ told told_of B event ∷ []) events))
     (same_after t told_of s B event)
-    ∙ told_clocks t told_of (after t s event) (B ++ told told_of B event ∷ []) events
+    ∙ told_clocks t told_of (clocks_with_event t s event) (B ++ told told_of B event ∷ []) events
 
 pub history_clocks : (v : Version) (t : Tables) (b : Bool) (events : List Event)
     → clocks_after t b (history_of v t events) ≡ clocks_after t b events

@@ -18,7 +18,7 @@ use Rattle.kpn_history.specs.OneMore.{IsOwn}
 use Rattle.kpn_history.proofs.Legality.{by_events}
 use Rattle.kpn_history.proofs.Ownership.{IsOwn-last}
 use Rattle.kpn_history.proofs.Journals.{written_on-put}
-use Rattle.kpn_ticks.specs.Ticks.{Clocks, grown_from, after, start, clocks_after}
+use Rattle.kpn_ticks.specs.Ticks.{Clocks, grown_from, clocks_with_event, start, clocks_after}
 use Rattle.kpn_ticks.specs.Schedules.{seen_from, capacity_in, capacities_of, GrowsNothing, DifferBySchedule}
 use Rattle.kpn_ticks.proofs.Counting.{all_alike}
 use Rattle.kpn_ticks.proofs.Seen.{seen_push}
@@ -49,7 +49,7 @@ none_grown t caps d is =
     ]
 
 capacity_stays : (t : Tables) (s : Clocks) (c : ℕ) (cap : Option ℕ) (e : Event) → Stays (is_growth_of c e) cap
-    → get_or s.capacities c None ≡ cap → get_or (after t s e).capacities c None ≡ cap
+    → get_or s.capacities c None ≡ cap → get_or (clocks_with_event t s e).capacities c None ≡ cap
 capacity_stays t s c cap (Grow p d n) stays has =
     let new = grown_from t (get_or s.capacities d None) in
     elim (eqb_tells d c) [
@@ -76,11 +76,11 @@ all_same : (t : Tables) (c : ℕ) (cap : Option ℕ) (H : List Event) (s : Clock
     → seen_from (capacity_in c) t s H ≡ replicate (length (seen_from (capacity_in c) t s H)) cap
 all_same t c cap [] s stays has = refl
 all_same t c cap (Put p d v ∷ H) s stays has =
-    one_more_same (eqb d c) (get_or s.capacities d None) cap (seen_from (capacity_in c) t (after t s (Put p d v)) H)
+    one_more_same (eqb d c) (get_or s.capacities d None) cap (seen_from (capacity_in c) t (clocks_with_event t s (Put p d v)) H)
     (λ is. subst (λ x. get_or s.capacities x None ≡ cap) (sym (eqb-true d c is)) has)
-    (all_same t c cap H (after t s (Put p d v)) (rest_stays false (list_any (is_growth_of c) H) cap stays) has)
+    (all_same t c cap H (clocks_with_event t s (Put p d v)) (rest_stays false (list_any (is_growth_of c) H) cap stays) has)
 all_same t c cap (e ∷ H) s stays has =
-    all_same t c cap H (after t s e) (rest_stays (is_growth_of c e) (list_any (is_growth_of c) H) cap stays)
+    all_same t c cap H (clocks_with_event t s e) (rest_stays (is_growth_of c e) (list_any (is_growth_of c) H) cap stays)
     (capacity_stays t s c cap e (first_stays (is_growth_of c e) (list_any (is_growth_of c) H) cap stays) has)
 
 -- ---- how many puts

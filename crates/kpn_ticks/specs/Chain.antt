@@ -6,19 +6,19 @@ use Rattle.kpn_net.specs.declared.tables.End.TheVariants.{Process}
 use Rattle.kpn_net.specs.Tables.{Tables, writer_of, reader_of}
 use Rattle.kpn_history.specs.declared.event.Event.{Event}
 use Rattle.kpn_history.specs.declared.event.Event.TheVariants.{Get, Put}
-use Rattle.kpn_ticks.specs.declared.moves.Cause.{Cause}
-use Rattle.kpn_ticks.specs.declared.moves.Cause.TheVariants.{Own, Item, Room}
+use Rattle.kpn_ticks.specs.declared.moves.WaitCause.{WaitCause}
+use Rattle.kpn_ticks.specs.declared.moves.WaitCause.TheVariants.{Own, Item, Room}
 use Rattle.kpn_ticks.specs.declared.moves.Move.{Move}
-use Rattle.kpn_ticks.specs.Ticks.{Clocks, latest_of, get_tick, put_tick, after, start}
+use Rattle.kpn_ticks.specs.Ticks.{Clocks, latest_of, get_tick, put_tick, clocks_with_event, start}
 
 -- ---- gets and puts
 
 -- what a get or put waited for: the one of its process before it, if that is at the tick before; else its item or room
-abbrev pub cause_of : (latest tick : ℕ) (other : Cause) → Cause
-cause_of latest tick other = if nat_eq (tick - latest) 1 then Own else other
+abbrev pub wait_cause : (latest tick : ℕ) (other : WaitCause) → WaitCause
+wait_cause latest tick other = if nat_eq (tick - latest) 1 then Own else other
 
-abbrev pub move_at : (p latest tick : ℕ) (other : Cause) → Move
-move_at p latest tick other = record { process = p; tick = tick; cause = cause_of latest tick other }
+abbrev pub move_at : (p latest tick : ℕ) (other : WaitCause) → Move
+move_at p latest tick other = record { process = p; tick = tick; cause = wait_cause latest tick other }
 
 -- the get or put that an event is, if it is one
 abbrev pub move_of : Tables → Clocks → Event → Option Move
@@ -37,7 +37,7 @@ pub record Course : Type 0 where
 
 abbrev pub course_then : Tables → Course → Event → Course
 course_then t x event =
-    record { clocks = after t x.clocks event; moves = with_move x.moves (move_of t x.clocks event) }
+    record { clocks = clocks_with_event t x.clocks event; moves = with_move x.moves (move_of t x.clocks event) }
 
 abbrev pub course_of : Tables → List Event → Course
 course_of t events = fold (course_then t) (record { clocks = start t true; moves = [] }) events
@@ -45,22 +45,22 @@ course_of t events = fold (course_then t) (record { clocks = start t true; moves
 -- ---- the chain
 
 -- the process at an end, or else this one
-abbrev pub process_at : End → (p : ℕ) → ℕ
-process_at (Process q) p = q
-process_at end p = p
+abbrev pub process_or : End → (p : ℕ) → ℕ
+process_or (Process q) p = q
+process_or end p = p
 
 -- the process that writes a channel, or else this one
 abbrev pub writer_or : Tables → (c p : ℕ) → ℕ
-writer_or t c p = if nat_lt c (length t.channels) then process_at (writer_of t c) p else p
+writer_or t c p = if nat_lt c (length t.channels) then process_or (writer_of t c) p else p
 
 abbrev pub reader_or : Tables → (c p : ℕ) → ℕ
-reader_or t c p = if nat_lt c (length t.channels) then process_at (reader_of t c) p else p
+reader_or t c p = if nat_lt c (length t.channels) then process_or (reader_of t c) p else p
 
 -- for whom a get or put of process p waited: for p itself, for the writer of its item, or for the reader that made room
-abbrev pub awaited : Tables → (p : ℕ) → Cause → ℕ
-awaited t p Own = p
-awaited t p (Item c) = writer_or t c p
-awaited t p (Room c) = reader_or t c p
+abbrev pub awaited_process : Tables → (p : ℕ) → WaitCause → ℕ
+awaited_process t p Own = p
+awaited_process t p (Item c) = writer_or t c p
+awaited_process t p (Room c) = reader_or t c p
 
 -- a walk along the chain from its end: next comes the get or put of this process at this tick. The share of a process
 -- is how many of those that came are its own
@@ -73,7 +73,7 @@ abbrev pub walk_past : Tables → Walk → Move → Walk
 walk_past t w m =
     let p = m.process in
     record {
-      process = awaited t p m.cause;
+      process = awaited_process t p m.cause;
       tick = w.tick - 1;
       shares = slice_set w.shares p (slice_index_or w.shares p 0 + 1);
     }

@@ -45,7 +45,7 @@ Differ (Some m) (Some n) = m ≢ n
 Differ m n = ⊤
 
 -- they are not of one process, nor do both write one channel or both read one
-pub record AreApart (event other : Event) : Type 0 where
+pub record AreIndependent (event other : Event) : Type 0 where
   pub processes : Differ (process_of event) (process_of other)
   pub written : Differ (adds_to event) (adds_to other)
   pub read : Differ (takes_from event) (takes_from other)
@@ -56,7 +56,7 @@ pub record AreApart (event other : Event) : Type 0 where
 pub record CanChange (s : Clocks) (event other : Event) : Type 0 where
   pub first : CanBegin s event
   pub second : CanBegin s other
-  pub apart : AreApart event other
+  pub apart : AreIndependent event other
 
 -- a wait, an end, a close or a leave
 abbrev pub IsIdle : Event → Type 0

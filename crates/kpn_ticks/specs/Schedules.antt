@@ -6,12 +6,12 @@ use Rattle.kpn_history.specs.declared.event.Event.{Event}
 use Rattle.kpn_history.specs.declared.event.Event.TheVariants.{Get, Put}
 use Rattle.kpn_history.specs.Talks.{talk_of}
 use Rattle.kpn_history.specs.Channels.{is_growth_of}
-use Rattle.kpn_ticks.specs.Ticks.{Clocks, get_tick, put_tick, after, start}
+use Rattle.kpn_ticks.specs.Ticks.{Clocks, get_tick, put_tick, clocks_with_event, start}
 
 -- what each of these events shows, behind those before it
 abbrev pub seen_from : {A : Type 0} → (Clocks → Event → List A) → Tables → Clocks → List Event → List A
 seen_from see t s [] = []
-seen_from see t s (event ∷ events) = see s event ++ seen_from see t (after t s event) events
+seen_from see t s (event ∷ events) = see s event ++ seen_from see t (clocks_with_event t s event) events
 
 -- the tick of an event if process p gets or puts by it
 abbrev pub tick_in : Tables → (p : ℕ) → Clocks → Event → List ℕ

@@ -63,12 +63,12 @@ put_tick t s p c =
 abbrev pub with_tick : List (List ℕ) → (c tick : ℕ) → List (List ℕ)
 with_tick lists c tick = slice_set lists c (slice_index_or lists c [] ++ tick ∷ [])
 
-abbrev pub after_get : Clocks → (p c tick : ℕ) → Clocks
-after_get s p c tick =
+abbrev pub clocks_with_get : Clocks → (p c tick : ℕ) → Clocks
+clocks_with_get s p c tick =
     record s { latest = slice_set s.latest p tick; read = with_tick s.read c tick; last = max s.last tick }
 
-abbrev pub after_put : Clocks → (p c tick : ℕ) → Clocks
-after_put s p c tick =
+abbrev pub clocks_with_put : Clocks → (p c tick : ℕ) → Clocks
+clocks_with_put s p c tick =
     record s { latest = slice_set s.latest p tick; written = with_tick s.written c tick; last = max s.last tick }
 
 -- a capacity after a growth, which makes none larger that is at the limit
@@ -79,14 +79,14 @@ abbrev pub grown_from : Tables → Option ℕ → Option ℕ
 grown_from t None = None
 grown_from t (Some cap) = Some (larger t cap)
 
-abbrev pub after : Tables → Clocks → Event → Clocks
-after t s (Get p c v) = after_get s p c (get_tick s p c)
-after t s (Put p c v) = after_put s p c (put_tick t s p c)
-after t s (Feed c v) = record s { written = with_tick s.written c 0 }
-after t s (Take c v) = record s { read = with_tick s.read c (item_there s c) }
-after t s (Grow p c n) =
+abbrev pub clocks_with_event : Tables → Clocks → Event → Clocks
+clocks_with_event t s (Get p c v) = clocks_with_get s p c (get_tick s p c)
+clocks_with_event t s (Put p c v) = clocks_with_put s p c (put_tick t s p c)
+clocks_with_event t s (Feed c v) = record s { written = with_tick s.written c 0 }
+clocks_with_event t s (Take c v) = record s { read = with_tick s.read c (item_there s c) }
+clocks_with_event t s (Grow p c n) =
     record s { capacities = slice_set s.capacities c (grown_from t (slice_index_or s.capacities c None)) }
-after t s event = s
+clocks_with_event t s event = s
 
 -- ---- all events
 
@@ -104,4 +104,4 @@ start t has_capacities = record {
 
 -- after these events
 abbrev pub clocks_after : Tables → (has_capacities : Bool) → List Event → Clocks
-clocks_after t has_capacities events = fold (after t) (start t has_capacities) events
+clocks_after t has_capacities events = fold (clocks_with_event t) (start t has_capacities) events

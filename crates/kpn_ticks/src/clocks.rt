@@ -2,7 +2,7 @@
 ghost use Rattle.std.specs.Prelude.{◌≡◌, ◌+◌, ◌<◌, ◌≤◌, ◌^◌, ◌-◌, ℕ, max, [], length, map, replicate, slice_index_or, slice_set, None, IfOk, OnOk};
 ghost use Rattle.kpn_net.specs.Tables.{Tables, channel_at, capacity, reader_of};
 ghost use Rattle.kpn_net.specs.Faults.{channel_numbers};
-ghost use Rattle.kpn_ticks.specs.Ticks.{item_there, room_there, latest_at, latest_of, written_of, read_of, get_tick, put_tick, with_tick, after_get, after_put, larger, grown_from, after, start, clocks_after};
+ghost use Rattle.kpn_ticks.specs.Ticks.{item_there, room_there, latest_at, latest_of, written_of, read_of, get_tick, put_tick, with_tick, clocks_with_get, clocks_with_put, larger, grown_from, clocks_with_event, start, clocks_after};
 ghost use Rattle.kpn_ticks.specs.Shown.{shown, AreClocks};
 ghost use Rattle.kpn_ticks.specs.Chain.{last_process};
 
@@ -47,7 +47,7 @@ impl Clocks {
     pub fn count(&mut self, network: &Network, event: Event) -> Result<(), AllocError>
         requires clocks { AreClocks network.now (shown self.old) }
         requires fits { (shown self.old).last + 1 < 2 ^ 64 }
-        ensures { OnOk result (shown self.new ≡ after network.now (shown self.old) event) }
+        ensures { OnOk result (shown self.new ≡ clocks_with_event network.now (shown self.old) event) }
     {
         match event {
             Event::Get(p, c, _) => {
@@ -74,7 +74,7 @@ impl Clocks {
     }
 
     fn count_get(&mut self, p: usize, c: usize, tick: usize) -> Result<(), AllocError>
-        ensures { OnOk result (shown self.new ≡ after_get (shown self.old) p c tick) }
+        ensures { OnOk result (shown self.new ≡ clocks_with_get (shown self.old) p c tick) }
     {
         push_tick(&mut self.read, c, tick)?;
         set_tick(&mut self.latest, p, tick);
@@ -83,7 +83,7 @@ impl Clocks {
     }
 
     fn count_put(&mut self, p: usize, c: usize, tick: usize) -> Result<(), AllocError>
-        ensures { OnOk result (shown self.new ≡ after_put (shown self.old) p c tick) }
+        ensures { OnOk result (shown self.new ≡ clocks_with_put (shown self.old) p c tick) }
     {
         push_tick(&mut self.written, c, tick)?;
         set_tick(&mut self.latest, p, tick);

@@ -1,7 +1,7 @@
 //! The gets and puts of a history, each with its tick and with what it waited for.
 ghost use Rattle.std.specs.Prelude.{◌≡◌, ◌+◌, ◌<◌, ◌^◌, [], IfOk, OnOk};
 ghost use Rattle.kpn_ticks.specs.Shown.{shown, AreClocks};
-ghost use Rattle.kpn_ticks.specs.Chain.{cause_of, move_at, move_of, with_move, course_then, course_of};
+ghost use Rattle.kpn_ticks.specs.Chain.{wait_cause, move_at, move_of, with_move, course_then, course_of};
 ghost use Rattle.kpn_ticks.specs.ChainShown.{logged};
 
 use crate::clocks::Clocks;
@@ -11,7 +11,7 @@ use std::alloc::{AllocError, Global};
 
 /// What a get or put waited for: it could begin no earlier.
 #[derive(Clone, Copy)]
-pub(crate) enum Cause {
+pub(crate) enum WaitCause {
     /// The get or put of its process before it.
     Own,
     /// The put of its item on this channel.
@@ -25,7 +25,7 @@ pub(crate) enum Cause {
 pub(crate) struct Move {
     pub(crate) process: u16,
     pub(crate) tick: usize,
-    pub(crate) cause: Cause,
+    pub(crate) cause: WaitCause,
 }
 
 /// The clocks after some events, and the gets and puts among these.
@@ -86,17 +86,17 @@ fn move_of(clocks: &Clocks, network: &Network, event: Event) -> Option<Move>
     match event {
         Event::Get(p, c, _) => {
             let tick = clocks.get_tick(p.into(), c.into());
-            Some(move_at(p, clocks.latest_of(p.into()), tick, Cause::Item(c)))
+            Some(move_at(p, clocks.latest_of(p.into()), tick, WaitCause::Item(c)))
         }
         Event::Put(p, c, _) => {
             let tick = clocks.put_tick(network, p.into(), c.into());
-            Some(move_at(p, clocks.latest_of(p.into()), tick, Cause::Room(c)))
+            Some(move_at(p, clocks.latest_of(p.into()), tick, WaitCause::Room(c)))
         }
         _ => None,
     }
 }
 
-fn move_at(process: u16, latest: usize, tick: usize, other: Cause) -> Move
+fn move_at(process: u16, latest: usize, tick: usize, other: WaitCause) -> Move
     ensures { result ≡ move_at process latest tick other }
 {
     Move {
@@ -106,11 +106,11 @@ fn move_at(process: u16, latest: usize, tick: usize, other: Cause) -> Move
     }
 }
 
-fn cause_of(latest: usize, tick: usize, other: Cause) -> Cause
-    ensures { result ≡ cause_of latest tick other }
+fn cause_of(latest: usize, tick: usize, other: WaitCause) -> WaitCause
+    ensures { result ≡ wait_cause latest tick other }
 {
     if tick.saturating_sub(latest) == 1 {
-        Cause::Own
+        WaitCause::Own
     } else {
         other
     }

@@ -2,11 +2,11 @@
 ghost use Rattle.std.specs.Prelude.{◌≡◌, ◌+◌, ◌<◌, ◌^◌, ℕ, slice_index_or, slice_set, IfOk};
 ghost use Rattle.kpn_audit.specs.Stored.{audited_under, tables_for, history_in};
 ghost use Rattle.kpn_ticks.specs.Shown.{shown};
-ghost use Rattle.kpn_ticks.specs.Chain.{process_at, writer_or, reader_or, awaited, walk_past, walk_then, walk_back, walk_start, shares_of};
+ghost use Rattle.kpn_ticks.specs.Chain.{process_or, writer_or, reader_or, awaited_process, walk_past, walk_then, walk_back, walk_start, shares_of};
 ghost use Rattle.kpn_ticks.specs.ChainShown.{walked};
 
 use crate::clocks::{Clocks, zeros};
-use crate::moves::{Cause, Log, Move};
+use crate::moves::{Log, Move, WaitCause};
 use kpn_history::{Event, Trace, Version};
 use kpn_net::{End, Growth, Network, Policy};
 use std::alloc::{AllocError, Global};
@@ -116,13 +116,13 @@ fn count_at(counts: &mut Vec<usize>, p: usize)
 }
 
 // For whom a get or put of process `p` waited.
-fn awaited(network: &Network, p: usize, cause: Cause) -> usize
-    ensures { result ≡ awaited network.now p cause }
+fn awaited(network: &Network, p: usize, cause: WaitCause) -> usize
+    ensures { result ≡ awaited_process network.now p cause }
 {
     match cause {
-        Cause::Own => p,
-        Cause::Item(c) => writer_or(network, c.into(), p),
-        Cause::Room(c) => reader_or(network, c.into(), p),
+        WaitCause::Own => p,
+        WaitCause::Item(c) => writer_or(network, c.into(), p),
+        WaitCause::Room(c) => reader_or(network, c.into(), p),
     }
 }
 
@@ -148,7 +148,7 @@ fn reader_or(network: &Network, c: usize, p: usize) -> usize
 
 // The process at an end, or else this one.
 fn process_at(end: End, p: usize) -> usize
-    ensures { result ≡ process_at end p }
+    ensures { result ≡ process_or end p }
 {
     match end {
         End::Process(q) => q,

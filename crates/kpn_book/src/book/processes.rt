@@ -5,7 +5,7 @@ ghost use Rattle.kpn_step.specs.Frame.{fits};
 ghost use Rattle.kpn_step.specs.Stops.{IsAdvance, IsAtPort, advanced_of};
 ghost use Rattle.kpn_machine.specs.Machine.{frame_in};
 ghost use Rattle.kpn_book.specs.Book.{IsHeld, IsClaimed, held_count, put_back};
-ghost use Rattle.kpn_book.specs.InARow.{RunsOn, RunsInVain};
+ghost use Rattle.kpn_book.specs.InARow.{RunsInRow, RunsInVain};
 ghost use Rattle.kpn_book.specs.Commits.{Commits};
 ghost use Rattle.kpn_book.specs.Refusals.{RefusesCommit, RefusesPutBack};
 ghost use Rattle.kpn_book.specs.Stepping.{ClaimsNobody, IsStep, StepsInVain};
@@ -207,7 +207,7 @@ impl<'n, A: Allocator> Book<'n, A> {
     where
         A: Copy,
         requires { self.old.commits + held_count self.old + most < 2 ^ 64 }
-        ensures runs { IfOk result (λ sink. RunsOn quota most sink self.old self.new) }
+        ensures runs { IfOk result (λ sink. RunsInRow quota most sink self.old self.new) }
         ensures in_vain { OnErr result (RunsInVain quota most self.old self.new) }
     {
         self.parts.run_on(quota, most)

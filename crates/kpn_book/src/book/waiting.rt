@@ -1,6 +1,6 @@
 //! Who waits at the ends of a channel, and for what; the state of a process, and what a channel has for its reader.
 ghost use Rattle.std.specs.Prelude.{◌≡◌, ◌<◌, is_some, length};
-ghost use Rattle.kpn_chan.specs.Channel.{next_item, next_at};
+ghost use Rattle.kpn_chan.specs.Channel.{next_item, item_after};
 ghost use Rattle.kpn_machine.specs.Machine.{channel_in};
 ghost use Rattle.kpn_machine.specs.Woken.{waiting_reader};
 ghost use Rattle.kpn_book.specs.Schedule.{state_at};
@@ -44,7 +44,7 @@ impl<'n, A: Allocator> Book<'n, A> {
     /// The item that this sink would give to a take, or this channel to a get, after `k` others. It stays unread.
     pub fn next_at(&self, c: usize, k: usize) -> Option<i64>
         requires { c < length self.now.tables.channels }
-        ensures { result ≡ next_at k (channel_in self.now.machine c) }
+        ensures { result ≡ item_after k (channel_in self.now.machine c) }
     {
         self.parts.machine.channel(c).peek_at(k)
     }

@@ -6,7 +6,7 @@ ghost use Rattle.kpn_step.specs.declared.stop.Stop.{Stop as Place};
 ghost use Rattle.kpn_step.specs.declared.stop.Stop.TheVariants.{Paused};
 ghost use Rattle.kpn_step.specs.Frame.{Frame};
 ghost use Rattle.kpn_step.specs.Stops.{IsAtPort};
-ghost use Rattle.kpn_chan.specs.Channel.{is_full, unread};
+ghost use Rattle.kpn_chan.specs.Channel.{is_channel_full, unread};
 ghost use Rattle.kpn_history.specs.Legal.{OwesGrowth, growth_after};
 ghost use Rattle.kpn_history.specs.Stops.{OwesNoCycleGrowth};
 ghost use Rattle.kpn_history.specs.Views.{is_ready};
@@ -130,7 +130,7 @@ impl<'n, A: Allocator> OpenBook<'n, A> {
     pub(super) fn put(&mut self, hold: Hold, p: usize, c: usize, item: i64)
         requires may { MayCommit hold p self.old }
         requires writes { WritesTo self.old.network.now self.old.machine p c item }
-        requires ready { is_full (channel_in self.old.machine c) ≡ false }
+        requires ready { is_channel_full (channel_in self.old.machine c) ≡ false }
         requires reserved { IsTrue (channel_in self.old.machine c).is_reserved }
         ensures { let t = self.old.network.now in
             IsCommit hold p (λ s. IsWriteTo t p s c item) done.Put self.old self.new }
@@ -167,7 +167,7 @@ impl<'n, A: Allocator> OpenBook<'n, A> {
     fn wait_on_full(&mut self, hold: Hold, p: usize, c: usize, item: i64) -> Done
         requires may { MayCommit hold p self.old }
         requires writes { WritesTo self.old.network.now self.old.machine p c item }
-        requires ready { is_full (channel_in self.old.machine c) ≡ true }
+        requires ready { is_channel_full (channel_in self.old.machine c) ≡ true }
         requires reserved { IsTrue (channel_in self.old.machine c).is_reserved }
         ensures { let t = self.old.network.now in
             IsCommit hold p (λ s. IsWriteTo t p s c item) result self.old self.new }

@@ -7,7 +7,7 @@ ghost use Rattle.kpn_history.specs.Views.{is_held};
 ghost use Rattle.kpn_machine.specs.Machine.{frame_in};
 ghost use Rattle.kpn_machine.specs.Due.{Stands};
 ghost use Rattle.kpn_region.specs.Joining.{Joins};
-ghost use Rattle.kpn_region.specs.Local.{is_within, frame_at};
+ghost use Rattle.kpn_region.specs.Local.{is_in_region, frame_at};
 ghost use Rattle.kpn_book.specs.BatchCommits.{with_batch};
 ghost use Rattle.kpn_book.specs.Book.{IsHeld};
 ghost use Rattle.kpn_book.specs.Kept.{IsKept};
@@ -87,7 +87,7 @@ impl<'n, A: Allocator> OpenBook<'n, A> {
             ≡ with_batch batch.now self.new.machine (book_of self.old) }
         ensures network { self.new.network ≡ self.old.network }
         ensures kept { IsKept (book_of self.new) }
-        ensures frames { (p : ℕ) → is_within batch.now.now p ≡ true
+        ensures frames { (p : ℕ) → is_in_region batch.now.now p ≡ true
             → frame_in self.new.machine p ≡ frame_at batch.now.now p }
     {
         batch.known();
@@ -109,7 +109,7 @@ impl<'n, A: Allocator> OpenBook<'n, A> {
         A: Copy,
         requires tables { batch.now.tables ≡ self.old.network.now }
         requires kept { IsKept (book_of self.old) }
-        requires frames { (p : ℕ) → is_within batch.now.now p ≡ true
+        requires frames { (p : ℕ) → is_in_region batch.now.now p ≡ true
             → frame_in self.old.machine p ≡ frame_at batch.now.now p }
         ensures settle { SettleBelow batch.now (book_of self.old)
             (length self.old.network.now.instances) result (book_of self.new) }
@@ -130,7 +130,7 @@ impl<'n, A: Allocator> OpenBook<'n, A> {
         requires tables { batch.now.tables ≡ self.old.network.now }
         requires process { p < length self.old.network.now.instances }
         requires kept { IsKept (book_of self.old) }
-        requires frame { is_within batch.now.now p ≡ true
+        requires frame { is_in_region batch.now.now p ≡ true
             → frame_in self.old.machine p ≡ frame_at batch.now.now p }
         ensures settles { Settles result batch.now p (book_of self.old) (book_of self.new) }
         ensures kept { IsKept (book_of self.new) }
@@ -185,7 +185,7 @@ pub(crate) fn hold_region<A: Allocator, B: Allocator>(
     batch: &Batch<'_, B>,
 )
     requires { length schedule.old.states ≡ length batch.now.tables.instances }
-    ensures { schedule.new ≡ region_held (is_within batch.now.now) schedule.old }
+    ensures { schedule.new ≡ region_held (is_in_region batch.now.now) schedule.old }
 {
     schedule.known();
     let ready = schedule.counts().ready;
@@ -217,7 +217,7 @@ pub(crate) fn put_back_region<A: Allocator, B: Allocator>(
     batch: &Batch<'_, B>,
 )
     requires { length schedule.old.states ≡ length batch.now.tables.instances }
-    ensures { schedule.new ≡ region_put_back (is_within batch.now.now) schedule.old }
+    ensures { schedule.new ≡ region_put_back (is_in_region batch.now.now) schedule.old }
 {
     'processes: for p in 0..schedule.len() {
         let within = batch.is_within(p);
@@ -245,7 +245,7 @@ pub(crate) fn wake_region<A: Allocator, B: Allocator>(
     requires processes { length schedule.old.states ≡ length batch.now.tables.instances }
     requires waits { length machine.now.waits ≡ length schedule.old.states }
     ensures { schedule.new
-        ≡ region_woken (is_within batch.now.now) machine.now.waits schedule.old }
+        ≡ region_woken (is_in_region batch.now.now) machine.now.waits schedule.old }
 {
     'processes: for p in 0..schedule.len() {
         let within = batch.is_within(p);

@@ -1,7 +1,7 @@
 //! Turns in a row: the first process of the queue makes steps and is committed, again and again. A process that gets or
 //! puts an item stays ready, so its state is not written: the queue is rotated.
 ghost use Rattle.std.specs.Prelude.{◌≡◌, ◌≢◌, ◌<◌, ◌≤◌, ◌+◌, ◌*◌, ◌^◌, true, false, length, slice_get, Some, IfOk, OnErr, IsTrue};
-ghost use Rattle.kpn_chan.specs.Channel.{is_full};
+ghost use Rattle.kpn_chan.specs.Channel.{is_channel_full};
 ghost use Rattle.kpn_net.specs.Tables.{program_of};
 ghost use Rattle.kpn_step.specs.Frame.{Frame};
 ghost use Rattle.kpn_step.specs.declared.stop.Stop.TheVariants as stops;
@@ -13,7 +13,7 @@ ghost use Rattle.kpn_book.specs.declared.open_book.Hold.TheVariants as hold;
 ghost use Rattle.kpn_book.specs.Book.{held_count};
 ghost use Rattle.kpn_book.specs.Commits.{IsWriteTo};
 ghost use Rattle.kpn_book.specs.Kept.{IsKept};
-ghost use Rattle.kpn_book.specs.InARow.{RunsOn, RunsInVain, StepsUncommitted};
+ghost use Rattle.kpn_book.specs.InARow.{RunsInRow, RunsInVain, StepsUncommitted};
 ghost use Rattle.kpn_book.specs.Open.{book_of, first_claimed, MayCommit, if_sink, AnsweredFirst, HandlesFirst, IsTurn};
 
 use super::{Hold, OpenBook};
@@ -34,7 +34,7 @@ impl<'n, A: Allocator> OpenBook<'n, A> {
         requires kept { IsKept (book_of self.old) }
         requires countable { self.old.commits + held_count (book_of self.old) + most < 2 ^ 64 }
         ensures runs { IfOk result (λ sink.
-            RunsOn quota most sink (book_of self.old) (book_of self.new)) }
+            RunsInRow quota most sink (book_of self.old) (book_of self.new)) }
         ensures in_vain { OnErr result (RunsInVain quota most (book_of self.old) (book_of self.new)) }
         ensures kept { IsKept (book_of self.new) }
     {
@@ -149,7 +149,7 @@ fn turns_for(room: usize, left: u64) -> u64
 // The reader comes first, since the compiler then tests only once whether there is a ring.
 #[inline(always)]
 fn is_open<A: Allocator>(channel: &Channel<A>) -> bool
-    ensures { result ≡ true → IsTrue channel.now.is_reserved × (is_full channel.now ≡ false) }
+    ensures { result ≡ true → IsTrue channel.now.is_reserved × (is_channel_full channel.now ≡ false) }
 {
     !channel.is_retired() && !channel.is_full() && channel.room()
 }

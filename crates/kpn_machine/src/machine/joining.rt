@@ -1,6 +1,6 @@
 //! What joins a batch of many events at once. No memory is taken then: the channels are made roomy first.
 ghost use Rattle.std.specs.Prelude.{◌≡◌, ◌<◌, List, [], length, nat_lt, IsTrue, is_ok, if◌then◌else◌};
-ghost use Rattle.kpn_chan.specs.Channel.{roomy, with_reserved, MayJoin, joined};
+ghost use Rattle.kpn_chan.specs.Channel.{roomy, with_reserved, MayJoin, batch_joined};
 ghost use Rattle.kpn_net.specs.Tables.{Tables};
 ghost use Rattle.kpn_net.specs.Waits.{AreWaits};
 ghost use Rattle.kpn_history.specs.declared.event.Event.{Event};
@@ -49,7 +49,7 @@ impl<A: Allocator + Copy> Machine<A> {
         ensures after { self.new
             ≡ with_waits self.new.waits (with_channel c (channel_in self.new c) self.old) }
         ensures channel { let now = channel_in self.new c in now
-            ≡ joined taken items.now most now.is_reserved now.is_roomy (channel_in self.old c) }
+            ≡ batch_joined taken items.now most now.is_reserved now.is_roomy (channel_in self.old c) }
         ensures reserved { items.now ≡ [] → IsTrue (channel_in self.old c).is_reserved
             → IsTrue (channel_in self.new c).is_reserved }
         ensures woken { AreWoken (ends_by_batch c (nat_lt 0 taken) (nat_lt 0 (length items.now)))

@@ -4,7 +4,7 @@ ghost use Rattle.std.specs.List.{Contains, filter_map};
 ghost use Rattle.std.specs.Option.{option_to_list};
 ghost use Rattle.arrayvec.specs.ArrayVec.{array_vec_len};
 ghost use Rattle.std.specs.Prelude.{◌≡◌, ◌+◌, ◌<◌, ◌≤◌, ℕ, ℤ, true, false, List, [], ◌∷◌, ◌++◌, length, IsTrue, IsSome, Some};
-ghost use Rattle.kpn_chan.specs.Channel.{unread, is_full, next_item};
+ghost use Rattle.kpn_chan.specs.Channel.{unread, is_channel_full, next_item};
 ghost use Rattle.kpn_net.specs.Waits.{AreWaits};
 ghost use Rattle.kpn_history.specs.declared.event.Event.{Event};
 ghost use Rattle.kpn_history.specs.declared.event.Event.TheVariants as event;
@@ -68,7 +68,7 @@ impl<A: Allocator> Machine<A> {
         requires process { p < length network.now.instances }
         requires free { IsFree self.old p }
         requires writes { WritesTo network.now self.old p c item }
-        requires ready { is_full (channel_in self.old c) ≡ false }
+        requires ready { is_channel_full (channel_in self.old c) ≡ false }
         requires reserved { IsTrue (channel_in self.old c).is_reserved }
         ensures woken { result ≡ waiting_reader network.now self.old.waits c }
         ensures changes { Changes network.now (event.Put p c item) self.old self.new }
@@ -107,7 +107,7 @@ impl<A: Allocator> Machine<A> {
         requires process { p < length network.now.instances }
         requires free { IsFree self.old p }
         requires writes { (v : ℤ) × WritesTo network.now self.old p c v }
-        requires ready { is_full (channel_in self.old c) ≡ true }
+        requires ready { is_channel_full (channel_in self.old c) ≡ true }
         requires reserved { IsTrue (channel_in self.old c).is_reserved }
         ensures changes { Changes network.now (event.WaitFull p c) self.old self.new }
         ensures shape { IsMachine network.now self.new }

@@ -8,7 +8,7 @@ ghost use Rattle.kpn_history.specs.Ends.{IsQuiet, IsVerdict};
 ghost use Rattle.kpn_machine.specs.Machine.{wait_in, end_in, is_full_wait, IsMachine};
 ghost use Rattle.kpn_machine.specs.Quiet.{IsQuietNow};
 ghost use Rattle.kpn_machine.specs.Run.{IsRun};
-ghost use Rattle.kpn_machine.specs.Settled.{HaveStopped, IsOutsideDone, IsSettledNow, HasFullCycleNow, HasFullWaitNow, IsVerdictNow};
+ghost use Rattle.kpn_machine.specs.Settled.{HaveStoppedIn, IsOutsideDone, IsSettledNow, HasFullCycleNow, HasFullWaitNow, IsVerdictNow};
 ghost use Rattle.kpn_machine.specs.Stopped.{is_quiet_at, has_stopped, awaits_outside};
 
 use super::Machine;
@@ -74,7 +74,7 @@ impl<A: Allocator> Machine<A> {
 
     fn all_stopped(&self, network: &Network) -> bool
         requires shape { IsMachine network.now self.now }
-        ensures { IsTrue result ↔ HaveStopped network.now self.now }
+        ensures { IsTrue result ↔ HaveStoppedIn network.now self.now }
     {
         for p in 0..network.instances() {
             if !self.has_stopped(p) {

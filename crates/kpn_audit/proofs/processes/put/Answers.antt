@@ -4,7 +4,7 @@ use Rattle.std.proofs.Common.{is_ok, [], ◌∷◌, ◌++◌, w64, refl, sym, �
 use Rattle.std.proofs.lemmas.Int.{to_z-of_z}
 use Rattle.std.proofs.lemmas.Bool.{both_ways, eq-eqb}
 use Rattle.kpn_net.specs.Tables.{instance_at}
-use Rattle.kpn_chan.specs.Channel.{is_full, with_room}
+use Rattle.kpn_chan.specs.Channel.{is_channel_full, with_room}
 use Rattle.kpn_machine.specs.Machine.{channel_in}
 use Rattle.kpn_machine.specs.Run.{IsRun}
 use Rattle.kpn_audit.specs.Judged.{IsWriteOf}
@@ -24,7 +24,7 @@ returns-then-not-is_write_of-clause-judged g c H run owes legal =
           (sym (to_z-of_z w64 c.args.item c.ranges.item)) write))) legal
       | then-not-is_write_of-via-else-not-is_write_of+then-is_full w ↦ put_on_full c.args.network.now
           c.known.ensures H c.args.machine.now run c.args.p c.args.stop c.requires.stopped c.args.c c.args.item
-          (sym (w.is_full.ensures ∙ ap is_full w.channel.ensures) ∙ w.if-is_full.true) legal
+          (sym (w.is_full.ensures ∙ ap is_channel_full w.channel.ensures) ∙ w.if-is_full.true) legal
     ]
 
 pub returns-clause-judged : goal.returns-clause-judged

@@ -1,7 +1,7 @@
 -- Where the process stands at a write to the channel and that is full the wait is made; else it may not follow.
 use Rattle.std.proofs.Common.{is_ok, refl, sym, ◌∙◌, ap}
 use Rattle.std.proofs.lemmas.Bool.{both_ways, eq-eqb}
-use Rattle.kpn_chan.specs.Channel.{is_full, with_room}
+use Rattle.kpn_chan.specs.Channel.{is_channel_full, with_room}
 use Rattle.kpn_machine.specs.Machine.{channel_in}
 use Rattle.kpn_history.specs.declared.event.Event.TheVariants.{WaitFull}
 use Rattle.kpn_audit.proofs.Followed.{goes_made, frames_kept, frames_from}
@@ -17,7 +17,7 @@ returns-then-not-is_write_to-clause-judged g c H run owes legal =
           (λ write. both_ways _ w.if-not-is_write_to.true (c.is_write_to.ensures.1 write)) legal
       | then-not-is_write_to-via-else-not-is_write_to+then-not-is_full w ↦ not_full c.args.network.now
           c.known.ensures H c.args.machine.now run c.args.p c.args.stop c.requires.stopped c.args.c
-          (sym (w.is_full.ensures ∙ ap is_full w.channel.ensures) ∙ w.if-not-is_full.true) legal
+          (sym (w.is_full.ensures ∙ ap is_channel_full w.channel.ensures) ∙ w.if-not-is_full.true) legal
     ]
 
 pub returns-clause-judged : goal.returns-clause-judged

@@ -1,6 +1,6 @@
 -- The port is one of the process, and its channel one of the network.
 use Rattle.std.proofs.Common.{ap, ◌∙◌, rules, arith}
-use Rattle.kpn_chan.specs.Channel.{is_full}
+use Rattle.kpn_chan.specs.Channel.{is_channel_full}
 use Rattle.kpn_machine.proofs.Ports.{writes_below}
 use Rattle.kpn_audit.proofs.Asked.{out_port, writes_there}
 use Rattle.kpn_audit.proofs.seeing.writes.Goals as goal
@@ -22,4 +22,4 @@ pub returns : goal.returns
 returns g c H event quota =
     writes_there c.args.network.now H event quota c.args.machine.now c.args.p c.out_channel-c.result
     c.requires.free c.args.port c.out_channel-c.ensures _ c.args.item (search rules) c.requires.stands _
-    (c.is_full.ensures ∙ ap is_full c.channel.ensures)
+    (c.is_full.ensures ∙ ap is_channel_full c.channel.ensures)

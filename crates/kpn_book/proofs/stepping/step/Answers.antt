@@ -1,6 +1,6 @@
 use Rattle.std.proofs.Common.{◌≡◌, ◌-◌, ◌<◌, ◌^◌, [], ap, subst, arith, inl, rules}
 use Rattle.std.proofs.lemmas.Result.{IfOk-weaker}
-use Rattle.kpn_book.specs.InARow.{RunsOn}
+use Rattle.kpn_book.specs.InARow.{RunsInRow}
 use Rattle.kpn_book.proofs.SettledReports.{somebody}
 use Rattle.kpn_book.proofs.InARow.{row_ends, last_to_itself, last_few, last_turn, last_put, row_and_take}
 use Rattle.kpn_book.proofs.stepping.step.Goals as goal
@@ -21,7 +21,7 @@ returns-in-None c =
     (λ none.
     somebody b c.known.ensures c.requires.countable c.requires.to_itself c.requires.goes_on.1 (inl none))
     c.run_on.new.self
-    (subst (λ sink. RunsOn c.args.quota (c.args.limits.now.commits - c.commits.result) sink b c.run_on.new.self)
+    (subst (λ sink. RunsInRow c.args.quota (c.args.limits.now.commits - c.commits.result) sink b c.run_on.new.self)
     c.in-None.is c.in_ok-put.ensures.runs)
 
 pub returns-in-Some : goal.returns-in-Some
@@ -36,7 +36,7 @@ returns-in-Some c =
     somebody b c.known.ensures c.requires.countable c.requires.to_itself c.requires.goes_on.1 (inl none) in
     let now = c.run_on.new.self in
     let sink = c.in-Some.sink in
-    let runs = subst (λ s. RunsOn quota most s b now) c.in-Some.is c.in_ok-put.ensures.runs in
+    let runs = subst (λ s. RunsInRow quota most s b now) c.in-Some.is c.in_ok-put.ensures.runs in
     let itself =
     last_to_itself limits quota c.requires.quota b c.requires.to_itself c.requires.goes_on.0 most is_most
     c.requires.goes_on.2 ready now sink runs in

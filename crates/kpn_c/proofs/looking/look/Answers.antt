@@ -1,7 +1,7 @@
 use Rattle.std.proofs.Common.{◌≡◌, ℤ, ◌+◌, ◌<◌, take, drop, length, set, Some, sym, ap, ◌∙◌, subst, rules, arith, w64, SFits, to_z, of_z}
 use Rattle.std.proofs.lemmas.Int.{to_z-of_z}
 use Rattle.std.proofs.lemmas.List.{length-set}
-use Rattle.kpn_chan.specs.Channel.{next_at}
+use Rattle.kpn_chan.specs.Channel.{item_after}
 use Rattle.kpn_machine.specs.Machine.{channel_in}
 use Rattle.kpn_c.specs.States.{next_items}
 use Rattle.kpn_c.proofs.OneMore.{rest_then}
@@ -16,7 +16,7 @@ places-preserved c =
     let put : ℤ = to_z w64 (of_z w64 item) in
     let k = c.places.count in
     let so_far = c.places.invariant in
-    let next : next_at k channel ≡ Some item = sym c.next_at.ensures ∙ c.in-Some.is in
+    let next : item_after k channel ≡ Some item = sym c.next_at.ensures ∙ c.in-Some.is in
     let there = there_is k channel item next in
     let room = subst (λ n. k < n) (sym so_far.long) c.places-test.true in
     record {

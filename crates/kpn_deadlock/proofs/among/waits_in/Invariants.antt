@@ -1,6 +1,6 @@
 use Rattle.std.proofs.Common.{◌≡◌, map, take}
-use Rattle.kpn_deadlock.specs.Among.{wait_in}
+use Rattle.kpn_deadlock.specs.Among.{wait_of_state}
 use Rattle.kpn_deadlock.proofs.among.waits_in.Given as goal
 
 abbrev pub invariant-loop-p : goal.invariant-loop-p
-invariant-loop-p g l = l.waits.items ≡ map wait_in (take l.p l.states)
+invariant-loop-p g l = l.waits.items ≡ map wait_of_state (take l.p l.states)

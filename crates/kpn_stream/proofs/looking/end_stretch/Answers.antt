@@ -1,7 +1,7 @@
 use Rattle.std.proofs.Common.{rules, ℕ, List, ◌≡◌, ◌<◌, length, None, sym, ap, ◌∙◌, subst}
 use Rattle.kpn_net.specs.Tables.{is_source}
 use Rattle.kpn_stream.specs.Ending.{end_numbers}
-use Rattle.kpn_stream.specs.Streaming.{GoesOn}
+use Rattle.kpn_stream.specs.Streaming.{StreamGoesOn}
 use Rattle.kpn_stream.proofs.Going.{none_of, goes_on-refl, goes_on-trans, serves_goes_on, serves_on, serves_taken, reads_at_hand, at_hand_taken}
 use Rattle.kpn_stream.proofs.Handling.{listed}
 use Rattle.kpn_stream.proofs.looking.end_stretch.Goals as goal
@@ -64,7 +64,7 @@ sources-preserved g c =
     let one =
     subst
     (λ e.
-    GoesOn g.S.Sources.gives g.S.Sources.looks g.S.Sources.at_hand g.K.Sinks.takes g.K.Sinks.flushes c.args.limits.now
+    StreamGoesOn g.S.Sources.gives g.S.Sources.looks g.S.Sources.at_hand g.K.Sinks.takes g.K.Sinks.flushes c.args.limits.now
     e c.sources.book
     c.read_at_hand-ended.new.book c.sources.sources c.read_at_hand-ended.new.sources c.flush_all-ended.new.sinks
     c.flush_all-ended.new.sinks)

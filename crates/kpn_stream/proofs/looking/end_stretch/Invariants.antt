@@ -1,12 +1,12 @@
 use Rattle.std.proofs.Common.{◌≡◌, None}
 use Rattle.kpn_net.specs.Tables.{is_source}
 use Rattle.kpn_stream.specs.Ending.{end_numbers, AreTaken}
-use Rattle.kpn_stream.specs.Streaming.{GoesOn}
+use Rattle.kpn_stream.specs.Streaming.{StreamGoesOn}
 use Rattle.kpn_stream.proofs.looking.end_stretch.Given as goal
 
 abbrev pub invariant-sources : goal.invariant-sources
 invariant-sources g l = record {
-  goes_on : GoesOn g.S.Sources.gives g.S.Sources.looks g.S.Sources.at_hand g.K.Sinks.takes g.K.Sinks.flushes l.limits
+  goes_on : StreamGoesOn g.S.Sources.gives g.S.Sources.looks g.S.Sources.at_hand g.K.Sinks.takes g.K.Sinks.flushes l.limits
       None
       l.initial.book
       l.book

@@ -1,7 +1,7 @@
 use Rattle.std.proofs.Common.{Some, None, sym, ap, ◌∙◌, subst}
 use Rattle.kpn_net.specs.Tables.{is_source, is_sink}
 use Rattle.kpn_stream.specs.Ending.{end_numbers}
-use Rattle.kpn_stream.specs.Streaming.{GoesOn}
+use Rattle.kpn_stream.specs.Streaming.{StreamGoesOn}
 use Rattle.kpn_stream.proofs.Going.{goes_on-refl, goes_on-trans, serves_goes_on}
 use Rattle.kpn_stream.proofs.running.make_turns.Goals as goal
 
@@ -24,7 +24,7 @@ returns-in-Some g c =
     c.args.sinks.now c.turns.sinks c.turn-ended.new.sinks c.turns.invariant.goes_on
     (subst
     (λ e.
-    GoesOn g.S.Sources.gives g.S.Sources.looks g.S.Sources.at_hand g.K.Sinks.takes g.K.Sinks.flushes c.args.limits.now
+    StreamGoesOn g.S.Sources.gives g.S.Sources.looks g.S.Sources.at_hand g.K.Sinks.takes g.K.Sinks.flushes c.args.limits.now
     e c.turns.book c.turn-ended.new.book
     c.turns.sources c.turn-ended.new.sources c.turns.sinks c.turn-ended.new.sinks)
     c.in-Some.is c.turn-ended.ensures.goes_on)
@@ -48,7 +48,7 @@ turns-preserved g c =
     let one =
     subst
     (λ e.
-    GoesOn g.S.Sources.gives g.S.Sources.looks g.S.Sources.at_hand g.K.Sinks.takes g.K.Sinks.flushes c.args.limits.now
+    StreamGoesOn g.S.Sources.gives g.S.Sources.looks g.S.Sources.at_hand g.K.Sinks.takes g.K.Sinks.flushes c.args.limits.now
     e c.turns.book c.turn-ended.new.book
     c.turns.sources c.turn-ended.new.sources c.turns.sinks c.turn-ended.new.sinks)
     c.in_default.is c.turn-ended.ensures.goes_on in

@@ -7,7 +7,7 @@ use Rattle.kpn_machine.specs.Machine.{channel_in}
 use Rattle.kpn_book.specs.Appending.{Happens}
 use Rattle.kpn_book.proofs.Happening.{happens_tables}
 use Rattle.kpn_stream.specs.declared.faults.SinkFault.TheVariants.{NoMemory}
-use Rattle.kpn_stream.specs.declared.ending.Ending.TheVariants.{SinkFailed}
+use Rattle.kpn_stream.specs.declared.ending.StreamEnding.TheVariants.{SinkFailed}
 use Rattle.kpn_stream.specs.Ending.{end_numbers}
 use Rattle.kpn_stream.proofs.Going.{serves-refl, serves-trans}
 use Rattle.kpn_stream.proofs.Handling.{if_done, if_refused, serves_item, serves_in_vain, serves_not, handled_taken}

@@ -1,7 +1,7 @@
 use Rattle.std.proofs.Common.{rules, ◌≡◌, ◌<◌, ◌≤◌, length, None, sym, ap, ◌∙◌, subst, arith}
 use Rattle.kpn_net.specs.Tables.{is_sink}
 use Rattle.kpn_book.proofs.Ends.{sink_there}
-use Rattle.kpn_stream.specs.Ending.{end_numbers, IsTaken}
+use Rattle.kpn_stream.specs.Ending.{end_numbers, IsSinkTaken}
 use Rattle.kpn_stream.specs.Streaming.{Serves}
 use Rattle.kpn_stream.proofs.Going.{none_of, serves-refl, serves-trans}
 use Rattle.kpn_stream.proofs.Handling.{listed, one_more_end, all_ends}
@@ -44,7 +44,7 @@ each-preserved g c =
           on c.take_each-ended.ensures.serves);
       ends = c.each.invariant.ends ∙ ap (end_numbers is_sink) (sym c.take_each-ended.ensures.serves.besides.tables);
       taken =
-          one_more_end (IsTaken c.take_each-ended.new.book.history) c.args.ends.now.sinks.items c.each.i
+          one_more_end (IsSinkTaken c.take_each-ended.new.book.history) c.args.ends.now.sinks.items c.each.i
           c.index.result.now (search rules) c.index.ensures
           (λ j less. c.take_each-ended.ensures.serves.stay_taken _ (c.each.invariant.taken j less))
           (c.take_each-ended.ensures.taken on);
@@ -54,5 +54,5 @@ pub returns-clause-taken : goal.returns-clause-taken
 returns-clause-taken g c = λ _ d is.
     let items = c.args.ends.now.sinks.items in
     let past : length items ≤ c.each.i = search rules in
-    all_ends is_sink c.each.book.tables (IsTaken c.each.book.history) items c.each.i c.each.invariant.ends past
+    all_ends is_sink c.each.book.tables (IsSinkTaken c.each.book.history) items c.each.i c.each.invariant.ends past
     c.each.invariant.taken d (sink_there c.each.book.tables d is) is

@@ -1,6 +1,6 @@
 use Rattle.std.proofs.Common.{◌≡◌, ℕ, ◌<◌, get_or, None}
 use Rattle.kpn_net.specs.Tables.{is_sink}
-use Rattle.kpn_stream.specs.Ending.{end_numbers, IsTaken}
+use Rattle.kpn_stream.specs.Ending.{end_numbers, IsSinkTaken}
 use Rattle.kpn_stream.specs.Streaming.{Serves}
 use Rattle.kpn_stream.proofs.taking.take_all.Given as goal
 
@@ -8,5 +8,5 @@ abbrev pub invariant-each : goal.invariant-each
 invariant-each g l = record {
   serves : Serves g.K.Sinks.takes g.K.Sinks.flushes l.limits None l.initial.book l.book l.initial.sinks l.sinks;
   ends : l.ends.sinks.items ≡ end_numbers is_sink l.book.tables;
-  taken : (j : ℕ) → j < l.i → IsTaken l.book.history (get_or l.ends.sinks.items j 0);
+  taken : (j : ℕ) → j < l.i → IsSinkTaken l.book.history (get_or l.ends.sinks.items j 0);
 }

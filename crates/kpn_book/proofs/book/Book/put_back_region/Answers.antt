@@ -1,6 +1,6 @@
 use Rattle.std.proofs.Common.{length, ap, sym, ◌∙◌, subst}
 use Rattle.std.specs.List.{range_with_len}
-use Rattle.kpn_region.specs.Local.{is_within}
+use Rattle.kpn_region.specs.Local.{is_in_region}
 use Rattle.kpn_book.specs.Kept.{IsKept}
 use Rattle.kpn_book.specs.Open.{book_of}
 use Rattle.kpn_book.specs.Regions.{batch_put_back}
@@ -17,7 +17,7 @@ pub invariant_of-self : goal.invariant_of-self
 invariant_of-self g c =
     let b = book_of c.self.inside.parts in
     subst IsKept (sym (ap (recorded b b.history b.machine) c.put_back_region.ensures))
-    (kept_all_put_back (is_within c.args.batch.now.now) (range_with_len 0 (length b.schedule.states)) b
+    (kept_all_put_back (is_in_region c.args.batch.now.now) (range_with_len 0 (length b.schedule.states)) b
     c.self.invariant)
 
 pub returns : goal.returns

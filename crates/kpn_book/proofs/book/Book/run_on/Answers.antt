@@ -1,7 +1,7 @@
 use Rattle.std.proofs.Common.{◌+◌, ◌<◌, ◌^◌, sym, subst, IfOk}
 use Rattle.std.specs.Prelude.{OnErr}
 use Rattle.kpn_book.specs.Book.{Book, held_count}
-use Rattle.kpn_book.specs.InARow.{RunsOn, RunsInVain}
+use Rattle.kpn_book.specs.InARow.{RunsInRow, RunsInVain}
 use Rattle.kpn_book.specs.Open.{book_of}
 use Rattle.kpn_book.proofs.book.Book.run_on.Goals as goal
 
@@ -12,7 +12,7 @@ run_on-requires-clause-countable g c =
 pub returns : goal.returns
 returns g c = record {
   runs =
-      subst (λ (b : Book). IfOk c.run_on.result (λ sink. RunsOn c.args.quota c.args.most sink b
+      subst (λ (b : Book). IfOk c.run_on.result (λ sink. RunsInRow c.args.quota c.args.most sink b
       (book_of c.run_on.new.self))) c.self.view_is c.run_on.ensures.runs;
   in_vain =
       subst (λ (b : Book). OnErr c.run_on.result (RunsInVain c.args.quota c.args.most b (book_of c.run_on.new.self)))

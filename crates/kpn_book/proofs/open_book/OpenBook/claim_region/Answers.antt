@@ -1,6 +1,6 @@
 use Rattle.std.proofs.Common.{◌≡◌, ◌+◌, ◌<◌, ◌^◌, true, length, sym, ◌∙◌, subst, arith, rules}
 use Rattle.kpn_net.specs.Faults.{IsNetwork}
-use Rattle.kpn_region.specs.Local.{is_within}
+use Rattle.kpn_region.specs.Local.{is_in_region}
 use Rattle.kpn_book.specs.Kept.{IsKept}
 use Rattle.kpn_book.specs.Open.{book_of}
 use Rattle.kpn_book.specs.Regions.{batch_held}
@@ -70,5 +70,5 @@ returns-clause-kept g c =
     let countable = c.can_count.ensures.0 counted in
     let few : b.commits + length b.tables.instances < 2 ^ 64 = omega (arith, countable) in
     subst (λ order. IsKept (recorded b b.history s order)) (sym c.hold_region.ensures)
-    (kept_region_held (is_within c.hold_waits.new.batch.now) (record b { machine = s })
+    (kept_region_held (is_in_region c.hold_waits.new.batch.now) (record b { machine = s })
     (kept_with_room b s c.requires.kept c.in_ok-claim_channels.ensures.room) c.known-2.ensures.schedule few)

@@ -1,6 +1,6 @@
 use Rattle.std.proofs.Common.{◌≡◌, length, ap, sym, ◌∙◌, arith}
 use Rattle.std.specs.List.{range_with_len}
-use Rattle.kpn_region.specs.Local.{is_within}
+use Rattle.kpn_region.specs.Local.{is_in_region}
 use Rattle.kpn_book.specs.Regions.{put_back_if, all_put_back}
 use Rattle.kpn_book.proofs.Queueing.{range_next}
 use Rattle.kpn_book.proofs.Regions.{length_put_back, all_put_back-push}
@@ -13,12 +13,12 @@ pub put_back_if-requires : goal.put_back_if-requires
 put_back_if-requires g c =
     let same =
     ap (λ s. length s.states) c.processes.invariant
-    ∙ length_put_back (is_within c.args.batch.now.now) (range_with_len 0 c.processes.p) c.args.schedule.now in
+    ∙ length_put_back (is_in_region c.args.batch.now.now) (range_with_len 0 c.processes.p) c.args.schedule.now in
     omega (arith, c.processes-test.true, c.len-p-end.ensures, same)
 
 pub processes-preserved : goal.processes-preserved
 processes-preserved g c =
-    let within = is_within c.args.batch.now.now in
+    let within = is_in_region c.args.batch.now.now in
     let k = c.processes.p in
     c.put_back_if.ensures
     ∙ ap (λ w. put_back_if w k c.processes.schedule) c.is_within-within.ensures
@@ -31,4 +31,4 @@ returns g c =
     let all : c.processes.p ≡ length c.args.schedule.now.states =
     omega (arith, c.processes-test.false, c.len-p-end.ensures) in
     c.processes.invariant
-    ∙ ap (λ n. all_put_back (is_within c.args.batch.now.now) (range_with_len 0 n) c.args.schedule.now) all
+    ∙ ap (λ n. all_put_back (is_in_region c.args.batch.now.now) (range_with_len 0 n) c.args.schedule.now) all

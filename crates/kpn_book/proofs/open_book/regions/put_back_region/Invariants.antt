@@ -1,9 +1,9 @@
 use Rattle.std.proofs.Common.{◌≡◌}
 use Rattle.std.specs.List.{range_with_len}
-use Rattle.kpn_region.specs.Local.{is_within}
+use Rattle.kpn_region.specs.Local.{is_in_region}
 use Rattle.kpn_book.specs.Regions.{all_put_back}
 use Rattle.kpn_book.proofs.open_book.regions.put_back_region.Given as goal
 
 abbrev pub invariant-processes : goal.invariant-processes
 invariant-processes g l =
-    l.schedule ≡ all_put_back (is_within l.batch.now) (range_with_len 0 l.p) l.fn.schedule
+    l.schedule ≡ all_put_back (is_in_region l.batch.now) (range_with_len 0 l.p) l.fn.schedule

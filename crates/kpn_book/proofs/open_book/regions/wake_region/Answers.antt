@@ -1,7 +1,7 @@
 use Rattle.std.proofs.Common.{◌≡◌, length, ap, sym, ◌∙◌, arith}
 use Rattle.std.specs.List.{range_with_len}
 use Rattle.kpn_net.specs.Waits.{wait_at}
-use Rattle.kpn_region.specs.Local.{is_within}
+use Rattle.kpn_region.specs.Local.{is_in_region}
 use Rattle.kpn_book.specs.Regions.{woken_if, all_woken}
 use Rattle.kpn_book.proofs.Queueing.{range_next}
 use Rattle.kpn_book.proofs.Regions.{length_woken, all_woken-push}
@@ -17,13 +17,13 @@ pub wake_if-requires : goal.wake_if-requires
 wake_if-requires g c =
     let same =
     ap (λ s. length s.states) c.processes.invariant
-    ∙ length_woken (is_within c.args.batch.now.now) c.args.machine.now.waits (range_with_len 0 c.processes.p)
+    ∙ length_woken (is_in_region c.args.batch.now.now) c.args.machine.now.waits (range_with_len 0 c.processes.p)
     c.args.schedule.now in
     omega (arith, c.processes-test.true, c.len-p-end.ensures, same)
 
 pub processes-preserved : goal.processes-preserved
 processes-preserved g c =
-    let within = is_within c.args.batch.now.now in
+    let within = is_in_region c.args.batch.now.now in
     let waits = c.args.machine.now.waits in
     let k = c.processes.p in
     c.wake_if.ensures
@@ -39,5 +39,5 @@ returns g c =
     omega (arith, c.processes-test.false, c.len-p-end.ensures) in
     c.processes.invariant
     ∙ ap
-    (λ n. all_woken (is_within c.args.batch.now.now) c.args.machine.now.waits (range_with_len 0 n)
+    (λ n. all_woken (is_in_region c.args.batch.now.now) c.args.machine.now.waits (range_with_len 0 n)
     c.args.schedule.now) all

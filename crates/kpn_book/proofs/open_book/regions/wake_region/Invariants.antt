@@ -1,10 +1,10 @@
 use Rattle.std.proofs.Common.{◌≡◌}
 use Rattle.std.specs.List.{range_with_len}
-use Rattle.kpn_region.specs.Local.{is_within}
+use Rattle.kpn_region.specs.Local.{is_in_region}
 use Rattle.kpn_book.specs.Regions.{all_woken}
 use Rattle.kpn_book.proofs.open_book.regions.wake_region.Given as goal
 
 abbrev pub invariant-processes : goal.invariant-processes
 invariant-processes g l =
     l.schedule
-    ≡ all_woken (is_within l.batch.now) l.machine.waits (range_with_len 0 l.p) l.fn.schedule
+    ≡ all_woken (is_in_region l.batch.now) l.machine.waits (range_with_len 0 l.p) l.fn.schedule

@@ -1,5 +1,5 @@
 use Rattle.std.proofs.Common.{◌≡◌, ◌&&◌, true, false, IsTrue, rules, sym, ap, ◌∙◌, subst}
-use Rattle.kpn_chan.specs.Channel.{MayJoin, joined}
+use Rattle.kpn_chan.specs.Channel.{MayJoin, batch_joined}
 use Rattle.kpn_chan.specs.Ring.{has_place}
 use Rattle.kpn_chan.specs.Chunks.{all_of, has_room}
 use Rattle.kpn_chan.proofs.Places.{may_pass, may_append, joined_laid_out, read_then, seen_joined}
@@ -59,7 +59,7 @@ returns-clause-after g c =
     appended.new.self.keeps inside.most inside.roomy inside.wide appended.ensures.keeps c.args.taken c.args.items.now c.args.most
     appended.ensures.items (has_room inside.journal && has_place inside.ring) _ c.if-self.self inside.ring
     c.pass_through.new.ring c.pass_through.new.most c.pass_through.ensures.ring c.pass_through.ensures.most
-    ∙ ap (λ s. joined c.args.taken c.args.items.now c.args.most
+    ∙ ap (λ s. batch_joined c.args.taken c.args.items.now c.args.most
     (has_room appended.new.self && has_place c.pass_through.new.ring) c.if-self.self s) c.self.view_is
 
 pub returns-clause-roomy : goal.returns-clause-roomy

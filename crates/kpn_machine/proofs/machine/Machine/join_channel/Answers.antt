@@ -1,7 +1,7 @@
 use Rattle.std.proofs.Common.{◌≡◌, ◌<◌, length, None, false, nat_lt, IsTrue, slice_set, arith, sym, ap, ◌∙◌, subst}
 use Rattle.std.proofs.lemmas.List.{get_or-set_same}
 use Rattle.kpn_net.specs.Waits.{AreWaits}
-use Rattle.kpn_chan.specs.Channel.{opened, MayJoin, joined}
+use Rattle.kpn_chan.specs.Channel.{opened, MayJoin, batch_joined}
 use Rattle.kpn_machine.specs.Machine.{Machine, channel_in, with_channel, with_waits}
 use Rattle.kpn_machine.specs.Woken.{AreWoken, ends_by_batch}
 use Rattle.kpn_machine.proofs.Calls.{element}
@@ -51,9 +51,9 @@ returns g c =
     record {
       after = whole ∙ ap (λ x. with_waits waits (with_channel c.args.c x s)) (sym at);
       channel =
-          subst (λ x. x ≡ joined c.args.taken items c.args.most x.is_reserved x.is_roomy (channel_in s c.args.c)) (sym at)
+          subst (λ x. x ≡ batch_joined c.args.taken items c.args.most x.is_reserved x.is_roomy (channel_in s c.args.c)) (sym at)
           (c.join.ensures.after
-          ∙ ap (λ x. joined c.args.taken items c.args.most channel.is_reserved channel.is_roomy x) value);
+          ∙ ap (λ x. batch_joined c.args.taken items c.args.most channel.is_reserved channel.is_roomy x) value);
       reserved = λ none room.
           subst (λ x. IsTrue x.is_reserved) (sym at)
           (c.join.ensures.reserved none (subst (λ x. IsTrue x.is_reserved) (sym value) room));

@@ -1,11 +1,11 @@
 use Rattle.std.proofs.Common.{◌≡◌, ◌<◌, ◌+◌, ◌≤◌, ◌^◌, false, List, ℤ, length, nat_lt, sym, ap, ◌∙◌, subst, length-drop, rules}
 use Rattle.std.proofs.lemmas.List.{nil_from_length}
 use Rattle.kpn_net.specs.Waits.{AreWaits}
-use Rattle.kpn_chan.specs.Channel.{unread, joined}
+use Rattle.kpn_chan.specs.Channel.{unread, batch_joined}
 use Rattle.kpn_machine.specs.Machine.{channel_in}
 use Rattle.kpn_machine.specs.Woken.{AreWoken, ends_by_batch}
 use Rattle.kpn_region.specs.Local.{SideState, side_at}
-use Rattle.kpn_region.specs.Joining.{put_on, has_put}
+use Rattle.kpn_region.specs.Joining.{items_put, has_put_items}
 use Rattle.kpn_region.proofs.Piecewise.{nothing_joined}
 use Rattle.kpn_region.proofs.Sides.{kept_of, put_of, handed_on, puts_some, may_join, bounded, is_joined}
 use Rattle.kpn_region.proofs.batch.Batch.join_channel.Goals as goal
@@ -69,7 +69,7 @@ returns g c =
     c.channel-channel.ensures c.taken-taken.result c.claimed.result c.most_seen-most.result c.items.result.now
     c.split_at.result.1.now c.taken-taken.ensures c.claimed.ensures c.items.ensures c.split_at.ensures.back
     c.most_seen-most.ensures in
-    let some : nat_lt 0 (length c.split_at.result.1.now) ≡ has_put side =
+    let some : nat_lt 0 (length c.split_at.result.1.now) ≡ has_put_items side =
     ap (λ (l : List ℤ). nat_lt 0 (length l)) h.put_is
     ∙ ap (nat_lt 0) (length-drop side.claimed side.items)
     ∙ puts_some side.claimed (length side.items) in
@@ -78,12 +78,12 @@ returns g c =
       channel =
           is_joined b.tables n side channel c.requires.agrees now
           (c.join_channel.ensures.channel
-          ∙ ap (λ k. joined k c.split_at.result.1.now c.most_seen-most.result now.is_reserved now.is_roomy channel) h.taken_is
-          ∙ ap (λ l. joined side.taken l c.most_seen-most.result now.is_reserved now.is_roomy channel) h.put_is
-          ∙ ap (λ m. joined side.taken (put_on side) m now.is_reserved now.is_roomy channel) h.most_is)
+          ∙ ap (λ k. batch_joined k c.split_at.result.1.now c.most_seen-most.result now.is_reserved now.is_roomy channel) h.taken_is
+          ∙ ap (λ l. batch_joined side.taken l c.most_seen-most.result now.is_reserved now.is_roomy channel) h.put_is
+          ∙ ap (λ m. batch_joined side.taken (items_put side) m now.is_reserved now.is_roomy channel) h.most_is)
           (λ none. c.join_channel.ensures.reserved (h.put_is ∙ none));
       woken =
-          subst (λ k. AreWoken (ends_by_batch n (nat_lt 0 k) (has_put side)) before.waits after.waits) h.taken_is
+          subst (λ k. AreWoken (ends_by_batch n (nat_lt 0 k) (has_put_items side)) before.waits after.waits) h.taken_is
           (subst (λ x. AreWoken (ends_by_batch n (nat_lt 0 c.taken-taken.result) x) before.waits after.waits) some
           c.join_channel.ensures.woken);
       waits = subst (λ t. AreWaits t after.waits) c.requires.tables c.join_channel.ensures.waits;

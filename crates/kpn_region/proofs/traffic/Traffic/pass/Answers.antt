@@ -4,7 +4,7 @@ use Rattle.kpn_net.specs.Tables.{program_of}
 use Rattle.kpn_net.proofs.Networks.{IsInstance-of}
 use Rattle.kpn_step.specs.Frame.{fits}
 use Rattle.kpn_step.specs.Stops.{StandsAt, IsAtPort, IsGiven, StandsAtRead}
-use Rattle.kpn_region.specs.Turn.{IsGot, IsPut}
+use Rattle.kpn_region.specs.Turn.{IsGot, IsPutOn}
 use Rattle.kpn_region.proofs.Turns.{goes_by_get, goes_by_put}
 use Rattle.kpn_region.proofs.Numbers.{in_there, out_there, channel_fits}
 use Rattle.kpn_region.proofs.traffic.Traffic.pass.Goals as goal
@@ -95,5 +95,5 @@ returns-in-On-clause-passes g c =
       stood = subst (StandsAt (program_of t c.args.p).blocks c.args.frame.now) c.in-WantWrite.is c.requires.stands;
       passes = c.pass_write.ensures.passed;
     })
-    (subst (λ v. IsPut c.args.p c.out_channel-c.result v c.args.self.now.sides.items c.args.self.now.events.items
+    (subst (λ v. IsPutOn c.args.p c.out_channel-c.result v c.args.self.now.sides.items c.args.self.now.events.items
     c.put.new.self.sides.items c.put.new.self.events.items) (to_z-of_z w64 item small) c.in-On.ensures.puts)
