@@ -12,7 +12,7 @@ use Rattle.kpn_book.specs.Refusals.{Closes, closes_by}
 use Rattle.kpn_book.proofs.Ends.{closed_next}
 use Rattle.kpn_book.proofs.Supplying.{closed_then}
 use Rattle.kpn_stream.specs.Streaming.{HappensBesides}
-use Rattle.kpn_stream.specs.Closing.{AreSourcesClosedBelow, is_no_close}
+use Rattle.kpn_stream.specs.Closing.{AreClosedBelow, is_no_close}
 use Rattle.kpn_stream.proofs.Going.{besides-refl, besides-trans, happens_besides}
 
 -- a closed source stays closed
@@ -29,7 +29,7 @@ closes_alone true c before after same =
 closes_alone false c before after happens =
     happens_besides is_no_close (λ p d n. refl) (event.Close c) refl before after happens
 
-pub none_closed : (b : Book) → AreSourcesClosedBelow 0 b b
+pub none_closed : (b : Book) → AreClosedBelow 0 b b
 none_closed b = record {
   besides = besides-refl is_no_close b;
   closed = λ c below source. absurd (omega (arith, below));
@@ -37,7 +37,7 @@ none_closed b = record {
 
 -- one source more
 pub one_more : (c : ℕ) (before after : Book) → IsBook before → Closes c before after → (first : Book)
-    → AreSourcesClosedBelow c first before → AreSourcesClosedBelow (c + 1) first after
+    → AreClosedBelow c first before → AreClosedBelow (c + 1) first after
 one_more c before after book closes first so_far =
     let alone = closes_alone (closed_in before.machine c) c before after closes.closes in
     record {
@@ -53,7 +53,7 @@ one_more c before after book closes first so_far =
 
 -- a channel more, which is no source
 pub no_source_more : (c : ℕ) (b : Book) → is_source (channel_at b.tables c) ≡ false → (first : Book)
-    → AreSourcesClosedBelow c first b → AreSourcesClosedBelow (c + 1) first b
+    → AreClosedBelow c first b → AreClosedBelow (c + 1) first b
 no_source_more c b none first so_far = record {
   besides = so_far.besides;
   closed = λ d below source. elim (cases_eq d c) [

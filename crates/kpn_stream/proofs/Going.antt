@@ -25,7 +25,7 @@ use Rattle.kpn_stream.specs.declared.ending.StreamEnding.{StreamEnding}
 use Rattle.kpn_stream.specs.declared.ending.StreamEnding.TheVariants.{SourceFailed, SinkFailed}
 use Rattle.kpn_stream.specs.Ending.{end_numbers, AreTaken, failed_sink}
 use Rattle.kpn_stream.specs.Devices.{is_of_outside, is_elsewhere, is_no_growth, NoneIs, is_of_source, is_of_sink, Fed, by_others, by_look, ServedSince, none_yet, meanwhile, took, took_not, took_in_vain, flushed, flushed_not, left, left_not, had_enough, had_enough_not, IsFlushed, AreFlushed, AreFlushedLast, EndsFlushed, AreLookedAt, not_yet, once_more, Called, by_process, by_sinks, looked, read_at_once, waited_for}
-use Rattle.kpn_stream.specs.Streaming.{HappensBesides, MayEnd, MayEndWell, StepsProcesses, Serves, MayFail, ReadsSource, ReadsAtHand, not_read, is_read, StreamGoesOn}
+use Rattle.kpn_stream.specs.Streaming.{HappensBesides, MayEnd, MayEndWell, StepsWithinLimits, Serves, MayFail, ReadsSource, ReadsAtHand, not_read, is_read, StreamGoesOn}
 
 -- ---- events of other kinds
 
@@ -348,11 +348,11 @@ last_besides quota (Some c) last after step = step_besides quota step.answer las
 last_besides quota None last after same =
     subst (HappensBesides is_of_outside last) (sym same) (besides-refl is_of_outside last)
 
-pub stepped-refl : (limits : Limits) (b : Book) → StepsProcesses limits b b
+pub stepped-refl : (limits : Limits) (b : Book) → StepsWithinLimits limits b b
 stepped-refl limits b = record { besides = besides-refl is_of_outside b; commits = λ below. below }
 
-pub stepped-trans : (limits : Limits) (a b c : Book) → StepsProcesses limits a b → StepsProcesses limits b c
-    → StepsProcesses limits a c
+pub stepped-trans : (limits : Limits) (a b c : Book) → StepsWithinLimits limits a b → StepsWithinLimits limits b c
+    → StepsWithinLimits limits a c
 stepped-trans limits a b c one two = record {
   besides = besides-trans is_of_outside a b c one.besides two.besides;
   commits = λ below. two.commits (one.commits below);
@@ -360,7 +360,7 @@ stepped-trans limits a b c one two = record {
 
 stepped : (limits : Limits) (quota most : ℕ) (sink : Option ℕ) (before after : Book)
     → (before.commits ≤ limits.commits → before.commits + most ≤ limits.commits) → RunsInRow quota most sink before after
-    → StepsProcesses limits before after
+    → StepsWithinLimits limits before after
 stepped limits quota most sink before after fits is = record {
   besides =
       besides-trans is_of_outside before is.last after (row_besides quota before is.row)
@@ -370,7 +370,7 @@ stepped limits quota most sink before after fits is = record {
 
 in_vain : (limits : Limits) (quota most : ℕ) (before after : Book)
     → (before.commits ≤ limits.commits → before.commits + most ≤ limits.commits) → RunsInVain quota most before after
-    → StepsProcesses limits before after
+    → StepsWithinLimits limits before after
 in_vain limits quota most before after fits is = record {
   besides = elim is.ends [
     | inl last ↦ subst (HappensBesides is_of_outside before) (sym last) (row_besides quota before is.row)
@@ -394,7 +394,7 @@ in_vain limits quota most before after fits is = record {
 pub stepped_row : {E : Type 0} (limits : Limits) (quota most : ℕ) (result : Result (Option ℕ) E) (before after : Book)
     → (before.commits ≤ limits.commits → before.commits + most ≤ limits.commits)
     → IfOk result (λ sink. RunsInRow quota most sink before after) → OnErr result (RunsInVain quota most before after)
-    → StepsProcesses limits before after
+    → StepsWithinLimits limits before after
 stepped_row limits quota most (Ok sink) before after fits runs vain =
     stepped limits quota most sink before after fits runs
 stepped_row limits quota most (Err error) before after fits runs vain =
@@ -540,7 +540,7 @@ module _ {S K : Type 0} (gives : S → ℕ → Result (Option ℤ) SourceFault �
     flushed = is.flushed;
   }
 
-  pub steps_go_on : (a b : Book) (s : S) (k : K) → StepsProcesses limits a b
+  pub steps_go_on : (a b : Book) (s : S) (k : K) → StepsWithinLimits limits a b
       → StreamGoesOn gives looks at_hand takes flushes limits None a b s s k k
   steps_go_on a b s k is = record {
     tables = is.besides.tables;
@@ -630,7 +630,7 @@ module _ {S K : Type 0} (gives : S → ℕ → Result (Option ℤ) SourceFault �
   }
 
   -- the processes make steps, and the sinks are served
-  pub taken_then : (ended : Option StreamEnding) (a b c : Book) (s : S) (i j : K) → StepsProcesses limits a b
+  pub taken_then : (ended : Option StreamEnding) (a b c : Book) (s : S) (i j : K) → StepsWithinLimits limits a b
       → Serves takes flushes limits ended b c i j → StreamGoesOn gives looks at_hand takes flushes limits ended a c s s i j
   taken_then ended a b c s i j one two =
       goes_on-trans ended a b c s s s i i j (steps_go_on a b s i one) (serves_goes_on ended b c s i j two)

@@ -14,10 +14,10 @@ is_no_close (Grow p d n) = false
 is_no_close e = true
 
 -- each source with a number below k is closed, and nothing else happened but closes and growths that follow from them
-pub record AreSourcesClosedBelow (k : ℕ) (before after : Book) : Type 0 where
+pub record AreClosedBelow (k : ℕ) (before after : Book) : Type 0 where
   pub besides : HappensBesides is_no_close before after
   pub closed : (c : ℕ) → c < k → is_source (channel_at before.tables c) ≡ true → is_closed after.history c ≡ true
 
 -- each source is closed
 abbrev pub AreClosed : (before after : Book) → Type 0
-AreClosed before after = AreSourcesClosedBelow (length before.tables.channels) before after
+AreClosed before after = AreClosedBelow (length before.tables.channels) before after

@@ -45,7 +45,7 @@ IsHandled limits c sink_fault.Gone ended before after = IsLeaving limits c ended
 IsHandled limits c fault ended before after = (after ≡ before) × (ended ≡ Some (SinkFailed c fault))
 
 -- processes make steps, and do not go beyond the limit of commits
-pub record StepsProcesses (limits : Limits) (before after : Book) : Type 0 where
+pub record StepsWithinLimits (limits : Limits) (before after : Book) : Type 0 where
   pub besides : HappensBesides is_of_outside before after
   pub commits : before.commits ≤ limits.commits → after.commits ≤ limits.commits
 

@@ -1,7 +1,7 @@
 //! The end of a stream that rests: nobody reads from its sources any more.
 ghost use Rattle.std.specs.Prelude.{◌+◌, IfOk};
 ghost use Rattle.kpn_book.specs.Book.{Book as Seen};
-ghost use Rattle.kpn_stream.specs.Closing.{AreClosed, AreSourcesClosedBelow};
+ghost use Rattle.kpn_stream.specs.Closing.{AreClosed, AreClosedBelow};
 
 use kpn_book::Book;
 use std::alloc::AllocError;
@@ -19,7 +19,7 @@ pub fn close_sources(book: &mut Book<'_>) -> Result<(), AllocError>
 /// Closes channel `c`, if it is a source.
 fn close(book: &mut Book<'_>, c: usize) -> Result<(), AllocError>
     ensures { IfOk result (λ _. (first : Seen)
-        → AreSourcesClosedBelow c first book.old → AreSourcesClosedBelow (c + 1) first book.new) }
+        → AreClosedBelow c first book.old → AreClosedBelow (c + 1) first book.new) }
 {
     if !book.network().is_source(c) {
         return Ok(());

@@ -3,7 +3,7 @@ ghost use Rattle.std.specs.Prelude.{◌≡◌, ◌+◌, ◌<◌, ◌≤◌, ◌^
 ghost use Rattle.kpn_history.specs.Ends.{HaveStopped};
 ghost use Rattle.kpn_history.specs.Views.{is_ready};
 ghost use Rattle.kpn_book.specs.Book.{held_count};
-ghost use Rattle.kpn_stream.specs.Streaming.{StepsProcesses};
+ghost use Rattle.kpn_stream.specs.Streaming.{StepsWithinLimits};
 
 use kpn_book::{Book, Limits};
 use std::alloc::AllocError;
@@ -21,7 +21,7 @@ pub(crate) fn step_stretch(
     limits: &Limits,
     goal: u64,
 ) -> Result<(), AllocError>
-    ensures { StepsProcesses limits.now book.old book.new }
+    ensures { StepsWithinLimits limits.now book.old book.new }
 {
     book.reserve(ROOM)?;
     step_until(book, limits, goal)
@@ -30,7 +30,7 @@ pub(crate) fn step_stretch(
 /// Steps the processes in turn until none is ready, or the commits have reached the goal or their limit. The error is
 /// that memory ran out.
 fn step_until(book: &mut Book<'_>, limits: &Limits, goal: u64) -> Result<(), AllocError>
-    ensures { StepsProcesses limits.now book.old book.new }
+    ensures { StepsWithinLimits limits.now book.old book.new }
 {
     'rows: for _row in 0..u64::MAX {
         if step_row(book, limits, goal)?.is_none() {
@@ -43,7 +43,7 @@ fn step_until(book: &mut Book<'_>, limits: &Limits, goal: u64) -> Result<(), All
 /// Steps the processes in turn until one has put an item on a sink, which is returned, or none is ready, or the commits
 /// have reached the goal or their limit.
 fn step_row(book: &mut Book<'_>, limits: &Limits, goal: u64) -> Result<Option<usize>, AllocError>
-    ensures { StepsProcesses limits.now book.old book.new }
+    ensures { StepsWithinLimits limits.now book.old book.new }
 {
     let most = commits_left(book, limits, goal);
     book.run_on(limits.quota.max(1), most)
