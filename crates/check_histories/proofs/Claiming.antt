@@ -2,7 +2,7 @@
 use Rattle.std.specs.List.{list_all}
 use Rattle.std.proofs.Common.{◌≡◌, ◌≢◌, ℕ, suc, true, List, [], ◌∷◌, ◌++◌, take, None, subst}
 use Rattle.kpn_net.specs.Tables.{Tables}
-use Rattle.kpn_net.specs.Faults.{first_fault}
+use Rattle.kpn_net.specs.Faults.{first_network_fault}
 use Rattle.kpn_history.specs.declared.event.Event.{Event}
 use Rattle.kpn_history.specs.declared.event.Event.TheVariants.{Grow}
 use Rattle.kpn_history.specs.Legal.{MayFollow, Legal, growth_after}
@@ -16,7 +16,7 @@ use Rattle.check_histories.proofs.Passing.{passes, passes-legal}
 -- each loop has n turns
 
 pub runs_to_its_end : (t : Tables) (n : ℕ) (H : List Event) → list_all is_program t.programs ≡ true
-    → first_fault t ≡ None → passes t n H ≡ true → is_quiet t H ≡ true → is_ended t H ≡ true → RunsToItsEnd t H
+    → first_network_fault t ≡ None → passes t n H ≡ true → is_quiet t H ≡ true → is_ended t H ≡ true → RunsToItsEnd t H
 runs_to_its_end t n H programs sound passed quiet ended = record {
   ended = record {
     network = network-true t programs sound;

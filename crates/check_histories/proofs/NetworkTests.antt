@@ -7,7 +7,7 @@ use Rattle.kpn_lang.specs.declared.program.ProgramFault.{ProgramFault}
 use Rattle.kpn_lang.specs.Parts as parts
 use Rattle.kpn_lang.specs.Parts.{Parts, IsProgram}
 use Rattle.kpn_net.specs.Tables.{Tables}
-use Rattle.kpn_net.specs.Faults.{first_fault, IsNetwork}
+use Rattle.kpn_net.specs.Faults.{first_network_fault, IsNetwork}
 
 abbrev is_none : Option ProgramFault → Bool
 is_none None = true
@@ -36,5 +36,5 @@ programs_at [] k d e h = absurd (omega arith)
 programs_at (p ∷ ps) zero d e h = is_program-true p (and_parts _ _ e).0
 programs_at (p ∷ ps) (suc k) d e h = programs_at ps k d (and_parts _ _ e).1 (omega arith)
 
-pub network-true : (t : Tables) → list_all is_program t.programs ≡ true → first_fault t ≡ None → IsNetwork t
+pub network-true : (t : Tables) → list_all is_program t.programs ≡ true → first_network_fault t ≡ None → IsNetwork t
 network-true t e sound = record { programs = λ k d h. programs_at t.programs k d e h; sound = sound }

@@ -15,7 +15,7 @@ use Rattle.kpn_lang.specs.Prefix.{IsPrefix}
 use Rattle.kpn_net.specs.declared.wait.Wait.{Wait}
 use Rattle.kpn_net.specs.declared.wait.Wait.TheVariants.{Nobody, Empty, Full}
 use Rattle.kpn_net.specs.Tables.{Tables, channel_at, is_source, is_sink, larger_capacity}
-use Rattle.kpn_net.specs.Process.{CanSay, ComesTo, talk_on, ending_on}
+use Rattle.kpn_net.specs.Process.{ProcessCanSay, ProcessComesTo, talk_on, ending_on}
 use Rattle.kpn_history.specs.declared.event.Event.{Event}
 use Rattle.kpn_history.specs.declared.event.Event.TheVariants.{Get, Put, WaitEmpty, WaitFull, Ended, Feed, Close, Take, Leave, Grow}
 use Rattle.kpn_history.specs.Talks.{talk_of, has_ended}
@@ -50,7 +50,7 @@ abbrev can_say : Tables → (n : ℕ) → List Event → (p : ℕ) → List Said
 can_say t n H p talk = begins same_said talk (talk_on t p n (read_on H))
 
 can_say-true : (t : Tables) (n : ℕ) (H : List Event) (p : ℕ) (talk : List Said) → can_say t n H p talk ≡ true
-    → CanSay t p (read_on H) talk
+    → ProcessCanSay t p (read_on H) talk
 can_say-true t n H p talk e = record { turns = n; said = begins-true same_said same_said-true _ _ e }
 
 abbrev holds_at_most : Option ℕ → ℕ → Bool
@@ -133,7 +133,7 @@ comes_to t n B p end =
     same_end (ending_on t p n (read_on B)) end && equals same_said (talk_on t p n (read_on B)) (talk_of B p)
 
 comes_to-true : (t : Tables) (n : ℕ) (B : List Event) (p : ℕ) (end : Ending) → comes_to t n B p end ≡ true
-    → ComesTo t p (read_on B) end (talk_of B p)
+    → ProcessComesTo t p (read_on B) end (talk_of B p)
 comes_to-true t n B p end e =
     let parts = and_parts _ _ e in
     record {

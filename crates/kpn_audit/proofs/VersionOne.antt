@@ -5,7 +5,7 @@ use Rattle.std.specs.Option.{option_map}
 use Rattle.std.proofs.lemmas.Bool.{lt-ltb}
 use Rattle.std.proofs.lemmas.List.Sums.{sum_by-cons, sum_by_push}
 use Rattle.kpn_net.specs.declared.tables.Growth.TheVariants as growth
-use Rattle.kpn_net.specs.Tables.{Tables, channel_at, capacity, grown}
+use Rattle.kpn_net.specs.Tables.{Tables, channel_at, capacity, grown_capacity}
 use Rattle.kpn_history.specs.declared.event.Event.{Event}
 use Rattle.kpn_history.specs.declared.event.Event.TheVariants.{Grow}
 use Rattle.kpn_history.specs.Channels.{is_growth_of, after_growths, capacity_after}
@@ -16,7 +16,7 @@ one_each : (t : Tables) → t.growth ≡ growth.One → (times cap : ℕ) → af
 one_each t one zero cap = omega arith
 one_each t one (suc times) cap =
     let here = one_each t one times cap in
-    ap (λ g. grown g t.limit (after_growths t times cap)) one ∙ omega (arith, here)
+    ap (λ g. grown_capacity g t.limit (after_growths t times cap)) one ∙ omega (arith, here)
 
 -- the event of the history is a growth of the channel if that of the trace is
 growth_told : (t : Tables) (B : List Event) (c : ℕ) (e : Event) → is_growth_of c (told t B e) ≡ is_growth_of c e

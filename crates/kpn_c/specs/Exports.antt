@@ -24,7 +24,7 @@ use Rattle.kpn_book.specs.RunHere.{IsNewBook}
 use Rattle.kpn_trace.specs.TraceText.{trace_text}
 use Rattle.kpn_text_names.specs.Names.{number_of}
 use Rattle.kpn_text.specs.declared.fault.TextFault.{TextFault}
-use Rattle.kpn_text.specs.Spells.{Spells}
+use Rattle.kpn_text.specs.Spells.{SpellsDocument}
 use Rattle.kpn_text.specs.Phases.{Refuses}
 use Rattle.kpn_c.specs.Faults.{fault_of_text}
 use Rattle.kpn_c.specs.Slices.{PutsToFront}
@@ -178,7 +178,7 @@ Checks text code place = ((code ≡ 0) × IsText text) ⊎ TellsTextFault text c
 pub record IsNewSession (keeps : Bool) (text : List ℕ) (slot : Option Slot) : Type 0 where
   pub session : Session
   pub held : slot ≡ slot_with session
-  pub spelled : Spells text session.document
+  pub spelled : SpellsDocument text session.document
   pub first : IsNewBook session.document.tables session.book
   pub keeps_so : session.keeps ≡ keeps
   pub kept : KeepsAllOrNothing keeps session.book

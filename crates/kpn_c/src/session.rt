@@ -7,7 +7,7 @@ ghost use Rattle.kpn_net.specs.Tables.{Tables};
 ghost use Rattle.kpn_history.specs.Keeping.{keeps_items};
 ghost use Rattle.kpn_history.specs.declared.stored.Version.TheVariants.{Two};
 ghost use Rattle.kpn_trace.specs.TraceText.{trace_text};
-ghost use Rattle.kpn_text.specs.Spells.{Spells};
+ghost use Rattle.kpn_text.specs.Spells.{SpellsDocument};
 ghost use Rattle.kpn_text.specs.Phases.{Refuses};
 ghost use Rattle.kpn_book.specs.Kept.{IsBook};
 ghost use Rattle.kpn_book.specs.Detached.{book_on};
@@ -69,7 +69,7 @@ impl Session {
     /// Opens a session: nothing has happened, and each process is at the start of its program. It keeps all that will
     /// happen, or nothing.
     pub fn open(alloc: Global, text: &[u8], keeps: bool) -> Result<Session, TextFault>
-        ensures spelled { IfOk result (λ session. Spells text.now session.document) }
+        ensures spelled { IfOk result (λ session. SpellsDocument text.now session.document) }
         ensures first { IfOk result (λ session. IsNewBook session.document.tables session.book) }
         ensures keeps { IfOk result (λ session. session.keeps ≡ keeps) }
         ensures kept { IfOk result (λ session. KeepsAllOrNothing keeps session.book) }

@@ -8,7 +8,7 @@ use Rattle.kpn_audit.specs.declared.findings.AuditFault.TheVariants as fault
 use Rattle.kpn_audit.specs.Stored.{Differs, tables_for, history_in}
 use Rattle.kpn_audit.specs.Audit.{IsAudit, AreLeast, AreWithinSteps, IsRefusal}
 use Rattle.kpn_trace.specs.declared.fault.TraceFault.{TraceFault}
-use Rattle.kpn_trace.specs.TraceText.{Spells, Refuses}
+use Rattle.kpn_trace.specs.TraceText.{SpellsTrace, RefusesTrace}
 use Rattle.kpn_text.specs.Document.{Document}
 use Rattle.kpn_command_base.specs.declared.refusal.Refusal.{Refusal}
 use Rattle.kpn_command_base.specs.declared.refusal.Refusal.TheVariants as refusal
@@ -25,7 +25,7 @@ use Rattle.kpn_command_base.specs.Flaw.{IsTold}
 
 -- a file may give bytes that spell this trace
 abbrev pub IsTraced : (may_give : Loads) (file : List ℕ) → Trace Global → Type 0
-IsTraced may_give file trace = IsLoadedAs Spells may_give file trace
+IsTraced may_give file trace = IsLoadedAs SpellsTrace may_give file trace
 
 -- what an audit finds of a trace whose history is legal
 pub record IsFoundLegal (t : Tables) (trace : Trace Global) (steps : ℕ) (audit : Audit Global) : Type 0 where
@@ -77,7 +77,7 @@ IsAnyToldOf may_give file trace steps text status =
 
 -- a file may give bytes that are refused as a trace
 abbrev pub IsRefusedTrace : (may_give : Loads) (trace : List ℕ) → TraceFault → Type 0
-IsRefusedTrace may_give trace fault = IsLoadedAs Refuses may_give trace fault
+IsRefusedTrace may_give trace fault = IsLoadedAs RefusesTrace may_give trace fault
 
 -- the one file spells a network, the other a trace of other rules of growth
 pub record IsOfOtherRules (may_give : Loads) (file trace : List ℕ) : Type 0 where

@@ -2,7 +2,7 @@
 use Rattle.std.specs.Prelude.{◌≡◌, ◌⊎◌, ℕ, List}
 use Rattle.kpn_text.specs.declared.fault.TextFault.{TextFault}
 use Rattle.kpn_text.specs.Document.{Document}
-use Rattle.kpn_text.specs.Spells.{Spells}
+use Rattle.kpn_text.specs.Spells.{SpellsDocument}
 use Rattle.kpn_text.specs.Phases.{Refuses}
 use Rattle.kpn_command_base.specs.declared.refusal.Refusal.{Refusal}
 use Rattle.kpn_command_base.specs.declared.refusal.Refusal.TheVariants.{Input, Description, NoMemory}
@@ -10,7 +10,7 @@ use Rattle.kpn_shelf.specs.Shelf.{Loads, IsRefusalOfLoad, IsLoadedAs}
 
 -- a file may give bytes that spell this document
 abbrev pub IsDescribed : (may_give : Loads) (file : List ℕ) → Document → Type 0
-IsDescribed may_give file d = IsLoadedAs Spells may_give file d
+IsDescribed may_give file d = IsLoadedAs SpellsDocument may_give file d
 
 -- a file may give bytes that are refused as a description
 abbrev pub IsRefused : (may_give : Loads) (file : List ℕ) → TextFault → Type 0

@@ -3,7 +3,7 @@ use Rattle.std.proofs.Common.{◌≡◌, ◌⊎◌, ◌≢◌, inl, inr, ℕ, �
 use Rattle.kpn_text_items.specs.ItemFile.{Spells as SpellsItems, IsFirstBad}
 use Rattle.kpn_text.specs.declared.fault.TextFault.{TextFault}
 use Rattle.kpn_text.specs.Document.{Document}
-use Rattle.kpn_text.specs.Spells.{Spells}
+use Rattle.kpn_text.specs.Spells.{SpellsDocument}
 use Rattle.kpn_text.specs.Phases.{Refuses}
 use Rattle.kpn_command_base.specs.declared.refusal.Refusal.{Refusal}
 use Rattle.kpn_command_base.specs.declared.refusal.Refusal.TheVariants.{Description, NoMemory}
@@ -13,7 +13,7 @@ use Rattle.kpn_command_base.specs.Counts.{summary_text}
 use Rattle.kpn_command_explain.specs.Answers.{Explains, IsExplained, right, wrong, IsRefusalOfExplaining, items_line, ExplainsLine, AreItemsExplained, right_items, wrong_line, IsRefusalOfItems}
 
 module _ (may_give : Loads) (file bytes : List ℕ) (loaded : may_give file (Ok bytes)) where
-  pub is_right : (d : Document) → Spells bytes d → (text : List ℕ) (status : ℕ)
+  pub is_right : (d : Document) → SpellsDocument bytes d → (text : List ℕ) (status : ℕ)
       → (text ≡ summary_text d) × (status ≡ 0) → IsExplained may_give file text status
   is_right d spelled text status made =
       right d (record { bytes = bytes; loaded = loaded; read = spelled }) made.0 made.1

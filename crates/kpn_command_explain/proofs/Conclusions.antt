@@ -3,7 +3,7 @@ use Rattle.std.proofs.Common.{◌≡◌, ℕ, ◌<◌, List, length, Ok, refl, s
 use Rattle.std.specs.declared.alloc.Global.{Global}
 use Rattle.kpn_net.specs.Tables.{Tables}
 use Rattle.kpn_history.specs.declared.stored.Trace.{Trace}
-use Rattle.kpn_trace.specs.TraceText.{Spells}
+use Rattle.kpn_trace.specs.TraceText.{SpellsTrace}
 use Rattle.kpn_text.specs.Document.{Document}
 use Rattle.kpn_audit.specs.declared.findings.AuditFault.TheVariants.{Illegal}
 use Rattle.kpn_audit.specs.declared.scene.Scene.{Scene}
@@ -37,7 +37,7 @@ module _ (d : Document) (own : Tables) (same : own ≡ d.tables) (name bytes : L
 
 -- ---- refusals
 
-pub no_explanation : (t : Tables) (bytes : List ℕ) (trace : Trace Global) → Spells bytes trace → (r : Refusal)
+pub no_explanation : (t : Tables) (bytes : List ℕ) (trace : Trace Global) → SpellsTrace bytes trace → (r : Refusal)
     → IsNoFinding t trace r → IsNoExplanation t bytes r
 no_explanation t bytes trace spelled refusal.PolicyDiffers cause = (trace, spelled, cause)
 no_explanation t bytes trace spelled refusal.NoMemoryToAudit cause = tt

@@ -10,7 +10,7 @@ use Rattle.kpn_history.specs.declared.event.How.{How}
 use Rattle.kpn_history.specs.declared.event.How.TheVariants.{Done}
 use Rattle.kpn_history.specs.declared.stored.Trace.{Trace}
 use Rattle.kpn_trace.specs.declared.fault.TraceFault.{TraceFault}
-use Rattle.kpn_trace.specs.TraceText.{Spells, Refuses}
+use Rattle.kpn_trace.specs.TraceText.{SpellsTrace, RefusesTrace}
 use Rattle.kpn_text.specs.Document.{Document}
 use Rattle.kpn_audit.specs.declared.findings.Audit.{Audit}
 use Rattle.kpn_audit.specs.declared.findings.AuditFault.TheVariants.{Illegal, Budget}
@@ -103,9 +103,9 @@ pub data IsConclusion (d : Document) (name bytes : List ℕ) (trace : Trace Glob
 -- the text and the status for the bytes of a trace: why they are refused, if not by want of memory, 1; or those for the
 -- trace that they spell
 pub data IsExplanation (d : Document) (name bytes : List ℕ) (steps : ℕ) (text : List ℕ) (status : ℕ) : Type 0 where
-  refused : (fault : TraceFault) → Refuses bytes fault → fault ≢ NoMemory
+  refused : (fault : TraceFault) → RefusesTrace bytes fault → fault ≢ NoMemory
       → ExplainsFault name bytes fault text → status ≡ 1 → IsExplanation d name bytes steps text status
-  spelled : (trace : Trace Global) → Spells bytes trace → IsConclusion d name bytes trace steps text status
+  spelled : (trace : Trace Global) → SpellsTrace bytes trace → IsConclusion d name bytes trace steps text status
       → IsExplanation d name bytes steps text status
 
 -- the one file spells a network, and this is the text and the status for the bytes of the other
@@ -121,8 +121,8 @@ pub record IsExplained (may_give : Loads) (file trace : List ℕ) (steps : ℕ) 
 
 -- the bytes spell a trace of other rules of growth, or memory ran out
 abbrev pub IsNoExplanation : Tables → (bytes : List ℕ) → Refusal → Type 0
-IsNoExplanation t bytes (refusal.Trace fault) = Refuses bytes fault × (status_of (refusal.Trace fault) ≡ 6)
-IsNoExplanation t bytes refusal.PolicyDiffers = (trace : Trace Global) × Spells bytes trace × Differs t trace
+IsNoExplanation t bytes (refusal.Trace fault) = RefusesTrace bytes fault × (status_of (refusal.Trace fault) ≡ 6)
+IsNoExplanation t bytes refusal.PolicyDiffers = (trace : Trace Global) × SpellsTrace bytes trace × Differs t trace
 IsNoExplanation t bytes refusal.NoMemoryToAudit = ⊤
 IsNoExplanation t bytes refusal.NoMemory = ⊤
 IsNoExplanation t bytes other = ⊥

@@ -6,7 +6,7 @@ use crate::spots::Spot;
 use kpn_command_base::push_number;
 use kpn_limits::{MAX_CELLS, MAX_CHANNELS, MAX_NODES, MAX_PORTS, MAX_PROCESSES, MAX_VARIABLES};
 use kpn_text_grammar::{GrammarFault, description};
-use kpn_text_names::{NameFault, Scope, resolve};
+use kpn_text_names::{NameFault, NameScope, resolve};
 use kpn_text_tokens::{Lexeme, language_of};
 use std::alloc::{AllocError, Global};
 
@@ -84,7 +84,7 @@ fn sizes_of<'a>(
 
 // The cells of arrays stand behind the variables, and those of tables, its own and the shared ones that it names, have
 // places from 0 on.
-fn cells_of(scope: &Scope<'_>) -> usize {
+fn cells_of(scope: &NameScope<'_>) -> usize {
     let of_arrays = scope.arrays.end.saturating_sub(MAX_VARIABLES);
     of_arrays.saturating_add(scope.tables.rows.end)
 }

@@ -11,7 +11,7 @@ use Rattle.kpn_net.specs.declared.tables.End.TheVariants.{Process, Source, Sink}
 use Rattle.kpn_net.specs.declared.tables.ChannelSpec.{ChannelSpec}
 use Rattle.kpn_net.specs.declared.tables.ChannelSpec.TheVariants as channel
 use Rattle.kpn_net.specs.Tables.{Tables, channel_at, is_source, capacity, reader_of}
-use Rattle.kpn_net.specs.Process.{Family, IsFamilyPrefix, CanSay, talk_on}
+use Rattle.kpn_net.specs.Process.{Family, IsFamilyPrefix, ProcessCanSay, talk_on}
 use Rattle.kpn_net.proofs.Monotone.{talk_on-grows}
 use Rattle.kpn_history.specs.declared.event.Event.{Event}
 use Rattle.kpn_history.specs.declared.event.Event.TheVariants.{Get, Put, Feed, Take}
@@ -48,8 +48,8 @@ or-false false = refl
 
 -- ---- what a process can say on longer lists
 
-pub CanSay-grows : (t : Tables) (p : ℕ) (X Y : Family) (talk : List Said) → IsFamilyPrefix X Y → CanSay t p X talk
-    → CanSay t p Y talk
+pub CanSay-grows : (t : Tables) (p : ℕ) (X Y : Family) (talk : List Said) → IsFamilyPrefix X Y → ProcessCanSay t p X talk
+    → ProcessCanSay t p Y talk
 CanSay-grows t p X Y talk b h =
     record {
       turns = h.turns;
@@ -92,34 +92,34 @@ unread_length-push B e c =
 
 -- ---- what a process said
 
-silent : (t : Tables) (B : List Event) (e : Event) (q : ℕ) → said_in q e ≡ [] → CanSay t q (read_on B) (talk_of B q)
-    → CanSay t q (read_on (B ++ e ∷ [])) (talk_of (B ++ e ∷ []) q)
+silent : (t : Tables) (B : List Event) (e : Event) (q : ℕ) → said_in q e ≡ [] → ProcessCanSay t q (read_on B) (talk_of B q)
+    → ProcessCanSay t q (read_on (B ++ e ∷ [])) (talk_of (B ++ e ∷ []) q)
 silent t B e q none h =
-    subst (CanSay t q (read_on (B ++ e ∷ []))) (sym (flat_map-same (said_in q) B e none))
+    subst (ProcessCanSay t q (read_on (B ++ e ∷ []))) (sym (flat_map-same (said_in q) B e none))
     (CanSay-grows t q (read_on B) (read_on (B ++ e ∷ [])) (talk_of B q) (read_on-grows B e) h)
 
 speaks : (t : Tables) (B : List Event) (e : Event) (q : ℕ) (spoken : Said) → said_in q e ≡ spoken ∷ []
-    → CanSay t q (read_on (B ++ e ∷ [])) (talk_of B q ++ spoken ∷ [])
-    → CanSay t q (read_on (B ++ e ∷ [])) (talk_of (B ++ e ∷ []) q)
+    → ProcessCanSay t q (read_on (B ++ e ∷ [])) (talk_of B q ++ spoken ∷ [])
+    → ProcessCanSay t q (read_on (B ++ e ∷ [])) (talk_of (B ++ e ∷ []) q)
 speaks t B e q spoken is h =
-    subst (CanSay t q (read_on (B ++ e ∷ []))) (ap (λ xs. talk_of B q ++ xs) (sym is) ∙ sym (talk_of-push B e q)) h
+    subst (ProcessCanSay t q (read_on (B ++ e ∷ []))) (ap (λ xs. talk_of B q ++ xs) (sym is) ∙ sym (talk_of-push B e q)) h
 
 said_elsewhere : (p q : ℕ) (spoken : Said) → (p ≡ q → ⊥) → cond (eqb p q) (spoken ∷ []) [] ≡ []
 said_elsewhere p q spoken differ = ap (λ b. cond b (spoken ∷ []) []) (ne_eqb p q differ)
 
 said_more : (t : Tables) (B : List Event) (e : Event) → IsConsistent t B → KeepsConsistent t B e → (q : ℕ)
-    → q < length t.instances → CanSay t q (read_on (B ++ e ∷ [])) (talk_of (B ++ e ∷ []) q)
+    → q < length t.instances → ProcessCanSay t q (read_on (B ++ e ∷ [])) (talk_of (B ++ e ∷ []) q)
 said_more t B (Get p c v) s w q below =
     elim (cases_eq p q) [
       | inl same ↦
-          subst (λ x. CanSay t x (read_on (B ++ Get p c v ∷ [])) (talk_of (B ++ Get p c v ∷ []) x)) same
+          subst (λ x. ProcessCanSay t x (read_on (B ++ Get p c v ∷ [])) (talk_of (B ++ Get p c v ∷ []) x)) same
           (speaks t B (Get p c v) p (said.Got c v) (said_by p p (said.Got c v) refl) w.1)
       | inr differ ↦ silent t B (Get p c v) q (said_elsewhere p q (said.Got c v) differ) (s.said q below)
     ]
 said_more t B (Put p c v) s w q below =
     elim (cases_eq p q) [
       | inl same ↦
-          subst (λ x. CanSay t x (read_on (B ++ Put p c v ∷ [])) (talk_of (B ++ Put p c v ∷ []) x)) same
+          subst (λ x. ProcessCanSay t x (read_on (B ++ Put p c v ∷ [])) (talk_of (B ++ Put p c v ∷ []) x)) same
           (speaks t B (Put p c v) p (said.Put c v) (said_by p p (said.Put c v) refl)
           (CanSay-grows t p (read_on B) (read_on (B ++ Put p c v ∷ [])) _ (read_on-grows B (Put p c v)) w.1))
       | inr differ ↦ silent t B (Put p c v) q (said_elsewhere p q (said.Put c v) differ) (s.said q below)

@@ -4,7 +4,7 @@ use Rattle.kpn_lang.specs.declared.talk.Said.{Said}
 use Rattle.kpn_lang.specs.declared.talk.Said.TheVariants as said
 use Rattle.kpn_net.specs.Tables.{Tables, channel_at, is_source, is_sink}
 use Rattle.kpn_net.specs.Faults.{IsNetwork}
-use Rattle.kpn_net.specs.Process.{CanSay}
+use Rattle.kpn_net.specs.Process.{ProcessCanSay}
 use Rattle.kpn_net.proofs.Networks.{Reads, Writes, reader_of-Reads, writer_of-Writes}
 use Rattle.kpn_history.specs.declared.event.Event.{Event}
 use Rattle.kpn_history.specs.declared.event.Event.TheVariants.{Get, Put, WaitEmpty, WaitFull, Ended, Feed, Close, Take, Leave, Grow}
@@ -36,9 +36,9 @@ said_by b p talk e = ap (λ x. cond x (talk ∷ []) []) (eq-eqb b p e)
 
 -- what a process says in the last event of a legal history it can say behind what it said before
 pub CanSay-last : (t : Tables) (B : List Event) (e : Event) → Legal t (B ++ e ∷ []) → (p : ℕ) → p < length t.instances
-    → (spoken : Said) → said_in p e ≡ spoken ∷ [] → CanSay t p (read_on (B ++ e ∷ [])) (talk_of B p ++ spoken ∷ [])
+    → (spoken : Said) → said_in p e ≡ spoken ∷ [] → ProcessCanSay t p (read_on (B ++ e ∷ [])) (talk_of B p ++ spoken ∷ [])
 CanSay-last t B e legal p below spoken is =
-    subst (CanSay t p (read_on (B ++ e ∷ []))) (talk_of-push B e p ∙ ap (λ xs. talk_of B p ++ xs) is)
+    subst (ProcessCanSay t p (read_on (B ++ e ∷ []))) (talk_of-push B e p ∙ ap (λ xs. talk_of B p ++ xs) is)
     ((Legal-consistent t (B ++ e ∷ []) legal).said p below)
 
 pub Owns-last : (t : Tables) → IsNetwork t → (B : List Event) (e : Event) → Legal t (B ++ e ∷ []) → Owns t e

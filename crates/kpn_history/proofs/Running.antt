@@ -16,7 +16,7 @@ use Rattle.kpn_lang.proofs.Processes.{ends_alike}
 use Rattle.kpn_net.specs.declared.tables.Instance.{Instance}
 use Rattle.kpn_net.specs.Tables.{Tables, instance_at, program_of}
 use Rattle.kpn_net.specs.Faults.{IsNetwork}
-use Rattle.kpn_net.specs.Process.{Family, IsFamilyPrefix, at_channel, ends_at_channel, ran_on, talk_on, CanSay, ComesTo}
+use Rattle.kpn_net.specs.Process.{Family, IsFamilyPrefix, at_channel, ends_at_channel, ran_on, talk_on, ProcessCanSay, ProcessComesTo}
 use Rattle.kpn_net.proofs.Monotone.{ArePrefixes-map, talk_on-grows}
 use Rattle.kpn_net.proofs.Networks.{IsInstance-of, IsProgram-of, StandsAt, Reads, Writes}
 use Rattle.kpn_net.proofs.Ports.{SaidNames, TalkNames, EndingNames, RanNames, alone-names}
@@ -55,19 +55,19 @@ last_said_stands i (y ∷ talk) said (x ∷ spoken) p names = last_said_stands i
 
 -- the last that a process can say names a channel of its own
 pub CanSay-stands : (t : Tables) → IsNetwork t → (p : ℕ) → p < length t.instances
-    → (X : Family) (talk : List Said) (said : Said) → CanSay t p X (talk ++ said ∷ [])
+    → (X : Family) (talk : List Said) (said : Said) → ProcessCanSay t p X (talk ++ said ∷ [])
     → SaidStands (instance_at t p) said
 CanSay-stands t network p below X talk said h =
     last_said_stands (instance_at t p) talk said (ran_on t p h.turns X).talk h.said
     (ran_on-names t network p below h.turns X).talk
 
 pub CanSay-reads : (t : Tables) → IsNetwork t → (p : ℕ) → p < length t.instances
-    → (X : Family) (talk : List Said) (c : ℕ) (v : ℤ) → CanSay t p X (talk ++ Got c v ∷ []) → Reads t p c
+    → (X : Family) (talk : List Said) (c : ℕ) (v : ℤ) → ProcessCanSay t p X (talk ++ Got c v ∷ []) → Reads t p c
 CanSay-reads t network p below X talk c v h =
     record { process = below; place = CanSay-stands t network p below X talk (Got c v) h }
 
 pub CanSay-writes : (t : Tables) → IsNetwork t → (p : ℕ) → p < length t.instances
-    → (X : Family) (talk : List Said) (c : ℕ) (v : ℤ) → CanSay t p X (talk ++ Put c v ∷ []) → Writes t p c
+    → (X : Family) (talk : List Said) (c : ℕ) (v : ℤ) → ProcessCanSay t p X (talk ++ Put c v ∷ []) → Writes t p c
 CanSay-writes t network p below X talk c v h =
     record { process = below; place = CanSay-stands t network p below X talk (Put c v) h }
 
@@ -88,7 +88,7 @@ starved_at i (Starved port) c e names = record { port = port; raw_is = refl; the
 starved_at i Cut c e names = absurd cc
 
 pub ComesTo-starved_at : (t : Tables) → IsNetwork t → (p : ℕ) → p < length t.instances
-    → (X : Family) (c : ℕ) (talk : List Said) → (h : ComesTo t p X (Starved c) talk)
+    → (X : Family) (c : ℕ) (talk : List Said) → (h : ProcessComesTo t p X (Starved c) talk)
     → StarvedAt (instance_at t p) (ran_on t p h.turns X).ending c
 ComesTo-starved_at t network p below X c talk h =
     starved_at (instance_at t p) (ran_on t p h.turns X).ending c h.ended
@@ -96,7 +96,7 @@ ComesTo-starved_at t network p below X c talk h =
 
 -- a process that starves at a channel reads it
 pub ComesTo-reads : (t : Tables) → IsNetwork t → (p : ℕ) → p < length t.instances
-    → (X : Family) (c : ℕ) (talk : List Said) → ComesTo t p X (Starved c) talk → Reads t p c
+    → (X : Family) (c : ℕ) (talk : List Said) → ProcessComesTo t p X (Starved c) talk → Reads t p c
 ComesTo-reads t network p below X c talk h =
     let at = ComesTo-starved_at t network p below X c talk h in
     record { process = below; place = record { port = at.port; there = at.there; is = at.is } }
@@ -125,7 +125,7 @@ more_for t p X Y b =
 -- what it says on longer lists, with any number of turns, begins what it had said when it came to an end that longer
 -- lists leave
 pub talk_settled : (t : Tables) (p : ℕ) (X Y : Family) (b : IsFamilyPrefix X Y) (ending : Ending) (talk : List Said)
-    (h : ComesTo t p X ending talk) → IsFinal (more_for t p X Y b) (ran_on t p h.turns X).ending → (n : ℕ)
+    (h : ProcessComesTo t p X ending talk) → IsFinal (more_for t p X Y b) (ran_on t p h.turns X).ending → (n : ℕ)
     → IsPrefix (talk_on t p n Y) talk
 talk_settled t p X Y b ending talk h final n =
     let i = instance_at t p in
@@ -142,7 +142,7 @@ talk_settled t p X Y b ending talk h final n =
 
 -- an end that is done or faulted stays on all longer lists
 pub talk_settled-last : (t : Tables) (p : ℕ) (X Y : Family) → IsFamilyPrefix X Y
-    → (ending : Ending) (talk : List Said) → IsLast ending → ComesTo t p X ending talk → (n : ℕ)
+    → (ending : Ending) (talk : List Said) → IsLast ending → ProcessComesTo t p X ending talk → (n : ℕ)
     → IsPrefix (talk_on t p n Y) talk
 talk_settled-last t p X Y b ending talk last h n =
     talk_settled t p X Y b ending talk h
@@ -150,7 +150,7 @@ talk_settled-last t p X Y b ending talk last h n =
 
 -- a process that starved stays so if the list of that channel stays
 pub talk_settled-starved : (t : Tables) → IsNetwork t → (p : ℕ) → p < length t.instances → (X Y : Family)
-    → IsFamilyPrefix X Y → (c : ℕ) → Y c ≡ X c → (talk : List Said) → ComesTo t p X (Starved c) talk → (n : ℕ)
+    → IsFamilyPrefix X Y → (c : ℕ) → Y c ≡ X c → (talk : List Said) → ProcessComesTo t p X (Starved c) talk → (n : ℕ)
     → IsPrefix (talk_on t p n Y) talk
 talk_settled-starved t network p below X Y b c same talk h n =
     let i = instance_at t p in

@@ -10,7 +10,7 @@ use Rattle.kpn_lang.specs.Prefix.{IsPrefix}
 use Rattle.kpn_net.specs.declared.tables.Policy.TheVariants.{All}
 use Rattle.kpn_net.specs.declared.wait.Wait.TheVariants.{Nobody, Full}
 use Rattle.kpn_net.specs.Tables.{Tables, channel_at, is_source, is_sink, larger_capacity}
-use Rattle.kpn_net.specs.Process.{CanSay, ComesTo}
+use Rattle.kpn_net.specs.Process.{ProcessCanSay, ProcessComesTo}
 use Rattle.kpn_net.specs.Waits.{IsSmallest, awaited_as_full}
 use Rattle.kpn_history.specs.declared.event.How.{How}
 use Rattle.kpn_history.specs.declared.event.How.TheVariants as how
@@ -26,7 +26,7 @@ use Rattle.kpn_history.specs.Ends.{IsSettled}
 -- what holds of a history at each moment. Each process can say what it said on what it read. What was read begins what
 -- was written. If the reader of a channel lives, no more is unread than the capacity
 pub record IsConsistent (t : Tables) (H : List Event) : Type 0 where
-  pub said : (p : ℕ) → p < length t.instances → CanSay t p (read_on H) (talk_of H p)
+  pub said : (p : ℕ) → p < length t.instances → ProcessCanSay t p (read_on H) (talk_of H p)
   pub in_order : (c : ℕ) → c < length t.channels → IsPrefix (read_on H c) (written_on H c)
   pub within : (c : ℕ) → c < length t.channels → reader_lives t H c ≡ true
       → (cap : ℕ) → capacity_after t H c ≡ Some cap → length (unread_on H c) ≤ cap
@@ -101,13 +101,13 @@ ending_of how.Shift = ending.Faulted fault.Shift
 
 -- it comes to read on an empty channel
 pub record ComesToRead (t : Tables) (B : List Event) (p c : ℕ) : Type 0 where
-  pub starved : ComesTo t p (read_on B) (ending.Starved c) (talk_of B p)
+  pub starved : ProcessComesTo t p (read_on B) (ending.Starved c) (talk_of B p)
   pub empty : is_empty B c ≡ true
 
 -- it comes to write on a full channel
 pub record ComesToWrite (t : Tables) (B : List Event) (p c : ℕ) : Type 0 where
   pub item : ℤ
-  pub next : CanSay t p (read_on B) (talk_of B p ++ said.Put c item ∷ [])
+  pub next : ProcessCanSay t p (read_on B) (talk_of B p ++ said.Put c item ∷ [])
   pub full : is_full t B c ≡ true
 
 -- the outside may feed a source or close it
@@ -127,7 +127,7 @@ IsDue t B (Get p c v) = CanGo t B p
 IsDue t B (Put p c v) = CanGo t B p
 IsDue t B (WaitEmpty p c) = CanGo t B p × ComesToRead t B p c
 IsDue t B (WaitFull p c) = CanGo t B p × ComesToWrite t B p c
-IsDue t B (Ended p how) = CanGo t B p × ComesTo t p (read_on B) (ending_of how) (talk_of B p)
+IsDue t B (Ended p how) = CanGo t B p × ProcessComesTo t p (read_on B) (ending_of how) (talk_of B p)
 IsDue t B (Feed c v) = MayFeed t B c
 IsDue t B (Close c) = MayFeed t B c
 IsDue t B (Take c v) = MayTake t B c

@@ -4,7 +4,7 @@ use Rattle.std.specs.Prelude.{◌≡◌, ℕ, ◌<◌, true, false, ℤ, List, [
 use Rattle.kpn_lang.specs.declared.talk.Said.TheVariants as said
 use Rattle.kpn_net.specs.declared.tables.End.TheVariants.{Process}
 use Rattle.kpn_net.specs.Tables.{Tables, channel_at, is_source, is_sink, writer_of, reader_of}
-use Rattle.kpn_net.specs.Process.{CanSay}
+use Rattle.kpn_net.specs.Process.{ProcessCanSay}
 use Rattle.kpn_history.specs.declared.event.Event.{Event}
 use Rattle.kpn_history.specs.declared.event.Event.TheVariants.{Get, Put, WaitEmpty, WaitFull, Ended, Feed, Close, Take, Leave, Grow}
 use Rattle.kpn_history.specs.Talks.{talk_of}
@@ -18,8 +18,8 @@ pub record IsOldest (B : List Event) (c : ℕ) (v : ℤ) : Type 0 where
 -- an item that is got or taken is the oldest unread one, a put finds room, and the process can say it
 abbrev pub KeepsConsistent : Tables → List Event → Event → Type 0
 KeepsConsistent t B (Get p c v) =
-    IsOldest B c v × CanSay t p (read_on (B ++ Get p c v ∷ [])) (talk_of B p ++ said.Got c v ∷ [])
-KeepsConsistent t B (Put p c v) = (is_full t B c ≡ false) × CanSay t p (read_on B) (talk_of B p ++ said.Put c v ∷ [])
+    IsOldest B c v × ProcessCanSay t p (read_on (B ++ Get p c v ∷ [])) (talk_of B p ++ said.Got c v ∷ [])
+KeepsConsistent t B (Put p c v) = (is_full t B c ≡ false) × ProcessCanSay t p (read_on B) (talk_of B p ++ said.Put c v ∷ [])
 KeepsConsistent t B (Take c v) = IsOldest B c v
 KeepsConsistent t B event = Unit {0}
 

@@ -9,7 +9,7 @@ use Rattle.kpn_lang.specs.declared.value.Fault.{Fault}
 use Rattle.kpn_lang.specs.declared.value.Fault.TheVariants.{Overflow, ZeroDivisor, Index, Shift}
 use Rattle.kpn_net.specs.Tables.{Tables, channel_at, is_source, is_sink, instance_at}
 use Rattle.kpn_net.specs.Faults.{IsNetwork}
-use Rattle.kpn_net.specs.Process.{CanSay, ComesTo, ends_at_channel}
+use Rattle.kpn_net.specs.Process.{ProcessCanSay, ProcessComesTo, ends_at_channel}
 use Rattle.kpn_step.specs.After.{EndsThere}
 use Rattle.kpn_net.proofs.Networks.{reader_of-sink}
 use Rattle.kpn_step.specs.declared.stop.Stop.{Stop}
@@ -99,9 +99,9 @@ module _ (t : Tables) (H : List Event) (c : ℕ) (ch : ChannelState) (holds : Ho
 module _ (t : Tables) (network : IsNetwork t) (H : List Event) (s : Machine) (run : IsRun t H s) (p : ℕ)
     (there : p < length t.instances) where
   pub says_got : (c : ℕ) (v : ℤ) → ReadsFrom t s p c
-      → CanSay t p (read_on (H ++ Get p c v ∷ [])) (talk_of H p ++ said.Got c v ∷ [])
+      → ProcessCanSay t p (read_on (H ++ Get p c v ∷ [])) (talk_of H p ++ said.Got c v ∷ [])
   says_got c v reads =
-      subst (λ d. CanSay t p (read_on (H ++ Get p c v ∷ [])) (talk_of H p ++ said.Got d v ∷ [])) (reads.channel.1)
+      subst (λ d. ProcessCanSay t p (read_on (H ++ Get p c v ∷ [])) (talk_of H p ++ said.Got d v ∷ [])) (reads.channel.1)
       (CanSay-next t network H run.legal p there (frame_in s p) (run.leads.frames p there)
       (stop.WantRead reads.port) reads.stands (λ e. absurd cc)
       (read_on (H ++ Get p c v ∷ [])) (λ d. read_in d (Get p c v)) (read_on-push H (Get p c v))
@@ -115,9 +115,9 @@ module _ (t : Tables) (network : IsNetwork t) (H : List Event) (s : Machine) (ru
         ),
       ))
 
-  pub says_put : (c : ℕ) (v : ℤ) → WritesTo t s p c v → CanSay t p (read_on H) (talk_of H p ++ said.Put c v ∷ [])
+  pub says_put : (c : ℕ) (v : ℤ) → WritesTo t s p c v → ProcessCanSay t p (read_on H) (talk_of H p ++ said.Put c v ∷ [])
   says_put c v writes =
-      subst (λ d. CanSay t p (read_on H) (talk_of H p ++ said.Put d v ∷ [])) (writes.channel.1)
+      subst (λ d. ProcessCanSay t p (read_on H) (talk_of H p ++ said.Put d v ∷ [])) (writes.channel.1)
       (CanSay-next t network H run.legal p there (frame_in s p) (run.leads.frames p there)
       (stop.WantWrite writes.port v) writes.stands (λ e. absurd cc)
       (read_on H) (λ d. []) (λ d. sym (append-nil (read_on H d)))
@@ -169,7 +169,7 @@ module _ (t : Tables) (network : IsNetwork t) (H : List Event) (s : Machine) (ru
 
     comes_to : (at : Stop) → Stands t s p at → at ≢ stop.Paused → (end : Ending)
         → EndsThere at (map (λ d. []) (instance_at t p).ins) end → ends_at_channel (instance_at t p) end ≢ ending.Cut
-        → ComesTo t p (read_on H) (ends_at_channel (instance_at t p) end) (talk_of H p)
+        → ProcessComesTo t p (read_on H) (ends_at_channel (instance_at t p) end) (talk_of H p)
     comes_to at stands no_pause end ends whole =
         ComesTo-end t network H run.legal p there (frame_in s p) (run.leads.frames p there) at stands no_pause
         (read_on H) (λ d. []) (λ d. sym (append-nil (read_on H d))) end ends whole
@@ -180,7 +180,7 @@ module _ (t : Tables) (network : IsNetwork t) (H : List Event) (s : Machine) (ru
         legal_with (WaitEmpty p c) (there, below) (
           may_go p there free,
           record {
-            starved = subst (λ d. ComesTo t p (read_on H) (ending.Starved d) (talk_of H p)) (reads.channel.1)
+            starved = subst (λ d. ProcessComesTo t p (read_on H) (ending.Starved d) (talk_of H p)) (reads.channel.1)
                 (comes_to (stop.WantRead reads.port) reads.stands (λ e. absurd cc) (ending.Starved reads.port)
                 (refl, get_or-map (λ d. []) (instance_at t p).ins reads.port 0 [] (reads.channel.0))
                 (λ e. absurd cc));
@@ -188,7 +188,7 @@ module _ (t : Tables) (network : IsNetwork t) (H : List Event) (s : Machine) (ru
           },
         ) tt
 
-    comes_last : (end : Ending) → IsLast end → Stands t s p (stop_for end) → ComesTo t p (read_on H) end (talk_of H p)
+    comes_last : (end : Ending) → IsLast end → Stands t s p (stop_for end) → ProcessComesTo t p (read_on H) end (talk_of H p)
     comes_last ending.Done last stands = comes_to stop.Done stands (λ e. absurd cc) ending.Done tt (λ e. absurd cc)
     comes_last (ending.Faulted fault) last stands =
         comes_to (stop.Faulted fault) stands (λ e. absurd cc) (ending.Faulted fault) refl (λ e. absurd cc)

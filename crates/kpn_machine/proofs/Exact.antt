@@ -16,7 +16,7 @@ use Rattle.kpn_net.specs.declared.tables.Instance.{Instance}
 use Rattle.kpn_net.specs.declared.tables.End.TheVariants.{Process}
 use Rattle.kpn_net.specs.Tables.{Tables, channel_at, is_sink, reader_of, instance_at, program_of}
 use Rattle.kpn_net.specs.Faults.{IsNetwork}
-use Rattle.kpn_net.specs.Process.{Family, ran_on, talk_on, CanSay, ComesTo, at_channel, ends_at_channel}
+use Rattle.kpn_net.specs.Process.{Family, ran_on, talk_on, ProcessCanSay, ProcessComesTo, at_channel, ends_at_channel}
 use Rattle.kpn_net.proofs.Networks.{IsProgram-of, IsInstance-of, reader_of-sink}
 use Rattle.kpn_step.specs.declared.stop.Stop.{Stop}
 use Rattle.kpn_step.specs.declared.stop.Stop.TheVariants as stop
@@ -101,7 +101,7 @@ module _ (t : Tables) (network : IsNetwork t) (H : List Event) (legal : Legal t 
       (record { turns = n; said = IsPrefix-refl (ran_on t p n X).talk })
 
   -- what it says next on a channel is what the stop says next at a port
-  pub next_is_asked : (heard : Said) → CanSay t p X (talk_of H p ++ heard ∷ [])
+  pub next_is_asked : (heard : Said) → ProcessCanSay t p X (talk_of H p ++ heard ∷ [])
       → (spoken : Said) × (at_channel (instance_at t p) spoken ≡ heard)
       × SaysNext at (map more (instance_at t p).ins) spoken
   next_is_asked heard can =
@@ -116,7 +116,7 @@ module _ (t : Tables) (network : IsNetwork t) (H : List Event) (legal : Legal t 
       )
 
   -- how it ends is as its stop says
-  pub end_is_there : (end : Ending) → ComesTo t p X end (talk_of H p)
+  pub end_is_there : (end : Ending) → ProcessComesTo t p X end (talk_of H p)
       → (mine : Ending) × (ends_at_channel (instance_at t p) mine ≡ end)
       × EndsThere at (map more (instance_at t p).ins) mine
   end_is_there end comes =
@@ -250,14 +250,14 @@ module _ (t : Tables) (network : IsNetwork t) (H : List Event) (s : Machine) (ru
 
     module _ (at : Stop) (stands : Stands t s p at) (no_pause : at ≢ stop.Paused) where
       asked : (X more : Family) → ((c : ℕ) → X c ≡ read_on H c ++ more c) → (heard : Said)
-          → CanSay t p X (talk_of H p ++ heard ∷ [])
+          → ProcessCanSay t p X (talk_of H p ++ heard ∷ [])
           → (spoken : Said) × (at_channel (instance_at t p) spoken ≡ heard)
           × SaysNext at (map more (instance_at t p).ins) spoken
       asked X more is heard can =
           next_is_asked t network H run.legal p there (frame_in s p) (run.leads.frames p there) at stands no_pause X
           more is heard can
 
-      reached : (end : Ending) → ComesTo t p (read_on H) end (talk_of H p)
+      reached : (end : Ending) → ProcessComesTo t p (read_on H) end (talk_of H p)
           → (mine : Ending) × (ends_at_channel (instance_at t p) mine ≡ end)
           × EndsThere at (map (λ d. []) (instance_at t p).ins) mine
       reached end comes =

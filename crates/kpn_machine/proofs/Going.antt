@@ -12,7 +12,7 @@ use Rattle.kpn_net.specs.declared.wait.Wait.TheVariants.{Nobody, Empty, Full}
 use Rattle.kpn_net.specs.declared.tables.Instance.{Instance}
 use Rattle.kpn_net.specs.Tables.{Tables, instance_at}
 use Rattle.kpn_net.specs.Faults.{IsNetwork}
-use Rattle.kpn_net.specs.Process.{Family, talk_on, CanSay, at_channel}
+use Rattle.kpn_net.specs.Process.{Family, talk_on, ProcessCanSay, at_channel}
 use Rattle.kpn_step.specs.declared.stop.Stop.TheVariants as stop
 use Rattle.kpn_step.specs.After.{SaysNext}
 use Rattle.kpn_chan.specs.Channel as chan
@@ -39,15 +39,15 @@ use Rattle.kpn_machine.proofs.Exact.{next_is_asked}
 
 pub record WritesNext (t : Tables) (H : List Event) (p c : ℕ) : Type 0 where
   pub item : ℤ
-  pub next : CanSay t p (read_on H) (talk_of H p ++ said.Put c item ∷ [])
+  pub next : ProcessCanSay t p (read_on H) (talk_of H p ++ said.Put c item ∷ [])
 
 WritesNext-more : (t : Tables) (B : List Event) (e : Event) (p c : ℕ) (item : ℤ)
-    → talk_of (B ++ e ∷ []) p ≡ talk_of B p → CanSay t p (read_on B) (talk_of B p ++ said.Put c item ∷ [])
+    → talk_of (B ++ e ∷ []) p ≡ talk_of B p → ProcessCanSay t p (read_on B) (talk_of B p ++ said.Put c item ∷ [])
     → WritesNext t (B ++ e ∷ []) p c
 WritesNext-more t B e p c item same next =
     record {
       item = item;
-      next = subst (λ talk. CanSay t p (read_on (B ++ e ∷ [])) (talk ++ said.Put c item ∷ [])) (sym same)
+      next = subst (λ talk. ProcessCanSay t p (read_on (B ++ e ∷ [])) (talk ++ said.Put c item ∷ [])) (sym same)
           (CanSay-grows t p (read_on B) (read_on (B ++ e ∷ [])) (talk_of B p ++ said.Put c item ∷ [])
           (read_on-grows B e) next);
     }
@@ -132,7 +132,7 @@ module _ (t : Tables) (network : IsNetwork t) (H : List Event) (s : Machine) (ru
 
   -- on these lists, which have no more on the channel of its wait, it says no more
   starved : (d : ℕ) → wait_of t H p ≡ Empty d → (X : Family) → ((e : ℕ) → IsPrefix (read_on H e) (X e))
-      → X d ≡ read_on H d → (heard : Said) → CanSay t p X (talk_of H p ++ heard ∷ []) → ⊥
+      → X d ≡ read_on H d → (heard : Said) → ProcessCanSay t p X (talk_of H p ++ heard ∷ []) → ⊥
   starved d is X longer same heard can =
       let w = empty_wait t H (last_event H p) d is in
       too_long (talk_of H p) (talk_on t p can.turns X) heard can.said

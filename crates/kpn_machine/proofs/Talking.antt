@@ -13,7 +13,7 @@ use Rattle.kpn_lang.specs.Alone.{got_at}
 use Rattle.kpn_net.specs.declared.tables.Instance.{Instance}
 use Rattle.kpn_net.specs.Tables.{Tables, instance_at, program_of}
 use Rattle.kpn_net.specs.Faults.{IsNetwork}
-use Rattle.kpn_net.specs.Process.{Family, talk_on, CanSay, ComesTo, at_channel, ends_at_channel}
+use Rattle.kpn_net.specs.Process.{Family, talk_on, ProcessCanSay, ProcessComesTo, at_channel, ends_at_channel}
 use Rattle.kpn_net.specs.Waits.{AreDistinct}
 use Rattle.kpn_net.proofs.Monotone.{map-prefix}
 use Rattle.kpn_net.proofs.PortsApart.{reads_its_ins, ins_distinct, one_port}
@@ -109,7 +109,7 @@ module _ (t : Tables) (network : IsNetwork t) (H : List Event) (legal : Legal t 
       (X more : Family) (is : (c : ℕ) → X c ≡ read_on H c ++ more c) where
     -- it can say what the stop says next
     pub CanSay-next : (spoken : Said) → SaysNext at (map more (instance_at t p).ins) spoken
-        → CanSay t p X (talk_of H p ++ at_channel (instance_at t p) spoken ∷ [])
+        → ProcessCanSay t p X (talk_of H p ++ at_channel (instance_at t p) spoken ∷ [])
     CanSay-next spoken next =
         let can =
         (next_said (program_of t p) (instance_at t p).pars stand.said f at (map X (instance_at t p).ins)
@@ -126,7 +126,7 @@ module _ (t : Tables) (network : IsNetwork t) (H : List Event) (legal : Legal t 
     -- it comes to the end that its stop says
     pub ComesTo-end : (end : Ending) → EndsThere at (map more (instance_at t p).ins) end
         → ends_at_channel (instance_at t p) end ≢ ending.Cut
-        → ComesTo t p X (ends_at_channel (instance_at t p) end) (talk_of H p)
+        → ProcessComesTo t p X (ends_at_channel (instance_at t p) end) (talk_of H p)
     ComesTo-end end there whole =
         let comes =
         (end_reached (program_of t p) (instance_at t p).pars stand.said f at (map X (instance_at t p).ins)

@@ -19,8 +19,8 @@ use Rattle.kpn_net.specs.declared.tables.End.{End}
 use Rattle.kpn_net.specs.declared.tables.End.TheVariants.{Process, Source, Sink}
 use Rattle.kpn_net.specs.declared.tables.Growth.{Growth}
 use Rattle.kpn_net.specs.declared.tables.Growth.TheVariants.{One, Double}
-use Rattle.kpn_net.specs.Tables.{Tables, program_at, instance_at, program_of, channel_at, capacity, is_source, is_sink, grown, larger_capacity, places, ends_from, writers_of, readers_of, writer_of, reader_of}
-use Rattle.kpn_net.specs.Faults.{is_too_large, lacks_its_program, matches_program, differs_from_its_program, lacks_a_channel, exceeds, has_no_such_capacity, channel_numbers, is_none, are_several, wrong_capacity, first_at, or_else, instances_fault, channels_fault, IsNetwork}
+use Rattle.kpn_net.specs.Tables.{Tables, program_at, instance_at, program_of, channel_at, capacity, is_source, is_sink, grown_capacity, larger_capacity, ends_among, ends_from, writers_of, readers_of, writer_of, reader_of}
+use Rattle.kpn_net.specs.Faults.{has_too_many, lacks_its_program, matches_program, differs_from_its_program, lacks_a_channel, exceeds, has_no_such_capacity, channel_numbers, is_none, are_several, wrong_capacity, first_at, or_else, instances_fault, channels_fault, IsNetwork}
 
 -- ---- searches that find nothing
 
@@ -55,7 +55,7 @@ or_else-None (Some n) after e = absurd cc
 
 -- the instances keep their rules
 pub record InstancesSound (t : Tables) : Type 0 where
-  pub few : is_too_large t ≡ false
+  pub few : has_too_many t ≡ false
   pub programs : position (lacks_its_program t) t.instances ≡ None
   pub ports : position (differs_from_its_program t) t.instances ≡ None
   pub channels : position (lacks_a_channel t) t.instances ≡ None
@@ -75,7 +75,7 @@ few_if_none false fault after e = (refl, e)
 
 pub InstancesSound-from : (t : Tables) → instances_fault t ≡ None → InstancesSound t
 InstancesSound-from t e =
-    let a = few_if_none (is_too_large t) _ _ e in
+    let a = few_if_none (has_too_many t) _ _ e in
     let b = first_at-None _ NoSuchProgram _ a.1 in
     let d = first_at-None _ PortCount _ b.1 in
     let f = first_at-None _ NoSuchChannel _ d.1 in
@@ -168,7 +168,7 @@ pub record Sizes (t : Tables) : Type 0 where
   pub instances : length t.instances ≤ MAX_PROCESSES
   pub channels : length t.channels ≤ MAX_CHANNELS
 
-pub Sizes-from : (t : Tables) → is_too_large t ≡ false → Sizes t
+pub Sizes-from : (t : Tables) → has_too_many t ≡ false → Sizes t
 Sizes-from t few =
     let some =
     or_parts (ltb MAX_PROCESSES (length t.programs) || ltb MAX_PROCESSES (length t.instances))
@@ -247,37 +247,37 @@ StandsAt-more d ports c s = record { port = suc s.port; there = omega (arith, s.
 
 -- each place of a channel is an end
 IsAmong-places : (c p : ℕ) (ports : List ℕ) (port : ℕ) → port < length ports → get_or ports port 0 ≡ c
-    → IsAmong (Process p) (places c p ports)
+    → IsAmong (Process p) (ends_among c p ports)
 IsAmong-places c p [] port h e = absurd (omega arith)
 IsAmong-places c p (d ∷ ports) zero h e = rw (eq-eqb d c e) (inl refl)
 IsAmong-places c p (d ∷ ports) (suc port) h e = which (eqb d c) (IsAmong-places c p ports port (omega arith) e)
   where
-    which : (b : Bool) → IsAmong (Process p) (places c p ports)
-        → IsAmong (Process p) (cond b (Process p ∷ places c p ports) (places c p ports))
+    which : (b : Bool) → IsAmong (Process p) (ends_among c p ports)
+        → IsAmong (Process p) (cond b (Process p ∷ ends_among c p ports) (ends_among c p ports))
     which true h = inr h
     which false h = h
 
 IsAmong-ends_from : (ports : Instance → List ℕ) (c p i : ℕ) (instances : List Instance) (d : Instance)
-    → i < length instances → IsAmong (Process (p + i)) (places c (p + i) (ports (get_or instances i d)))
+    → i < length instances → IsAmong (Process (p + i)) (ends_among c (p + i) (ports (get_or instances i d)))
     → IsAmong (Process (p + i)) (ends_from ports c p instances)
 IsAmong-ends_from ports c p i [] d below h = absurd (omega arith)
 IsAmong-ends_from ports c p zero (x ∷ instances) d below h =
-    IsAmong-left _ _ _ (subst (λ q. IsAmong (Process (p + zero)) (places c q (ports x))) (add-zero p) h)
+    IsAmong-left _ _ _ (subst (λ q. IsAmong (Process (p + zero)) (ends_among c q (ports x))) (add-zero p) h)
 IsAmong-ends_from ports c p (suc i) (x ∷ instances) d below h =
     let e : p + suc i ≡ suc p + i = omega arith in
-    IsAmong-right _ (places c p (ports x)) _
+    IsAmong-right _ (ends_among c p (ports x)) _
     (subst (λ q. IsAmong (Process q) (ends_from ports c (suc p) instances)) (sym e)
     (IsAmong-ends_from ports c (suc p) i instances d (omega arith)
-    (subst (λ q. IsAmong (Process q) (places c q (ports (get_or instances i d)))) e h)))
+    (subst (λ q. IsAmong (Process q) (ends_among c q (ports (get_or instances i d)))) e h)))
 
 -- each end that is a process has a place
-places-StandsAt : (end : End) (c p : ℕ) (ports : List ℕ) → IsAmong end (places c p ports)
+places-StandsAt : (end : End) (c p : ℕ) (ports : List ℕ) → IsAmong end (ends_among c p ports)
     → (end ≡ Process p) × StandsAt ports c
 places-StandsAt end c p [] h = absurd h
 places-StandsAt end c p (d ∷ ports) h = which (eqb d c) refl h (places-StandsAt end c p ports)
   where
-    which : (b : Bool) → eqb d c ≡ b → IsAmong end (cond b (Process p ∷ places c p ports) (places c p ports))
-        → (IsAmong end (places c p ports) → (end ≡ Process p) × StandsAt ports c)
+    which : (b : Bool) → eqb d c ≡ b → IsAmong end (cond b (Process p ∷ ends_among c p ports) (ends_among c p ports))
+        → (IsAmong end (ends_among c p ports) → (end ≡ Process p) × StandsAt ports c)
         → (end ≡ Process p) × StandsAt (d ∷ ports) c
     which true e (inl same) rest = (same, record { port = 0; there = omega arith; is = eqb-true d c e })
     which true e (inr h) rest = let r = rest h in (r.0, StandsAt-more d ports c r.1)
@@ -295,7 +295,7 @@ ends_from-HasPort : (end : End) (ports : Instance → List ℕ) (c p : ℕ) (ins
     → IsAmong end (ends_from ports c p instances) → HasPort ports instances c p end d
 ends_from-HasPort end ports c p [] d h = absurd h
 ends_from-HasPort end ports c p (x ∷ instances) d h =
-    elim (IsAmong-append end (places c p (ports x)) (ends_from ports c (suc p) instances) h) [
+    elim (IsAmong-append end (ends_among c p (ports x)) (ends_from ports c (suc p) instances) h) [
       | inl here ↦
           let r = places-StandsAt end c p (ports x) here in
           record { number = 0; there = omega arith; is = r.0 ∙ ap Process (sym (add-zero p)); stands = r.1 }
@@ -351,7 +351,7 @@ IsAmong-port ports t p c below s =
     let e : 0 + p ≡ p = omega arith in
     subst (λ q. IsAmong (Process q) (ends_from ports c 0 t.instances)) e
     (IsAmong-ends_from ports c 0 p t.instances _ below
-    (subst (λ q. IsAmong (Process q) (places c q (ports (instance_at t p)))) (sym e)
+    (subst (λ q. IsAmong (Process q) (ends_among c q (ports (instance_at t p)))) (sym e)
     (IsAmong-places c p (ports (instance_at t p)) s.port s.there s.is)))
 
 -- a process that has the channel at an out port is its writer
@@ -546,7 +546,7 @@ capacity_in_range t network c cap below e =
 pub larger_capacity_is_no_less : (t : Tables) (cap : ℕ) → cap < t.limit → cap ≤ larger_capacity t cap
 larger_capacity_is_no_less t cap below = by_growth t.growth
   where
-    by_growth : (growth : Growth) → cap ≤ grown growth t.limit cap
+    by_growth : (growth : Growth) → cap ≤ grown_capacity growth t.limit cap
     by_growth One = omega arith
     by_growth Double = omega arith
 
@@ -554,7 +554,7 @@ larger_capacity_is_no_less t cap below = by_growth t.growth
 pub larger_capacity_is_some : (t : Tables) (cap : ℕ) → 0 < t.limit → 0 < cap → 0 < larger_capacity t cap
 larger_capacity_is_some t cap limit some = by_growth t.growth
   where
-    by_growth : (growth : Growth) → 0 < grown growth t.limit cap
+    by_growth : (growth : Growth) → 0 < grown_capacity growth t.limit cap
     by_growth One = omega arith
     by_growth Double = omega arith
 
@@ -563,6 +563,6 @@ pub larger_capacity_in_range : (t : Tables) (cap : ℕ) → 0 < cap → cap < t.
     → (cap < larger_capacity t cap) × (larger_capacity t cap ≤ t.limit)
 larger_capacity_in_range t cap some below = by_growth t.growth
   where
-    by_growth : (growth : Growth) → (cap < grown growth t.limit cap) × (grown growth t.limit cap ≤ t.limit)
+    by_growth : (growth : Growth) → (cap < grown_capacity growth t.limit cap) × (grown_capacity growth t.limit cap ≤ t.limit)
     by_growth One = (omega arith, omega arith)
     by_growth Double = (omega arith, omega arith)

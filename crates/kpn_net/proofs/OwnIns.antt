@@ -8,7 +8,7 @@ use Rattle.kpn_lang.specs.Prefix.{IsPrefix}
 use Rattle.kpn_lang.specs.Alone.{alone}
 use Rattle.kpn_lang.proofs.Prefixes.{IsPrefix-refl, IsPrefix-trans, prefixes_of_one}
 use Rattle.kpn_net.specs.Tables.{Tables, instance_at, program_of}
-use Rattle.kpn_net.specs.Process.{Family, IsFamilyPrefix, AgreeOnIns, at_channel, ends_at_channel, ran_on, talk_on, CanSay, ComesTo}
+use Rattle.kpn_net.specs.Process.{Family, IsFamilyPrefix, AgreeOnIns, at_channel, ends_at_channel, ran_on, talk_on, ProcessCanSay, ProcessComesTo}
 use Rattle.kpn_net.proofs.Monotone.{talk_on-grows}
 use Rattle.kpn_net.proofs.Cycles.{Contains-first, Contains-later}
 
@@ -23,8 +23,8 @@ pub ran_on-own_ins : (t : Tables) (p n : ℕ) (X Y : Family) → AgreeOnIns t p 
 ran_on-own_ins t p n X Y agree =
     ap (λ lists. alone (program_of t p) (instance_at t p).pars n lists) (same_on (instance_at t p).ins X Y agree.each)
 
-pub CanSay-own_ins : (t : Tables) (p : ℕ) (X Y : Family) → AgreeOnIns t p X Y → (talk : List Said) → CanSay t p X talk
-    → CanSay t p Y talk
+pub CanSay-own_ins : (t : Tables) (p : ℕ) (X Y : Family) → AgreeOnIns t p X Y → (talk : List Said) → ProcessCanSay t p X talk
+    → ProcessCanSay t p Y talk
 CanSay-own_ins t p X Y agree talk h =
     record {
       turns = h.turns;
@@ -34,7 +34,7 @@ CanSay-own_ins t p X Y agree talk h =
     }
 
 pub ComesTo-own_ins : (t : Tables) (p : ℕ) (X Y : Family) → AgreeOnIns t p X Y → (ending : Ending) (talk : List Said)
-    → ComesTo t p X ending talk → ComesTo t p Y ending talk
+    → ProcessComesTo t p X ending talk → ProcessComesTo t p Y ending talk
 ComesTo-own_ins t p X Y agree ending talk h =
     let same = sym (ran_on-own_ins t p h.turns X Y agree) in
     record {
@@ -45,12 +45,12 @@ ComesTo-own_ins t p X Y agree ending talk h =
     }
 
 pub CanSay-prefix : (t : Tables) (p : ℕ) (X : Family) (talk longer : List Said) → IsPrefix talk longer
-    → CanSay t p X longer → CanSay t p X talk
+    → ProcessCanSay t p X longer → ProcessCanSay t p X talk
 CanSay-prefix t p X talk longer begins h =
     record { turns = h.turns; said = IsPrefix-trans talk longer (talk_on t p h.turns X) begins h.said }
 
-pub CanSay-longer : (t : Tables) (p : ℕ) (X Y : Family) → IsFamilyPrefix X Y → (talk : List Said) → CanSay t p X talk
-    → CanSay t p Y talk
+pub CanSay-longer : (t : Tables) (p : ℕ) (X Y : Family) → IsFamilyPrefix X Y → (talk : List Said) → ProcessCanSay t p X talk
+    → ProcessCanSay t p Y talk
 CanSay-longer t p X Y begins talk h =
     record {
       turns = h.turns;
@@ -59,8 +59,8 @@ CanSay-longer t p X Y begins talk h =
           (talk_on-grows t p h.turns h.turns (omega arith) X Y begins);
     }
 
-pub CanSay-comparable : (t : Tables) (p : ℕ) (X : Family) (talk other : List Said) → CanSay t p X talk
-    → CanSay t p X other → IsPrefix talk other ⊎ IsPrefix other talk
+pub CanSay-comparable : (t : Tables) (p : ℕ) (X : Family) (talk other : List Said) → ProcessCanSay t p X talk
+    → ProcessCanSay t p X other → IsPrefix talk other ⊎ IsPrefix other talk
 CanSay-comparable t p X talk other a b =
     let whole = a.turns + b.turns in
     let same : IsFamilyPrefix X X = λ c. IsPrefix-refl (X c) in

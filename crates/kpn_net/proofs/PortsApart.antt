@@ -8,7 +8,7 @@ use Rattle.kpn_limits.specs.declared.TheConstants.{MAX_PORTS}
 use Rattle.kpn_lang.proofs.Programs.{limits}
 use Rattle.kpn_net.specs.declared.tables.Instance.{Instance}
 use Rattle.kpn_net.specs.declared.tables.End.TheVariants.{Process, Source, Sink}
-use Rattle.kpn_net.specs.Tables.{Tables, instance_at, program_of, channel_at, is_source, is_sink, places, ends_from, writer_of, reader_of}
+use Rattle.kpn_net.specs.Tables.{Tables, instance_at, program_of, channel_at, is_source, is_sink, ends_among, ends_from, writer_of, reader_of}
 use Rattle.kpn_net.specs.Faults.{IsNetwork}
 use Rattle.kpn_net.specs.Waits.{AreDistinct}
 use Rattle.kpn_net.proofs.Networks.{StandsAt, IsInstance-of, IsProgram-of, one_writer, one_reader, writer_of-Writes, reader_of-Reads, Writes-writer_of, Reads-reader_of, Writes-below, Reads-below}
@@ -68,7 +68,7 @@ out_is_there t network p c h =
 
 -- ---- each channel is at one port
 
-places-positive : (c p : ℕ) (ports : List ℕ) → Contains ports c → 0 < length (places c p ports)
+places-positive : (c p : ℕ) (ports : List ℕ) → Contains ports c → 0 < length (ends_among c p ports)
 places-positive c p [] h = absurd (Contains-none c h)
 places-positive c p (d ∷ ports) h =
     elim (Contains-cases d ports c h) [
@@ -76,26 +76,26 @@ places-positive c p (d ∷ ports) h =
       | inr later ↦ which (eqb d c) (places-positive c p ports later)
     ]
   where
-    which : (b : Bool) → 0 < length (places c p ports)
-        → 0 < length (cond b (Process p ∷ places c p ports) (places c p ports))
+    which : (b : Bool) → 0 < length (ends_among c p ports)
+        → 0 < length (cond b (Process p ∷ ends_among c p ports) (ends_among c p ports))
     which true h = omega arith
     which false h = h
 
-places-tail : (c p d : ℕ) (ports : List ℕ) → length (places c p ports) ≤ length (places c p (d ∷ ports))
+places-tail : (c p d : ℕ) (ports : List ℕ) → length (ends_among c p ports) ≤ length (ends_among c p (d ∷ ports))
 places-tail c p d ports = which (eqb d c)
   where
-    which : (b : Bool) → length (places c p ports) ≤ length (cond b (Process p ∷ places c p ports) (places c p ports))
+    which : (b : Bool) → length (ends_among c p ports) ≤ length (cond b (Process p ∷ ends_among c p ports) (ends_among c p ports))
     which true = omega arith
     which false = omega arith
 
-distinct_where_once : (p : ℕ) (ports : List ℕ) → ((c : ℕ) → Contains ports c → length (places c p ports) ≤ 1)
+distinct_where_once : (p : ℕ) (ports : List ℕ) → ((c : ℕ) → Contains ports c → length (ends_among c p ports) ≤ 1)
     → AreDistinct ports
 distinct_where_once p [] once = tt
 distinct_where_once p (d ∷ ports) once = (
   λ h.
       let two = once d (Contains-first d ports) in
       let one = places-positive d p ports h in
-      let here : length (places d p (d ∷ ports)) ≡ suc (length (places d p ports)) = rw (eq-eqb d d refl) refl in
+      let here : length (ends_among d p (d ∷ ports)) ≡ suc (length (ends_among d p ports)) = rw (eq-eqb d d refl) refl in
       absurd (omega arith),
   distinct_where_once p ports
       (λ c h.
@@ -107,19 +107,19 @@ distinct_where_once p (d ∷ ports) once = (
 -- an instance is at no more ends than there are
 places-le_ends : (ports : Instance → List ℕ) (c p i : ℕ) (instances : List Instance) (d : Instance)
     → i < length instances
-    → length (places c (p + i) (ports (get_or instances i d))) ≤ length (ends_from ports c p instances)
+    → length (ends_among c (p + i) (ports (get_or instances i d))) ≤ length (ends_from ports c p instances)
 places-le_ends ports c p i [] d below = absurd (omega arith)
 places-le_ends ports c p zero (x ∷ instances) d below =
-    let e : length (places c (p + zero) (ports x)) ≡ length (places c p (ports x)) =
-    ap (λ q. length (places c q (ports x))) (add-zero p) in
-    omega (arith, length-append (places c p (ports x)) (ends_from ports c (suc p) instances))
+    let e : length (ends_among c (p + zero) (ports x)) ≡ length (ends_among c p (ports x)) =
+    ap (λ q. length (ends_among c q (ports x))) (add-zero p) in
+    omega (arith, length-append (ends_among c p (ports x)) (ends_from ports c (suc p) instances))
 places-le_ends ports c p (suc i) (x ∷ instances) d below =
     let f : p + suc i ≡ suc p + i = omega arith in
-    let e : length (places c (p + suc i) (ports (get_or instances i d)))
-    ≡ length (places c (suc p + i) (ports (get_or instances i d))) =
-    ap (λ q. length (places c q (ports (get_or instances i d)))) f in
+    let e : length (ends_among c (p + suc i) (ports (get_or instances i d)))
+    ≡ length (ends_among c (suc p + i) (ports (get_or instances i d))) =
+    ap (λ q. length (ends_among c q (ports (get_or instances i d)))) f in
     let rest = places-le_ends ports c (suc p) i instances d (omega arith) in
-    omega (arith, length-append (places c p (ports x)) (ends_from ports c (suc p) instances))
+    omega (arith, length-append (ends_among c p (ports x)) (ends_from ports c (suc p) instances))
 
 pub ins_distinct : (t : Tables) → IsNetwork t → (p : ℕ) → p < length t.instances → AreDistinct (instance_at t p).ins
 ins_distinct t network p below =
@@ -128,7 +128,7 @@ ins_distinct t network p below =
     let one = ap length (one_reader t network c (in_is_there t network p c h)) in
     let all =
     length-append (cond (is_sink (channel_at t c)) (Sink ∷ []) []) (ends_from (λ i. i.ins) c 0 t.instances) in
-    let here : length (places c (0 + p) (instance_at t p).ins) ≤ length (ends_from (λ i. i.ins) c 0 t.instances) =
+    let here : length (ends_among c (0 + p) (instance_at t p).ins) ≤ length (ends_from (λ i. i.ins) c 0 t.instances) =
     places-le_ends (λ i. i.ins) c 0 p t.instances (record { program = 0; ins = []; outs = []; pars = [] }) below in
     omega arith)
 
@@ -139,7 +139,7 @@ outs_distinct t network p below =
     let one = ap length (one_writer t network c (out_is_there t network p c h)) in
     let all =
     length-append (cond (is_source (channel_at t c)) (Source ∷ []) []) (ends_from (λ i. i.outs) c 0 t.instances) in
-    let here : length (places c (0 + p) (instance_at t p).outs) ≤ length (ends_from (λ i. i.outs) c 0 t.instances) =
+    let here : length (ends_among c (0 + p) (instance_at t p).outs) ≤ length (ends_from (λ i. i.outs) c 0 t.instances) =
     places-le_ends (λ i. i.outs) c 0 p t.instances (record { program = 0; ins = []; outs = []; pars = [] }) below in
     omega arith)
 

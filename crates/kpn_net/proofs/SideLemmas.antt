@@ -13,12 +13,12 @@ use Rattle.kpn_net.specs.declared.tables.End.{End}
 use Rattle.kpn_net.specs.declared.tables.End.TheVariants.{Process, Source, Sink}
 use Rattle.kpn_net.specs.declared.network.sides.Side.{Side}
 use Rattle.kpn_net.specs.declared.network.sides.Side.TheVariants.{Nobody, One}
-use Rattle.kpn_net.specs.Tables.{Tables, places, ends_from, channel_at, is_source, is_sink, writers_of, readers_of}
+use Rattle.kpn_net.specs.Tables.{Tables, ends_among, ends_from, channel_at, is_source, is_sink, writers_of, readers_of}
 use Rattle.kpn_net.specs.Faults.{is_none, are_several, channel_numbers, wrong_capacity, first_at, channels_fault}
-use Rattle.kpn_net.specs.Sides.{side_of, joined, is_nobody, is_several, end_or, Keeps}
+use Rattle.kpn_net.specs.Sides.{side_of, side_with, is_nobody, is_several, end_or, Keeps}
 use Rattle.kpn_net.proofs.Networks.{fails_at}
 
-pub joined-side_of : (ends : List End) (end : End) → joined (side_of ends) end ≡ side_of (ends ++ end ∷ [])
+pub joined-side_of : (ends : List End) (end : End) → side_with (side_of ends) end ≡ side_of (ends ++ end ∷ [])
 joined-side_of [] end = refl
 joined-side_of (a ∷ []) end = refl
 joined-side_of (a ∷ b ∷ ends) end = refl
@@ -42,56 +42,56 @@ Keeps-same sides ends others e k =
 
 -- one place more
 pub Keeps-set : (sides : List Side) (ends : ℕ → List End) → Keeps sides ends → (c p : ℕ) → c < length sides
-    → Keeps (set sides c (joined (get_or sides c Nobody) (Process p))) (λ d. ends d ++ places d p (c ∷ []))
+    → Keeps (set sides c (side_with (get_or sides c Nobody) (Process p))) (λ d. ends d ++ ends_among d p (c ∷ []))
 Keeps-set sides ends k c p h =
     Keeps-from _ _
     (λ d below. elim (cases_eq d c) [
       | inl same ↦
           rw same (
           get_or-set_same sides c _ Nobody h
-          ∙ ap (λ s. joined s (Process p)) (Keeps-at sides ends k c h)
+          ∙ ap (λ s. side_with s (Process p)) (Keeps-at sides ends k c h)
           ∙ joined-side_of (ends c) (Process p)
           ∙ ap (λ b. side_of (ends c ++ cond b (Process p ∷ []) [])) (sym (eq-eqb c c refl)))
       | inr differ ↦
           get_or-set_other sides c d _ Nobody differ
-          ∙ Keeps-at sides ends k d (omega (arith, length-set sides c (joined (get_or sides c Nobody) (Process p))))
+          ∙ Keeps-at sides ends k d (omega (arith, length-set sides c (side_with (get_or sides c Nobody) (Process p))))
           ∙ ap side_of (sym (append-nil (ends d)))
           ∙ ap (λ b. side_of (ends d ++ cond b (Process p ∷ []) [])) (sym (ne_eqb c d (λ e. differ (sym e))))
     ])
 
-pub places-append : (c p : ℕ) (xs ys : List ℕ) → places c p (xs ++ ys) ≡ places c p xs ++ places c p ys
+pub places-append : (c p : ℕ) (xs ys : List ℕ) → ends_among c p (xs ++ ys) ≡ ends_among c p xs ++ ends_among c p ys
 places-append c p [] ys = refl
 places-append c p (d ∷ xs) ys = which (eqb d c) (places-append c p xs ys)
   where
-    which : (b : Bool) → places c p (xs ++ ys) ≡ places c p xs ++ places c p ys
-        → cond b (Process p ∷ places c p (xs ++ ys)) (places c p (xs ++ ys))
-        ≡ cond b (Process p ∷ places c p xs) (places c p xs) ++ places c p ys
+    which : (b : Bool) → ends_among c p (xs ++ ys) ≡ ends_among c p xs ++ ends_among c p ys
+        → cond b (Process p ∷ ends_among c p (xs ++ ys)) (ends_among c p (xs ++ ys))
+        ≡ cond b (Process p ∷ ends_among c p xs) (ends_among c p xs) ++ ends_among c p ys
     which true e = ap (λ ends. Process p ∷ ends) e
     which false e = e
 
 -- a port more
 pub Keeps-port : (sides : List Side) (ends : ℕ → List End) (ports : List ℕ) (i c p : ℕ)
-    → Keeps sides (λ d. ends d ++ places d p (take i ports)) → i < length ports → c ≡ get_or ports i c
+    → Keeps sides (λ d. ends d ++ ends_among d p (take i ports)) → i < length ports → c ≡ get_or ports i c
     → c < length sides
-    → Keeps (set sides c (joined (get_or sides c Nobody) (Process p)))
-    (λ d. ends d ++ places d p (take (i + 1) ports))
+    → Keeps (set sides c (side_with (get_or sides c Nobody) (Process p)))
+    (λ d. ends d ++ ends_among d p (take (i + 1) ports))
 Keeps-port sides ends ports i c p k h e below =
     Keeps-same _ _ _
     (λ d.
-    append_assoc (ends d) (places d p (take i ports)) (places d p (c ∷ []))
+    append_assoc (ends d) (ends_among d p (take i ports)) (ends_among d p (c ∷ []))
     ∙ ap (λ more. ends d ++ more) (sym (places-append d p (take i ports) (c ∷ [])))
-    ∙ ap (λ xs. ends d ++ places d p xs) (ap (λ x. take i ports ++ x ∷ []) e ∙ sym (take_more ports i c h)))
+    ∙ ap (λ xs. ends d ++ ends_among d p xs) (ap (λ x. take i ports ++ x ∷ []) e ∙ sym (take_more ports i c h)))
     (Keeps-set sides _ k c p below)
 
 -- the same of the side that was made from the one that was read
 pub Keeps-joined : (sides : List Side) (ends : ℕ → List End) (ports : List ℕ) (i p : ℕ) (side other : Side)
-    → Keeps sides (λ d. ends d ++ places d p (take i ports)) → i < length ports → get_or ports i 0 < length sides
-    → side ≡ joined (get_or sides (get_or ports i 0) other) (Process p)
-    → Keeps (set sides (get_or ports i 0) side) (λ d. ends d ++ places d p (take (i + 1) ports))
+    → Keeps sides (λ d. ends d ++ ends_among d p (take i ports)) → i < length ports → get_or ports i 0 < length sides
+    → side ≡ side_with (get_or sides (get_or ports i 0) other) (Process p)
+    → Keeps (set sides (get_or ports i 0) side) (λ d. ends d ++ ends_among d p (take (i + 1) ports))
 Keeps-joined sides ends ports i p side other k h below e =
     let c = get_or ports i 0 in
-    let read : side ≡ joined (get_or sides c Nobody) (Process p) =
-    e ∙ ap (λ s. joined s (Process p)) (get_or_default sides c other Nobody below) in
+    let read : side ≡ side_with (get_or sides c Nobody) (Process p) =
+    e ∙ ap (λ s. side_with s (Process p)) (get_or_default sides c other Nobody below) in
     rw read (Keeps-port sides ends ports i c p k h (get_or_default ports i 0 c h) below)
 
 -- ---- the outside's ends
@@ -120,9 +120,9 @@ position_or_len-both p f q g e (z ∷ zs) =
 position-both : {X Y Z : Type 0} (p : X → Bool) (f : Z → X) (q : Y → Bool) (g : Z → Y) → ((z : Z) → p (f z) ≡ q (g z))
     → (zs : List Z) → position p (map f zs) ≡ position q (map g zs)
 position-both p f q g e zs =
-    let places = position_or_len-both p f q g e zs in
+    let ends_among = position_or_len-both p f q g e zs in
     let lengths = length-map zs f ∙ sym (length-map zs g) in
-    ap (λ n. cond (ltb n (length (map f zs))) (Some n) None) places
+    ap (λ n. cond (ltb n (length (map f zs))) (Some n) None) ends_among
     ∙ ap (λ n. cond (ltb (position_or_len q (map g zs)) n) (Some (position_or_len q (map g zs))) None) lengths
 
 is_nobody-side_of : (ends : List End) → is_nobody (side_of ends) ≡ is_none ends
@@ -192,40 +192,40 @@ from_sides t writers readers w r wn rn found e =
 ends_from-more : (ports : Instance → List ℕ) (c p i : ℕ) (instances : List Instance) (d : Instance)
     → i < length instances
     → ends_from ports c p (take (suc i) instances)
-    ≡ ends_from ports c p (take i instances) ++ places c (p + i) (ports (get_or instances i d))
+    ≡ ends_from ports c p (take i instances) ++ ends_among c (p + i) (ports (get_or instances i d))
 ends_from-more ports c p i [] d h = absurd (omega arith)
 ends_from-more ports c p zero (x ∷ instances) d h =
-    append-nil (places c p (ports x)) ∙ ap (λ q. places c q (ports x)) (sym (add-zero p))
+    append-nil (ends_among c p (ports x)) ∙ ap (λ q. ends_among c q (ports x)) (sym (add-zero p))
 ends_from-more ports c p (suc i) (x ∷ instances) d h =
-    ap (λ ends. places c p (ports x) ++ ends) (ends_from-more ports c (suc p) i instances d (omega arith))
+    ap (λ ends. ends_among c p (ports x) ++ ends) (ends_from-more ports c (suc p) i instances d (omega arith))
     ∙ sym
-    (append_assoc (places c p (ports x)) (ends_from ports c (suc p) (take i instances))
-    (places c (suc p + i) (ports (get_or instances i d))))
+    (append_assoc (ends_among c p (ports x)) (ends_from ports c (suc p) (take i instances))
+    (ends_among c (suc p + i) (ports (get_or instances i d))))
     ∙ ap
     (λ q.
-    (places c p (ports x) ++ ends_from ports c (suc p) (take i instances))
-    ++ places c q (ports (get_or instances i d))) (let e : suc p + i ≡ p + suc i = omega arith in e)
+    (ends_among c p (ports x) ++ ends_from ports c (suc p) (take i instances))
+    ++ ends_among c q (ports (get_or instances i d))) (let e : suc p + i ≡ p + suc i = omega arith in e)
 
 pub writers_of-more : (t : Tables) (i c : ℕ) (x : Instance) → i < length t.instances → x ≡ get_or t.instances i x
-    → writers_of (first_instances i t) c ++ places c i x.outs ≡ writers_of (first_instances (i + 1) t) c
+    → writers_of (first_instances i t) c ++ ends_among c i x.outs ≡ writers_of (first_instances (i + 1) t) c
 writers_of-more t i c x h e =
     let outside = cond (is_source (channel_at t c)) (Source ∷ []) [] in
-    append_assoc outside (ends_from (λ y. y.outs) c 0 (take i t.instances)) (places c i x.outs)
+    append_assoc outside (ends_from (λ y. y.outs) c 0 (take i t.instances)) (ends_among c i x.outs)
     ∙ ap (λ ends. outside ++ ends)
-    (ap (λ y. ends_from (λ y. y.outs) c 0 (take i t.instances) ++ places c i y.outs) e
-    ∙ ap (λ q. ends_from (λ y. y.outs) c 0 (take i t.instances) ++ places c q (get_or t.instances i x).outs)
+    (ap (λ y. ends_from (λ y. y.outs) c 0 (take i t.instances) ++ ends_among c i y.outs) e
+    ∙ ap (λ q. ends_from (λ y. y.outs) c 0 (take i t.instances) ++ ends_among c q (get_or t.instances i x).outs)
     (let z : i ≡ 0 + i = omega arith in z)
     ∙ sym (ends_from-more (λ y. y.outs) c 0 i t.instances x h)
     ∙ ap (λ n. ends_from (λ y. y.outs) c 0 (take n t.instances)) (let z : suc i ≡ i + 1 = omega arith in z))
 
 pub readers_of-more : (t : Tables) (i c : ℕ) (x : Instance) → i < length t.instances → x ≡ get_or t.instances i x
-    → readers_of (first_instances i t) c ++ places c i x.ins ≡ readers_of (first_instances (i + 1) t) c
+    → readers_of (first_instances i t) c ++ ends_among c i x.ins ≡ readers_of (first_instances (i + 1) t) c
 readers_of-more t i c x h e =
     let outside = cond (is_sink (channel_at t c)) (Sink ∷ []) [] in
-    append_assoc outside (ends_from (λ y. y.ins) c 0 (take i t.instances)) (places c i x.ins)
+    append_assoc outside (ends_from (λ y. y.ins) c 0 (take i t.instances)) (ends_among c i x.ins)
     ∙ ap (λ ends. outside ++ ends)
-    (ap (λ y. ends_from (λ y. y.ins) c 0 (take i t.instances) ++ places c i y.ins) e
-    ∙ ap (λ q. ends_from (λ y. y.ins) c 0 (take i t.instances) ++ places c q (get_or t.instances i x).ins)
+    (ap (λ y. ends_from (λ y. y.ins) c 0 (take i t.instances) ++ ends_among c i y.ins) e
+    ∙ ap (λ q. ends_from (λ y. y.ins) c 0 (take i t.instances) ++ ends_among c q (get_or t.instances i x).ins)
     (let z : i ≡ 0 + i = omega arith in z)
     ∙ sym (ends_from-more (λ y. y.ins) c 0 i t.instances x h)
     ∙ ap (λ n. ends_from (λ y. y.ins) c 0 (take n t.instances)) (let z : suc i ≡ i + 1 = omega arith in z))

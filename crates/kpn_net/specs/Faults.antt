@@ -14,8 +14,8 @@ use Rattle.kpn_net.specs.Tables.{Tables, writers_of, readers_of}
 
 -- ---- 10: there are too many programs, instances or channels
 
-abbrev pub is_too_large : Tables → Bool
-is_too_large t =
+abbrev pub has_too_many : Tables → Bool
+has_too_many t =
     nat_lt MAX_PROCESSES (length t.programs) || nat_lt MAX_PROCESSES (length t.instances)
     || nat_lt MAX_CHANNELS (length t.channels)
 
@@ -85,7 +85,7 @@ or_else (Some fault) after = Some fault
 -- the first rule that the instances break
 abbrev pub instances_fault : Tables → Option NetFault
 instances_fault t =
-    if is_too_large t then Some TooMany else
+    if has_too_many t then Some TooMany else
     first_at (position (lacks_its_program t) t.instances) NoSuchProgram (
     first_at (position (differs_from_its_program t) t.instances) PortCount (
     first_at (position (lacks_a_channel t) t.instances) NoSuchChannel None))
@@ -100,10 +100,10 @@ channels_fault t =
     first_at (wrong_capacity t) Capacity None))))
 
 -- the first rule that the tables break: each is tested on the whole network before the next
-abbrev pub first_fault : Tables → Option NetFault
-first_fault t = or_else (instances_fault t) (channels_fault t)
+abbrev pub first_network_fault : Tables → Option NetFault
+first_network_fault t = or_else (instances_fault t) (channels_fault t)
 
 -- the tables of programs keep each rule
 pub record IsNetwork (t : Tables) : Type 0 where
   pub programs : All IsProgram t.programs
-  pub sound : first_fault t ≡ None
+  pub sound : first_network_fault t ≡ None

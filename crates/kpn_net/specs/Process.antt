@@ -50,12 +50,12 @@ abbrev pub out_of : Tables → (p n : ℕ) → Family → (c : ℕ) → List ℤ
 out_of t p n X c = put_at (talk_on t p n X) c
 
 -- process p can say this on the family
-pub record CanSay (t : Tables) (p : ℕ) (X : Family) (talk : List Said) : Type 0 where
+pub record ProcessCanSay (t : Tables) (p : ℕ) (X : Family) (talk : List Said) : Type 0 where
   pub turns : ℕ
   pub said : IsPrefix talk (talk_on t p turns X)
 
 -- process p comes to this end on the family, after saying this and no more
-pub record ComesTo (t : Tables) (p : ℕ) (X : Family) (ending : Ending) (talk : List Said) : Type 0 where
+pub record ProcessComesTo (t : Tables) (p : ℕ) (X : Family) (ending : Ending) (talk : List Said) : Type 0 where
   pub turns : ℕ
   pub ended : ending_on t p turns X ≡ ending
   pub said : talk_on t p turns X ≡ talk

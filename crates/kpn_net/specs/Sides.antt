@@ -13,10 +13,10 @@ side_of (end ∷ []) = One end
 side_of (end ∷ other ∷ ends) = Several
 
 -- what they keep with one end more
-abbrev pub joined : Side → End → Side
-joined Nobody end = One end
-joined (One other) end = Several
-joined Several end = Several
+abbrev pub side_with : Side → End → Side
+side_with Nobody end = One end
+side_with (One other) end = Several
+side_with Several end = Several
 
 abbrev pub is_nobody : Side → Bool
 is_nobody Nobody = true

@@ -47,8 +47,8 @@ abbrev pub program_of : Tables → ℕ → Parts
 program_of t p = program_at t (instance_at t p).program
 
 -- a program has cells of arrays or tables
-abbrev pub has_cells : Tables → Bool
-has_cells t = list_any (λ program. nat_lt 0 (program.free + length program.tables)) t.programs
+abbrev pub any_has_cells : Tables → Bool
+any_has_cells t = list_any (λ program. nat_lt 0 (program.free + length program.tables)) t.programs
 
 -- ---- the ends of a channel
 
@@ -71,23 +71,23 @@ capacity channel.Source = None
 capacity (channel.Sink cap) = Some cap
 
 -- the capacity after one growth: 1 larger, or twice as large, but at most the limit
-abbrev pub grown : Growth → (limit cap : ℕ) → ℕ
-grown One limit cap = cap + 1
-grown Double limit cap = min (2 * cap) limit
+abbrev pub grown_capacity : Growth → (limit cap : ℕ) → ℕ
+grown_capacity One limit cap = cap + 1
+grown_capacity Double limit cap = min (2 * cap) limit
 
 -- the capacity that a channel of this capacity has after one growth
 abbrev pub larger_capacity : Tables → (cap : ℕ) → ℕ
-larger_capacity t cap = grown t.growth t.limit cap
+larger_capacity t cap = grown_capacity t.growth t.limit cap
 
 -- a process once for each place of a channel among these ports
-abbrev pub places : (c p : ℕ) → (ports : List ℕ) → List End
-places c p [] = []
-places c p (d ∷ ports) = if nat_eq d c then Process p ∷ places c p ports else places c p ports
+abbrev pub ends_among : (c p : ℕ) → (ports : List ℕ) → List End
+ends_among c p [] = []
+ends_among c p (d ∷ ports) = if nat_eq d c then Process p ∷ ends_among c p ports else ends_among c p ports
 
 -- the same for the ports of each instance, if the first has the number p
 abbrev pub ends_from : (Instance → List ℕ) → (c p : ℕ) → List Instance → List End
 ends_from ports c p [] = []
-ends_from ports c p (instance ∷ instances) = places c p (ports instance) ++ ends_from ports c (suc p) instances
+ends_from ports c p (instance ∷ instances) = ends_among c p (ports instance) ++ ends_from ports c (suc p) instances
 
 -- all that writes a channel: the outside, if it is a source, and a process for each place among its out ports
 abbrev pub writers_of : Tables → ℕ → List End

@@ -9,7 +9,7 @@ ghost use Rattle.kpn_net.specs.declared.tables.End.TheVariants.{Process, Source,
 ghost use Rattle.kpn_net.specs.Tables.{Tables, instance_at, program_of, channel_at, is_source, is_sink, capacity, larger_capacity, writers_of, readers_of, writer_of, reader_of};
 ghost use Rattle.kpn_net.specs.Faults.{IsNetwork};
 ghost use Rattle.kpn_net.specs.Waits.{AreDistinct};
-ghost use Rattle.kpn_net.specs.Process.{Family, IsFamilyPrefix, AgreeOnIns, CanSay, ComesTo};
+ghost use Rattle.kpn_net.specs.Process.{Family, IsFamilyPrefix, AgreeOnIns, ProcessCanSay, ProcessComesTo};
 ghost use Rattle.kpn_net.specs.Iteration.{iterate, IsPrefixOnSources, AgreeOnSources, IsClosed, IsBelowLeast, IsLeast};
 
 use kpn_limits::{MAX_CAPACITY, MAX_CHANNELS, MAX_PORTS, MAX_PROCESSES};
@@ -94,13 +94,13 @@ pub fn each_port_has_its_channel()
 /// in channels. Of two things that it can say on the same lists, one begins the other.
 pub fn can_say()
     ensures beginning { (t : Tables) (p : ℕ) (lists : Family) (talk longer : List Said)
-        → IsPrefix talk longer → CanSay t p lists longer → CanSay t p lists talk }
+        → IsPrefix talk longer → ProcessCanSay t p lists longer → ProcessCanSay t p lists talk }
     ensures longer { (t : Tables) (p : ℕ) (lists longer : Family) → IsFamilyPrefix lists longer
-        → (talk : List Said) → CanSay t p lists talk → CanSay t p longer talk }
+        → (talk : List Said) → ProcessCanSay t p lists talk → ProcessCanSay t p longer talk }
     ensures own_ins { (t : Tables) (p : ℕ) (lists others : Family) → AgreeOnIns t p lists others
-        → (talk : List Said) → CanSay t p lists talk → CanSay t p others talk }
+        → (talk : List Said) → ProcessCanSay t p lists talk → ProcessCanSay t p others talk }
     ensures one_talk { (t : Tables) (p : ℕ) (lists : Family) (talk other : List Said)
-        → CanSay t p lists talk → CanSay t p lists other
+        → ProcessCanSay t p lists talk → ProcessCanSay t p lists other
         → (IsPrefix talk other ⊎ IsPrefix other talk) }
 {}
 
@@ -108,7 +108,7 @@ pub fn can_say()
 pub fn comes_to_by_its_ins()
     ensures { (t : Tables) (p : ℕ) (lists others : Family) → AgreeOnIns t p lists others
         → (ending : Ending) (talk : List Said)
-        → ComesTo t p lists ending talk → ComesTo t p others ending talk }
+        → ProcessComesTo t p lists ending talk → ProcessComesTo t p others ending talk }
 {}
 
 /// A greater iterate only adds items: Kahn's iteration is a chain.

@@ -1,7 +1,7 @@
 //! Networks: tables that keep the rules, made once and read many times.
 ghost use Rattle.std.specs.Prelude.{◌≡◌, ◌<◌, ◌↔◌, IsTrue, length, IfSome, IfNone, IfOk, MatchResult};
-ghost use Rattle.kpn_net.specs.Tables.{instance_at, program_at, program_of, has_cells, channel_at, is_source, is_sink, writer_of, reader_of, capacity, larger_capacity, under};
-ghost use Rattle.kpn_net.specs.Faults.{first_fault, IsNetwork};
+ghost use Rattle.kpn_net.specs.Tables.{instance_at, program_at, program_of, any_has_cells, channel_at, is_source, is_sink, writer_of, reader_of, capacity, larger_capacity, under};
+ghost use Rattle.kpn_net.specs.Faults.{first_network_fault, IsNetwork};
 ghost use Rattle.kpn_net.specs.Iteration.{sources};
 ghost use Rattle.kpn_net.specs.View.{tables_with};
 
@@ -20,13 +20,13 @@ mod sides;
 
 use copies::{copy_instances, copy_programs};
 use equality::{same_channels, same_processes};
-use parts::Parts;
+use parts::NetworkParts;
 use sides::Side;
 
 /// A network: programs, instances of them, and channels that join them. Each channel has one writer and
 /// one reader, and a capacity from 1 to the limit unless it is a source.
 pub struct Network {
-    parts: Parts,
+    parts: NetworkParts,
     writers: Vec<End>,
     readers: Vec<End>,
 }
@@ -85,13 +85,13 @@ impl Network {
     ) -> Result<Network, NetFault>
         ensures refused { let t = tables_with programs.items instances.items
             channels.items limit policy growth in
-            IfSome (first_fault t) (λ fault. result ≡ Err fault) }
+            IfSome (first_network_fault t) (λ fault. result ≡ Err fault) }
         ensures made { let t = tables_with programs.items instances.items
             channels.items limit policy growth in
-            IfNone (first_fault t)
+            IfNone (first_network_fault t)
             (MatchResult result (λ network. network ≡ t) (λ fault. fault ≡ NetFault.NoMemory)) }
     {
-        let parts = Parts {
+        let parts = NetworkParts {
             programs,
             instances,
             channels,
@@ -160,7 +160,7 @@ impl Network {
 
     /// Whether a program has cells of arrays or tables.
     pub fn has_cells(&self) -> bool
-        ensures { result ≡ has_cells self.now }
+        ensures { result ≡ any_has_cells self.now }
     {
         self.parts
             .programs
@@ -283,7 +283,7 @@ impl Network {
         let channels = Vec::from_slice(alloc, &self.parts.channels)?;
         let writers = Vec::from_slice(alloc, &self.writers)?;
         let readers = Vec::from_slice(alloc, &self.readers)?;
-        let parts = Parts {
+        let parts = NetworkParts {
             programs,
             instances,
             channels,

@@ -8,7 +8,7 @@ use Rattle.kpn_lang.proofs.Prefixes.{IsPrefix-trans, IsPrefix-same}
 use Rattle.kpn_lang.proofs.Talks.{put_at-prefix}
 use Rattle.kpn_net.specs.Tables.{Tables, channel_at, is_source}
 use Rattle.kpn_net.specs.Faults.{IsNetwork}
-use Rattle.kpn_net.specs.Process.{Family, IsFamilyPrefix, CanSay, talk_on, out_of}
+use Rattle.kpn_net.specs.Process.{Family, IsFamilyPrefix, ProcessCanSay, talk_on, out_of}
 use Rattle.kpn_net.specs.Iteration.{round, iterate, IsPrefixOnSources}
 use Rattle.kpn_net.proofs.Monotone.{out_of-grows, round-grows, iterate-grows, IsPrefixOnSources-refl}
 use Rattle.kpn_net.proofs.Networks.{Writes, writer_of-Writes, source_if_not_written}
@@ -45,7 +45,7 @@ module _ (t : Tables) (network : IsNetwork t) (given : Family) where
   -- what a process put is what it puts on lists below an iterate, so it is below a later one
   put_below : (B : List Event) (p c : ℕ) (v : ℤ) → IsSpoken t B → IsSpoken t (B ++ Put p c v ∷ []) → Writes t p c
       → (before : IsBelowIterate t given B)
-      (k : CanSay t p (read_on (B ++ Put p c v ∷ [])) (talk_of (B ++ Put p c v ∷ []) p)) (m : ℕ) → k.turns ≤ m
+      (k : ProcessCanSay t p (read_on (B ++ Put p c v ∷ [])) (talk_of (B ++ Put p c v ∷ []) p)) (m : ℕ) → k.turns ≤ m
       → before.turns ≤ m → IsPrefix (written_on (B ++ Put p c v ∷ []) c) (iterate t given (suc m) c)
   put_below B p c v spoken now writes before k m more later =
       let after = B ++ Put p c v ∷ [] in

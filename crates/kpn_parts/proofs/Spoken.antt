@@ -8,7 +8,7 @@ use Rattle.kpn_lang.proofs.Talks.{put_at-append}
 use Rattle.kpn_net.specs.declared.tables.End.TheVariants.{Process}
 use Rattle.kpn_net.specs.Tables.{Tables, writer_of}
 use Rattle.kpn_net.specs.Faults.{IsNetwork}
-use Rattle.kpn_net.specs.Process.{IsFamilyPrefix, CanSay}
+use Rattle.kpn_net.specs.Process.{IsFamilyPrefix, ProcessCanSay}
 use Rattle.kpn_net.proofs.Networks.{Reads-below, sink_there}
 use Rattle.kpn_history.specs.declared.event.Event.{Event}
 use Rattle.kpn_history.specs.declared.event.Event.TheVariants.{Get, Put, WaitEmpty, Feed, Take}
@@ -28,7 +28,7 @@ AreOwn-append t [] H g h = h
 AreOwn-append t (e ∷ G) H g h = (g.0, AreOwn-append t G H g.1 h)
 
 pub record IsSpoken (t : Tables) (H : List Event) : Type 0 where
-  pub said : (p : ℕ) → p < length t.instances → CanSay t p (read_on H) (talk_of H p)
+  pub said : (p : ℕ) → p < length t.instances → ProcessCanSay t p (read_on H) (talk_of H p)
   pub in_order : IsFamilyPrefix (read_on H) (written_on H)
   pub own : AreOwn t H
 

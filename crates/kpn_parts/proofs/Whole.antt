@@ -11,7 +11,7 @@ use Rattle.kpn_lang.specs.Prefix.{IsPrefix}
 use Rattle.kpn_lang.proofs.Prefixes.{IsPrefix-refl, IsPrefix-trans, IsPrefix-same}
 use Rattle.kpn_net.specs.Tables.{Tables, instance_at, channel_at, is_source, is_sink}
 use Rattle.kpn_net.specs.Faults.{IsNetwork}
-use Rattle.kpn_net.specs.Process.{IsFamilyPrefix, AgreeOnIns, CanSay, talk_on}
+use Rattle.kpn_net.specs.Process.{IsFamilyPrefix, AgreeOnIns, ProcessCanSay, talk_on}
 use Rattle.kpn_net.proofs.Monotone.{map-prefix}
 use Rattle.kpn_net.proofs.OwnIns.{CanSay-own_ins}
 use Rattle.kpn_net.proofs.Networks.{Reads, Reads-below, Writes-below, source_there, sink_there}
@@ -340,7 +340,7 @@ module _ (t : Tables) (network : IsNetwork t) (cut : List Part) (is : IsCut t cu
 
   said_in_part : (r p : ℕ) → p < length (part_at cut r).tables.instances → (order : List PartEvent)
       → IsJoined t cut order
-      → CanSay t (whole_process (part_at cut r) p) (read_on (whole_history t cut order))
+      → ProcessCanSay t (whole_process (part_at cut r) p) (read_on (whole_history t cut order))
       (talk_of (whole_history t cut order) (whole_process (part_at cut r) p))
   said_in_part r p below order joined =
       let part = part_at cut r in
@@ -392,7 +392,7 @@ module _ (t : Tables) (network : IsNetwork t) (cut : List Part) (is : IsCut t cu
         said = λ p below.
             let home = is.home p below in
             subst
-            (λ q. CanSay t q (read_on (whole_history t cut order)) (talk_of (whole_history t cut order) q)) home.is
+            (λ q. ProcessCanSay t q (read_on (whole_history t cut order)) (talk_of (whole_history t cut order) q)) home.is
             (said_in_part home.part home.process home.there order joined);
         in_order = in_order order joined;
         own = own_events order joined.legal;

@@ -20,30 +20,30 @@ kind_of (Faulted Index) = (5, (0, pos 0))
 kind_of (Faulted Shift) = (6, (0, pos 0))
 kind_of Paused = (7, (0, pos 0))
 
-abbrev of_kind : ℕ → ℕ → ℤ → Stop
-of_kind zero port v = WantRead port
-of_kind (suc zero) port v = WantWrite port v
-of_kind (suc (suc zero)) port v = Done
-of_kind (suc (suc (suc zero))) port v = Faulted Overflow
-of_kind (suc (suc (suc (suc zero)))) port v = Faulted ZeroDivisor
-of_kind (suc (suc (suc (suc (suc zero))))) port v = Faulted Index
-of_kind (suc (suc (suc (suc (suc (suc zero)))))) port v = Faulted Shift
-of_kind (suc (suc (suc (suc (suc (suc (suc kind))))))) port v = Paused
+abbrev stop_of_kind : ℕ → ℕ → ℤ → Stop
+stop_of_kind zero port v = WantRead port
+stop_of_kind (suc zero) port v = WantWrite port v
+stop_of_kind (suc (suc zero)) port v = Done
+stop_of_kind (suc (suc (suc zero))) port v = Faulted Overflow
+stop_of_kind (suc (suc (suc (suc zero)))) port v = Faulted ZeroDivisor
+stop_of_kind (suc (suc (suc (suc (suc zero))))) port v = Faulted Index
+stop_of_kind (suc (suc (suc (suc (suc (suc zero)))))) port v = Faulted Shift
+stop_of_kind (suc (suc (suc (suc (suc (suc (suc kind))))))) port v = Paused
 
-pub of_kind-kind_of : (s : Stop) → of_kind (kind_of s).0 (kind_of s).1.0 (kind_of s).1.1 ≡ s
-of_kind-kind_of (WantRead port) = refl
-of_kind-kind_of (WantWrite port v) = refl
-of_kind-kind_of Done = refl
-of_kind-kind_of (Faulted Overflow) = refl
-of_kind-kind_of (Faulted ZeroDivisor) = refl
-of_kind-kind_of (Faulted Index) = refl
-of_kind-kind_of (Faulted Shift) = refl
-of_kind-kind_of Paused = refl
+pub stop_of_kind-kind_of : (s : Stop) → stop_of_kind (kind_of s).0 (kind_of s).1.0 (kind_of s).1.1 ≡ s
+stop_of_kind-kind_of (WantRead port) = refl
+stop_of_kind-kind_of (WantWrite port v) = refl
+stop_of_kind-kind_of Done = refl
+stop_of_kind-kind_of (Faulted Overflow) = refl
+stop_of_kind-kind_of (Faulted ZeroDivisor) = refl
+stop_of_kind-kind_of (Faulted Index) = refl
+stop_of_kind-kind_of (Faulted Shift) = refl
+stop_of_kind-kind_of Paused = refl
 
 abbrev pub stop_code : Coded Stop
 stop_code =
     code_by (ℕ × (ℕ × ℤ)) (coded× coded_ℕ (coded× coded_ℕ coded_ℤ)) kind_of
-    (λ t. of_kind t.0 t.1.0 t.1.1) of_kind-kind_of
+    (λ t. stop_of_kind t.0 t.1.0 t.1.1) stop_of_kind-kind_of
 
 abbrev pub advanced_code : Coded Advanced
 advanced_code =

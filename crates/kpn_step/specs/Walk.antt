@@ -11,14 +11,14 @@ use Rattle.kpn_step.specs.declared.stop.Stop.TheVariants.{WantWrite}
 use Rattle.kpn_step.specs.declared.stop.AloneStop.{AloneStop}
 use Rattle.kpn_step.specs.declared.stop.AloneStop.TheVariants.{Done, Faulted, Starved, Paused}
 use Rattle.kpn_step.specs.Frame.{Frame, passed, passed_with, start_frame}
-use Rattle.kpn_step.specs.Step.{Stops, step_of, statement_at, Steps}
+use Rattle.kpn_step.specs.Step.{Stops, step_of, statement_due, Steps}
 use Rattle.kpn_step.specs.Stops.{IsBetween, stop_at}
 use Rattle.kpn_step.specs.Ended.{EndsAs}
 
 -- a frame and the lists that remain, before and after one thing is said
 abbrev pub Speaks : List (List Statement) → Frame → Lists → Said → Frame → Lists → Type 0
 Speaks blocks f lists (Got port v) g rest =
-    (variable : ℕ) × (items : List ℤ) × (statement_at blocks f ≡ Some (Read port variable))
+    (variable : ℕ) × (items : List ℤ) × (statement_due blocks f ≡ Some (Read port variable))
     × (list_at lists port ≡ v ∷ items)
     × (g ≡ passed_with f variable v) × (rest ≡ slice_set lists port items)
 Speaks blocks f lists (Put port v) g rest =

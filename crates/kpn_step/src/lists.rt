@@ -5,7 +5,7 @@ ghost use Rattle.std.specs.Cmp.Lexicographic.{pointwise};
 use arrayvec::ArrayVec;
 
 // So many elements of a list are copied and compared one by one.
-const SHORT: usize = 4;
+const SHORT_LENGTH: usize = 4;
 
 /// Makes a list equal to another. It writes only what is used.
 // The list gets the other's length first, so that short ones are copied in a few moves. Most need one or two elements
@@ -35,11 +35,11 @@ fn write_over<T: Copy>(items: &mut [T], other: &[T])
     requires { length items.old ≡ length other.now }
     ensures { items.new ≡ other.now }
 {
-    if other.len() > SHORT {
+    if other.len() > SHORT_LENGTH {
         items.copy_from_slice(other);
         return;
     }
-    'items: for i in 0..SHORT {
+    'items: for i in 0..SHORT_LENGTH {
         if i < other.len() {
             items[i] = other[i];
         }
@@ -51,10 +51,10 @@ fn write_over<T: Copy>(items: &mut [T], other: &[T])
 pub(crate) fn are_same<T: PartialEq>(left: &[T], right: &[T]) -> bool
     ensures { result ≡ pointwise T.eq left.now right.now }
 {
-    if left.len() != right.len() || left.len() > SHORT {
+    if left.len() != right.len() || left.len() > SHORT_LENGTH {
         return *left == *right;
     }
-    'items: for i in 0..SHORT {
+    'items: for i in 0..SHORT_LENGTH {
         if i < left.len() && left[i] != right[i] {
             return false;
         }

@@ -15,7 +15,7 @@ use Rattle.kpn_lang.proofs.Programs.{AreWithin, tree_of_block, within_at, within
 use Rattle.kpn_lang.proofs.Interpreting.{statement_read, statements_left}
 use Rattle.kpn_text_tokens.specs.declared.tokens.Language.{Language}
 use Rattle.kpn_text_tokens.specs.declared.tokens.Language.TheVariants as language
-use Rattle.kpn_text_grammar.specs.Syntax.{Term, Statements, no_statements, statement, choice}
+use Rattle.kpn_text_grammar.specs.Syntax.{ExpressionNode, Statements, no_statements, statement, choice}
 use Rattle.kpn_text_names.specs.declared.network_names.ProcessNames.{ProcessNames}
 use Rattle.kpn_text.specs.Named.{statements_named, term_named}
 use Rattle.kpn_text.specs.Seconds.{HasBraces, IsLong}
@@ -134,7 +134,7 @@ module _ (l : Language) (level : ℕ) (names : ProcessNames) (parts : Parts) (st
       ∙ (rw (statements_left statements i s within read) at (so_far more))
 
 -- the parts of an `if`, behind the words before its condition
-pub branch_text : {X E : Type 0} (r : Result X E) (l : Language) (level : ℕ) (word : List ℕ) (test : Term)
+pub branch_text : {X E : Type 0} (r : Result X E) (l : Language) (level : ℕ) (word : List ℕ) (test : ExpressionNode)
     (first second : Statements) (a b c d e f : List ℕ)
     → Writes a b (indented level) → Writes b c (λ more. word ++ more)
     → Writes c d (λ more. whole_text l test (codes " {\n" ++ more)) → Writes d e (statements_text l (level + 1) first)
@@ -205,7 +205,7 @@ module _ (l : Language) (level : ℕ) (names : ProcessNames) (parts : Parts) (pr
       (rw two there) ∙ ap (λ t. else_text l level t more) (sym (else_is (If test first second ∷ []) e))
 
 -- several statements are no single one
-several : (l : Language) (level : ℕ) (names : ProcessNames) (below : ℕ → Tree) (e : Term) (a c : Statements)
+several : (l : Language) (level : ℕ) (names : ProcessNames) (below : ℕ → Tree) (e : ExpressionNode) (a c : Statements)
     (s : Statement) (ss : List Statement) (inside branch : List ℕ → List ℕ) (more : List ℕ)
     → indented level (codes "} else {\n" ++ inside (indented level (codes "}\n" ++ more)))
     ≡ otherwise_text l level (statement (choice e a c) (statements_named names (tree_over below (s ∷ ss)))) inside

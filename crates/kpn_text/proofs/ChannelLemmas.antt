@@ -6,16 +6,16 @@ use Rattle.kpn_net.specs.declared.tables.ChannelSpec.TheVariants as channel
 use Rattle.kpn_net.specs.declared.tables.End.{End}
 use Rattle.kpn_net.specs.declared.tables.End.TheVariants.{Process, Source, Sink}
 use Rattle.kpn_net.specs.declared.tables.Instance.{Instance}
-use Rattle.kpn_net.specs.Tables.{Tables, capacity, channel_at, ends_from, is_sink, places, reader_of}
+use Rattle.kpn_net.specs.Tables.{Tables, capacity, channel_at, ends_from, is_sink, ends_among, reader_of}
 
 -- the first of these is not the sink
 abbrev BeginsNoSink : List End → Type 0
 BeginsNoSink ends = get_or ends 0 Source ≡ Sink → ⊥
 
-places_begin : (c p : ℕ) (ds : List ℕ) (ends : List End) → BeginsNoSink ends → BeginsNoSink (places c p ds ++ ends)
+places_begin : (c p : ℕ) (ds : List ℕ) (ends : List End) → BeginsNoSink ends → BeginsNoSink (ends_among c p ds ++ ends)
 places_begin c p [] ends none = none
 places_begin c p (d ∷ ds) ends none =
-    elim (nat_eq d c) as (λ b. BeginsNoSink (cond b (Process p ∷ places c p ds) (places c p ds) ++ ends)) [
+    elim (nat_eq d c) as (λ b. BeginsNoSink (cond b (Process p ∷ ends_among c p ds) (ends_among c p ds) ++ ends)) [
       | true ↦ λ e. absurd cc
       | false ↦ places_begin c p ds ends none
     ]

@@ -2,11 +2,11 @@
 use Rattle.std.proofs.Common.{◌≡◌, ℕ, ◌+◌, ◌≤◌, ◌||◌, ℤ, Bool, true, false, List, [], ◌∷◌, ◌++◌, length, map, Ok, refl, sym, ap, subst, ◌∙◌, append_assoc, append-nil, length-append, arith}
 use Rattle.std.specs.List.{AllByRecursion}
 use Rattle.std.proofs.lemmas.List.{map-append, length-map, take_at, drop_at}
-use Rattle.kpn_text_grammar.specs.Syntax.{Name, literal_value, Table, Declaration, array, table}
+use Rattle.kpn_text_grammar.specs.Syntax.{NameBytes, literal_value, Table, Declaration, array, table}
 use Rattle.kpn_text_grammar.specs.Spelling.{DeclarationIsWithin}
 use Rattle.kpn_text_names.specs.declared.network_names.NamedRow.{NamedRow}
 use Rattle.kpn_text_names.specs.declared.rows.Rows.{Rows}
-use Rattle.kpn_text_names.specs.declared.scope.Scope.{Scope}
+use Rattle.kpn_text_names.specs.declared.scope.NameScope.{NameScope}
 use Rattle.kpn_text_names.specs.Fault.{each}
 use Rattle.kpn_text_names.specs.Names.{has}
 use Rattle.kpn_text_names.specs.NetworkNames.{paired, named_row}
@@ -39,14 +39,14 @@ pub record Laid (from : ℕ) (r : Rows) : Type 0 where
 abbrev pub rows_of : Rows → List NamedRow
 rows_of r = paired named_row r.names r.rows
 
-abbrev row_behind : Rows → Name → ℕ → Rows
+abbrev row_behind : Rows → NameBytes → ℕ → Rows
 row_behind r x n = record {
   names = r.names ++ x ∷ [];
   rows = r.rows ++ record { base = r.end; size = n } ∷ [];
   end = within_64_bits (r.end + n);
 }
 
-with_new_row : (r : Rows) (x : Name) (n : ℕ) → has r.names x ≡ false → with_row r x n ≡ row_behind r x n
+with_new_row : (r : Rows) (x : NameBytes) (n : ℕ) → has r.names x ≡ false → with_row r x n ≡ row_behind r x n
 with_new_row r x n new = λ i. record {
   names = with_name_new r.names x new i;
   rows = r.rows ++ record { base = r.end; size = n } ∷ [];
@@ -57,7 +57,7 @@ one_more : {A B : Type 0} (xs : List A) (ys : List B) (x : A) (y : B) → length
     → length (xs ++ x ∷ []) ≡ length (ys ++ y ∷ [])
 one_more xs ys x y same = omega (arith, same, length-append xs (x ∷ []), length-append ys (y ∷ []))
 
-pub laid_more : (from : ℕ) (r : Rows) (x : Name) (n : ℕ) → has r.names x ≡ false → 1 ≤ n → Laid from r
+pub laid_more : (from : ℕ) (r : Rows) (x : NameBytes) (n : ℕ) → has r.names x ≡ false → 1 ≤ n → Laid from r
     → Laid from (with_row r x n)
 laid_more from r x n new some h =
     subst (λ q. Laid from q) (sym (with_new_row r x n new))
@@ -66,7 +66,7 @@ laid_more from r x n new some h =
       rows = follow_more from r.rows r.end n some h.rows;
     })
 
-pub rows_more : (from : ℕ) (r : Rows) (x : Name) (n : ℕ) → has r.names x ≡ false → Laid from r
+pub rows_more : (from : ℕ) (r : Rows) (x : NameBytes) (n : ℕ) → has r.names x ≡ false → Laid from r
     → rows_of (with_row r x n) ≡ rows_of r ++ record { name = x; base = r.end; size = n } ∷ []
 rows_more from r x n new h =
     ap (λ q. rows_of q) (with_new_row r x n new)
@@ -74,7 +74,7 @@ rows_more from r x n new h =
 
 -- ---- a scope whose declarations are printed as these
 
-pub record Declares (s : Scope) (arrays tables : List Declaration) : Type 0 where
+pub record Declares (s : NameScope) (arrays tables : List Declaration) : Type 0 where
   pub arrays_laid : Laid 64 s.arrays
   pub arrays_named : map array_named (rows_of s.arrays) ≡ arrays
   pub tables_laid : Laid 0 s.tables.rows
@@ -84,7 +84,7 @@ pub record Declares (s : Scope) (arrays tables : List Declaration) : Type 0 wher
       ≡ tables ++ tables_named more values
   pub unused : s.tables.used ≡ []
 
-array_more : (s : Scope) (arrays tables : List Declaration) (x : Name) (n : ℕ) → has s.arrays.names x ≡ false
+array_more : (s : NameScope) (arrays tables : List Declaration) (x : NameBytes) (n : ℕ) → has s.arrays.names x ≡ false
     → 1 ≤ n → Declares s arrays tables
     → Declares (with_declaration s (array x n)) (arrays ++ array x n ∷ []) tables
 array_more s arrays tables x n new some h = record {
@@ -102,7 +102,7 @@ array_more s arrays tables x n new some h = record {
 pub end_more : (e m n : ℕ) → e ≡ within_64_bits m → within_64_bits (e + n) ≡ within_64_bits (m + n)
 end_more e m n h = omega (arith, h)
 
-table_more : (s : Scope) (arrays tables : List Declaration) (t : Table) → has s.tables.rows.names t.name ≡ false
+table_more : (s : NameScope) (arrays tables : List Declaration) (t : Table) → has s.tables.rows.names t.name ≡ false
     → 1 ≤ length t.values → Declares s arrays tables
     → Declares (with_declaration s (table t)) arrays (tables ++ table (plain_table t) ∷ [])
 table_more s arrays tables t new some h =
@@ -139,11 +139,11 @@ pub or_parts : (a b : Bool) → (a || b) ≡ false → (a ≡ false) × (b ≡ f
 or_parts true b h = absurd cc
 or_parts false b h = (refl, h)
 
-record IsNew (shared : List Name) (s : Scope) (x : Name) : Type 0 where
+record IsNew (shared : List NameBytes) (s : NameScope) (x : NameBytes) : Type 0 where
   no_array : has s.arrays.names x ≡ false
   no_table : has s.tables.rows.names x ≡ false
 
-is_new : (shared : List Name) (s : Scope) (x : Name) → is_taken shared s x ≡ false → IsNew shared s x
+is_new : (shared : List NameBytes) (s : NameScope) (x : NameBytes) → is_taken shared s x ≡ false → IsNew shared s x
 is_new shared s x h =
     let row = or_parts (is_row shared s x) (is_port s x || has s.vars x) h in
     let own = or_parts (has shared x) (has s.arrays.names x || has s.tables.rows.names x) row.0 in
@@ -152,7 +152,7 @@ is_new shared s x h =
 
 -- ---- one declaration after the other
 
-one_declared : (shared : List Name) (s t : Scope) (d : Declaration) (arrays tables : List Declaration)
+one_declared : (shared : List NameBytes) (s t : NameScope) (d : Declaration) (arrays tables : List Declaration)
     → DeclarationIsWithin d → declare shared s d ≡ Ok t → Declares s arrays tables
     → Declares t (arrays ++ arrays_of (d ∷ [])) (tables ++ tables_of (d ∷ []))
 one_declared shared s t (array x n) arrays tables within e h =
@@ -176,7 +176,7 @@ tables_first : (d : Declaration) (ds : List Declaration) → tables_of (d ∷ []
 tables_first (array x n) ds = refl
 tables_first (table t) ds = refl
 
-pub all_declared : (shared : List Name) (s t : Scope) (ds arrays tables : List Declaration)
+pub all_declared : (shared : List NameBytes) (s t : NameScope) (ds arrays tables : List Declaration)
     → AllByRecursion DeclarationIsWithin ds → each (declare shared) s ds ≡ Ok t → Declares s arrays tables
     → Declares t (arrays ++ arrays_of ds) (tables ++ tables_of ds)
 unfolding each

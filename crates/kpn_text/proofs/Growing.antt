@@ -3,8 +3,8 @@ use Rattle.std.proofs.Common.{◌≡◌, ℕ, ◌||◌, List, [], ◌++◌, Ok, 
 use Rattle.std.specs.List.{position_or_len}
 use Rattle.std.specs.Str.{bytes_eq}
 use Rattle.kpn_lang.specs.Tree.{Tree}
-use Rattle.kpn_text_grammar.specs.Syntax.{Name, Statement, assign, store, receive, send, choice, loop, Statements, no_statements, statement}
-use Rattle.kpn_text_names.specs.declared.scope.Scope.{Scope}
+use Rattle.kpn_text_grammar.specs.Syntax.{NameBytes, StatementNode, assign, store, receive, send, choice, loop, Statements, no_statements, statement}
+use Rattle.kpn_text_names.specs.declared.scope.NameScope.{NameScope}
 use Rattle.kpn_text_names.specs.Names.{with_name}
 use Rattle.kpn_text_names.specs.Scope.{is_port, is_row, target}
 use Rattle.kpn_text_names.specs.Body.{statement_in, tree_in}
@@ -12,15 +12,15 @@ use Rattle.kpn_text_names.proofs.Chains.{ok_is, went}
 use Rattle.kpn_text_names.proofs.KnownNames.{with_name_longer, if_not}
 
 -- a process knows more variables from here on
-pub record Grows (s t : Scope) : Type 0 where
+pub record Grows (s t : NameScope) : Type 0 where
   pub ins : t.ins ≡ s.ins
   pub outs : t.outs ≡ s.outs
   pub arrays : t.arrays ≡ s.arrays
   pub tables : t.tables ≡ s.tables
-  pub more : List Name
+  pub more : List NameBytes
   pub vars : t.vars ≡ s.vars ++ more
 
-pub grows_not : (s : Scope) → Grows s s
+pub grows_not : (s : NameScope) → Grows s s
 grows_not s = record {
   ins = refl;
   outs = refl;
@@ -30,7 +30,7 @@ grows_not s = record {
   vars = sym (append-nil s.vars);
 }
 
-pub grows_on : (s t u : Scope) → Grows s t → Grows t u → Grows s u
+pub grows_on : (s t u : NameScope) → Grows s t → Grows t u → Grows s u
 grows_on s t u g h = record {
   ins = h.ins ∙ g.ins;
   outs = h.outs ∙ g.outs;
@@ -40,17 +40,17 @@ grows_on s t u g h = record {
   vars = h.vars ∙ ap (λ l. l ++ h.more) g.vars ∙ append_assoc s.vars g.more h.more;
 }
 
-pub target_grows : (shared : List Name) (s : Scope) (x : Name) (r : Scope × ℕ) → target shared s x ≡ Ok r → Grows s r.0
+pub target_grows : (shared : List NameBytes) (s : NameScope) (x : NameBytes) (r : NameScope × ℕ) → target shared s x ≡ Ok r → Grows s r.0
 target_grows shared s x r h =
     let longer = with_name_longer s.vars x in
-    let made : Scope × ℕ = (record s { vars = with_name s.vars x }, position_or_len (bytes_eq x) s.vars) in
+    let made : NameScope × ℕ = (record s { vars = with_name s.vars x }, position_or_len (bytes_eq x) s.vars) in
     subst (λ q. Grows s q.0) (if_not (is_port s x || is_row shared s x) made r h).1
     (record { ins = refl; outs = refl; arrays = refl; tables = refl; more = longer.more; vars = longer.is })
 
 mutual
   unfolding statement_in tree_in
 
-  statement_grows : (shared : List Name) (s : Scope) (x : Statement) (r : Scope × (Tree → Tree))
+  statement_grows : (shared : List NameBytes) (s : NameScope) (x : StatementNode) (r : NameScope × (Tree → Tree))
       → statement_in shared s x ≡ Ok r → Grows s r.0
   statement_grows shared s (assign x e) r h =
       let t = went _ _ r h in
@@ -81,7 +81,7 @@ mutual
       let body = went _ _ r a.rest in
       subst (λ q. Grows s q.0) (ok_is _ r body.rest) (block_grows shared s b body.value body.first)
 
-  pub block_grows : (shared : List Name) (s : Scope) (b : Statements) (r : Scope × Tree) → tree_in shared s b ≡ Ok r
+  pub block_grows : (shared : List NameBytes) (s : NameScope) (b : Statements) (r : NameScope × Tree) → tree_in shared s b ≡ Ok r
       → Grows s r.0
   block_grows shared s no_statements r h = subst (λ q. Grows s q.0) (ok_is _ r h) (grows_not s)
   block_grows shared s (statement x xs) r h =

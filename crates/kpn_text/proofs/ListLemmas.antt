@@ -5,7 +5,7 @@ use Rattle.kpn_text_tokens.specs.declared.tokens.Language.{Language}
 use Rattle.kpn_text_tokens.specs.declared.tokens.Mark.TheVariants as mark
 use Rattle.kpn_text_tokens.specs.declared.tokens.Token.{Token}
 use Rattle.kpn_text_tokens.specs.Rules.{IsName}
-use Rattle.kpn_text_grammar.specs.Syntax.{Name}
+use Rattle.kpn_text_grammar.specs.Syntax.{NameBytes}
 use Rattle.kpn_text_grammar.specs.Spelling.{spell_all, spell_further, spell_list, spell_name, spell_names}
 use Rattle.kpn_text.specs.CanonicalLaws.{EndsWord}
 use Rattle.kpn_text.specs.Proper.{AreNames}
@@ -44,6 +44,6 @@ module _ {l : Language} {A : Type 0} (text : A → List ℕ → List ℕ) (spell
   list_read (x ∷ xs) more tokens all ends h =
       one x _ _ all.0 (further_ends xs more ends) (further_read xs more tokens all.1 ends h)
 
-pub names_read : {l : Language} (xs : List Name) (more : List ℕ) (tokens : List Token) → AreNames l xs → EndsWord more
+pub names_read : {l : Language} (xs : List NameBytes) (more : List ℕ) (tokens : List Token) → AreNames l xs → EndsWord more
     → IsReadAs l more tokens → IsReadAs l (names_text xs more) (spell_names xs tokens)
 names_read {l} = list_read name_text spell_name (IsName l) name_read

@@ -4,8 +4,8 @@ use Rattle.std.specs.List.{position_or_len}
 use Rattle.std.specs.Str.{bytes_eq}
 use Rattle.kpn_lang.specs.Syntax as lang
 use Rattle.kpn_lang.specs.Tree.{Tree}
-use Rattle.kpn_text_grammar.specs.Syntax.{Name, Term, numeral, variable, element, minus, negation, complement, binary, conditional, Statement, assign, store, receive, send, choice, loop, Statements, no_statements, statement}
-use Rattle.kpn_text_names.specs.declared.scope.Scope.{Scope}
+use Rattle.kpn_text_grammar.specs.Syntax.{NameBytes, ExpressionNode, numeral, variable, element, minus, negation, complement, binary, conditional, StatementNode, assign, store, receive, send, choice, loop, Statements, no_statements, statement}
+use Rattle.kpn_text_names.specs.declared.scope.NameScope.{NameScope}
 use Rattle.kpn_text_tokens.specs.Results.{and_then}
 use Rattle.kpn_text_names.specs.Names.{known, with_name, name_at}
 use Rattle.kpn_text_names.specs.declared.rows.Row.{Row}
@@ -20,25 +20,25 @@ use Rattle.kpn_text.proofs.Growing.{Grows, grows_not, grows_on, target_grows}
 -- ---- scopes
 
 -- the rows of a scope have the names that these say, by their places
-pub record RowsAgree (names : ProcessNames) (s : Scope) : Type 0 where
-  pub row : (x : Name) (r : Row) → row_of s x ≡ Ok r → row_name names r.base ≡ x
-  pub array : (x : Name) (r : Row) → array_row s x ≡ Ok r → row_name names r.base ≡ x
+pub record RowsAgree (names : ProcessNames) (s : NameScope) : Type 0 where
+  pub row : (x : NameBytes) (r : Row) → row_of s x ≡ Ok r → row_name names r.base ≡ x
+  pub array : (x : NameBytes) (r : Row) → array_row s x ≡ Ok r → row_name names r.base ≡ x
 
 -- the names of a whole process, of which this is known here
-pub record Agrees (names : ProcessNames) (s : Scope) : Type 0 where
+pub record Agrees (names : ProcessNames) (s : NameScope) : Type 0 where
   pub ins : names.ins ≡ s.ins
   pub outs : names.outs ≡ s.outs
-  pub more : List Name
+  pub more : List NameBytes
   pub vars : names.vars ≡ s.vars ++ more
   pub rows : RowsAgree names s
 
-rows_before : (names : ProcessNames) (s t : Scope) → Grows s t → RowsAgree names t → RowsAgree names s
+rows_before : (names : ProcessNames) (s t : NameScope) → Grows s t → RowsAgree names t → RowsAgree names s
 rows_before names s t g a =
-    let other : Scope = record s { arrays = t.arrays; tables = t.tables } in
+    let other : NameScope = record s { arrays = t.arrays; tables = t.tables } in
     let same : other ≡ s = λ i. record s { arrays = g.arrays i; tables = g.tables i } in
-    subst (λ (u : Scope). RowsAgree names u) same (record { row = a.row; array = a.array })
+    subst (λ (u : NameScope). RowsAgree names u) same (record { row = a.row; array = a.array })
 
-agrees_before : (names : ProcessNames) (s t : Scope) → Grows s t → Agrees names t → Agrees names s
+agrees_before : (names : ProcessNames) (s t : NameScope) → Grows s t → Agrees names t → Agrees names s
 agrees_before names s t g a = record {
   ins = a.ins ∙ g.ins;
   outs = a.outs ∙ g.outs;
@@ -49,8 +49,8 @@ agrees_before names s t g a = record {
 
 -- ---- expressions
 
-module _ (names : ProcessNames) (s : Scope) (agrees : Agrees names s) where
-  term_at : (t : Term) (e : lang.Term) → term_in s t ≡ Ok e → term_named names e ≡ t
+module _ (names : ProcessNames) (s : NameScope) (agrees : Agrees names s) where
+  term_at : (t : ExpressionNode) (e : lang.Term) → term_in s t ≡ Ok e → term_named names e ≡ t
   unfolding term_in
   term_at (numeral n) e h = ap (λ x. term_named names x) (sym (ok_is (lang.Num (pos n)) e h))
   term_at (variable x) e h =
@@ -96,49 +96,49 @@ module _ (names : ProcessNames) (s : Scope) (agrees : Agrees names s) where
 
 -- ---- names by number
 
-variable_at : (names : ProcessNames) (s : Scope) → Agrees names s → (k : ℕ) (x : Name) → IsNamed s.vars k x
+variable_at : (names : ProcessNames) (s : NameScope) → Agrees names s → (k : ℕ) (x : NameBytes) → IsNamed s.vars k x
     → name_at names.vars k ≡ x
 variable_at names s a k x h = ap (λ vars. name_at vars k) a.vars ∙ (is_named-append s.vars a.more k x h).name
 
-in_at : (names : ProcessNames) (s : Scope) → Agrees names s → (k : ℕ) (x : Name) → known s.ins x ≡ Ok k
+in_at : (names : ProcessNames) (s : NameScope) → Agrees names s → (k : ℕ) (x : NameBytes) → known s.ins x ≡ Ok k
     → name_at names.ins k ≡ x
 in_at names s a k x h = ap (λ l. name_at l k) a.ins ∙ (known_named s.ins x k h).name
 
-out_at : (names : ProcessNames) (s : Scope) → Agrees names s → (k : ℕ) (x : Name) → known s.outs x ≡ Ok k
+out_at : (names : ProcessNames) (s : NameScope) → Agrees names s → (k : ℕ) (x : NameBytes) → known s.outs x ≡ Ok k
     → name_at names.outs k ≡ x
 out_at names s a k x h = ap (λ l. name_at l k) a.outs ∙ (known_named s.outs x k h).name
 
 -- what a name that is set makes of a scope
-record Targeted (s : Scope) (x : Name) (r : Scope × ℕ) : Type 0 where
+record Targeted (s : NameScope) (x : NameBytes) (r : NameScope × ℕ) : Type 0 where
   grows : Grows s r.0
   named : IsNamed r.0.vars r.1 x
 
-targeted : (shared : List Name) (s : Scope) (x : Name) (r : Scope × ℕ) → target shared s x ≡ Ok r → Targeted s x r
+targeted : (shared : List NameBytes) (s : NameScope) (x : NameBytes) (r : NameScope × ℕ) → target shared s x ≡ Ok r → Targeted s x r
 targeted shared s x r h =
-    let made : Scope × ℕ = (record s { vars = with_name s.vars x }, position_or_len (bytes_eq x) s.vars) in
+    let made : NameScope × ℕ = (record s { vars = with_name s.vars x }, position_or_len (bytes_eq x) s.vars) in
     record {
       grows = target_grows shared s x r h;
-      named = subst (λ (q : Scope × ℕ). IsNamed q.0.vars q.1 x) (if_not (is_port s x || is_row shared s x) made r h).1
+      named = subst (λ (q : NameScope × ℕ). IsNamed q.0.vars q.1 x) (if_not (is_port s x || is_row shared s x) made r h).1
           (target_named s.vars x);
     }
 
 -- ---- statements
 
 -- what stands for a statement in front of others is that statement, once its numbers are replaced
-pub record Back (s : Scope) (x : Statement) (r : Scope × (Tree → Tree)) : Type 0 where
+pub record Back (s : NameScope) (x : StatementNode) (r : NameScope × (Tree → Tree)) : Type 0 where
   pub grows : Grows s r.0
   pub back : (names : ProcessNames) → Agrees names r.0 → (rest : Tree)
       → statements_named names (r.1 rest) ≡ statement x (statements_named names rest)
 
 -- the same of a block
-pub record AllBack (s : Scope) (b : Statements) (r : Scope × Tree) : Type 0 where
+pub record AllBack (s : NameScope) (b : Statements) (r : NameScope × Tree) : Type 0 where
   pub grows : Grows s r.0
   pub back : (names : ProcessNames) → Agrees names r.0 → statements_named names r.1 ≡ b
 
 mutual
   unfolding statement_in tree_in
 
-  statement_back : (shared : List Name) (s : Scope) (x : Statement) (r : Scope × (Tree → Tree))
+  statement_back : (shared : List NameBytes) (s : NameScope) (x : StatementNode) (r : NameScope × (Tree → Tree))
       → statement_in shared s x ≡ Ok r → Back s x r
   statement_back shared s (assign x e) r h =
       let t = went _ _ r h in
@@ -212,7 +212,7 @@ mutual
             (statements_named names rest);
       })
 
-  pub block_back : (shared : List Name) (s : Scope) (b : Statements) (r : Scope × Tree) → tree_in shared s b ≡ Ok r
+  pub block_back : (shared : List NameBytes) (s : NameScope) (b : Statements) (r : NameScope × Tree) → tree_in shared s b ≡ Ok r
       → AllBack s b r
   block_back shared s no_statements r h =
       subst (λ q. AllBack s no_statements q) (ok_is _ r h)

@@ -7,11 +7,11 @@ use Rattle.kpn_net.specs.declared.tables.ChannelSpec.{ChannelSpec}
 use Rattle.kpn_net.specs.declared.tables.ChannelSpec.TheVariants.{Inner, Source, Sink}
 use Rattle.kpn_net.specs.declared.tables.Instance as net
 use Rattle.kpn_text_tokens.specs.declared.tokens.Language.{Language}
-use Rattle.kpn_text_grammar.specs.Syntax.{Name, Literal, plain, negated, literal_value, Instance, Item, channel, source, sink, instance}
+use Rattle.kpn_text_grammar.specs.Syntax.{NameBytes, Literal, plain, negated, literal_value, InstanceNode, Item, channel, source, sink, instance}
 use Rattle.kpn_text_names.specs.Fault.{NameError, each}
 use Rattle.kpn_text_tokens.specs.Results.{and_then}
 use Rattle.kpn_text_names.specs.Names.{has, known, all_known, declared, with_name, name_at}
-use Rattle.kpn_text_names.specs.Network.{within_32_bits, with_channel_name, all_channels, Wiring, with_channel, instance_of, with_instance, with_item, wiring}
+use Rattle.kpn_text_names.specs.Network.{within_32_bits, with_channel_name, all_channels, Wiring, with_wired_channel, instance_of, with_instance, with_wired_item, wiring}
 use Rattle.kpn_text_names.specs.declared.network_names.NetworkNames.{NetworkNames}
 use Rattle.kpn_text_names.specs.NetworkNames.{process_names, paired}
 use Rattle.kpn_text.specs.Named.{literal_named, channel_named, call_named, instance_named}
@@ -48,7 +48,7 @@ within_small n = omega arith
 -- ---- an instance
 
 -- the instance with its values as they are printed
-abbrev printed : Instance → Instance
+abbrev printed : InstanceNode → InstanceNode
 printed i =
     record {
       name = i.name;
@@ -58,7 +58,7 @@ printed i =
       values = map literal_named (map literal_value i.values);
     }
 
-printed_proper : (l : Language) (i : Instance) → IsProperInstance l i → IsProperInstance l (printed i)
+printed_proper : (l : Language) (i : InstanceNode) → IsProperInstance l i → IsProperInstance l (printed i)
 printed_proper l i h =
     record {
       name = h.name;
@@ -68,12 +68,12 @@ printed_proper l i h =
       values = literals_proper i.values h.values;
     }
 
-module _ (programs channels : List Name) where
+module _ (programs channels : List NameBytes) where
   abbrev instance_with : (values : List ℤ) (program : ℕ) (ins outs : List ℕ) → net.Instance
   instance_with values program ins outs = record { program = program; ins = ins; outs = outs; pars = values }
 
   -- what a resolved instance was read from
-  record WasKnown (i : Instance) (made : net.Instance) : Type 0 where
+  record WasKnown (i : InstanceNode) (made : net.Instance) : Type 0 where
     program : ℕ
     ins : List ℕ
     outs : List ℕ
@@ -82,7 +82,7 @@ module _ (programs channels : List Name) where
     has_outs : all_known channels i.outs ≡ Ok outs
     is : instance_with (map literal_value i.values) program ins outs ≡ made
 
-  was_known : (i : Instance) (made : net.Instance) → instance_of programs channels i ≡ Ok made → WasKnown i made
+  was_known : (i : InstanceNode) (made : net.Instance) → instance_of programs channels i ≡ Ok made → WasKnown i made
   was_known i made h =
       let program = went _ _ made h in
       let ins = went _ _ made program.rest in
@@ -97,7 +97,7 @@ module _ (programs channels : List Name) where
         is = ok_is _ made outs.rest;
       }
 
-  printed_again : (i : Instance) (made : net.Instance) → WasKnown i made
+  printed_again : (i : InstanceNode) (made : net.Instance) → WasKnown i made
       → instance_of programs channels (printed i) ≡ Ok made
   printed_again i made h =
       let values = map literal_value (map literal_named (map literal_value i.values)) in
@@ -113,7 +113,7 @@ module _ (programs channels : List Name) where
       ∙ ap (λ m. Ok m) h.is
 
   call_back : (names : NetworkNames) → process_names names ≡ programs → names.channels ≡ channels
-      → (i : Instance) (made : net.Instance) → WasKnown i made → call_named names i.name made ≡ printed i
+      → (i : InstanceNode) (made : net.Instance) → WasKnown i made → call_named names i.name made ≡ printed i
   call_back names p c i made h =
       let program : name_at (process_names names) h.program ≡ i.program =
       ap (λ l. name_at l h.program) p ∙ (known_named programs i.program h.program h.has_program).name in
@@ -135,7 +135,7 @@ module _ (programs channels : List Name) where
 
 -- ---- the tables so far
 
-abbrev wiring_with : List Name → List ChannelSpec → List Name → List net.Instance → Wiring
+abbrev wiring_with : List NameBytes → List ChannelSpec → List NameBytes → List net.Instance → Wiring
 wiring_with channel_names channels instance_names instances =
     record {
       channel_names = channel_names;
@@ -145,11 +145,11 @@ wiring_with channel_names channels instance_names instances =
     }
 
 -- a channel that was new
-record NewChannel (w : Wiring) (x : Name) (spec : ChannelSpec) (next : Wiring) : Type 0 where
+record NewChannel (w : Wiring) (x : NameBytes) (spec : ChannelSpec) (next : Wiring) : Type 0 where
   new : has w.channel_names x ≡ false
   is : wiring_with (w.channel_names ++ x ∷ []) (w.channels ++ spec ∷ []) w.instance_names w.instances ≡ next
 
-new_channel : (w : Wiring) (x : Name) (spec : ChannelSpec) (next : Wiring) → with_channel w x spec ≡ Ok next
+new_channel : (w : Wiring) (x : NameBytes) (spec : ChannelSpec) (next : Wiring) → with_wired_channel w x spec ≡ Ok next
     → NewChannel w x spec next
 new_channel w x spec next h =
     let names = went _ _ next h in
@@ -158,8 +158,8 @@ new_channel w x spec next h =
     ok_is _ next names.rest in
     record { new = d.0; is = ap (λ l. wiring_with l (w.channels ++ spec ∷ []) w.instance_names w.instances) d.1 ∙ is }
 
-channel_again : (w : Wiring) (x : Name) (spec : ChannelSpec) → has w.channel_names x ≡ false
-    → with_channel w x spec
+channel_again : (w : Wiring) (x : NameBytes) (spec : ChannelSpec) → has w.channel_names x ≡ false
+    → with_wired_channel w x spec
     ≡ Ok (wiring_with (w.channel_names ++ x ∷ []) (w.channels ++ spec ∷ []) w.instance_names w.instances)
 channel_again w x spec new =
     then_ok (declared w.channel_names x)
@@ -168,8 +168,8 @@ channel_again w x spec new =
 
 -- ---- the table of channels
 
-module _ (programs channels : List Name) where
-  table_step : (i : Item) (w next : Wiring) → with_item programs channels w i ≡ Ok next
+module _ (programs channels : List NameBytes) where
+  table_step : (i : Item) (w next : Wiring) → with_wired_item programs channels w i ≡ Ok next
       → with_channel_name w.channel_names i ≡ next.channel_names
   table_step (channel x n) w next h =
       let c = new_channel w x (Inner (within_32_bits n)) next h in
@@ -187,39 +187,39 @@ module _ (programs channels : List Name) where
       ok_is _ next made.rest in
       ap (λ (q : Wiring). q.channel_names) is
 
-  table_of : (items : List Item) (w last : Wiring) → each (with_item programs channels) w items ≡ Ok last
+  table_of : (items : List Item) (w last : Wiring) → each (with_wired_item programs channels) w items ≡ Ok last
       → fold with_channel_name w.channel_names items ≡ last.channel_names
   unfolding each
   table_of [] w last h = ap (λ (q : Wiring). q.channel_names) (ok_is w last h)
   table_of (i ∷ items) w last h =
-      let first = went (with_item programs channels w i) (λ q. each (with_item programs channels) q items) last h in
+      let first = went (with_wired_item programs channels w i) (λ q. each (with_wired_item programs channels) q items) last h in
       ap (λ l. fold with_channel_name l items) (table_step i w first.value first.first)
       ∙ table_of items first.value last first.rest
 
 -- the table of all channels is that of the channels as they are declared
-pub all_channels_are : (programs : List Name) (items : List Item) (last : Wiring) → wiring programs items ≡ Ok last
+pub all_channels_are : (programs : List NameBytes) (items : List Item) (last : Wiring) → wiring programs items ≡ Ok last
     → all_channels items ≡ last.channel_names
 all_channels_are programs items last h = table_of programs (all_channels items) items (wiring_with [] [] [] []) last h
 
 -- ---- the items again
 
-module _ (l : Language) (names : NetworkNames) (programs channels : List Name) (p : process_names names ≡ programs)
+module _ (l : Language) (names : NetworkNames) (programs channels : List NameBytes) (p : process_names names ≡ programs)
     (c : names.channels ≡ channels) where
   -- what items added to the tables before, and what it is to read that again
   record Added (w : Wiring) (items : List Item) (last : Wiring) : Type 0 where
-    channel_names : List Name
+    channel_names : List NameBytes
     specs : List ChannelSpec
-    instance_names : List Name
+    instance_names : List NameBytes
     instances : List net.Instance
     channel_names_are : last.channel_names ≡ w.channel_names ++ channel_names
     channels_are : last.channels ≡ w.channels ++ specs
     instance_names_are : last.instance_names ≡ w.instance_names ++ instance_names
     instances_are : last.instances ≡ w.instances ++ instances
-    channels_again : (xs : List Name) (is : List net.Instance)
-        → each (with_item programs channels) (wiring_with w.channel_names w.channels xs is)
+    channels_again : (xs : List NameBytes) (is : List net.Instance)
+        → each (with_wired_item programs channels) (wiring_with w.channel_names w.channels xs is)
         (paired channel_named channel_names specs) ≡ Ok (wiring_with last.channel_names last.channels xs is)
-    instances_again : (xs : List Name) (cs : List ChannelSpec)
-        → each (with_item programs channels) (wiring_with xs cs w.instance_names w.instances)
+    instances_again : (xs : List NameBytes) (cs : List ChannelSpec)
+        → each (with_wired_item programs channels) (wiring_with xs cs w.instance_names w.instances)
         (paired (instance_named names) instance_names instances)
         ≡ Ok (wiring_with xs cs last.instance_names last.instances)
     table_again : fold with_channel_name w.channel_names (paired channel_named channel_names specs)
@@ -230,12 +230,12 @@ module _ (l : Language) (names : NetworkNames) (programs channels : List Name) (
         → AllByRecursion (IsProperItem l) (paired (instance_named names) instance_names instances)
 
   -- a channel that is declared and printed as such
-  record PrintsAs (i : Item) (x : Name) (spec : ChannelSpec) : Type 0 where
-    again : (w : Wiring) → with_item programs channels w (channel_named x spec) ≡ with_channel w x spec
-    table : (t : List Name) → with_channel_name t (channel_named x spec) ≡ with_name t x
+  record PrintsAs (i : Item) (x : NameBytes) (spec : ChannelSpec) : Type 0 where
+    again : (w : Wiring) → with_wired_item programs channels w (channel_named x spec) ≡ with_wired_channel w x spec
+    table : (t : List NameBytes) → with_channel_name t (channel_named x spec) ≡ with_name t x
     proper : IsProperItem l i → IsProperItem l (channel_named x spec)
 
-  channel_step : (i : Item) (x : Name) (spec : ChannelSpec) (items : List Item) (w next last : Wiring)
+  channel_step : (i : Item) (x : NameBytes) (spec : ChannelSpec) (items : List Item) (w next last : Wiring)
       → PrintsAs i x spec → NewChannel w x spec next → Added next items last → Added w (i ∷ items) last
   unfolding each and_then
   channel_step i x spec items w next last prints new more =
@@ -255,7 +255,7 @@ module _ (l : Language) (names : NetworkNames) (programs channels : List Name) (
             let before : Wiring = wiring_with w.channel_names w.channels xs is in
             ap (λ r.
             and_then r
-            (λ t. each (with_item programs channels) t (paired channel_named rest.channel_names rest.specs)))
+            (λ t. each (with_wired_item programs channels) t (paired channel_named rest.channel_names rest.specs)))
             (prints.again before ∙ channel_again before x spec new.new)
             ∙ rest.channels_again xs is;
         instances_again = rest.instances_again;
@@ -268,13 +268,13 @@ module _ (l : Language) (names : NetworkNames) (programs channels : List Name) (
       }
 
   -- an instance that was new
-  record NewInstance (w : Wiring) (i : Instance) (next : Wiring) : Type 0 where
+  record NewInstance (w : Wiring) (i : InstanceNode) (next : Wiring) : Type 0 where
     new : has w.instance_names i.name ≡ false
     made : net.Instance
     known_before : WasKnown programs channels i made
     is : wiring_with w.channel_names w.channels (w.instance_names ++ i.name ∷ []) (w.instances ++ made ∷ []) ≡ next
 
-  new_instance : (w : Wiring) (i : Instance) (next : Wiring) → with_instance programs channels w i ≡ Ok next
+  new_instance : (w : Wiring) (i : InstanceNode) (next : Wiring) → with_instance programs channels w i ≡ Ok next
       → NewInstance w i next
   new_instance w i next h =
       let table = went _ _ next h in
@@ -289,7 +289,7 @@ module _ (l : Language) (names : NetworkNames) (programs channels : List Name) (
         is = ap (λ l. wiring_with w.channel_names w.channels l (w.instances ++ made.value ∷ [])) d.1 ∙ is;
       }
 
-  instance_again : (w : Wiring) (i : Instance) (made : net.Instance) → has w.instance_names i.name ≡ false
+  instance_again : (w : Wiring) (i : InstanceNode) (made : net.Instance) → has w.instance_names i.name ≡ false
       → WasKnown programs channels i made
       → with_instance programs channels w (call_named names i.name made)
       ≡ Ok (wiring_with w.channel_names w.channels (w.instance_names ++ i.name ∷ []) (w.instances ++ made ∷ []))
@@ -306,7 +306,7 @@ module _ (l : Language) (names : NetworkNames) (programs channels : List Name) (
       (λ m. Ok (wiring_with w.channel_names w.channels (w.instance_names ++ i.name ∷ []) (w.instances ++ m ∷ [])))
       made made_again
 
-  instance_step : (i : Instance) (items : List Item) (w next last : Wiring) → NewInstance w i next
+  instance_step : (i : InstanceNode) (items : List Item) (w next last : Wiring) → NewInstance w i next
       → Added next items last → Added w (instance i ∷ items) last
   unfolding each and_then
   instance_step i items w next last new more =
@@ -328,7 +328,7 @@ module _ (l : Language) (names : NetworkNames) (programs channels : List Name) (
             ap (λ r.
             and_then r
             (λ t.
-            each (with_item programs channels) t
+            each (with_wired_item programs channels) t
             (paired (instance_named names) rest.instance_names rest.instances)))
             (instance_again (wiring_with xs cs w.instance_names w.instances) i new.made new.new new.known_before)
             ∙ rest.instances_again xs cs;
@@ -341,12 +341,12 @@ module _ (l : Language) (names : NetworkNames) (programs channels : List Name) (
         );
       }
 
-  one_more : (i : Item) (items : List Item) (w next last : Wiring) → with_item programs channels w i ≡ Ok next
+  one_more : (i : Item) (items : List Item) (w next last : Wiring) → with_wired_item programs channels w i ≡ Ok next
       → Added next items last → Added w (i ∷ items) last
   one_more (channel x n) items w next last h more =
       channel_step (channel x n) x (Inner (within_32_bits n)) items w next last
       (record {
-        again = λ q. ap (λ m. with_channel q x (Inner m)) (within_again n);
+        again = λ q. ap (λ m. with_wired_channel q x (Inner m)) (within_again n);
         table = λ t. refl;
         proper = λ h. (h.0, within_small n);
       })
@@ -357,14 +357,14 @@ module _ (l : Language) (names : NetworkNames) (programs channels : List Name) (
   one_more (sink x n) items w next last h more =
       channel_step (sink x n) x (Sink (within_32_bits n)) items w next last
       (record {
-        again = λ q. ap (λ m. with_channel q x (Sink m)) (within_again n);
+        again = λ q. ap (λ m. with_wired_channel q x (Sink m)) (within_again n);
         table = λ t. refl;
         proper = λ h. (h.0, within_small n);
       })
       (new_channel w x (Sink (within_32_bits n)) next h) more
   one_more (instance i) items w next last h more = instance_step i items w next last (new_instance w i next h) more
 
-  added : (items : List Item) (w last : Wiring) → each (with_item programs channels) w items ≡ Ok last
+  added : (items : List Item) (w last : Wiring) → each (with_wired_item programs channels) w items ≡ Ok last
       → Added w items last
   unfolding each
   added [] w last h =
@@ -385,7 +385,7 @@ module _ (l : Language) (names : NetworkNames) (programs channels : List Name) (
         instances_proper = λ h. h;
       })
   added (i ∷ items) w last h =
-      let first = went (with_item programs channels w i) (λ q. each (with_item programs channels) q items) last h in
+      let first = went (with_wired_item programs channels w i) (λ q. each (with_wired_item programs channels) q items) last h in
       one_more i items w first.value last first.first (added items first.value last first.rest)
 
 -- ---- all items of a network
@@ -404,7 +404,7 @@ each-append step s t (x ∷ xs) ys h =
     then_ok (step s x) (λ q. each step q (xs ++ ys)) first.value first.first
     ∙ each-append step first.value t xs ys first.rest
 
-instances_declare_nothing : (names : NetworkNames) (t xs : List Name) (is : List net.Instance)
+instances_declare_nothing : (names : NetworkNames) (t xs : List NameBytes) (is : List net.Instance)
     → fold with_channel_name t (paired (instance_named names) xs is) ≡ t
 instances_declare_nothing names t [] is = refl
 instances_declare_nothing names t (x ∷ xs) [] = refl
@@ -416,16 +416,16 @@ all-append P [] ys h k = k
 all-append P (x ∷ xs) ys h k = (h.0, all-append P xs ys h.1 k)
 
 -- what comes of the items of a network
-pub record ItemsBack (l : Language) (names : NetworkNames) (programs : List Name) (items : List Item) (w : Wiring)
+pub record ItemsBack (l : Language) (names : NetworkNames) (programs : List NameBytes) (items : List Item) (w : Wiring)
     : Type 0 where
   pub again : wiring programs (items_named names w) ≡ Ok w
   pub proper : AllByRecursion (IsProperItem l) items → AllByRecursion (IsProperItem l) (items_named names w)
 
-pub items_back : (l : Language) (names : NetworkNames) (programs : List Name) (items : List Item) (w : Wiring)
+pub items_back : (l : Language) (names : NetworkNames) (programs : List NameBytes) (items : List Item) (w : Wiring)
     → process_names names ≡ programs → names.channels ≡ w.channel_names → wiring programs items ≡ Ok w
     → ItemsBack l names programs items w
 items_back l names programs items w p c h =
-    let channels : List Name = all_channels items in
+    let channels : List NameBytes = all_channels items in
     let same : channels ≡ w.channel_names = all_channels_are programs items w h in
     let a = added l names programs channels p (c ∙ sym same) items (wiring_with [] [] [] []) w h in
     let declared_items : List Item = paired channel_named w.channel_names w.channels in
@@ -434,7 +434,7 @@ items_back l names programs items w p c h =
     λ i. paired channel_named (sym a.channel_names_are i) (sym a.channels_are i) in
     let called_are : paired (instance_named names) a.instance_names a.instances ≡ called_items =
     λ i. paired (instance_named names) (sym a.instance_names_are i) (sym a.instances_are i) in
-    let step = with_item programs channels in
+    let step = with_wired_item programs channels in
     let declared_again : each step (wiring_with [] [] [] []) declared_items
     ≡ Ok (wiring_with w.channel_names w.channels [] []) =
     ap (λ l. each step (wiring_with [] [] [] []) l) (sym declared_are) ∙ a.channels_again [] [] in
@@ -450,7 +450,7 @@ items_back l names programs items w p c h =
     ∙ ap (λ l. fold with_channel_name [] l) (sym declared_are) ∙ a.table_again ∙ sym same in
     record {
       again =
-          ap (λ l. each (with_item programs l) (wiring_with [] [] [] []) (items_named names w)) table ∙ read_again;
+          ap (λ l. each (with_wired_item programs l) (wiring_with [] [] [] []) (items_named names w)) table ∙ read_again;
       proper = λ all. all-append (IsProperItem l) declared_items called_items
           (subst (λ are. AllByRecursion (IsProperItem l) are) declared_are (a.channels_proper all))
           (subst (λ are. AllByRecursion (IsProperItem l) are) called_are (a.instances_proper all));

@@ -11,21 +11,21 @@ use Rattle.kpn_lang.specs.declared.program.ProgramFault.{ProgramFault}
 use Rattle.kpn_lang.specs.declared.program.ProgramFault.TheVariants as rule
 use Rattle.kpn_lang.specs.Parts.{Parts, IsProgram, is_too_large, statement_nodes}
 use Rattle.kpn_lang.specs.Tree.{Tree, tree_of}
-use Rattle.kpn_text_grammar.specs.Syntax.{Name, Declaration, array, table, Process}
+use Rattle.kpn_text_grammar.specs.Syntax.{NameBytes, Declaration, array, table, ProcessNode}
 use Rattle.kpn_text_grammar.specs.Spelling.{ProcessIsWithin}
 use Rattle.kpn_text_names.specs.declared.network_names.ProcessNames.{ProcessNames}
 use Rattle.kpn_text_names.specs.declared.rows.Row.{Row}
-use Rattle.kpn_text_names.specs.declared.scope.Scope.{Scope}
-use Rattle.kpn_text_names.specs.declared.tables.Shared.{Shared}
+use Rattle.kpn_text_names.specs.declared.scope.NameScope.{NameScope}
+use Rattle.kpn_text_names.specs.declared.tables.SharedTables.{SharedTables}
 use Rattle.kpn_text_names.specs.Fault.{each}
 use Rattle.kpn_text_names.specs.Names.{declared}
 use Rattle.kpn_text_names.specs.Rows.{within_64_bits}
-use Rattle.kpn_text_names.specs.Scope.{are_new, behind_arrays, declare, head, is_taken, declared_name, scope_with, with_declaration}
+use Rattle.kpn_text_names.specs.Scope.{are_new, behind_arrays, declare, head_scope, is_taken, declared_name, scope_with, with_declaration}
 use Rattle.kpn_text_names.specs.Shared.{values_at}
 use Rattle.kpn_text_names.specs.Body.{tree_in}
-use Rattle.kpn_text_names.specs.Blocks.{blocks_of, Written, body_of}
+use Rattle.kpn_text_names.specs.Blocks.{body_blocks, WrittenBody, body_of}
 use Rattle.kpn_text_names.specs.Laws.{BlocksAreTheTree}
-use Rattle.kpn_text_names.specs.Named.{NamedProgram, free_of, values_of, program_with, with_uses, program_of, Programs, with_process, programs_of}
+use Rattle.kpn_text_names.specs.Named.{NamedProgram, free_of, values_of, program_with, with_uses, named_program, Programs, with_named_process, programs_of}
 use Rattle.kpn_text_names.specs.NetworkNames.{paired, named_row, process_names_in}
 use Rattle.kpn_text.specs.Named.{statements_named, literal_named, array_named, tables_named, declarations_named, process_named}
 use Rattle.kpn_text_names.proofs.Chains.{ok_is, went}
@@ -63,7 +63,7 @@ few_cells p is =
 -- ---- the declarations of a process
 
 -- the rows of tables are printed without their places
-moved_same : (from n : ℕ) (xs : List Name) (rs : List Row) (vs : List ℤ)
+moved_same : (from n : ℕ) (xs : List NameBytes) (rs : List Row) (vs : List ℤ)
     → tables_named (take n (paired named_row xs (map (moved from) rs))) vs
     ≡ tables_named (take n (paired named_row xs rs)) vs
 moved_same from zero xs rs vs = refl
@@ -73,7 +73,7 @@ moved_same from (suc n) (x ∷ xs) (r ∷ rs) vs =
     ap (λ l. table (record { name = x; values = map literal_named (take r.size vs) }) ∷ l)
     (moved_same from n xs rs (drop r.size vs))
 
-paired_count : (xs : List Name) (rs : List Row) → length xs ≡ length rs → length (paired named_row xs rs) ≡ length xs
+paired_count : (xs : List NameBytes) (rs : List Row) → length xs ≡ length rs → length (paired named_row xs rs) ≡ length xs
 paired_count [] rs same = refl
 paired_count (x ∷ xs) [] same = absurd (omega (arith, same))
 paired_count (x ∷ xs) (r ∷ rs) same =
@@ -84,7 +84,7 @@ own_count : (all own used : ℕ) → all ≡ own + used → all - used ≡ own
 own_count all own used h = omega (arith, h)
 
 -- a scope at the end of a body, of which the declarations are printed as these
-module _ (n : Name) (shared : Shared) (s t : Scope) (arrays tables : List Declaration) (d : Declares s arrays tables)
+module _ (n : NameBytes) (shared : SharedTables) (s t : NameScope) (arrays tables : List Declaration) (d : Declares s arrays tables)
     (same : t.arrays ≡ s.arrays) (u : Uses shared s.tables t.tables) where
   arrays_shown : map array_named (rows_of t.arrays) ≡ arrays
   arrays_shown = ap (λ r. map array_named (rows_of r)) same ∙ d.arrays_named
@@ -135,16 +135,16 @@ module _ (n : Name) (shared : Shared) (s t : Scope) (arrays tables : List Declar
 
 -- ---- the head of a process
 
-record HasHead (p : Process) (s : Scope) : Type 0 where
+record HasHead (p : ProcessNode) (s : NameScope) : Type 0 where
   ins : s.ins ≡ p.ins
   outs : s.outs ≡ p.outs
   vars : s.vars ≡ p.pars
 
-with_its_head : (p : Process) (s : Scope) (d : Declaration) → HasHead p s → HasHead p (with_declaration s d)
+with_its_head : (p : ProcessNode) (s : NameScope) (d : Declaration) → HasHead p s → HasHead p (with_declaration s d)
 with_its_head p s (array x n) h = record { ins = h.ins; outs = h.outs; vars = h.vars }
 with_its_head p s (table t) h = record { ins = h.ins; outs = h.outs; vars = h.vars }
 
-heads_stay : (shared : List Name) (p : Process) (s t : Scope) (ds : List Declaration)
+heads_stay : (shared : List NameBytes) (p : ProcessNode) (s t : NameScope) (ds : List Declaration)
     → each (declare shared) s ds ≡ Ok t → HasHead p s → HasHead p t
 unfolding each
 heads_stay shared p s t [] e h = subst (λ u. HasHead p u) (ok_is s t e) h
@@ -155,7 +155,7 @@ heads_stay shared p s t (d ∷ ds) e h =
     (subst (λ u. HasHead p u) is.1 (with_its_head p s d h))
 
 -- a head declares nothing
-declares_none : (ins outs vars : List Name) → Declares (scope_with ins outs vars) [] []
+declares_none : (ins outs vars : List NameBytes) → Declares (scope_with ins outs vars) [] []
 declares_none ins outs vars = record {
   arrays_laid = record { named = refl; rows = refl };
   arrays_named = refl;
@@ -167,19 +167,19 @@ declares_none ins outs vars = record {
 
 -- ---- one process
 
-abbrev written_of : Scope × Tree → Written
-written_of t = record { scope = t.0; blocks = blocks_of t.1 }
+abbrev written_of : NameScope × Tree → WrittenBody
+written_of t = record { scope = t.0; blocks = body_blocks t.1 }
 
-abbrev ComesBack : Process → NamedProgram → Type 0
+abbrev ComesBack : ProcessNode → NamedProgram → Type 0
 ComesBack p made = process_named (process_names_in p.name made.names) made.parts ≡ sorted_process p
 
-module _ (flat : BlocksAreTheTree) (shared : Shared) (filled : AreFilled shared) where
-  body_comes_back : (p : Process) (s : Scope) (t : Scope × Tree) → HasHead p s
+module _ (flat : BlocksAreTheTree) (shared : SharedTables) (filled : AreFilled shared) where
+  body_comes_back : (p : ProcessNode) (s : NameScope) (t : NameScope × Tree) → HasHead p s
       → Declares s (arrays_of p.declarations) (tables_of p.declarations)
       → HasFewCells (program_with shared s (written_of t)).parts
       → tree_in shared.names (with_uses shared s p.body) p.body ≡ Ok t
       → ComesBack p (program_with shared s (written_of t))
-  body_comes_back p s t head d few e =
+  body_comes_back p s t head_scope d few e =
       let b = block_back shared.names (with_uses shared s p.body) p.body t e in
       let u : Uses shared s.tables t.0.tables =
       subst (λ ts. Uses shared s.tables ts) (sym b.grows.tables)
@@ -189,11 +189,11 @@ module _ (flat : BlocksAreTheTree) (shared : Shared) (filled : AreFilled shared)
       let stand : Standing t.0 =
       standing p.name shared s t.0 (arrays_of p.declarations) (tables_of p.declarations) d same u few in
       let pars : take (length s.vars) t.0.vars ≡ p.pars =
-      (λ i. take (length (head.vars i)) (b.grows.vars i))
-      ∙ ap (λ l. take (length p.pars) (l ++ b.grows.more)) head.vars ∙ take-append_seam p.pars b.grows.more in
+      (λ i. take (length (head_scope.vars i)) (b.grows.vars i))
+      ∙ ap (λ l. take (length p.pars) (l ++ b.grows.more)) head_scope.vars ∙ take-append_seam p.pars b.grows.more in
       let declarations : declarations_named names (values_of shared t.0) ≡ sorted p.declarations =
       declarations_back p.name shared s t.0 (arrays_of p.declarations) (tables_of p.declarations) d same u in
-      let body : statements_named names (tree_of (blocks_of t.1) 0) ≡ p.body =
+      let body : statements_named names (tree_of (body_blocks t.1) 0) ≡ p.body =
       ap (λ tree. statements_named names tree) (flat t.1)
       ∙ b.back names
       (record {
@@ -203,8 +203,8 @@ module _ (flat : BlocksAreTheTree) (shared : Shared) (filled : AreFilled shared)
         vars = sym (append-nil t.0.vars);
         rows = rows_agree p.name t.0 stand;
       }) in
-      let ins : t.0.ins ≡ p.ins = b.grows.ins ∙ head.ins in
-      let outs : t.0.outs ≡ p.outs = b.grows.outs ∙ head.outs in
+      let ins : t.0.ins ≡ p.ins = b.grows.ins ∙ head_scope.ins in
+      let outs : t.0.outs ≡ p.outs = b.grows.outs ∙ head_scope.outs in
       λ i. record {
         name = p.name;
         ins = ins i;
@@ -214,19 +214,19 @@ module _ (flat : BlocksAreTheTree) (shared : Shared) (filled : AreFilled shared)
         body = body i;
       }
 
-  process_back : (p : Process) (made : NamedProgram) → ProcessIsWithin p → program_of shared p ≡ Ok made
+  process_back : (p : ProcessNode) (made : NamedProgram) → ProcessIsWithin p → named_program shared p ≡ Ok made
       → HasFewCells made.parts → ComesBack p made
   process_back p made within e few =
-      let h = went (head shared.names p) _ made e in
+      let h = went (head_scope shared.names p) _ made e in
       let s = went (each (declare shared.names) h.value p.declarations) _ made h.rest in
       let body = went (body_of shared.names (with_uses shared s.value p.body) p.body) _ made s.rest in
       let tree = went (tree_in shared.names (with_uses shared s.value p.body) p.body) _ body.value body.first in
-      let start : Scope = scope_with p.ins p.outs p.pars in
+      let start : NameScope = scope_with p.ins p.outs p.pars in
       let known : start ≡ h.value =
       (if_so (are_new shared.names (p.ins ++ p.outs ++ p.pars)) start h.value h.first).1 in
       let first : HasHead p h.value =
       subst (λ q. HasHead p q) known (record { ins = refl; outs = refl; vars = refl }) in
-      let head : HasHead p s.value = heads_stay shared.names p h.value s.value p.declarations s.first first in
+      let head_scope : HasHead p s.value = heads_stay shared.names p h.value s.value p.declarations s.first first in
       let declares : Declares s.value (arrays_of p.declarations) (tables_of p.declarations) =
       all_declared shared.names h.value s.value p.declarations [] [] within.declarations s.first
       (subst (λ q. Declares q [] []) known (declares_none p.ins p.outs p.pars)) in
@@ -236,13 +236,13 @@ module _ (flat : BlocksAreTheTree) (shared : Shared) (filled : AreFilled shared)
       let same : program_with shared s.value (written_of tree.value) ≡ made =
       ap (λ w. program_with shared s.value w) written ∙ program in
       subst (λ q. ComesBack p q) same
-      (body_comes_back p s.value tree.value head declares
+      (body_comes_back p s.value tree.value head_scope declares
       (subst (λ (q : NamedProgram). HasFewCells q.parts) (sym same) few) tree.first)
 
 -- ---- several
 
 -- the processes that stand for these names and programs
-abbrev pub processes_named : List Name → List NamedProgram → List Process
+abbrev pub processes_named : List NameBytes → List NamedProgram → List ProcessNode
 processes_named names programs =
     paired process_named (paired process_names_in names (map (λ q. q.names) programs)) (map (λ q. q.parts) programs)
 
@@ -258,16 +258,16 @@ have_few (q ∷ programs) all = (
 )
 
 -- the names and programs that processes added to those before
-record Added (before : Programs) (processes : List Process) (after : Programs) : Type 0 where
-  names : List Name
+record Added (before : Programs) (processes : List ProcessNode) (after : Programs) : Type 0 where
+  names : List NameBytes
   programs : List NamedProgram
   after_names : after.names ≡ before.names ++ names
   after_programs : after.programs ≡ before.programs ++ programs
   back : HaveFewCells programs → processes_named names programs ≡ map sorted_process processes
 
-module _ (flat : BlocksAreTheTree) (shared : Shared) (filled : AreFilled shared) where
-  added : (before : Programs) (processes : List Process) (after : Programs)
-      → AllByRecursion ProcessIsWithin processes → each (with_process shared) before processes ≡ Ok after
+module _ (flat : BlocksAreTheTree) (shared : SharedTables) (filled : AreFilled shared) where
+  added : (before : Programs) (processes : List ProcessNode) (after : Programs)
+      → AllByRecursion ProcessIsWithin processes → each (with_named_process shared) before processes ≡ Ok after
       → Added before processes after
   unfolding each
   added before [] after within h =
@@ -280,9 +280,9 @@ module _ (flat : BlocksAreTheTree) (shared : Shared) (filled : AreFilled shared)
         back = λ few. refl;
       }
   added before (p ∷ processes) after within h =
-      let first = went (with_process shared before p) (λ q. each (with_process shared) q processes) after h in
+      let first = went (with_named_process shared before p) (λ q. each (with_named_process shared) q processes) after h in
       let names = went (declared before.names p.name) _ first.value first.first in
-      let made = went (program_of shared p) _ first.value names.rest in
+      let made = went (named_program shared p) _ first.value names.rest in
       let same : ◌≡◌ {A = Programs} (record { names = names.value; programs = before.programs ++ made.value ∷ [] })
       first.value = ok_is _ _ made.rest in
       let new : before.names ++ p.name ∷ [] ≡ names.value =
@@ -305,7 +305,7 @@ module _ (flat : BlocksAreTheTree) (shared : Shared) (filled : AreFilled shared)
       }
 
   -- the processes of a description come back, each with its arrays and then its tables
-  pub processes_back : (processes : List Process) (p : Programs) → AllByRecursion ProcessIsWithin processes
+  pub processes_back : (processes : List ProcessNode) (p : Programs) → AllByRecursion ProcessIsWithin processes
       → programs_of shared processes ≡ Ok p → HaveFewCells p.programs
       → processes_named p.names p.programs ≡ map sorted_process processes
   processes_back processes p within h few =

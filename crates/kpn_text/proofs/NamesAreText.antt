@@ -16,7 +16,7 @@ use Rattle.kpn_net.specs.Tables.{Tables}
 use Rattle.kpn_text_tokens.specs.declared.tokens.Language.{Language}
 use Rattle.kpn_text_tokens.specs.Lexing.{begins_name}
 use Rattle.kpn_text_tokens.specs.Rules.{IsName}
-use Rattle.kpn_text_grammar.specs.Syntax.{Name, Process, Description}
+use Rattle.kpn_text_grammar.specs.Syntax.{NameBytes, ProcessNode, Description}
 use Rattle.kpn_text_names.specs.declared.network_names.NetworkNames.{NetworkNames}
 use Rattle.kpn_text_names.specs.Names.{name_at}
 use Rattle.kpn_text_names.specs.NetworkNames.{AreNamed, names_in, paired, process_names}
@@ -43,7 +43,7 @@ ascii_bytes test small (b ∷ bs) all =
     let parts = and_parts (test b) (list_all test bs) all in
     All-cons (λ b. b < 128) b bs (small b parts.0) (ascii_bytes test small bs parts.1)
 
-name_is_text : (l : Language) (x : Name) → IsName l x → IsUtf8 x
+name_is_text : (l : Language) (x : NameBytes) → IsName l x → IsUtf8 x
 name_is_text l x is =
     IsUtf8-from_ascii x
     (IsAscii-from_all x (ascii_bytes (λ b. begins_name b || is_ascii_digit b) word_byte x is.word.goes_on))
@@ -52,7 +52,7 @@ no_name : IsUtf8 []
 no_name = IsUtf8-from_ascii [] (IsAscii-from_all [] (All-nil (λ b. b < 128)))
 
 -- if each pair is proper, then each of the names in them is text
-named_are : (l : Language) {A B C : Type 0} (P : C → Type 0) (name : A → Name) (f : A → B → C)
+named_are : (l : Language) {A B C : Type 0} (P : C → Type 0) (name : A → NameBytes) (f : A → B → C)
     → ((x : A) (y : B) → P (f x y) → IsName l (name x)) → (xs : List A) (ys : List B) → length xs ≡ length ys
     → AllByRecursion P (paired f xs ys) → (k : ℕ) → IsUtf8 (name_at (map name xs) k)
 named_are l P name f step [] ys same all k = no_name
@@ -62,7 +62,7 @@ named_are l P name f step (x ∷ xs) (y ∷ ys) same all (suc k) =
     let rest : length xs ≡ length ys = omega (arith, same) in
     named_are l P name f step xs ys rest all.1 k
 
-channel_is : (l : Language) (x : Name) (spec : ChannelSpec) → IsProperItem l (channel_named x spec) → IsName l x
+channel_is : (l : Language) (x : NameBytes) (spec : ChannelSpec) → IsProperItem l (channel_named x spec) → IsName l x
 channel_is l x (Inner cap) is = is.0
 channel_is l x Source is = is
 channel_is l x (Sink cap) is = is.0
@@ -85,17 +85,17 @@ items_text l names t named is processes =
     record {
       processes = processes;
       instances =
-          λ k. subst (λ (xs : List Name). IsUtf8 (name_at xs k)) (map-id names.instances)
+          λ k. subst (λ (xs : List NameBytes). IsUtf8 (name_at xs k)) (map-id names.instances)
           (named_are l (IsProperItem l) (λ x. x) (instance_named names) (λ x i proper. proper.name) names.instances
           t.instances named.instances items.1 k);
       channels =
-          λ k. subst (λ (xs : List Name). IsUtf8 (name_at xs k)) (map-id names.channels)
+          λ k. subst (λ (xs : List NameBytes). IsUtf8 (name_at xs k)) (map-id names.channels)
           (named_are l (IsProperItem l) (λ x. x) channel_named (channel_is l) names.channels t.channels named.channels
           items.0 k);
     }
 
 -- the names of proper processes
-processes_text : (l : Language) (ps : List Process) → AllByRecursion (IsProperProcess l) ps → (k : ℕ)
+processes_text : (l : Language) (ps : List ProcessNode) → AllByRecursion (IsProperProcess l) ps → (k : ℕ)
     → IsUtf8 (name_at (map (λ p. p.name) ps) k)
 processes_text l [] all k = no_name
 processes_text l (p ∷ ps) all zero = name_is_text l p.name all.0.name
@@ -111,7 +111,7 @@ named_text l d n h is =
     let back = names_back shared.value d.processes p.value p.first in
     let items = items_back l (names_in made) p.value.names d.network.items w.value back refl w.first in
     let there : (k : ℕ) → IsUtf8 (name_at (process_names (names_in made)) k) =
-    λ k. subst (λ (xs : List Name). IsUtf8 (name_at xs k))
+    λ k. subst (λ (xs : List NameBytes). IsUtf8 (name_at xs k))
     (sym (back ∙ names_kept shared.value d.processes p.value p.first)) (processes_text l d.processes is.processes k) in
     let named : AreNamed (names_in made) made.tables =
     subst (λ (m : Named). AreNamed (names_in m) m.tables) (sym same) (are_named n (resolved_each d n h)) in

@@ -19,17 +19,17 @@ use Rattle.kpn_text_tokens.specs.Spelling.{has_keyword, keyword_bytes, keyword_o
 use Rattle.kpn_text_tokens.specs.Opening.{language_of}
 use Rattle.kpn_text_tokens.proofs.Openings.{network_told, process_told, two_told}
 use Rattle.kpn_text_grammar.specs.Words.{growth_word, policy_word}
-use Rattle.kpn_text_grammar.specs.Syntax.{Name, Literal, Instance, Item, channel, source, sink, instance, Table, Process, Network, Description}
+use Rattle.kpn_text_grammar.specs.Syntax.{NameBytes, Literal, InstanceNode, Item, channel, source, sink, instance, Table, ProcessNode, NetworkNode, Description}
 use Rattle.kpn_text_grammar.specs.Spelling.{spell_literal, spell_table, spell_names, spell_values, spell_call, spell_item, spell_limit, spell_policy, spell_growth, spell_network, spell_process, spell_language, spell_description}
 use Rattle.kpn_text.specs.CanonicalLaws.{EndsWord}
 use Rattle.kpn_text.specs.Proper.{AreNames, IsProperLiteral, IsProperInstance, IsProperItem, IsProperLimit, IsProperNetwork, IsProperTable, IsProperProcess, IsProper}
-use Rattle.kpn_text.specs.Text.{literal_text, list_text, outs_text, values_text, call_text, item_text, limit_text, policy_text, growth_text, network_text, table_text, process_text, all_text, language_text, description_text}
+use Rattle.kpn_text.specs.Text.{literal_text, list_text, outs_text, values_text, call_text, network_item_text, limit_text, policy_text, growth_text, network_text, table_text, process_text, all_text, language_text, description_text}
 use Rattle.kpn_text.proofs.TokenLemmas.{IsReadAs, nothing_read, token_read, name_read, number_read, mark_read, keyword_read, space_read, indent_read}
 use Rattle.kpn_text.proofs.StatementLemmas.{end_read, open_read, close_read}
 use Rattle.kpn_text.proofs.ListLemmas.{all_read, list_read, names_read}
 use Rattle.kpn_text.proofs.ProcessLemmas.{literal_read, table_read, process_read}
 
-outs_read : {l : Language} (xs : List Name) (more : List ℕ) (tokens : List Token) → AreNames l xs → EndsWord more
+outs_read : {l : Language} (xs : List NameBytes) (more : List ℕ) (tokens : List Token) → AreNames l xs → EndsWord more
     → IsReadAs l more tokens → IsReadAs l (outs_text xs more) (spell_names xs tokens)
 outs_read [] more tokens are ends h = h
 outs_read (x ∷ xs) more tokens are ends h = space_read _ _ (names_read (x ∷ xs) more tokens are ends h)
@@ -47,7 +47,7 @@ values_end : (vs : List Literal) (more : List ℕ) → EndsWord more → EndsWor
 values_end [] more ends = ends
 values_end (v ∷ vs) more ends = refl
 
-call_read : {l : Language} (i : Instance) (more : List ℕ) (tokens : List Token) → IsProperInstance l i
+call_read : {l : Language} (i : InstanceNode) (more : List ℕ) (tokens : List Token) → IsProperInstance l i
     → IsReadAs l more tokens
     → IsReadAs l (call_text i more) (spell_call i tokens)
 call_read {l} i more tokens is h =
@@ -85,7 +85,7 @@ word_number_read word n more tokens has small h =
 
 item_read : {l : Language} (item : Item) (more : List ℕ) (tokens : List Token) → IsProperItem l item
     → IsReadAs l more tokens
-    → IsReadAs l (item_text item more) (spell_item item tokens)
+    → IsReadAs l (network_item_text item more) (spell_item item tokens)
 item_read (channel c cap) more tokens is h =
     line_read _ _
     (word_name_read keyword.Channel c _ _ refl is.0 refl
@@ -149,12 +149,12 @@ growth_read {l} (Some g) more tokens h =
     (word_name_read keyword.Grow (growth_word g) (codes ";\n" ++ more) _ refl (growth_is_name l g) refl
     (end_read more tokens h))
 
-network_read : {l : Language} (n : Network) (more : List ℕ) (tokens : List Token) → IsProperNetwork l n
+network_read : {l : Language} (n : NetworkNode) (more : List ℕ) (tokens : List Token) → IsProperNetwork l n
     → IsReadAs l more tokens
     → IsReadAs l (network_text n more) (spell_network n tokens)
 network_read {l} n more tokens is h =
     let items =
-    all_read item_text spell_item (IsProperItem l) item_read n.items _ _ is.items (close_read 0 more tokens h) in
+    all_read network_item_text spell_item (IsProperItem l) item_read n.items _ _ is.items (close_read 0 more tokens h) in
     let policy = policy_read n.policy _ _ (growth_read n.growth _ _ items) in
     keyword_read keyword.Network _ _ refl refl (open_read _ _ (limit_read n.limit _ _ is.limit policy))
 
@@ -182,7 +182,7 @@ unfolding language_of piece_of keyword_of mark_at
 table_told rest = refl
 
 -- a text of language 1 begins with another word
-words_told : (ts : List Table) (ps : List Process) (n : Network)
+words_told : (ts : List Table) (ps : List ProcessNode) (n : NetworkNode)
     → language_of (all_text table_text ts (all_text (process_text language.One) ps (network_text n [])))
     ≡ language.One
 words_told [] [] n = network_told _

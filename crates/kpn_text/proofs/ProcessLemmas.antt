@@ -8,7 +8,7 @@ use Rattle.kpn_text_tokens.specs.declared.tokens.Mark.TheVariants as mark
 use Rattle.kpn_text_tokens.specs.declared.tokens.Token.{Token}
 use Rattle.kpn_text_tokens.specs.declared.tokens.Token.TheVariants as token
 use Rattle.kpn_text_tokens.specs.Spelling.{has_keyword}
-use Rattle.kpn_text_grammar.specs.Syntax.{Name, Literal, plain, negated, Table, Declaration, array, table, Process}
+use Rattle.kpn_text_grammar.specs.Syntax.{NameBytes, Literal, plain, negated, Table, Declaration, array, table, ProcessNode}
 use Rattle.kpn_text_grammar.specs.Spelling.{spell_literal, spell_table, spell_declaration, spell_part, spell_later_part, spell_parts, spell_process}
 use Rattle.kpn_text.specs.CanonicalLaws.{EndsWord}
 use Rattle.kpn_text.specs.Proper.{AreNames, IsProperLiteral, IsProperTable, IsProperDeclaration, IsProperProcess}
@@ -50,7 +50,7 @@ declaration_read (table t) more tokens is h = indent_read 1 _ _ (table_read t mo
 
 -- ---- processes
 
-part_read : {l : Language} (word : Keyword) (xs : List Name) (more : List ℕ) (tokens : List Token)
+part_read : {l : Language} (word : Keyword) (xs : List NameBytes) (more : List ℕ) (tokens : List Token)
     → has_keyword l word ≡ true → AreNames l xs → EndsWord more
     → IsReadAs l more tokens → IsReadAs l (part_text [] word xs more) (spell_part word xs tokens)
 part_read word [] more tokens has are ends h = h
@@ -58,7 +58,7 @@ part_read word (x ∷ xs) more tokens has are ends h =
     keyword_read word (codes " " ++ names_text (x ∷ xs) more) _ has refl
     (space_read _ _ (names_read (x ∷ xs) more tokens are ends h))
 
-later_part_read : {l : Language} (word : Keyword) (xs : List Name) (more : List ℕ) (tokens : List Token)
+later_part_read : {l : Language} (word : Keyword) (xs : List NameBytes) (more : List ℕ) (tokens : List Token)
     → has_keyword l word ≡ true → AreNames l xs
     → EndsWord more → IsReadAs l more tokens
     → IsReadAs l (part_text (codes "; ") word xs more) (spell_later_part word xs tokens)
@@ -68,12 +68,12 @@ later_part_read word (x ∷ xs) more tokens has are ends h =
     (space_read _ _ (part_read word (x ∷ xs) more tokens has are ends h))
 
 -- a part ends before the next
-later_part_ends : (word : Keyword) (xs : List Name) (more : List ℕ) → EndsWord more
+later_part_ends : (word : Keyword) (xs : List NameBytes) (more : List ℕ) → EndsWord more
     → EndsWord (part_text (codes "; ") word xs more)
 later_part_ends word [] more ends = ends
 later_part_ends word (x ∷ xs) more ends = refl
 
-parts_read : {l : Language} (ins outs pars : List Name) (more : List ℕ) (tokens : List Token) → AreNames l ins
+parts_read : {l : Language} (ins outs pars : List NameBytes) (more : List ℕ) (tokens : List Token) → AreNames l ins
     → AreNames l outs
     → AreNames l pars → EndsWord more → IsReadAs l more tokens
     → IsReadAs l (parts_text ins outs pars more) (spell_parts ins outs pars tokens)
@@ -87,7 +87,7 @@ parts_read [] (x ∷ xs) pars more tokens a b c ends h =
     part_read keyword.Out (x ∷ xs) _ _ refl b (later_part_ends keyword.Par pars more ends) last
 parts_read [] [] pars more tokens a b c ends h = part_read keyword.Par pars more tokens refl c ends h
 
-pub process_read : {l : Language} (p : Process) (more : List ℕ) (tokens : List Token) → IsProperProcess l p
+pub process_read : {l : Language} (p : ProcessNode) (more : List ℕ) (tokens : List Token) → IsProperProcess l p
     → IsReadAs l more tokens
     → IsReadAs l (process_text l p more) (spell_process l p tokens)
 process_read {l} p more tokens is h =

@@ -17,7 +17,7 @@ use Rattle.kpn_text_tokens.specs.Spelling.{has_keyword, has_mark}
 use Rattle.kpn_text_grammar.specs.Operators.{operator_mark}
 use Rattle.kpn_text_tokens.proofs.WithoutPlaces.{read_spelled}
 use Rattle.kpn_text_grammar.proofs.CanonicalLaws.{description_rules}
-use Rattle.kpn_text_grammar.specs.Syntax.{Name, Term, numeral, variable, element, minus, negation, complement, binary, conditional, Statement, assign, store, receive, send, choice, loop, Statements, no_statements, statement, Table, Declaration, array, table, Process, Literal, plain, negated, Item, channel, source, sink, instance, Network, Description}
+use Rattle.kpn_text_grammar.specs.Syntax.{NameBytes, ExpressionNode, numeral, variable, element, minus, negation, complement, binary, conditional, StatementNode, assign, store, receive, send, choice, loop, Statements, no_statements, statement, Table, Declaration, array, table, ProcessNode, Literal, plain, negated, Item, channel, source, sink, instance, NetworkNode, Description}
 use Rattle.kpn_text_grammar.specs.Spelling.{spell_term, SpellsTight, as_number, as_name, as_element, as_minus, as_negation, as_complement, in_parentheses, as_conditional, as_binary, SpellsTerm, SpellsStatement, as_assignment, as_store, as_read, as_write, as_if, as_while, SpellsStatements, nothing, one_more, SpellsElse, left_out, behind_else, SpellsSecond, with_braces, as_branch, SpellsProcess, SpellsAll, IsDescription, spell_all, spell_further, spell_list, spell_name, spell_names, spell_table, spell_declaration, spell_part, spell_later_part, spell_parts, spell_literal, spell_values, spell_item, spell_limit, spell_policy, spell_growth, spell_network, spell_language}
 use Rattle.kpn_text.specs.Proper.{IsProperTerm, IsProperStatement, AreProper, AreNames, IsProperTable, IsProperDeclaration, IsProperProcess, IsProperLiteral, IsProperItem, IsProperLimit, IsProperNetwork, IsProper}
 
@@ -33,7 +33,7 @@ record And (l : Language) (P : Type 0) (tokens : List Token) : Type 0 where
 number_small : (l : Language) (n : ℕ) → HasSpelling l (token.Number n) → n < 2 ^ 63
 number_small l n h = omega (arith, h.1.small)
 
-is_name : (l : Language) (x : Name) → HasSpelling l (token.Name x) → IsName l x
+is_name : (l : Language) (x : NameBytes) → HasSpelling l (token.Name x) → IsName l x
 is_name l x h = h.1.0
 
 has_this : (l : Language) (m : Mark) → HasSpelling l (token.Mark m) → has_mark l m ≡ true
@@ -42,7 +42,7 @@ has_this l m h = h.1.0
 has_word : (l : Language) (k : Keyword) → HasSpelling l (token.Keyword k) → has_keyword l k ≡ true
 has_word l k h = h.1.0
 
-term_is : (l : Language) (e : Term) (more : List Token) → AreSpelled l (spell_term e more)
+term_is : (l : Language) (e : ExpressionNode) (more : List Token) → AreSpelled l (spell_term e more)
     → And l (IsProperTerm l e) more
 term_is l (numeral n) more h = record { is = number_small l n h.0; rest = h.1 }
 term_is l (variable x) more h = record { is = is_name l x h.0; rest = h.1 }
@@ -85,7 +85,7 @@ term_is l (conditional e a b) more h =
     }
 
 -- the same by the rules of language 2
-tight_is : {depth n : ℕ} (e : Term) {tokens more : List Token} → SpellsTight depth n e tokens more
+tight_is : {depth n : ℕ} (e : ExpressionNode) {tokens more : List Token} → SpellsTight depth n e tokens more
     → AreSpelled language.Two tokens → And language.Two (IsProperTerm language.Two e) more
 tight_is (numeral n) as_number h = record { is = number_small language.Two n h.0; rest = h.1 }
 tight_is (variable x) as_name h = record { is = is_name language.Two x h.0; rest = h.1 }
@@ -130,13 +130,13 @@ tight_is (binary op a b) (as_binary fits s t) h =
     record { is = (has_this language.Two (operator_mark op) left.rest.0, left.is, right.is); rest = right.rest }
 
 -- an expression of a statement
-whole_is : (l : Language) (e : Term) (tokens more : List Token) → SpellsTerm l e tokens more → AreSpelled l tokens
+whole_is : (l : Language) (e : ExpressionNode) (tokens more : List Token) → SpellsTerm l e tokens more → AreSpelled l tokens
     → And l (IsProperTerm l e) more
 whole_is language.One e tokens more s h = term_is language.One e more (subst (λ ts. AreSpelled language.One ts) s h)
 whole_is language.Two e tokens more s h = tight_is e s h
 
 mutual
-  statement_is : (l : Language) (s : Statement) {tokens more : List Token} → SpellsStatement l s tokens more
+  statement_is : (l : Language) (s : StatementNode) {tokens more : List Token} → SpellsStatement l s tokens more
       → AreSpelled l tokens → And l (IsProperStatement l s) more
   statement_is l (assign x e) (as_assignment s) h =
       let value = whole_is l e _ _ s h.1.1 in
@@ -217,10 +217,10 @@ module _ (l : Language) {A : Type 0} (spell : A → List Token → List Token) (
       let others = further_are xs more first.rest in
       record { is = (first.is, others.is); rest = others.rest }
 
-name_is : (l : Language) (x : Name) (more : List Token) → AreSpelled l (spell_name x more) → And l (IsName l x) more
+name_is : (l : Language) (x : NameBytes) (more : List Token) → AreSpelled l (spell_name x more) → And l (IsName l x) more
 name_is l x more h = record { is = is_name l x h.0; rest = h.1 }
 
-names_are : (l : Language) (xs : List Name) (more : List Token) → AreSpelled l (spell_names xs more)
+names_are : (l : Language) (xs : List NameBytes) (more : List Token) → AreSpelled l (spell_names xs more)
     → And l (AreNames l xs) more
 names_are l = list_are l spell_name (IsName l) (name_is l)
 
@@ -258,23 +258,23 @@ declaration_is l (table t) more h =
 
 -- ---- processes
 
-part_is : (l : Language) (word : Keyword) (xs : List Name) (more : List Token) → AreSpelled l (spell_part word xs more)
+part_is : (l : Language) (word : Keyword) (xs : List NameBytes) (more : List Token) → AreSpelled l (spell_part word xs more)
     → And l (AreNames l xs) more
 part_is l word [] more h = record { is = tt; rest = h }
 part_is l word (x ∷ xs) more h = names_are l (x ∷ xs) more h.1
 
-later_part_is : (l : Language) (word : Keyword) (xs : List Name) (more : List Token)
+later_part_is : (l : Language) (word : Keyword) (xs : List NameBytes) (more : List Token)
     → AreSpelled l (spell_later_part word xs more)
     → And l (AreNames l xs) more
 later_part_is l word [] more h = record { is = tt; rest = h }
 later_part_is l word (x ∷ xs) more h = names_are l (x ∷ xs) more h.1.1
 
-record PartsAre (l : Language) (a b c : List Name) : Type 0 where
+record PartsAre (l : Language) (a b c : List NameBytes) : Type 0 where
   ins : AreNames l a
   outs : AreNames l b
   pars : AreNames l c
 
-parts_are : (l : Language) (a b c : List Name) (more : List Token) → AreSpelled l (spell_parts a b c more)
+parts_are : (l : Language) (a b c : List NameBytes) (more : List Token) → AreSpelled l (spell_parts a b c more)
     → And l (PartsAre l a b c) more
 parts_are l (x ∷ xs) b c more h =
     let ins = part_is l keyword.In (x ∷ xs) _ h in
@@ -289,7 +289,7 @@ parts_are l [] [] c more h =
     let pars = part_is l keyword.Par c more h in
     record { is = record { ins = tt; outs = tt; pars = pars.is }; rest = pars.rest }
 
-process_is : (l : Language) (p : Process) (tokens more : List Token) → SpellsProcess l p tokens more
+process_is : (l : Language) (p : ProcessNode) (tokens more : List Token) → SpellsProcess l p tokens more
     → AreSpelled l tokens → And l (IsProperProcess l p) more
 process_is l p tokens more s spelled =
     let h = subst (λ ts. AreSpelled l ts) s.head spelled in
@@ -310,7 +310,7 @@ process_is l p tokens more s spelled =
       rest = body.rest.1;
     }
 
-processes_are : (l : Language) (ps : List Process) (tokens more : List Token)
+processes_are : (l : Language) (ps : List ProcessNode) (tokens more : List Token)
     → SpellsAll (SpellsProcess l) ps tokens more → AreSpelled l tokens
     → And l (AllByRecursion (IsProperProcess l) ps) more
 processes_are l [] tokens more s h = record { is = tt; rest = subst (λ ts. AreSpelled l ts) s h }
@@ -362,7 +362,7 @@ growth_is : (l : Language) (written : Option Growth) (more : List Token) → Are
 growth_is l None more h = h
 growth_is l (Some g) more h = h.1.1.1
 
-network_is : (l : Language) (n : Network) (more : List Token) → AreSpelled l (spell_network n more)
+network_is : (l : Language) (n : NetworkNode) (more : List Token) → AreSpelled l (spell_network n more)
     → And l (IsProperNetwork l n) more
 network_is l n more h =
     let limit = limit_is l n.limit _ h.1.1 in

@@ -28,9 +28,9 @@ use Rattle.kpn_text_grammar.proofs.DescriptionLaws.{description_takes, descripti
 use Rattle.kpn_text_names.specs.Fault.{NameError}
 use Rattle.kpn_text_names.specs.Named.{Named, resolve}
 use Rattle.kpn_text.specs.Document.{Document, document_named}
-use Rattle.kpn_text.specs.Spells.{Spells, IsSpelled}
+use Rattle.kpn_text.specs.Spells.{SpellsDocument, HasText}
 use Rattle.kpn_text_names.specs.NetworkNames.{AreNamed}
-use Rattle.kpn_text.specs.Phases.{Cause, in_tokens, in_grammar, in_names, phase, unless, programs_cause, program_or, network_cause, or_else, tables_cause, document_in, document_of}
+use Rattle.kpn_text.specs.Phases.{Cause, in_tokens, in_grammar, in_names, phase, unless, programs_cause, program_or, network_cause, or_cause, tables_cause, document_in, document_of}
 use Rattle.kpn_text_tokens.specs.Results.{and_then}
 use Rattle.kpn_text_names.proofs.Chains.{ok_is}
 use Rattle.kpn_text_names.proofs.Counts.{are_named, resolved_each}
@@ -79,7 +79,7 @@ programs_sound i (p ∷ ps) all =
 
 pub network_sound : (t : Tables) → IsNetwork t → tables_cause t ≡ None
 network_sound t is =
-    ap (λ c. or_else c (network_cause (net.first_fault t))) (programs_sound 0 t.programs is.programs)
+    ap (λ c. or_cause c (network_cause (net.first_network_fault t))) (programs_sound 0 t.programs is.programs)
     ∙ ap network_cause is.sound
 
 -- ---- the phases one after the other
@@ -144,7 +144,7 @@ last_phases l text ls tree n is =
 
 -- ---- what is spelled is read
 
-pub spelled_reads : (text : List ℕ) (d : Document) → Spells text d → document_of text ≡ Ok d
+pub spelled_reads : (text : List ℕ) (d : Document) → SpellsDocument text d → document_of text ≡ Ok d
 spelled_reads text d s =
     let l : Language = d.language in
     let found : HasLexemes l text s.tokens = has_lexemes l text s.tokens s.within s.read in
@@ -159,14 +159,14 @@ spelled_reads text d s =
     ∙ ap (λ c. unless c (document_named l s.named)) sound ∙ ap Ok s.is
 
 -- a text spells one document at most
-pub one_document : (text : List ℕ) (d e : Document) → Spells text d → Spells text e → d ≡ e
+pub one_document : (text : List ℕ) (d e : Document) → SpellsDocument text d → SpellsDocument text e → d ≡ e
 one_document text d e s t = ok_is {E = Cause} d e (sym (spelled_reads text d s) ∙ spelled_reads text e t)
 
 -- ---- what is read is spelled
 
 pub read_spelled : (text : List ℕ) (ls : List Lexeme) (tree : Description) (n : Named)
     → ArePhases (language_of text) text ls tree n → IsNetwork n.tables
-    → Spells text (document_named (language_of text) n)
+    → SpellsDocument text (document_named (language_of text) n)
 read_spelled text ls tree n is keeps =
     let l : Language = language_of text in
     let t : AreTokens l text ls = are_tokens l text ls is.tokens in
@@ -200,7 +200,7 @@ programs_are i (p ∷ ps) e all =
     All-cons IsProgram p ps (record { sound = h.0; counted = first.counted; apart = first.apart })
     (programs_are (suc i) ps h.1 (All-tail AreCounted p ps all))
 
-tables_by : (a b : Option Cause) → or_else a b ≡ None → (a ≡ None) × (b ≡ None)
+tables_by : (a b : Option Cause) → or_cause a b ≡ None → (a ≡ None) × (b ≡ None)
 tables_by None b e = (refl, e)
 tables_by (Some c) b e = absurd cc
 
@@ -210,8 +210,8 @@ network_by (Some f) e = absurd cc
 
 tables_keep : (t : Tables) → tables_cause t ≡ None → All AreCounted t.programs → IsNetwork t
 tables_keep t e all =
-    let h = tables_by (programs_cause 0 t.programs) (network_cause (net.first_fault t)) e in
-    record { programs = programs_are 0 t.programs h.0 all; sound = network_by (net.first_fault t) h.1 }
+    let h = tables_by (programs_cause 0 t.programs) (network_cause (net.first_network_fault t)) e in
+    record { programs = programs_are 0 t.programs h.0 all; sound = network_by (net.first_network_fault t) h.1 }
 
 -- what a chain of phases that gave something was made of
 phase_step : {A D E : Type 0} {C : Type 0} (cause : E → Cause) (r : Result A E) (k : A → Result D Cause) (x : D)
@@ -224,7 +224,7 @@ last_step : {D : Type 0} (c : Option Cause) (made x : D) → unless c made ≡ O
 last_step None made x e = (refl, ok_is made x e)
 last_step (Some cause) made x e = absurd cc
 
-pub reads_spelled : (text : List ℕ) (d : Document) → document_of text ≡ Ok d → Spells text d
+pub reads_spelled : (text : List ℕ) (d : Document) → document_of text ≡ Ok d → SpellsDocument text d
 unfolding document_in
 reads_spelled text d e =
     let l : Language = language_of text in
@@ -232,18 +232,18 @@ reads_spelled text d e =
     phase_step in_grammar (description_of l (length text) ls) _ d f (λ tree grammar g.
     phase_step in_names (resolve tree) _ d g (λ n names h.
     let last = last_step (tables_cause n.tables) (document_named l n) d h in
-    subst (λ (x : Document). Spells text x) last.1
+    subst (λ (x : Document). SpellsDocument text x) last.1
     (read_spelled text ls tree n (record { tokens = tokens; grammar = grammar; names = names })
     (tables_keep n.tables last.0 (resolved_has tree n names))))))
 
 -- ---- what is known of a document that some text spells
 
 -- it has as many names as parts
-pub spelled_named : (d : Document) → IsSpelled d → AreNamed d.names d.tables
+pub spelled_named : (d : Document) → HasText d → AreNamed d.names d.tables
 spelled_named d (text, s) =
     subst (λ (x : Document). AreNamed x.names x.tables) s.is
     (are_named s.named (resolved_each s.tree s.named s.resolved))
 
 -- the same of what contracts see of a document
-pub seen_named : (d now : Document) → d ≡ now → IsSpelled d → AreNamed now.names now.tables
+pub seen_named : (d now : Document) → d ≡ now → HasText d → AreNamed now.names now.tables
 seen_named d now e spelled = subst (λ (x : Document). AreNamed x.names x.tables) e (spelled_named d spelled)

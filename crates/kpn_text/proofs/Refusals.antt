@@ -27,10 +27,10 @@ use Rattle.kpn_text.specs.declared.fault.TextFault.{TextFault}
 use Rattle.kpn_text.specs.declared.fault.TextFault.TheVariants as text
 use Rattle.kpn_text_names.specs.NetworkNames.{names_in}
 use Rattle.kpn_text.specs.Document.{Document, document_named, document_with}
-use Rattle.kpn_text.specs.Spells.{Spells}
+use Rattle.kpn_text.specs.Spells.{SpellsDocument}
 use Rattle.kpn_text.specs.Fault.{lex_fault, grammar_fault, name_fault}
 use Rattle.kpn_text.specs.Phases.{Cause, in_tokens, in_grammar, in_names, unless, tables_cause, document_of, TellsWhatIsFound, Refuses}
-use Rattle.kpn_text.specs.Making.{TellsCause, Reads}
+use Rattle.kpn_text.specs.Making.{TellsCause, TextReads}
 use Rattle.kpn_text.proofs.ReadingLaws.{ArePhases, last_phases, one_document, read_spelled, refused_names, refused_tokens, refused_tree, spelled_reads}
 
 found_out : (bytes : List ℕ) (cause : Cause) (f : TextFault) → document_of bytes ≡ Err cause
@@ -57,7 +57,7 @@ module _ (bytes : List ℕ) (l : Language) (told : l ≡ language_of bytes) wher
       (refused_tokens (language_of bytes) bytes (lex.TooLong at) (lexemes_told _ g)) h
 
   pub tree_refused : (ls slice : List Lexeme) (e : GrammarFault) (f : TextFault) → lexemes_of l bytes ≡ Ok ls
-      → slice ≡ ls → reading.Fails e (description_of l (length bytes) slice) → f ≡ grammar_fault e → Refuses bytes f
+      → slice ≡ ls → reading.ReadingFails e (description_of l (length bytes) slice) → f ≡ grammar_fault e → Refuses bytes f
   tree_refused ls slice grammar.NoMemory f t s g h = inl h
   tree_refused ls slice (grammar.Grammar at) f t s g h =
       found_out bytes (in_grammar (grammar.Grammar at)) f
@@ -68,7 +68,7 @@ module _ (bytes : List ℕ) (l : Language) (told : l ≡ language_of bytes) wher
 
   pub names_refused : (ls slice : List Lexeme) (tree : Description) (e : NameFault) (f : TextFault)
       → lexemes_of l bytes ≡ Ok ls → slice ≡ ls → description_of l (length bytes) slice ≡ Ok tree
-      → names.Fails e (resolve tree) → f ≡ name_fault e → Refuses bytes f
+      → names.ResolvingFails e (resolve tree) → f ≡ name_fault e → Refuses bytes f
   names_refused ls slice tree name.NoMemory f t s d g h = inl h
   names_refused ls slice tree (name.UnknownName at) f t s d g h =
       found_out bytes (in_names unknown) f
@@ -98,13 +98,13 @@ network_refused bytes ls tree n f is (inr h) =
 
 pub made_spelled : (bytes : List ℕ) (ls : List Lexeme) (tree : Description) (n : Named) (l : Language)
     (network : Tables) (own : NetworkNames) → ArePhases (language_of bytes) bytes ls tree n → l ≡ language_of bytes
-    → network ≡ n.tables → own ≡ names_in n → IsNetwork network → Spells bytes (document_with l network own)
+    → network ≡ n.tables → own ≡ names_in n → IsNetwork network → SpellsDocument bytes (document_with l network own)
 made_spelled bytes ls tree n l network own is told e h keeps =
     let same : document_named (language_of bytes) n ≡ document_with l network own =
     λ i. document_with (sym told i) (sym e i) (sym h i) in
-    subst (λ (d : Document). Spells bytes d) same (read_spelled bytes ls tree n is (subst IsNetwork e keeps))
+    subst (λ (d : Document). SpellsDocument bytes d) same (read_spelled bytes ls tree n is (subst IsNetwork e keeps))
 
-pub only_this : (bytes : List ℕ) (r : Result Document TextFault) → Reads bytes r → (d : Document) → Spells bytes d
+pub only_this : (bytes : List ℕ) (r : Result Document TextFault) → TextReads bytes r → (d : Document) → SpellsDocument bytes d
     → OkOr text.NoMemory r (λ found. found ≡ d)
 only_this bytes (Ok found) h d s = one_document bytes found d h s
 only_this bytes (Err f) (inl h) d s = h

@@ -15,14 +15,14 @@ use Rattle.kpn_text_tokens.specs.declared.tokens.Language.{Language}
 use Rattle.kpn_text_tokens.specs.Laws.{tokens_of}
 use Rattle.kpn_text_tokens.specs.Opening.{language_of}
 use Rattle.kpn_text_grammar.specs.Laws.{CanonicalSpells}
-use Rattle.kpn_text_grammar.specs.Syntax.{Table, Declaration, array, table, Process, Description}
-use Rattle.kpn_text_grammar.specs.Spelling.{spell_description, TableIsWithin, DeclarationIsWithin, ProcessIsWithin, IsWithin, IsDescription}
+use Rattle.kpn_text_grammar.specs.Syntax.{Table, Declaration, array, table, ProcessNode, Description}
+use Rattle.kpn_text_grammar.specs.Spelling.{spell_description, TableIsWithin, DeclarationIsWithin, ProcessIsWithin, IsWithinLimits, IsDescription}
 use Rattle.kpn_text_tokens.specs.Results.{and_then}
 use Rattle.kpn_text_names.specs.Laws.{BlocksAreTheTree}
 use Rattle.kpn_text_names.specs.Network.{growth_of, limit_of, policy_of, Settings, settings_of, Wiring, wiring}
 use Rattle.kpn_text_names.specs.Named.{Programs, programs_of, Named, named_with, resolve}
 use Rattle.kpn_text_names.specs.Shared.{shared_of}
-use Rattle.kpn_text_names.specs.declared.tables.Shared.{Shared}
+use Rattle.kpn_text_names.specs.declared.tables.SharedTables.{SharedTables}
 use Rattle.kpn_text_names.specs.declared.network_names.NetworkNames.{NetworkNames}
 use Rattle.kpn_text.specs.CanonicalLaws.{DescriptionIsRead, LanguageIsTold, ReadDescriptionsAreProper}
 use Rattle.kpn_text.specs.Named.{growth_named, limit_named, policy_named, description_named}
@@ -30,7 +30,7 @@ use Rattle.kpn_text.specs.Proper.{IsProperTable, IsProperDeclaration, IsProperPr
 use Rattle.kpn_text.specs.Text.{description_text}
 use Rattle.kpn_text_names.specs.NetworkNames.{names_in}
 use Rattle.kpn_text.specs.Document.{Document, canonical_text}
-use Rattle.kpn_text.specs.Spells.{Spells, IsSpelled}
+use Rattle.kpn_text.specs.Spells.{SpellsDocument, HasText}
 use Rattle.kpn_text.specs.Again.{PrintedTextSpells}
 use Rattle.kpn_text_names.proofs.Chains.{ok_is, went, then_ok}
 use Rattle.kpn_text.proofs.KeptNames.{names_back}
@@ -87,7 +87,7 @@ settings_again s small =
 -- ---- what a description names, part by part
 
 record Resolved (d : Description) (n : Named) : Type 0 where
-  shared : Shared
+  shared : SharedTables
   p : Programs
   w : Wiring
   has_tables : shared_of d.tables ≡ Ok shared
@@ -110,7 +110,7 @@ resolved d n h =
       is = ok_is _ n w.rest;
     }
 
-resolves : (d : Description) (s : Shared) (p : Programs) (w : Wiring) → shared_of d.tables ≡ Ok s
+resolves : (d : Description) (s : SharedTables) (p : Programs) (w : Wiring) → shared_of d.tables ≡ Ok s
     → programs_of s d.processes ≡ Ok p → wiring p.names d.network.items ≡ Ok w
     → resolve d ≡ Ok (named_with s (settings_of d.network) p w)
 resolves d s p w hs hp hw =
@@ -135,8 +135,8 @@ pub record Kept (l : Language) (d : Description) (n : Named) : Type 0 where
       → AllByRecursion (IsProperItem l) (printed n).network.items
   pub again : resolve (printed n) ≡ Ok n
 
-kept_by : BlocksAreTheTree → (l : Language) (d : Description) (s : Settings) (shared : Shared) (p : Programs)
-    (w : Wiring) → IsWithin d → HaveFewCells p.programs → s.limit ≤ MAX_CAPACITY → shared_of d.tables ≡ Ok shared
+kept_by : BlocksAreTheTree → (l : Language) (d : Description) (s : Settings) (shared : SharedTables) (p : Programs)
+    (w : Wiring) → IsWithinLimits d → HaveFewCells p.programs → s.limit ≤ MAX_CAPACITY → shared_of d.tables ≡ Ok shared
     → programs_of shared d.processes ≡ Ok p → wiring p.names d.network.items ≡ Ok w
     → Kept l d (named_with shared s p w)
 kept_by flat l d s shared p w within few small hs hp hw =
@@ -160,7 +160,7 @@ kept_by flat l d s shared p w within few small hs hp hw =
           ∙ ap (λ q. Ok (named_with shared q p w)) (settings_again s small);
     }
 
-kept : BlocksAreTheTree → LimitsAreInRange → (l : Language) (d : Description) (n : Named) → IsWithin d
+kept : BlocksAreTheTree → LimitsAreInRange → (l : Language) (d : Description) (n : Named) → IsWithinLimits d
     → resolve d ≡ Ok n → IsNetwork n.tables → Kept l d n
 kept flat limits l d n within h net =
     let r = resolved d n h in
@@ -208,7 +208,7 @@ plain_within t h =
     let some : 0 < length t.values = h in
     omega (arith, some, plain_count t.values)
 
-sorted_proper : (l : Language) (p : Process) → IsProperProcess l p → IsProperProcess l (sorted_process p)
+sorted_proper : (l : Language) (p : ProcessNode) → IsProperProcess l p → IsProperProcess l (sorted_process p)
 sorted_proper l p h = record {
   name = h.name;
   ins = h.ins;
@@ -218,7 +218,7 @@ sorted_proper l p h = record {
   body = h.body;
 }
 
-sorted_within : (p : Process) → ProcessIsWithin p → ProcessIsWithin (sorted_process p)
+sorted_within : (p : ProcessNode) → ProcessIsWithin p → ProcessIsWithin (sorted_process p)
 sorted_within p h = record {
   declarations = sorted_keep DeclarationIsWithin plain_within p.declarations h.declarations;
   body = h.body;
@@ -227,7 +227,7 @@ sorted_within p h = record {
 -- ---- the law
 
 -- the printed description is proper
-pub proper : (text : List ℕ) (d : Document) (s : Spells text d) → ReadDescriptionsAreProper
+pub proper : (text : List ℕ) (d : Document) (s : SpellsDocument text d) → ReadDescriptionsAreProper
     → Kept d.language s.tree s.named → IsProper d.language (printed s.named)
 proper text d s read k =
     let l : Language = d.language in
@@ -244,10 +244,10 @@ proper text d s read k =
     }
 
 -- its tables and processes are within the limits of the grammar
-printed_fits : CanonicalSpells → (text : List ℕ) (d : Document) (s : Spells text d) → Kept d.language s.tree s.named
+printed_fits : CanonicalSpells → (text : List ℕ) (d : Document) (s : SpellsDocument text d) → Kept d.language s.tree s.named
     → IsDescription d.language (spell_description d.language (printed s.named)) (printed s.named)
 printed_fits spells text d s k =
-    let was : IsWithin s.tree = s.spelled.within in
+    let was : IsWithinLimits s.tree = s.spelled.within in
     spells d.language (printed s.named)
     (record {
       tables =
@@ -258,7 +258,7 @@ printed_fits spells text d s k =
           (all_mapped sorted_process ProcessIsWithin ProcessIsWithin sorted_within s.tree.processes was.processes);
     })
 
-pub spelled_kept : BlocksAreTheTree → LimitsAreInRange → (text : List ℕ) (d : Document) (s : Spells text d)
+pub spelled_kept : BlocksAreTheTree → LimitsAreInRange → (text : List ℕ) (d : Document) (s : SpellsDocument text d)
     → Kept d.language s.tree s.named
 spelled_kept flat limits text d s =
     kept flat limits d.language s.tree s.named s.spelled.within s.resolved
@@ -286,13 +286,13 @@ printed_spells flat limits spells is_read is_told are_proper d h short =
     }
 
 -- what a call that printed the document, by its language, tables and names, returned is read again
-pub text_reads_again : {V E : Type 0} (items : V → List ℕ) → PrintedTextSpells → (d : Document) → IsSpelled d
+pub text_reads_again : {V E : Type 0} (items : V → List ℕ) → PrintedTextSpells → (d : Document) → HasText d
     → (l : Language) (names : NetworkNames) (tables : Tables) → l ≡ d.language → names ≡ d.names → tables ≡ d.tables
     → (r : Result V E) → IfOk r (λ v. items v ≡ description_text l (description_named names tables))
-    → IfOk r (λ v. length (items v) ≤ MAX_TEXT_BYTES → Spells (items v) d)
+    → IfOk r (λ v. length (items v) ≤ MAX_TEXT_BYTES → SpellsDocument (items v) d)
 text_reads_again items law d h l names tables same_language same_names same_tables (Ok v) e =
     let is : items v ≡ canonical_text d =
     e ∙ (λ i. description_text (same_language i) (description_named (same_names i) (same_tables i))) in
     λ short.
-    subst (λ bytes. Spells bytes d) (sym is) (law d h (subst (λ bytes. length bytes ≤ MAX_TEXT_BYTES) is short))
+    subst (λ bytes. SpellsDocument bytes d) (sym is) (law d h (subst (λ bytes. length bytes ≤ MAX_TEXT_BYTES) is short))
 text_reads_again items law d h l names tables same_language same_names same_tables (Err x) e = tt

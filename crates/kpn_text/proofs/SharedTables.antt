@@ -5,15 +5,15 @@ use Rattle.std.specs.Str.{bytes_eq}
 use Rattle.std.specs.Prelude.{slice_index_or}
 use Rattle.std.proofs.lemmas.List.{length-map}
 use Rattle.std.proofs.lemmas.List.Quantifiers.{position-Some}
-use Rattle.kpn_text_grammar.specs.Syntax.{literal_value, Table, Process}
+use Rattle.kpn_text_grammar.specs.Syntax.{literal_value, Table, ProcessNode}
 use Rattle.kpn_text_grammar.specs.Spelling.{TableIsWithin}
 use Rattle.kpn_text_tokens.specs.Results.{and_then}
-use Rattle.kpn_text_names.specs.declared.tables.Shared.{Shared}
+use Rattle.kpn_text_names.specs.declared.tables.SharedTables.{SharedTables}
 use Rattle.kpn_text_names.specs.Fault.{NameError, each}
 use Rattle.kpn_text_names.specs.Names.{declared}
-use Rattle.kpn_text_names.specs.Named.{program_of, Programs, with_process, programs_of}
+use Rattle.kpn_text_names.specs.Named.{named_program, Programs, with_named_process, programs_of}
 use Rattle.kpn_text_names.specs.NetworkNames.{paired, named_table}
-use Rattle.kpn_text_names.specs.Scope.{table_values, head, declare}
+use Rattle.kpn_text_names.specs.Scope.{table_values, head_scope, declare}
 use Rattle.kpn_text_names.specs.Shared.{no_shared, with_shared, shared_of}
 use Rattle.kpn_text.specs.Named.{table_named}
 use Rattle.kpn_text_names.proofs.Chains.{ok_is, went, same_after}
@@ -34,7 +34,7 @@ each_same step f same s (x ∷ xs) =
 
 -- ---- shared tables
 
-shared_same : (s : Shared) (t : Table) → with_shared s (plain_table t) ≡ with_shared s t
+shared_same : (s : SharedTables) (t : Table) → with_shared s (plain_table t) ≡ with_shared s t
 shared_same s t =
     ap (λ vs. and_then (declared s.names t.name) (λ names. Ok (record { names = names; values = s.values ++ vs ∷ [] })))
     (literals_back (map literal_value t.values))
@@ -43,11 +43,11 @@ pub shared_again : (ts : List Table) → shared_of (map plain_table ts) ≡ shar
 shared_again ts = each_same with_shared plain_table shared_same no_shared ts
 
 -- the names and values that tables add
-record Adds (s : Shared) (ts : List Table) (t : Shared) : Type 0 where
+record Adds (s : SharedTables) (ts : List Table) (t : SharedTables) : Type 0 where
   names : t.names ≡ s.names ++ map (λ u. u.name) ts
   values : t.values ≡ s.values ++ map table_values ts
 
-adds : (s : Shared) (ts : List Table) (t : Shared) → each with_shared s ts ≡ Ok t → Adds s ts t
+adds : (s : SharedTables) (ts : List Table) (t : SharedTables) → each with_shared s ts ≡ Ok t → Adds s ts t
 unfolding each
 adds s [] t e =
     subst (λ u. Adds s [] u) (ok_is s t e)
@@ -55,17 +55,17 @@ adds s [] t e =
 adds s (x ∷ ts) t e =
     let first = went (with_shared s x) (λ u. each with_shared u ts) t e in
     let names = went (declared s.names x.name) _ first.value first.first in
-    let is : ◌≡◌ {A = Shared} (record { names = names.value; values = s.values ++ table_values x ∷ [] }) first.value =
+    let is : ◌≡◌ {A = SharedTables} (record { names = names.value; values = s.values ++ table_values x ∷ [] }) first.value =
     ok_is _ _ names.rest in
     let new : s.names ++ x.name ∷ [] ≡ names.value = (declared_is s.names x.name names.value names.first).1 in
     let rest = adds first.value ts t first.rest in
     record {
       names =
           rest.names
-          ∙ ap (λ l. l ++ map (λ u. u.name) ts) (ap (λ (u : Shared). u.names) (sym is) ∙ sym new)
+          ∙ ap (λ l. l ++ map (λ u. u.name) ts) (ap (λ (u : SharedTables). u.names) (sym is) ∙ sym new)
           ∙ append_assoc s.names (x.name ∷ []) (map (λ u. u.name) ts);
       values =
-          rest.values ∙ ap (λ l. l ++ map table_values ts) (ap (λ (u : Shared). u.values) (sym is))
+          rest.values ∙ ap (λ l. l ++ map table_values ts) (ap (λ (u : SharedTables). u.values) (sym is))
           ∙ append_assoc s.values (table_values x ∷ []) (map table_values ts);
     }
 
@@ -75,7 +75,7 @@ tables_shown [] = refl
 tables_shown (t ∷ ts) = ap (λ l. plain_table t ∷ l) (tables_shown ts)
 
 -- they are printed with plain values
-pub shared_back : (ts : List Table) (s : Shared) → shared_of ts ≡ Ok s
+pub shared_back : (ts : List Table) (s : SharedTables) → shared_of ts ≡ Ok s
     → map table_named (paired named_table s.names s.values) ≡ map plain_table ts
 shared_back ts s e =
     let a = adds no_shared ts s e in
@@ -92,7 +92,7 @@ filled_at (t ∷ ts) (suc k) within here =
     filled_at ts k within.1 inside
 
 -- each has a value
-pub shared_filled : (ts : List Table) (s : Shared) → AllByRecursion TableIsWithin ts → shared_of ts ≡ Ok s
+pub shared_filled : (ts : List Table) (s : SharedTables) → AllByRecursion TableIsWithin ts → shared_of ts ≡ Ok s
     → AreFilled s
 shared_filled ts s within e x k at =
     let a = adds no_shared ts s e in
@@ -104,7 +104,7 @@ shared_filled ts s within e x k at =
 -- ---- processes
 
 -- a process with its declarations as they are printed
-abbrev pub sorted_process : Process → Process
+abbrev pub sorted_process : ProcessNode → ProcessNode
 sorted_process p = record p { declarations = sorted p.declarations }
 
 -- a step in the middle that does the same
@@ -113,19 +113,19 @@ middle_same : {A B C E : Type 0} (r : Result A E) (f g : A → Result B E) (k : 
 middle_same r f g k same =
     same_after r (λ x. and_then (f x) (k x)) (λ x. and_then (g x) (k x)) (λ x. ap (λ q. and_then q (k x)) (same x))
 
-program_same : (shared : Shared) (p : Process) → program_of shared (sorted_process p) ≡ program_of shared p
+program_same : (shared : SharedTables) (p : ProcessNode) → named_program shared (sorted_process p) ≡ named_program shared p
 program_same shared p =
-    middle_same (head shared.names p) (λ h. each (declare shared.names) h (sorted p.declarations))
+    middle_same (head_scope shared.names p) (λ h. each (declare shared.names) h (sorted p.declarations))
     (λ h. each (declare shared.names) h p.declarations) _ (λ h. sorted_same shared.names h p.declarations)
 
-process_same : (shared : Shared) (s : Programs) (p : Process)
-    → with_process shared s (sorted_process p) ≡ with_process shared s p
+process_same : (shared : SharedTables) (s : Programs) (p : ProcessNode)
+    → with_named_process shared s (sorted_process p) ≡ with_named_process shared s p
 process_same shared s p =
     ap (λ r. and_then (declared s.names p.name)
     (λ names. and_then r (λ made. Ok (record { names = names; programs = s.programs ++ made ∷ [] }))))
     (program_same shared p)
 
-pub processes_again : (shared : Shared) (ps : List Process)
+pub processes_again : (shared : SharedTables) (ps : List ProcessNode)
     → programs_of shared (map sorted_process ps) ≡ programs_of shared ps
 processes_again shared ps =
-    each_same (with_process shared) sorted_process (process_same shared) (record { names = []; programs = [] }) ps
+    each_same (with_named_process shared) sorted_process (process_same shared) (record { names = []; programs = [] }) ps

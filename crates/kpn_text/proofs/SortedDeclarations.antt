@@ -4,10 +4,10 @@ use Rattle.std.specs.Str.{bytes_eq}
 use Rattle.std.specs.Cmp.Lexicographic.{bytes_decides}
 use Rattle.std.proofs.lemmas.List.{length-map}
 use Rattle.std.proofs.lemmas.List.Folds.{list_any-append}
-use Rattle.kpn_text_grammar.specs.Syntax.{Name, Literal, literal_value, Table, Declaration, array, table}
+use Rattle.kpn_text_grammar.specs.Syntax.{NameBytes, Literal, literal_value, Table, Declaration, array, table}
 use Rattle.kpn_text_tokens.specs.Results.{and_then}
-use Rattle.kpn_text_names.specs.declared.scope.Scope.{Scope}
-use Rattle.kpn_text_names.specs.declared.tables.Tables.{Tables}
+use Rattle.kpn_text_names.specs.declared.scope.NameScope.{NameScope}
+use Rattle.kpn_text_names.specs.declared.tables.KnownTables.{KnownTables}
 use Rattle.kpn_text_names.specs.Fault.{NameError, double, each}
 use Rattle.kpn_text_names.specs.Names.{has, with_name}
 use Rattle.kpn_text_names.specs.Rows.{with_row}
@@ -40,13 +40,13 @@ sorted ds = arrays_of ds ++ tables_of ds
 pub plain_count : (vs : List Literal) → length (map literal_named (map literal_value vs)) ≡ length vs
 plain_count vs = length-map (map literal_value vs) literal_named ∙ length-map vs literal_value
 
-plain_with : (ts : Tables) (t : Table) → with_table ts (plain_table t) ≡ with_table ts t
+plain_with : (ts : KnownTables) (t : Table) → with_table ts (plain_table t) ≡ with_table ts t
 plain_with ts t = λ i. record ts {
   rows = with_row ts.rows t.name (plain_count t.values i);
   values = ts.values ++ literals_back (map literal_value t.values) i;
 }
 
-plain_same : (shared : List Name) (s : Scope) (t : Table)
+plain_same : (shared : List NameBytes) (s : NameScope) (t : Table)
     → declare shared s (table (plain_table t)) ≡ declare shared s (table t)
 plain_same shared s t =
     λ i. cond (is_taken shared s t.name) (Err double) (Ok (record s { tables = plain_with s.tables t i }))
@@ -61,7 +61,7 @@ or_true : (b : Bool) → (b || true) ≡ true
 or_true true = refl
 or_true false = refl
 
-has_last_by : (b c : Bool) (names : List Name) (x y : Name) → has names x ≡ b → bytes_eq y x ≡ c
+has_last_by : (b c : Bool) (names : List NameBytes) (x y : NameBytes) → has names x ≡ b → bytes_eq y x ≡ c
     → has (cond b names (names ++ x ∷ [])) y ≡ (has names y || c)
 has_last_by true true names x y there same =
     ap (λ z. has names z) ((bytes_decides y x).0 same) ∙ there ∙ sym (or_true (has names y))
@@ -69,7 +69,7 @@ has_last_by true false names x y there same = sym (or_false (has names y))
 has_last_by false c names x y there same =
     list_any-append (bytes_eq y) names (x ∷ []) ∙ ap (λ b. has names y || b) (or_false (bytes_eq y x) ∙ same)
 
-has_last : (names : List Name) (x y : Name) → has (with_name names x) y ≡ (has names y || bytes_eq y x)
+has_last : (names : List NameBytes) (x y : NameBytes) → has (with_name names x) y ≡ (has names y || bytes_eq y x)
 has_last names x y = has_last_by (has names x) (bytes_eq y x) names x y refl refl
 
 taken_sum : (shared a t p v e : Bool)
@@ -98,7 +98,7 @@ taken_sum_last false false false false false true = refl
 taken_sum_last false false false false false false = refl
 
 -- a name is taken behind a declaration if it was before, or if it is the declared one
-taken_behind : (shared : List Name) (s : Scope) (d : Declaration) (y : Name)
+taken_behind : (shared : List NameBytes) (s : NameScope) (d : Declaration) (y : NameBytes)
     → is_taken shared (with_declaration s d) y ≡ (is_taken shared s y || bytes_eq y (declared_name d))
 taken_behind shared s (array x n) y =
     ap (λ b. (has shared y || (b || has s.tables.rows.names y)) || (is_port s y || has s.vars y))
@@ -111,7 +111,7 @@ taken_behind shared s (table t) y =
     ∙ taken_sum_last (has shared y) (has s.arrays.names y) (has s.tables.rows.names y) (is_port s y) (has s.vars y)
     (bytes_eq y t.name)
 
-equal_by : (b c : Bool) (x y : Name) → bytes_eq x y ≡ b → bytes_eq y x ≡ c → b ≡ c
+equal_by : (b c : Bool) (x y : NameBytes) → bytes_eq x y ≡ b → bytes_eq y x ≡ c → b ≡ c
 equal_by true true x y e f = refl
 equal_by false false x y e f = refl
 equal_by true false x y e f =
@@ -119,7 +119,7 @@ equal_by true false x y e f =
 equal_by false true x y e f =
     sym e ∙ (bytes_decides x y).1 (sym ((bytes_decides y x).0 f))
 
-equal_both : (x y : Name) → bytes_eq x y ≡ bytes_eq y x
+equal_both : (x y : NameBytes) → bytes_eq x y ≡ bytes_eq y x
 equal_both x y = equal_by (bytes_eq x y) (bytes_eq y x) x y refl refl
 
 two : {A : Type 0} (a b e : Bool) (r f : A) → cond a f (cond (b || e) f r) ≡ cond b f (cond (a || e) f r)
@@ -128,14 +128,14 @@ two true false e r f = refl
 two false true e r f = refl
 two false false e r f = refl
 
-then_declare : (shared : List Name) (b : Bool) (s : Scope) (d : Declaration)
+then_declare : (shared : List NameBytes) (b : Bool) (s : NameScope) (d : Declaration)
     → and_then (cond b (Err double) (Ok s)) (λ u. declare shared u d)
     ≡ cond b (Err double) (declare shared s d)
 unfolding and_then
 then_declare shared true s d = refl
 then_declare shared false s d = refl
 
-both_are : (shared : List Name) (s : Scope) (d e : Declaration)
+both_are : (shared : List NameBytes) (s : NameScope) (d e : Declaration)
     → and_then (declare shared s d) (λ u. declare shared u e)
     ≡ cond (is_taken shared s (declared_name d)) (Err double)
     (cond (is_taken shared s (declared_name e) || bytes_eq (declared_name e) (declared_name d)) (Err double)
@@ -146,11 +146,11 @@ both_are shared s d e =
     (cond b (Err double) (Ok (with_declaration (with_declaration s d) e))))
     (taken_behind shared s d (declared_name e))
 
-swapped : (shared : List Name) (s : Scope) (t : Table) (x : Name) (n : ℕ)
+swapped : (shared : List NameBytes) (s : NameScope) (t : Table) (x : NameBytes) (n : ℕ)
     → and_then (declare shared s (table t)) (λ u. declare shared u (array x n))
     ≡ and_then (declare shared s (array x n)) (λ u. declare shared u (table t))
 swapped shared s t x n =
-    let both : Scope = with_declaration (with_declaration s (array x n)) (table t) in
+    let both : NameScope = with_declaration (with_declaration s (array x n)) (table t) in
     both_are shared s (table t) (array x n)
     ∙ ap (λ b. cond (is_taken shared s t.name) (Err double)
     (cond (is_taken shared s x || b) (Err double) (Ok both))) (equal_both x t.name)
@@ -160,21 +160,21 @@ swapped shared s t x n =
 -- ---- all of them
 
 -- a table goes past the arrays behind it
-past_arrays : (shared : List Name) (s : Scope) (t : Table) (ds rest : List Declaration)
+past_arrays : (shared : List NameBytes) (s : NameScope) (t : Table) (ds rest : List Declaration)
     → and_then (declare shared s (table t)) (λ u. each (declare shared) u (arrays_of ds ++ rest))
     ≡ each (declare shared) s (arrays_of ds ++ table t ∷ rest)
 unfolding each
 past_arrays shared s t [] rest = refl
 past_arrays shared s t (table u ∷ ds) rest = past_arrays shared s t ds rest
 past_arrays shared s t (array x n ∷ ds) rest =
-    let last : Scope → Result Scope NameError = λ v. each (declare shared) v (arrays_of ds ++ rest) in
+    let last : NameScope → Result NameScope NameError = λ v. each (declare shared) v (arrays_of ds ++ rest) in
     sym (bind_assoc (declare shared s (table t)) (λ u. declare shared u (array x n)) last)
     ∙ ap (λ r. and_then r last) (swapped shared s t x n)
     ∙ bind_assoc (declare shared s (array x n)) (λ u. declare shared u (table t)) last
     ∙ same_after (declare shared s (array x n)) (λ u. and_then (declare shared u (table t)) last)
     (λ u. each (declare shared) u (arrays_of ds ++ table t ∷ rest)) (λ u. past_arrays shared u t ds rest)
 
-pub sorted_same : (shared : List Name) (s : Scope) (ds : List Declaration)
+pub sorted_same : (shared : List NameBytes) (s : NameScope) (ds : List Declaration)
     → each (declare shared) s (sorted ds) ≡ each (declare shared) s ds
 unfolding each
 sorted_same shared s [] = refl

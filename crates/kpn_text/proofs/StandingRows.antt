@@ -3,15 +3,15 @@ use Rattle.std.proofs.Common.{◌≡◌, ℕ, zero, suc, ◌+◌, ◌<◌, ◌�
 use Rattle.std.specs.Prelude.{nat_eq}
 use Rattle.std.proofs.lemmas.Bool.Decides.{nat_tests}
 use Rattle.std.proofs.lemmas.List.{get_or-map, length-map}
-use Rattle.kpn_text_grammar.specs.Syntax.{Name}
+use Rattle.kpn_text_grammar.specs.Syntax.{NameBytes}
 use Rattle.kpn_text_names.specs.declared.rows.Row.{Row}
-use Rattle.kpn_text_names.specs.declared.scope.Scope.{Scope}
+use Rattle.kpn_text_names.specs.declared.scope.NameScope.{NameScope}
 use Rattle.kpn_text_names.specs.Names.{known, number_of, or_unknown, name_at}
 use Rattle.kpn_text_names.specs.NetworkNames.{paired, named_row, process_names_in}
 use Rattle.kpn_text_names.specs.Rows.{within_64_bits, row_at}
 use Rattle.kpn_text_names.specs.Scope.{behind_arrays, row_of, array_row, table_row}
 use Rattle.kpn_text_names.specs.Scope as scope
-use Rattle.kpn_text.specs.Named.{row_or}
+use Rattle.kpn_text.specs.Named.{row_name_or}
 use Rattle.kpn_text_names.proofs.Chains.{ok_is, went}
 use Rattle.kpn_text_names.proofs.KnownNames.{known_named}
 use Rattle.kpn_text.proofs.NamedBodies.{RowsAgree}
@@ -72,12 +72,12 @@ not_at a b h = grind (arith, nat_tests, h)
 at_itself : (a : ℕ) → nat_eq a a ≡ true
 at_itself a = grind (arith, nat_tests)
 
-found : (xs : List Name) (rs : List Row) (p e k : ℕ) (z : Name) → Stand p rs e → length xs ≡ length rs
-    → k < length xs → row_or (paired named_row xs rs) (row_at rs k).base z ≡ name_at xs k
+found : (xs : List NameBytes) (rs : List Row) (p e k : ℕ) (z : NameBytes) → Stand p rs e → length xs ≡ length rs
+    → k < length xs → row_name_or (paired named_row xs rs) (row_at rs k).base z ≡ name_at xs k
 found [] rs p e k z h same here = absurd (omega (arith, here))
 found (x ∷ xs) [] p e k z h same here = absurd (omega (arith, same))
 found (x ∷ xs) (r ∷ rs) p e zero z h same here =
-    ap (λ b. cond b x (row_or (paired named_row xs rs) r.base z)) (at_itself r.base)
+    ap (λ b. cond b x (row_name_or (paired named_row xs rs) r.base z)) (at_itself r.base)
 found (x ∷ xs) (r ∷ rs) p e (suc k) z h same here =
     let inside : k < length xs = omega (arith, here) in
     let alike : length xs ≡ length rs = omega (arith, same) in
@@ -86,11 +86,11 @@ found (x ∷ xs) (r ∷ rs) p e (suc k) z h same here =
     let first : r.base ≡ p = h.0 in
     let some : 1 ≤ r.size = h.1 in
     let before : r.base < (row_at rs k).base = omega (arith, behind, first, some) in
-    ap (λ b. cond b x (row_or (paired named_row xs rs) (row_at rs k).base z)) (not_at r.base (row_at rs k).base before)
+    ap (λ b. cond b x (row_name_or (paired named_row xs rs) (row_at rs k).base z)) (not_at r.base (row_at rs k).base before)
     ∙ found xs rs (p + r.size) e k z h.2 alike inside
 
-missed : (xs : List Name) (rs : List Row) (p e b : ℕ) (z : Name) → Stand p rs e → e ≤ b
-    → row_or (paired named_row xs rs) b z ≡ z
+missed : (xs : List NameBytes) (rs : List Row) (p e b : ℕ) (z : NameBytes) → Stand p rs e → e ≤ b
+    → row_name_or (paired named_row xs rs) b z ≡ z
 missed [] rs p e b z h behind = refl
 missed (x ∷ xs) [] p e b z h behind = refl
 missed (x ∷ xs) (r ∷ rs) p e b z h behind =
@@ -98,7 +98,7 @@ missed (x ∷ xs) (r ∷ rs) p e b z h behind =
     let first : r.base ≡ p = h.0 in
     let some : 1 ≤ r.size = h.1 in
     let before : r.base < b = omega (arith, behind, first, some, on) in
-    ap (λ c. cond c x (row_or (paired named_row xs rs) b z)) (not_at r.base b before)
+    ap (λ c. cond c x (row_name_or (paired named_row xs rs) b z)) (not_at r.base b before)
     ∙ missed xs rs (p + r.size) e b z h.2 behind
 
 -- ---- rows moved behind others
@@ -122,14 +122,14 @@ stand_moved from p (r ∷ rs) e small h =
 -- ---- the rows of a scope
 
 -- arrays and then tables, and no more of them than 64 bits can hold
-pub record Standing (s : Scope) : Type 0 where
+pub record Standing (s : NameScope) : Type 0 where
   pub arrays_named : length s.arrays.names ≡ length s.arrays.rows
   pub arrays : Follow 64 s.arrays.rows s.arrays.end
   pub tables_named : length s.tables.rows.names ≡ length s.tables.rows.rows
   pub tables : Follow 0 s.tables.rows.rows s.tables.rows.end
   pub few : s.arrays.end + s.tables.rows.end < 18446744073709551615
 
-module _ (n : Name) (s : Scope) (h : Standing s) where
+module _ (n : NameBytes) (s : NameScope) (h : Standing s) where
   arrays_stand : Stand 64 s.arrays.rows s.arrays.end
   arrays_stand =
       let all : s.arrays.end + s.tables.rows.end < 18446744073709551615 = h.few in
@@ -142,22 +142,22 @@ module _ (n : Name) (s : Scope) (h : Standing s) where
       let few : s.tables.rows.end < 18446744073709551615 = omega (arith, all) in
       follow_stand 0 s.tables.rows.rows s.tables.rows.end few h.tables
 
-  abbrev base_name : ℕ → Name
+  abbrev base_name : ℕ → NameBytes
   base_name base =
-      row_or (paired named_row s.arrays.names s.arrays.rows) base
-      (row_or (paired named_row s.tables.rows.names (map (behind_arrays s) s.tables.rows.rows)) base [])
+      row_name_or (paired named_row s.arrays.names s.arrays.rows) base
+      (row_name_or (paired named_row s.tables.rows.names (map (behind_arrays s) s.tables.rows.rows)) base [])
 
-  array_named_back : (x : Name) (k : ℕ) → known s.arrays.names x ≡ Ok k
+  array_named_back : (x : NameBytes) (k : ℕ) → known s.arrays.names x ≡ Ok k
       → base_name (row_at s.arrays.rows k).base ≡ x
   array_named_back x k e =
       let is = known_named s.arrays.names x k e in
       found s.arrays.names s.arrays.rows 64 s.arrays.end k
-      (row_or (paired named_row s.tables.rows.names (map (behind_arrays s) s.tables.rows.rows))
+      (row_name_or (paired named_row s.tables.rows.names (map (behind_arrays s) s.tables.rows.rows))
       (row_at s.arrays.rows k).base [])
       arrays_stand h.arrays_named is.here
       ∙ is.name
 
-  table_named_back : (x : Name) (k : ℕ) → known s.tables.rows.names x ≡ Ok k
+  table_named_back : (x : NameBytes) (k : ℕ) → known s.tables.rows.names x ≡ Ok k
       → base_name (behind_arrays s (row_at s.tables.rows.rows k)).base ≡ x
   table_named_back x k e =
       let is = known_named s.tables.rows.names x k e in
@@ -178,16 +178,16 @@ module _ (n : Name) (s : Scope) (h : Standing s) where
       let behind : s.arrays.end ≤ (row_at rows k).base = omega (arith, past) in
       ap (λ (r : Row). base_name r.base) (sym at)
       ∙ missed s.arrays.names s.arrays.rows 64 s.arrays.end (row_at rows k).base
-      (row_or (paired named_row s.tables.rows.names rows) (row_at rows k).base []) arrays_stand behind
+      (row_name_or (paired named_row s.tables.rows.names rows) (row_at rows k).base []) arrays_stand behind
       ∙ found s.tables.rows.names rows (s.arrays.end + 0) (s.arrays.end + s.tables.rows.end) k [] stand alike is_here
       ∙ is.name
 
-  array_back : (x : Name) (r : Row) → array_row s x ≡ Ok r → base_name r.base ≡ x
+  array_back : (x : NameBytes) (r : Row) → array_row s x ≡ Ok r → base_name r.base ≡ x
   array_back x r e =
       let k = went (known s.arrays.names x) (λ k. Ok (row_at s.arrays.rows k)) r e in
       ap (λ (q : Row). base_name q.base) (sym (ok_is _ r k.rest)) ∙ array_named_back x k.value k.first
 
-  row_back_by : (x : Name) (r : Row) (o : Option ℕ) → number_of s.arrays.names x ≡ o → scope.row_or s x o ≡ Ok r
+  row_back_by : (x : NameBytes) (r : Row) (o : Option ℕ) → number_of s.arrays.names x ≡ o → scope.row_or s x o ≡ Ok r
       → base_name r.base ≡ x
   row_back_by x r (Some k) at e =
       ap (λ (q : Row). base_name q.base) (sym (ok_is (row_at s.arrays.rows k) r e))
@@ -197,7 +197,7 @@ module _ (n : Name) (s : Scope) (h : Standing s) where
       ap (λ (q : Row). base_name q.base) (sym (ok_is _ r k.rest)) ∙ table_named_back x k.value k.first
 
 -- the rows of a scope give their names back
-pub rows_agree : (n : Name) (s : Scope) → Standing s → RowsAgree (process_names_in n s) s
+pub rows_agree : (n : NameBytes) (s : NameScope) → Standing s → RowsAgree (process_names_in n s) s
 rows_agree n s h = record {
   row = λ x r e. row_back_by n s h x r (number_of s.arrays.names x) refl e;
   array = λ x r e. array_back n s h x r e;

@@ -6,7 +6,7 @@ use Rattle.kpn_text_tokens.specs.declared.tokens.Language.TheVariants as languag
 use Rattle.kpn_text_tokens.specs.declared.tokens.Mark.TheVariants as mark
 use Rattle.kpn_text_tokens.specs.declared.tokens.Token.{Token}
 use Rattle.kpn_text_tokens.specs.declared.tokens.Token.TheVariants as token
-use Rattle.kpn_text_grammar.specs.Syntax.{Term, Statement, assign, store, receive, send, choice, loop, Statements, no_statements, statement}
+use Rattle.kpn_text_grammar.specs.Syntax.{ExpressionNode, StatementNode, assign, store, receive, send, choice, loop, Statements, no_statements, statement}
 use Rattle.kpn_text_grammar.specs.Spelling.{spell_expression, spell_else, spell_statement, spell_statements}
 use Rattle.kpn_text.specs.Proper.{IsProperTerm, IsProperStatement, AreProper}
 use Rattle.kpn_text.specs.Text.{indented, whole_text, otherwise_text, statement_text, statements_text, unindented_text}
@@ -19,7 +19,7 @@ pub end_read : {l : Language} (more : List ℕ) (tokens : List Token) → IsRead
 end_read more tokens h = mark_read mark.Semicolon (codes "\n" ++ more) tokens refl tt (line_feed_read more tokens h)
 
 -- an expression up to the end of its line
-pub last_term_read : {l : Language} (e : Term) (more : List ℕ) (tokens : List Token) → IsProperTerm l e
+pub last_term_read : {l : Language} (e : ExpressionNode) (more : List ℕ) (tokens : List Token) → IsProperTerm l e
     → IsReadAs l more tokens
     → IsReadAs l (whole_text l e (codes ";\n" ++ more)) (spell_expression l e (token.Mark mark.Semicolon ∷ tokens))
 last_term_read e more tokens is h = whole_read e _ _ is refl (end_read more tokens h)
@@ -81,7 +81,7 @@ else_read language.Two level (statement (loop e b) ss) inside branch spell more 
     braces_read level inside spell more tokens inner h
 
 mutual
-  pub statement_read : {l : Language} (level : ℕ) (s : Statement) (more : List ℕ) (tokens : List Token)
+  pub statement_read : {l : Language} (level : ℕ) (s : StatementNode) (more : List ℕ) (tokens : List Token)
       → IsProperStatement l s
       → IsReadAs l more tokens → IsReadAs l (statement_text l level s more) (spell_statement l s tokens)
   statement_read {l} level (assign x e) more tokens is h =

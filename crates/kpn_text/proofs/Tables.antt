@@ -4,7 +4,7 @@ use Rattle.std.specs.Prelude.{slice_get, IfSome, IfNone, ◌⊎◌}
 use Rattle.std.proofs.Math.Seq.{drop-cons}
 use Rattle.std.proofs.lemmas.List.{drop_all}
 use Rattle.std.proofs.lemmas.Option.{slice_get-get_or, get_or_from_slice_get, slice_get_within}
-use Rattle.kpn_text.specs.Phases.{Cause, in_network, network_cause, or_else, programs_cause, program_or, tables_cause}
+use Rattle.kpn_text.specs.Phases.{Cause, in_network, network_cause, or_cause, programs_cause, program_or, tables_cause}
 use Rattle.kpn_lang.specs.declared.program.ProgramFault.{ProgramFault}
 use Rattle.kpn_lang.specs.declared.program.ProgramFault.TheVariants as rule
 use Rattle.kpn_lang.specs.Parts.{Parts, first_fault}
@@ -16,7 +16,7 @@ use Rattle.kpn_net.specs.declared.tables.Policy.{Policy}
 use Rattle.kpn_net.specs.declared.tables.Instance.{Instance}
 use Rattle.kpn_net.specs.View.{tables_with}
 use Rattle.kpn_net.specs.Tables.{Tables}
-use Rattle.kpn_net.specs.Faults.{first_fault as first_network_fault}
+use Rattle.kpn_net.specs.Faults.{first_network_fault}
 use Rattle.kpn_text.specs.declared.fault.TextFault.{TextFault}
 use Rattle.kpn_text.specs.declared.fault.TextFault.TheVariants as text
 use Rattle.kpn_text_names.specs.declared.document.Named.{Named}
@@ -25,7 +25,7 @@ use Rattle.kpn_text_names.specs.View.{named_seen, program_seen}
 use Rattle.kpn_text_names.specs.declared.network_names.NetworkNames.{NetworkNames}
 use Rattle.kpn_text_names.specs.declared.network_names.ProcessNames.{ProcessNames}
 use Rattle.kpn_text_names.specs.declared.network_names.NamedTable.{NamedTable}
-use Rattle.kpn_text_names.specs.declared.tables.Shared.{Shared}
+use Rattle.kpn_text_names.specs.declared.tables.SharedTables.{SharedTables}
 use Rattle.kpn_text_names.specs.NetworkNames.{named_table, names_in, process_names_in, paired}
 use Rattle.kpn_text.specs.Fault.{net_fault}
 use Rattle.kpn_text.specs.Making.{TellsCause, program_told}
@@ -198,19 +198,19 @@ made_broken all made rest after p number told m e count (inr tells) =
 pub made_network : {N : Type 0} (t : Tables) (P : N → Type 0) (n : N) → programs_cause 0 t.programs ≡ None
     → first_network_fault t ≡ None → P n → (tables_cause t ≡ None) × P n
 made_network t P n e f p =
-    (ap (λ c. or_else c (network_cause (first_network_fault t))) e ∙ ap network_cause f, p)
+    (ap (λ c. or_cause c (network_cause (first_network_fault t))) e ∙ ap network_cause f, p)
 
 -- the fault of the network is that of the tables if each program keeps the rules
 pub network_then : (t : Tables) (fault : NetFault) (told : TextFault) → programs_cause 0 t.programs ≡ None
     → first_network_fault t ≡ Some fault → told ≡ net_fault fault → TellsCause (tables_cause t) told
 network_then t fault told e f h =
     let found : tables_cause t ≡ Some (in_network fault) =
-    ap (λ c. or_else c (network_cause (first_network_fault t))) e ∙ ap network_cause f in
+    ap (λ c. or_cause c (network_cause (first_network_fault t))) e ∙ ap network_cause f in
     subst (λ c. TellsCause c told) (sym found) h
 
 -- ---- the names of a description
 
-map_twice : (shared : Shared) (ps : List ProgramParts)
+map_twice : (shared : SharedTables) (ps : List ProgramParts)
     → map (λ p. p.scope) ps ≡ map (λ q. q.names) (map (program_seen shared) ps)
 map_twice shared [] = refl
 map_twice shared (p ∷ ps) = ap (λ l. p.scope ∷ l) (map_twice shared ps)

@@ -17,12 +17,12 @@ use Rattle.kpn_text_tokens.specs.Spelling.{has_mark, mark_bytes}
 use Rattle.kpn_text_tokens.proofs.WithoutPlaces.{decimal_spelled}
 use Rattle.kpn_lang.specs.declared.syntax.Op.{Op}
 use Rattle.kpn_lang.specs.declared.syntax.Op.TheVariants as operator
-use Rattle.kpn_text_grammar.specs.Syntax.{Name, Term, numeral, variable, element, minus, negation, complement, binary, conditional}
+use Rattle.kpn_text_grammar.specs.Syntax.{NameBytes, ExpressionNode, numeral, variable, element, minus, negation, complement, binary, conditional}
 use Rattle.kpn_text_grammar.specs.Operators.{operator_mark, tightness, left_side, right_side, LOOSEST, OPERAND}
 use Rattle.kpn_text_grammar.specs.Spelling.{spell_term, spell_tight, spell_expression}
 use Rattle.kpn_text.specs.CanonicalLaws.{EndsWord}
 use Rattle.kpn_text.specs.Proper.{HasBrackets, IsProperTerm}
-use Rattle.kpn_text.specs.Text.{is_free, open_text, close_text, term_text, whole_text}
+use Rattle.kpn_text.specs.Text.{needs_no_parentheses, open_text, close_text, term_text, whole_text}
 use Rattle.kpn_text.proofs.TokenLemmas.{IsReadAs, name_read, number_read, mark_read, space_read}
 
 -- a space comes behind each operator
@@ -88,7 +88,7 @@ open_no_equals : (free : Bool) (text : List ℕ) → starts_with nat_eq text (co
 open_no_equals true text h = h
 open_no_equals false text h = refl
 
-term_no_equals : (l : Language) (n : ℕ) (e : Term) (more : List ℕ) → IsProperTerm l e
+term_no_equals : (l : Language) (n : ℕ) (e : ExpressionNode) (more : List ℕ) → IsProperTerm l e
     → starts_with nat_eq (term_text l n e more) (codes "=") ≡ false
 term_no_equals l n (numeral k) more is = number_no_equals l k more is
 term_no_equals l n (variable x) more is = name_no_equals l x more is
@@ -97,7 +97,7 @@ term_no_equals l n (minus e) more is = refl
 term_no_equals l n (negation e) more is = refl
 term_no_equals l n (complement e) more is = refl
 term_no_equals l n (binary op a b) more is =
-    open_no_equals (is_free l n op) _ (term_no_equals l (left_side op) a _ is.1)
+    open_no_equals (needs_no_parentheses l n op) _ (term_no_equals l (left_side op) a _ is.1)
 term_no_equals l n (conditional e a b) more is = refl
 
 -- a text that is read as tokens, whatever follows it but a letter, a digit or `_`
@@ -111,13 +111,13 @@ closed_read : {l : Language} (more : List ℕ) (tokens : List Token) → IsReadA
 closed_read more tokens h = mark_read mark.RightParen more tokens refl tt h
 
 -- the forms with parts
-negation_read : {l : Language} (n : ℕ) (e : Term) (spell : List Token → List Token) → IsProperTerm l e
+negation_read : {l : Language} (n : ℕ) (e : ExpressionNode) (spell : List Token → List Token) → IsProperTerm l e
     → IsRead l (λ more. term_text l n e more) spell
     → IsRead l (λ more. codes "!" ++ term_text l n e more) (λ tokens. token.Mark mark.Not ∷ spell tokens)
 negation_read {l} n e spell is inner more tokens ends h =
     mark_read mark.Not (term_text l n e more) _ refl (term_no_equals l n e more is) (inner more tokens ends h)
 
-element_read : {l : Language} (x : Name) (text : List ℕ → List ℕ) (spell : List Token → List Token) → IsName l x
+element_read : {l : Language} (x : NameBytes) (text : List ℕ → List ℕ) (spell : List Token → List Token) → IsName l x
     → HasBrackets l → IsRead l text spell
     → IsRead l (λ more. x ++ (codes "[" ++ text (codes "]" ++ more)))
     (λ tokens. token.Name x ∷ token.Mark mark.LeftBracket ∷ spell (token.Mark mark.RightBracket ∷ tokens))
@@ -166,7 +166,7 @@ choice_read test first second c a b question colon is_c is_a is_b more tokens en
     mark_read mark.LeftParen _ _ refl tt (is_c _ _ refl mark_of_test)
 
 -- in language 1
-term_read : (n : ℕ) (e : Term) → IsProperTerm language.One e
+term_read : (n : ℕ) (e : ExpressionNode) → IsProperTerm language.One e
     → IsRead language.One (λ more. term_text language.One n e more) (λ tokens. spell_term e tokens)
 term_read n (numeral k) is more tokens ends h = number_read k more tokens is ends h
 term_read n (variable x) is more tokens ends h = name_read x more tokens is ends h
@@ -189,7 +189,7 @@ term_read n (conditional e a b) is more tokens ends h =
     more tokens ends h
 
 -- in language 2
-tight_read : (n : ℕ) (e : Term) → IsProperTerm language.Two e
+tight_read : (n : ℕ) (e : ExpressionNode) → IsProperTerm language.Two e
     → IsRead language.Two (λ more. term_text language.Two n e more) (λ tokens. spell_tight n e tokens)
 tight_read n (numeral k) is more tokens ends h = number_read k more tokens is ends h
 tight_read n (variable x) is more tokens ends h = name_read x more tokens is ends h
@@ -213,11 +213,11 @@ tight_read n (conditional e a b) is more tokens ends h =
     (λ tokens. spell_tight LOOSEST b tokens) is.0 is.1 (tight_read LOOSEST e is.2) (tight_read LOOSEST a is.3)
     (tight_read LOOSEST b is.4) more tokens ends h
 
-read_in : (l : Language) (e : Term) (more : List ℕ) (tokens : List Token) → IsProperTerm l e → EndsWord more
+read_in : (l : Language) (e : ExpressionNode) (more : List ℕ) (tokens : List Token) → IsProperTerm l e → EndsWord more
     → IsReadAs l more tokens → IsReadAs l (whole_text l e more) (spell_expression l e tokens)
 read_in language.One e more tokens is ends h = term_read LOOSEST e is more tokens ends h
 read_in language.Two e more tokens is ends h = tight_read LOOSEST e is more tokens ends h
 
-pub whole_read : {l : Language} (e : Term) (more : List ℕ) (tokens : List Token) → IsProperTerm l e → EndsWord more
+pub whole_read : {l : Language} (e : ExpressionNode) (more : List ℕ) (tokens : List Token) → IsProperTerm l e → EndsWord more
     → IsReadAs l more tokens → IsReadAs l (whole_text l e more) (spell_expression l e tokens)
 whole_read {l} e more tokens is ends h = read_in l e more tokens is ends h

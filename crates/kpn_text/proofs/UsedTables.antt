@@ -2,10 +2,10 @@
 use Rattle.std.proofs.Common.{◌≡◌, ℕ, ◌+◌, ◌≤◌, Bool, true, false, cond, List, [], ◌∷◌, ◌++◌, length, Option, Some, None, refl, sym, ap, ◌∙◌, append_assoc, append-nil, length-append, arith}
 use Rattle.std.specs.List.{flat_map}
 use Rattle.std.proofs.lemmas.List.Concat.{flat_map-append}
-use Rattle.kpn_text_grammar.specs.Syntax.{Name, Term, numeral, variable, element, minus, negation, complement, binary, conditional, Statement, assign, store, receive, send, choice, loop, Statements, no_statements, statement}
+use Rattle.kpn_text_grammar.specs.Syntax.{NameBytes, ExpressionNode, numeral, variable, element, minus, negation, complement, binary, conditional, StatementNode, assign, store, receive, send, choice, loop, Statements, no_statements, statement}
 use Rattle.kpn_text_names.specs.declared.network_names.NamedRow.{NamedRow}
-use Rattle.kpn_text_names.specs.declared.tables.Shared.{Shared}
-use Rattle.kpn_text_names.specs.declared.tables.Tables.{Tables}
+use Rattle.kpn_text_names.specs.declared.tables.SharedTables.{SharedTables}
+use Rattle.kpn_text_names.specs.declared.tables.KnownTables.{KnownTables}
 use Rattle.kpn_text_names.specs.Names.{has, number_of}
 use Rattle.kpn_text_names.specs.Rows.{within_64_bits}
 use Rattle.kpn_text_names.specs.Shared.{values_at, with_use, with_use_if, with_name_used, used_in_term, used_in_statement, used_in}
@@ -13,11 +13,11 @@ use Rattle.kpn_text_names.proofs.KnownNames.{with_name_new}
 use Rattle.kpn_text.proofs.DeclaredRows.{Laid, rows_of, laid_more, rows_more, end_more}
 
 -- each shared table has a value at least
-abbrev pub AreFilled : Shared → Type 0
-AreFilled shared = (x : Name) (k : ℕ) → number_of shared.names x ≡ Some k → 1 ≤ length (values_at shared k)
+abbrev pub AreFilled : SharedTables → Type 0
+AreFilled shared = (x : NameBytes) (k : ℕ) → number_of shared.names x ≡ Some k → 1 ≤ length (values_at shared k)
 
 -- the tables of a process, and behind them shared ones
-pub record Uses (shared : Shared) (own ts : Tables) : Type 0 where
+pub record Uses (shared : SharedTables) (own ts : KnownTables) : Type 0 where
   pub laid : Laid 0 ts.rows
   pub values : ts.values ≡ own.values
   pub end : ts.rows.end ≡ within_64_bits (length ts.values + length (flat_map (values_at shared) ts.used))
@@ -25,12 +25,12 @@ pub record Uses (shared : Shared) (own ts : Tables) : Type 0 where
   pub rows : rows_of ts.rows ≡ rows_of own.rows ++ more
   pub count : length ts.rows.names ≡ length own.rows.names + length ts.used
 
-longer_by : (names own : List Name) (used : List ℕ) (x : Name) (k : ℕ)
+longer_by : (names own : List NameBytes) (used : List ℕ) (x : NameBytes) (k : ℕ)
     → length names ≡ length own + length used → length (names ++ x ∷ []) ≡ length own + length (used ++ k ∷ [])
 longer_by names own used x k h = omega (arith, h, length-append names (x ∷ []), length-append used (k ∷ []))
 
-module _ (shared : Shared) (own : Tables) (filled : AreFilled shared) where
-  use_more : (ts : Tables) (x : Name) (k : ℕ) → number_of shared.names x ≡ Some k → has ts.rows.names x ≡ false
+module _ (shared : SharedTables) (own : KnownTables) (filled : AreFilled shared) where
+  use_more : (ts : KnownTables) (x : NameBytes) (k : ℕ) → number_of shared.names x ≡ Some k → has ts.rows.names x ≡ false
       → Uses shared own ts → Uses shared own (with_use shared ts x k)
   use_more ts x k is new h =
       let n : ℕ = length (values_at shared k) in
@@ -58,17 +58,17 @@ module _ (shared : Shared) (own : Tables) (filled : AreFilled shared) where
             ∙ longer_by ts.rows.names own.rows.names ts.used x k h.count;
       }
 
-  use_unless : (b : Bool) (ts : Tables) (x : Name) (k : ℕ) → number_of shared.names x ≡ Some k
+  use_unless : (b : Bool) (ts : KnownTables) (x : NameBytes) (k : ℕ) → number_of shared.names x ≡ Some k
       → has ts.rows.names x ≡ b → Uses shared own ts → Uses shared own (cond b ts (with_use shared ts x k))
   use_unless true ts x k is new h = h
   use_unless false ts x k is new h = use_more ts x k is new h
 
-  use_if : (o : Option ℕ) (ts : Tables) (x : Name) → number_of shared.names x ≡ o → Uses shared own ts
+  use_if : (o : Option ℕ) (ts : KnownTables) (x : NameBytes) → number_of shared.names x ≡ o → Uses shared own ts
       → Uses shared own (with_use_if shared ts x o)
   use_if (Some k) ts x is h = use_unless (has ts.rows.names x) ts x k is refl h
   use_if None ts x is h = h
 
-  term_uses : (e : Term) (ts : Tables) → Uses shared own ts → Uses shared own (used_in_term shared ts e)
+  term_uses : (e : ExpressionNode) (ts : KnownTables) → Uses shared own ts → Uses shared own (used_in_term shared ts e)
   term_uses (numeral n) ts h = h
   term_uses (variable x) ts h = h
   term_uses (element x e) ts h =
@@ -78,27 +78,27 @@ module _ (shared : Shared) (own : Tables) (filled : AreFilled shared) where
   term_uses (complement e) ts h = term_uses e ts h
   term_uses (binary o a b) ts h = term_uses b (used_in_term shared ts a) (term_uses a ts h)
   term_uses (conditional c a b) ts h =
-      let first : Tables = used_in_term shared ts c in
+      let first : KnownTables = used_in_term shared ts c in
       term_uses b (used_in_term shared first a) (term_uses a first (term_uses c ts h))
 
   mutual
-    statement_uses : (s : Statement) (ts : Tables) → Uses shared own ts
+    statement_uses : (s : StatementNode) (ts : KnownTables) → Uses shared own ts
         → Uses shared own (used_in_statement shared ts s)
     statement_uses (assign x e) ts h = term_uses e ts h
     statement_uses (store x i e) ts h = term_uses e (used_in_term shared ts i) (term_uses i ts h)
     statement_uses (receive i x) ts h = h
     statement_uses (send o e) ts h = term_uses e ts h
     statement_uses (choice e a b) ts h =
-        let first : Tables = used_in_term shared ts e in
+        let first : KnownTables = used_in_term shared ts e in
         block_uses b (used_in shared first a) (block_uses a first (term_uses e ts h))
     statement_uses (loop e b) ts h = block_uses b (used_in_term shared ts e) (term_uses e ts h)
 
-    block_uses : (b : Statements) (ts : Tables) → Uses shared own ts → Uses shared own (used_in shared ts b)
+    block_uses : (b : Statements) (ts : KnownTables) → Uses shared own ts → Uses shared own (used_in shared ts b)
     block_uses no_statements ts h = h
     block_uses (statement x xs) ts h = block_uses xs (used_in_statement shared ts x) (statement_uses x ts h)
 
 -- a process that names no shared table yet
-pub uses_none : (shared : Shared) (own : Tables) → Laid 0 own.rows
+pub uses_none : (shared : SharedTables) (own : KnownTables) → Laid 0 own.rows
     → own.rows.end ≡ within_64_bits (length own.values) → own.used ≡ [] → Uses shared own own
 uses_none shared own laid end unused =
     let none : length (flat_map (values_at shared) own.used) ≡ 0 =
@@ -115,6 +115,6 @@ uses_none shared own laid end unused =
       count = omega (arith, zeros);
     }
 
-pub body_uses : (shared : Shared) (own : Tables) → AreFilled shared → (b : Statements) → Uses shared own own
+pub body_uses : (shared : SharedTables) (own : KnownTables) → AreFilled shared → (b : Statements) → Uses shared own own
     → Uses shared own (used_in shared own b)
 body_uses shared own filled b h = block_uses shared own filled b own h

@@ -6,7 +6,7 @@ use Rattle.kpn_text_tokens.specs.declared.tokens.Token.{Token}
 use Rattle.kpn_text_tokens.specs.Laws.{tokens_of}
 use Rattle.kpn_text_tokens.specs.Lexing.{begins_name}
 use Rattle.kpn_text_tokens.specs.Opening.{language_of}
-use Rattle.kpn_text_grammar.specs.Syntax.{Term, Statements, Process, Description}
+use Rattle.kpn_text_grammar.specs.Syntax.{ExpressionNode, Statements, ProcessNode, Description}
 use Rattle.kpn_text_grammar.specs.Spelling.{spell_expression, spell_statements, spell_process, spell_description, IsDescription}
 use Rattle.kpn_text.specs.Proper.{IsProperTerm, AreProper, IsProperProcess, IsProper}
 use Rattle.kpn_text.specs.Text.{whole_text, statements_text, process_text, description_text}
@@ -19,7 +19,7 @@ EndsWord (b ∷ bs) = (begins_name b || is_ascii_digit b) ≡ false
 -- An expression that no letter, digit or `_` follows is read as its spelling, and then what follows it.
 abbrev pub TermIsRead : Type 0
 TermIsRead =
-    (l : Language) (e : Term) (more : List ℕ) (tokens : List Token) → IsProperTerm l e → EndsWord more
+    (l : Language) (e : ExpressionNode) (more : List ℕ) (tokens : List Token) → IsProperTerm l e → EndsWord more
     → tokens_of l more ≡ Some tokens → tokens_of l (whole_text l e more) ≡ Some (spell_expression l e tokens)
 
 -- Statements are read as their spelling, and then what follows them.
@@ -32,7 +32,7 @@ StatementsAreRead =
 -- A process is read as its spelling, and then what follows it.
 abbrev pub ProcessIsRead : Type 0
 ProcessIsRead =
-    (l : Language) (p : Process) (more : List ℕ) (tokens : List Token) → IsProperProcess l p
+    (l : Language) (p : ProcessNode) (more : List ℕ) (tokens : List Token) → IsProperProcess l p
     → tokens_of l more ≡ Some tokens → tokens_of l (process_text l p more) ≡ Some (spell_process l p tokens)
 
 -- A printed description is read as its spelling.

@@ -6,20 +6,20 @@ use Rattle.kpn_text_names.specs.Names.{name_at}
 use Rattle.kpn_text_names.specs.NetworkNames.{process_names}
 use Rattle.kpn_text_names.specs.Once.{EachStandsOnce}
 use Rattle.kpn_text.specs.Document.{Document}
-use Rattle.kpn_text.specs.Spells.{Spells, IsSpelled}
+use Rattle.kpn_text.specs.Spells.{SpellsDocument, HasText}
 use Rattle.kpn_text.specs.Phases.{document_of}
 
 -- The phases return a document if and only if the text spells it.
 abbrev pub PhasesGiveWhatIsSpelled : Type 0
-PhasesGiveWhatIsSpelled = (text : List ℕ) (d : Document) → (document_of text ≡ Ok d) ↔ Spells text d
+PhasesGiveWhatIsSpelled = (text : List ℕ) (d : Document) → (document_of text ≡ Ok d) ↔ SpellsDocument text d
 
 -- A text spells one document at most.
-abbrev pub SpelledOnce : Type 0
-SpelledOnce = (text : List ℕ) (d e : Document) → Spells text d → Spells text e → d ≡ e
+abbrev pub TextSpellsOnce : Type 0
+TextSpellsOnce = (text : List ℕ) (d e : Document) → SpellsDocument text d → SpellsDocument text e → d ≡ e
 
 -- No name is twice in a table of names of a document.
-abbrev pub NamesStandOnce : Type 0
-NamesStandOnce = (d : Document) → IsSpelled d → EachStandsOnce d.names
+abbrev pub DocumentNamesStandOnce : Type 0
+DocumentNamesStandOnce = (d : Document) → HasText d → EachStandsOnce d.names
 
 -- the names of each kind are text
 pub record AreText (names : NetworkNames) : Type 0 where
@@ -29,4 +29,4 @@ pub record AreText (names : NetworkNames) : Type 0 where
 
 -- the names of a document are text
 abbrev pub NamesAreText : Type 0
-NamesAreText = (d : Document) → IsSpelled d → AreText d.names
+NamesAreText = (d : Document) → HasText d → AreText d.names

@@ -7,7 +7,7 @@ use Rattle.kpn_text.specs.declared.fault.TextFault.{TextFault}
 use Rattle.kpn_text.specs.declared.fault.TextFault.TheVariants as fault
 use Rattle.kpn_text.specs.Document.{Document}
 use Rattle.kpn_text.specs.Phases.{Cause, Tells, Refuses}
-use Rattle.kpn_text.specs.Spells.{Spells}
+use Rattle.kpn_text.specs.Spells.{SpellsDocument}
 
 -- a cause was found, and the fault states it
 abbrev pub TellsCause : Option Cause → TextFault → Type 0
@@ -25,6 +25,6 @@ program_told number rule.NoMemory = fault.NoMemory
 program_told number other = fault.Program number other
 
 -- the document that the text spells, or a fault by which it is refused
-abbrev pub Reads : List ℕ → Result Document TextFault → Type 0
-Reads text (Ok d) = Spells text d
-Reads text (Err f) = Refuses text f
+abbrev pub TextReads : List ℕ → Result Document TextFault → Type 0
+TextReads text (Ok d) = SpellsDocument text d
+TextReads text (Err f) = Refuses text f

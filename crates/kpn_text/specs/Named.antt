@@ -12,7 +12,7 @@ use Rattle.kpn_net.specs.declared.tables.Policy.{Policy}
 use Rattle.kpn_net.specs.declared.tables.Policy.TheVariants as policy
 use Rattle.kpn_net.specs.declared.tables.Instance as net
 use Rattle.kpn_net.specs.Tables.{Tables}
-use Rattle.kpn_text_grammar.specs.Syntax.{Name, Term, numeral, variable, element, minus, negation, complement, binary, conditional, assign, store, receive, send, choice, loop, Statements, no_statements, statement, Literal, plain, negated, Table, Declaration, array, table, Process, Instance, Item, channel, source, sink, instance, Network, Description}
+use Rattle.kpn_text_grammar.specs.Syntax.{NameBytes, ExpressionNode, numeral, variable, element, minus, negation, complement, binary, conditional, assign, store, receive, send, choice, loop, Statements, no_statements, statement, Literal, plain, negated, Table, Declaration, array, table, ProcessNode, InstanceNode, Item, channel, source, sink, instance, NetworkNode, Description}
 use Rattle.kpn_text_names.specs.declared.network_names.NamedRow.{NamedRow}
 use Rattle.kpn_text_names.specs.declared.network_names.NamedTable.{NamedTable}
 use Rattle.kpn_text_names.specs.declared.network_names.NetworkNames.{NetworkNames}
@@ -21,21 +21,21 @@ use Rattle.kpn_text_names.specs.Names.{name_at}
 use Rattle.kpn_text_names.specs.NetworkNames.{paired, process_names}
 
 -- a whole number; one below 0 is written behind a minus
-abbrev pub number_named : ℤ → Term
+abbrev pub number_named : ℤ → ExpressionNode
 number_named (pos n) = numeral n
 number_named (negsuc n) = minus (numeral (suc n))
 
 -- the name of the row that begins at a place, of these rows, or else another name
-abbrev pub row_or : List NamedRow → ℕ → Name → Name
-row_or [] base x = x
-row_or (r ∷ rs) base x = if nat_eq r.base base then r.name else row_or rs base x
+abbrev pub row_name_or : List NamedRow → ℕ → NameBytes → NameBytes
+row_name_or [] base x = x
+row_name_or (r ∷ rs) base x = if nat_eq r.base base then r.name else row_name_or rs base x
 
 -- the name of the array or the table that begins at a place
-abbrev pub row_name : ProcessNames → ℕ → Name
-row_name names base = row_or names.arrays base (row_or names.tables base [])
+abbrev pub row_name : ProcessNames → ℕ → NameBytes
+row_name names base = row_name_or names.arrays base (row_name_or names.tables base [])
 
 -- an expression over these variables, arrays and tables
-abbrev pub term_named : ProcessNames → lang.Term → Term
+abbrev pub term_named : ProcessNames → lang.Term → ExpressionNode
 term_named names (lang.Num z) = number_named z
 term_named names (lang.Var k) = variable (name_at names.vars k)
 term_named names (lang.Cell base size e) = element (row_name names base) (term_named names e)
@@ -81,7 +81,7 @@ abbrev pub declarations_named : ProcessNames → List ℤ → List Declaration
 declarations_named names values = map array_named names.arrays ++ tables_named (take names.own names.tables) values
 
 -- a process: the first of its variables are its parameters
-abbrev pub process_named : ProcessNames → Parts → Process
+abbrev pub process_named : ProcessNames → Parts → ProcessNode
 process_named names parts = record {
   name = names.name;
   ins = names.ins;
@@ -91,13 +91,13 @@ process_named names parts = record {
   body = statements_named names (tree_of parts.blocks 0);
 }
 
-abbrev pub channel_named : Name → ChannelSpec → Item
+abbrev pub channel_named : NameBytes → ChannelSpec → Item
 channel_named x (Inner cap) = channel x cap
 channel_named x Source = source x
 channel_named x (Sink cap) = sink x cap
 
 -- an instance of one of these processes, at these channels
-abbrev pub call_named : NetworkNames → Name → net.Instance → Instance
+abbrev pub call_named : NetworkNames → NameBytes → net.Instance → InstanceNode
 call_named names x i = record {
   name = x;
   program = name_at (process_names names) i.program;
@@ -106,7 +106,7 @@ call_named names x i = record {
   values = map literal_named i.pars;
 }
 
-abbrev pub instance_named : NetworkNames → Name → net.Instance → Item
+abbrev pub instance_named : NetworkNames → NameBytes → net.Instance → Item
 instance_named names x i = instance (call_named names x i)
 
 -- the limit is written if it is below the one that holds without a line
@@ -124,7 +124,7 @@ growth_named growth.One = None
 growth_named growth.Double = Some growth.Double
 
 -- the settings, the channels in order, and the instances in order
-abbrev pub network_named : NetworkNames → Tables → Network
+abbrev pub network_named : NetworkNames → Tables → NetworkNode
 network_named names t = record {
   limit = limit_named t.limit;
   policy = policy_named t.policy;

@@ -54,13 +54,13 @@ network_cause (Some fault) = Some (in_network fault)
 network_cause None = None
 
 -- one cause, else the other
-abbrev pub or_else : Option Cause → Option Cause → Option Cause
-or_else (Some cause) after = Some cause
-or_else None after = after
+abbrev pub or_cause : Option Cause → Option Cause → Option Cause
+or_cause (Some cause) after = Some cause
+or_cause None after = after
 
 -- the first rule that tables break: the programs in order, then the network
 abbrev pub tables_cause : Tables → Option Cause
-tables_cause t = or_else (programs_cause 0 t.programs) (network_cause (net.first_fault t))
+tables_cause t = or_cause (programs_cause 0 t.programs) (network_cause (net.first_network_fault t))
 
 -- the document of a text in this language, or the cause of its refusal
 unfoldable pub document_in : Language → List ℕ → Result Document Cause

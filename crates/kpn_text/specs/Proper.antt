@@ -8,7 +8,7 @@ use Rattle.kpn_text_tokens.specs.declared.tokens.Mark.TheVariants as mark
 use Rattle.kpn_text_tokens.specs.Spelling.{has_keyword, has_mark}
 use Rattle.kpn_text_tokens.specs.Rules.{IsName}
 use Rattle.kpn_text_grammar.specs.Operators.{operator_mark}
-use Rattle.kpn_text_grammar.specs.Syntax.{Name, Term, numeral, variable, element, minus, negation, complement, binary, conditional, Statement, assign, store, receive, send, choice, loop, Statements, no_statements, statement, Literal, plain, negated, Table, Declaration, array, table, Process, Instance, Item, channel, source, sink, instance, Network, Description}
+use Rattle.kpn_text_grammar.specs.Syntax.{NameBytes, ExpressionNode, numeral, variable, element, minus, negation, complement, binary, conditional, StatementNode, assign, store, receive, send, choice, loop, Statements, no_statements, statement, Literal, plain, negated, Table, Declaration, array, table, ProcessNode, InstanceNode, Item, channel, source, sink, instance, NetworkNode, Description}
 
 -- the language has `[` and `]`
 pub record HasBrackets (l : Language) : Type 0 where
@@ -16,7 +16,7 @@ pub record HasBrackets (l : Language) : Type 0 where
   pub right : has_mark l mark.RightBracket ≡ true
 
 -- each name is a name, each number is below 2 ^ 63, and the language has each operator
-abbrev pub IsProperTerm : Language → Term → Type 0
+abbrev pub IsProperTerm : Language → ExpressionNode → Type 0
 IsProperTerm l (numeral n) = n < 2 ^ 63
 IsProperTerm l (variable x) = IsName l x
 IsProperTerm l (element x e) = IsName l x × HasBrackets l × IsProperTerm l e
@@ -30,7 +30,7 @@ IsProperTerm l (conditional e a b) =
 
 abbrev mutual
   -- the same of a statement
-  pub IsProperStatement : Language → Statement → Type 0
+  pub IsProperStatement : Language → StatementNode → Type 0
   IsProperStatement l (assign x e) = IsName l x × IsProperTerm l e
   IsProperStatement l (store x i e) = IsName l x × HasBrackets l × IsProperTerm l i × IsProperTerm l e
   IsProperStatement l (receive i x) = IsName l i × IsName l x
@@ -44,7 +44,7 @@ abbrev mutual
   AreProper l (statement s ss) = IsProperStatement l s × AreProper l ss
 
 -- the same of each of several names
-abbrev pub AreNames : Language → List Name → Type 0
+abbrev pub AreNames : Language → List NameBytes → Type 0
 AreNames l = AllByRecursion (IsName l)
 
 abbrev pub IsProperLiteral : Literal → Type 0
@@ -62,7 +62,7 @@ IsProperDeclaration l (array x n) = (has_keyword l keyword.Array ≡ true) × Is
 IsProperDeclaration l (table t) = IsProperTable l t
 
 -- and of a process
-pub record IsProperProcess (l : Language) (p : Process) : Type 0 where
+pub record IsProperProcess (l : Language) (p : ProcessNode) : Type 0 where
   pub name : IsName l p.name
   pub ins : AreNames l p.ins
   pub outs : AreNames l p.outs
@@ -70,7 +70,7 @@ pub record IsProperProcess (l : Language) (p : Process) : Type 0 where
   pub declarations : AllByRecursion (IsProperDeclaration l) p.declarations
   pub body : AreProper l p.body
 
-pub record IsProperInstance (l : Language) (i : Instance) : Type 0 where
+pub record IsProperInstance (l : Language) (i : InstanceNode) : Type 0 where
   pub name : IsName l i.name
   pub program : IsName l i.program
   pub ins : AreNames l i.ins
@@ -87,7 +87,7 @@ abbrev pub IsProperLimit : Option ℕ → Type 0
 IsProperLimit None = Unit {0}
 IsProperLimit (Some n) = n < 2 ^ 63
 
-pub record IsProperNetwork (l : Language) (n : Network) : Type 0 where
+pub record IsProperNetwork (l : Language) (n : NetworkNode) : Type 0 where
   pub limit : IsProperLimit n.limit
   pub items : AllByRecursion (IsProperItem l) n.items
 

@@ -13,7 +13,7 @@ use Rattle.kpn_text.specs.Document.{Document, document_named}
 -- A text spells a document: it is within the limit of bytes, it is of the document's language, its tokens in that
 -- language are those of a tree, and what the tree names is the document. The document's tables keep the rules of
 -- programs and networks.
-pub record Spells (text : List ℕ) (d : Document) : Type 0 where
+pub record SpellsDocument (text : List ℕ) (d : Document) : Type 0 where
   pub within : length text ≤ MAX_TEXT_BYTES
   pub language : language_of text ≡ d.language
   pub tokens : List Token
@@ -26,5 +26,5 @@ pub record Spells (text : List ℕ) (d : Document) : Type 0 where
   pub keeps : IsNetwork d.tables
 
 -- some text spells the document
-abbrev pub IsSpelled : Document → Type 0
-IsSpelled d = (text : List ℕ) × Spells text d
+abbrev pub HasText : Document → Type 0
+HasText d = (text : List ℕ) × SpellsDocument text d

@@ -10,7 +10,7 @@ use Rattle.kpn_text_tokens.specs.declared.tokens.Keyword.TheVariants as keyword
 use Rattle.kpn_text_tokens.specs.declared.tokens.Language.{Language}
 use Rattle.kpn_text_tokens.specs.declared.tokens.Language.TheVariants as language
 use Rattle.kpn_text_tokens.specs.Spelling.{keyword_bytes, mark_bytes}
-use Rattle.kpn_text_grammar.specs.Syntax.{Name, Term, numeral, variable, element, minus, negation, complement, binary, conditional, Statement, assign, store, receive, send, choice, loop, Statements, no_statements, statement, Literal, plain, negated, Table, Declaration, array, table, Process, Instance, Item, channel, source, sink, instance, Network, Description}
+use Rattle.kpn_text_grammar.specs.Syntax.{NameBytes, ExpressionNode, numeral, variable, element, minus, negation, complement, binary, conditional, StatementNode, assign, store, receive, send, choice, loop, Statements, no_statements, statement, Literal, plain, negated, Table, Declaration, array, table, ProcessNode, InstanceNode, Item, channel, source, sink, instance, NetworkNode, Description}
 use Rattle.kpn_text_grammar.specs.Operators.{operator_mark, tightness, left_side, right_side, LOOSEST, OPERAND}
 use Rattle.kpn_text_grammar.specs.Words.{growth_word, policy_word}
 
@@ -23,9 +23,9 @@ indented (suc level) more = codes "  " ++ indented level more
 
 -- whether an operator needs no parentheses where an expression has to bind as tight as this; in language 1 it always
 -- has them
-abbrev pub is_free : Language → ℕ → Op → Bool
-is_free language.One n op = false
-is_free language.Two n op = nat_le n (tightness op)
+abbrev pub needs_no_parentheses : Language → ℕ → Op → Bool
+needs_no_parentheses language.One n op = false
+needs_no_parentheses language.Two n op = nat_le n (tightness op)
 
 -- the parentheses around an operator, unless it needs none
 abbrev pub open_text : Bool → List ℕ → List ℕ
@@ -37,7 +37,7 @@ close_text true more = more
 close_text false more = codes ")" ++ more
 
 -- where an expression has to bind as tight as this: a number, a name, x[e], -e, !e, ~e, a op b, (a op b), (e ? a : b)
-abbrev pub term_text : Language → ℕ → Term → List ℕ → List ℕ
+abbrev pub term_text : Language → ℕ → ExpressionNode → List ℕ → List ℕ
 term_text l n (numeral k) more = decimal k ++ more
 term_text l n (variable x) more = x ++ more
 term_text l n (element x e) more = x ++ (codes "[" ++ term_text l LOOSEST e (codes "]" ++ more))
@@ -45,18 +45,18 @@ term_text l n (minus e) more = codes "-" ++ term_text l OPERAND e more
 term_text l n (negation e) more = codes "!" ++ term_text l OPERAND e more
 term_text l n (complement e) more = codes "~" ++ term_text l OPERAND e more
 term_text l n (binary op a b) more =
-    open_text (is_free l n op)
+    open_text (needs_no_parentheses l n op)
     (term_text l (left_side op) a
     (codes " "
     ++ (mark_bytes (operator_mark op)
-    ++ (codes " " ++ term_text l (right_side op) b (close_text (is_free l n op) more)))))
+    ++ (codes " " ++ term_text l (right_side op) b (close_text (needs_no_parentheses l n op) more)))))
 term_text l n (conditional e a b) more =
     codes "("
     ++ term_text l LOOSEST e
     (codes " ? " ++ term_text l LOOSEST a (codes " : " ++ term_text l LOOSEST b (codes ")" ++ more)))
 
 -- an expression of a statement
-abbrev pub whole_text : Language → Term → List ℕ → List ℕ
+abbrev pub whole_text : Language → ExpressionNode → List ℕ → List ℕ
 whole_text l e more = term_text l LOOSEST e more
 
 -- From the end of the first block of an `if` on: } else { .. }, where `inside` is the second block, one level in. In
@@ -71,7 +71,7 @@ otherwise_text l level b inside branch more =
 
 abbrev mutual
   -- a statement from its first word on, up to the end of its last line
-  pub statement_text : Language → (level : ℕ) → Statement → List ℕ → List ℕ
+  pub statement_text : Language → (level : ℕ) → StatementNode → List ℕ → List ℕ
   statement_text l level (assign x e) more = x ++ (codes " = " ++ whole_text l e (codes ";\n" ++ more))
   statement_text l level (store x i e) more =
       x ++ (codes "[" ++ whole_text l i (codes "] = " ++ whole_text l e (codes ";\n" ++ more)))
@@ -120,11 +120,11 @@ abbrev pub list_text : {A : Type 0} → (A → List ℕ → List ℕ) → List A
 list_text text [] more = more
 list_text text (x ∷ xs) more = text x (all_text (further_text text) xs more)
 
-abbrev pub name_text : Name → List ℕ → List ℕ
+abbrev pub name_text : NameBytes → List ℕ → List ℕ
 name_text x more = x ++ more
 
 -- names joined by commas
-abbrev pub names_text : List Name → List ℕ → List ℕ
+abbrev pub names_text : List NameBytes → List ℕ → List ℕ
 names_text = list_text name_text
 
 -- ---- tables and arrays
@@ -146,12 +146,12 @@ declaration_text (table t) more = codes "  " ++ table_text t more
 -- ---- processes
 
 -- a part of a head behind some bytes; nothing if it has no names
-abbrev pub part_text : (before : List ℕ) → Keyword → List Name → List ℕ → List ℕ
+abbrev pub part_text : (before : List ℕ) → Keyword → List NameBytes → List ℕ → List ℕ
 part_text before word [] more = more
 part_text before word (x ∷ xs) more = before ++ (keyword_bytes word ++ (codes " " ++ names_text (x ∷ xs) more))
 
 -- in a, b; out c; par k, l; a part without names is left out
-abbrev pub parts_text : (ins outs pars : List Name) → List ℕ → List ℕ
+abbrev pub parts_text : (ins outs pars : List NameBytes) → List ℕ → List ℕ
 parts_text (x ∷ xs) outs pars more =
     part_text [] keyword.In (x ∷ xs)
     (part_text (codes "; ") keyword.Out outs (part_text (codes "; ") keyword.Par pars more))
@@ -159,7 +159,7 @@ parts_text [] (x ∷ xs) pars more = part_text [] keyword.Out (x ∷ xs) (part_t
 parts_text [] [] pars more = part_text [] keyword.Par pars more
 
 -- process p(..) {  its arrays, its tables and its body, one level in, and  }
-abbrev pub process_text : Language → Process → List ℕ → List ℕ
+abbrev pub process_text : Language → ProcessNode → List ℕ → List ℕ
 process_text l p more =
     codes "process "
     ++ (p.name
@@ -171,7 +171,7 @@ process_text l p more =
 -- ---- networks
 
 -- the out channels of an instance, behind a space; nothing if there are none
-abbrev pub outs_text : List Name → List ℕ → List ℕ
+abbrev pub outs_text : List NameBytes → List ℕ → List ℕ
 outs_text [] more = more
 outs_text (x ∷ xs) more = codes " " ++ names_text (x ∷ xs) more
 
@@ -181,18 +181,18 @@ values_text [] more = more
 values_text (v ∷ vs) more = codes "; " ++ list_text literal_text (v ∷ vs) more
 
 -- f(a, b; c; 1, -2)
-abbrev pub call_text : Instance → List ℕ → List ℕ
+abbrev pub call_text : InstanceNode → List ℕ → List ℕ
 call_text i more =
     i.program
     ++ (codes "(" ++ names_text i.ins (codes ";" ++ outs_text i.outs (values_text i.values (codes ")" ++ more))))
 
 -- an item on a line of its own, one level in
-abbrev pub item_text : Item → List ℕ → List ℕ
-item_text (channel c cap) more =
+abbrev pub network_item_text : Item → List ℕ → List ℕ
+network_item_text (channel c cap) more =
     codes "  channel " ++ (c ++ (codes " cap " ++ (decimal cap ++ (codes ";\n" ++ more))))
-item_text (source c) more = codes "  source " ++ (c ++ (codes ";\n" ++ more))
-item_text (sink c cap) more = codes "  sink " ++ (c ++ (codes " cap " ++ (decimal cap ++ (codes ";\n" ++ more))))
-item_text (instance i) more = codes "  " ++ (i.name ++ (codes " = " ++ call_text i (codes ";\n" ++ more)))
+network_item_text (source c) more = codes "  source " ++ (c ++ (codes ";\n" ++ more))
+network_item_text (sink c cap) more = codes "  sink " ++ (c ++ (codes " cap " ++ (decimal cap ++ (codes ";\n" ++ more))))
+network_item_text (instance i) more = codes "  " ++ (i.name ++ (codes " = " ++ call_text i (codes ";\n" ++ more)))
 
 -- the limit on a line of its own, if there is one
 abbrev pub limit_text : Option ℕ → List ℕ → List ℕ
@@ -210,11 +210,11 @@ growth_text None more = more
 growth_text (Some g) more = codes "  grow " ++ (growth_word g ++ (codes ";\n" ++ more))
 
 -- network {  its settings and its items, and  }
-abbrev pub network_text : Network → List ℕ → List ℕ
+abbrev pub network_text : NetworkNode → List ℕ → List ℕ
 network_text n more =
     codes "network {\n"
     ++ limit_text n.limit
-    (policy_text n.policy (growth_text n.growth (all_text item_text n.items (codes "}\n" ++ more))))
+    (policy_text n.policy (growth_text n.growth (all_text network_item_text n.items (codes "}\n" ++ more))))
 
 -- ---- the whole
 

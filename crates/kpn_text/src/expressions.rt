@@ -71,7 +71,7 @@ pub(crate) fn expression(
 
 /// Whether an operator needs no parentheses where an expression has to bind as tight as `tight`.
 fn is_free(language: Language, tight: usize, operator: Op) -> bool
-    ensures { result ≡ spec.is_free language tight operator }
+    ensures { result ≡ spec.needs_no_parentheses language tight operator }
 {
     match language {
         Language::One => false,

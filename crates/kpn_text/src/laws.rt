@@ -2,7 +2,7 @@
 //! the proof of the law.
 
 ghost use Rattle.kpn_text.specs.Again.{PrintedTextSpells};
-ghost use Rattle.kpn_text.specs.Laws.{NamesAreText, NamesStandOnce, PhasesGiveWhatIsSpelled, SpelledOnce};
+ghost use Rattle.kpn_text.specs.Laws.{NamesAreText, DocumentNamesStandOnce, PhasesGiveWhatIsSpelled, TextSpellsOnce};
 
 use crate::canonical_laws::{description_is_read, language_is_told, read_descriptions_are_proper};
 use kpn_net::laws::capacities_are_in_range;
@@ -16,7 +16,7 @@ pub fn phases_give_what_is_spelled()
 
 /// A text spells one document at most.
 pub fn spelled_once()
-    ensures { SpelledOnce }
+    ensures { TextSpellsOnce }
 {}
 
 /// A printed document is read again.
@@ -33,7 +33,7 @@ pub fn read_again()
 
 /// No name is twice in a table of names of a document: a search finds each at its own number.
 pub fn names_stand_once()
-    ensures { NamesStandOnce }
+    ensures { DocumentNamesStandOnce }
 {
     kpn_text_names::names_stand_once();
 }

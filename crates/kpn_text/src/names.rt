@@ -7,7 +7,8 @@ ghost use Rattle.kpn_text_names.specs.View.{named_seen};
 
 use kpn_lang::Sequence;
 use kpn_text_names::{
-    NameTable, Named, NamedRow, NamedTable, NetworkNames, ProcessNames, ProgramParts, Row, Scope,
+    NameScope, NameTable, Named, NamedRow, NamedTable, NetworkNames, ProcessNames, ProgramParts,
+    Row,
 };
 use std::alloc::{AllocError, Global};
 
@@ -48,7 +49,7 @@ fn array(alloc: Global, name: &[u8], row: &Row) -> Result<NamedRow, AllocError>
 /// The row of a table with its name, behind the arrays.
 fn table_row(
     alloc: Global,
-    scope: &Scope<'_>,
+    scope: &NameScope<'_>,
     name: &[u8],
     row: &Row,
 ) -> Result<NamedRow, AllocError>
@@ -90,7 +91,11 @@ fn arrays(
 }
 
 /// The rows of tables with their names, behind the arrays.
-fn tables(alloc: Global, scope: &Scope<'_>, rows: &[Row]) -> Result<Sequence<NamedRow>, AllocError>
+fn tables(
+    alloc: Global,
+    scope: &NameScope<'_>,
+    rows: &[Row],
+) -> Result<Sequence<NamedRow>, AllocError>
     ensures { IfOk result (λ own. own ≡ paired named_row scope.now.tables.rows.names
         (map (behind_arrays scope.now) rows.now)) }
 {
@@ -123,7 +128,7 @@ fn shared_tables(
 }
 
 /// The names of a process.
-fn of_process(alloc: Global, name: &[u8], scope: &Scope<'_>) -> Result<ProcessNames, AllocError>
+fn of_process(alloc: Global, name: &[u8], scope: &NameScope<'_>) -> Result<ProcessNames, AllocError>
     ensures { IfOk result (λ own. own ≡ process_names_in name.now scope.now) }
 {
     let name = copied(alloc, name)?;

@@ -12,11 +12,11 @@ use crate::fault::TextFault;
 use kpn_lang::{Program, ProgramFault};
 use kpn_limits::MAX_VARIABLES;
 use kpn_net::Network;
-use kpn_text_names::{Named, ProgramParts, Scope, Shared};
+use kpn_text_names::{NameScope, Named, ProgramParts, SharedTables};
 use std::alloc::{AllocError, Global};
 
 /// The values of a shared table.
-fn shared_values<'b>(shared: &'b Shared<'_>, number: usize) -> &'b [i64]
+fn shared_values<'b>(shared: &'b SharedTables<'_>, number: usize) -> &'b [i64]
     ensures { result.now ≡ values_at shared.now number }
 {
     match shared.values.as_slice().get(number) {
@@ -26,7 +26,11 @@ fn shared_values<'b>(shared: &'b Shared<'_>, number: usize) -> &'b [i64]
 }
 
 /// The values of the tables that a process knows: those of its own, and those of the shared ones that it names.
-fn values(alloc: Global, shared: &Shared<'_>, scope: &Scope<'_>) -> Result<Vec<i64>, AllocError>
+fn values(
+    alloc: Global,
+    shared: &SharedTables<'_>,
+    scope: &NameScope<'_>,
+) -> Result<Vec<i64>, AllocError>
     ensures { IfOk result (λ values. values.items ≡ values_of shared.now scope.now) }
 {
     let mut values = scope.tables.values.as_slice().to_vec(alloc)?;
@@ -39,7 +43,7 @@ fn values(alloc: Global, shared: &Shared<'_>, scope: &Scope<'_>) -> Result<Vec<i
 /// The program of the process with this number, if these are the shared tables.
 fn program(
     alloc: Global,
-    shared: &Shared<'_>,
+    shared: &SharedTables<'_>,
     number: usize,
     process: ProgramParts<'_>,
 ) -> Result<Program, TextFault>
@@ -78,7 +82,7 @@ fn told(number: usize, fault: ProgramFault) -> TextFault
 /// The programs of the processes in order.
 fn programs(
     alloc: Global,
-    shared: &Shared<'_>,
+    shared: &SharedTables<'_>,
     processes: Vec<ProgramParts<'_>>,
 ) -> Result<Vec<Program>, TextFault>
     ensures { let parts = map (λ p. p.parts) (map (program_seen shared.now) processes.entry.items) in

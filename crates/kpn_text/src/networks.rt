@@ -6,7 +6,7 @@ ghost use Rattle.kpn_net.specs.Tables.{channel_at, instance_at};
 ghost use Rattle.kpn_text_names.specs.Names.{name_at};
 ghost use Rattle.kpn_text_names.specs.NetworkNames.{AreNamed, paired};
 ghost use Rattle.kpn_text.specs.Named.{call_named, channel_named, description_named, growth_named, instance_named, limit_named, literal_named, network_named, policy_named, process_named};
-ghost use Rattle.kpn_text.specs.Text.{all_text, call_text, description_text, growth_text, item_text, language_text, limit_text, name_text, names_text, network_text, outs_text, policy_text, process_text, values_text};
+ghost use Rattle.kpn_text.specs.Text.{all_text, call_text, description_text, growth_text, network_item_text, language_text, limit_text, name_text, names_text, network_text, outs_text, policy_text, process_text, values_text};
 ghost use Rattle.kpn_text.specs.Writing.{Writes};
 
 use crate::pieces::{bytes, name};
@@ -145,7 +145,7 @@ fn growth_line(out: &mut Vec<u8>, growth: Growth) -> Result<(), AllocError>
 fn channels(out: &mut Vec<u8>, network: &Network, names: &[Sequence<u8>]) -> Result<(), AllocError>
     requires { length names.now ≡ length network.now.channels }
     ensures { OnOk result (Writes out.old.items out.new.items
-        (all_text item_text (paired channel_named names.now network.now.channels))) }
+        (all_text network_item_text (paired channel_named names.now network.now.channels))) }
 {
     for (c, own) in names.iter().enumerate() {
         channel(out, own.as_slice(), channel_spec(network, c))?;
@@ -155,7 +155,7 @@ fn channels(out: &mut Vec<u8>, network: &Network, names: &[Sequence<u8>]) -> Res
 
 fn channel(out: &mut Vec<u8>, name: &[u8], channel: ChannelSpec) -> Result<(), AllocError>
     ensures { OnOk result
-        (Writes out.old.items out.new.items (item_text (channel_named name.now channel))) }
+        (Writes out.old.items out.new.items (network_item_text (channel_named name.now channel))) }
 {
     match channel {
         ChannelSpec::Inner(cap) => {
@@ -202,7 +202,7 @@ fn channel_spec(network: &Network, c: usize) -> ChannelSpec
 fn instances(out: &mut Vec<u8>, network: &Network, names: &NetworkNames) -> Result<(), AllocError>
     requires { length names.now.instances ≡ length network.now.instances }
     ensures { OnOk result (Writes out.old.items out.new.items
-        (all_text item_text
+        (all_text network_item_text
         (paired (instance_named names.now) names.now.instances network.now.instances))) }
 {
     for (p, own) in names.instances.as_slice().iter().enumerate() {

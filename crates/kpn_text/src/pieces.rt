@@ -4,7 +4,7 @@
 ghost use Rattle.std.specs.Prelude.{◌≡◌, ℕ, ◌++◌, map, OnOk};
 ghost use Rattle.kpn_text_names.specs.Names.{name_at};
 ghost use Rattle.kpn_text_tokens.specs.declared.tokens.Language.{Language};
-ghost use Rattle.kpn_text.specs.Named.{literal_named, number_named, row_name, row_or};
+ghost use Rattle.kpn_text.specs.Named.{literal_named, number_named, row_name, row_name_or};
 ghost use Rattle.kpn_text.specs.Text.{indented, list_text, literal_text, name_text, names_text, term_text};
 ghost use Rattle.kpn_text.specs.Writing.{Writes};
 
@@ -49,7 +49,7 @@ pub(crate) fn name(
 
 /// The name of the row that begins at a place, of these rows, or else another name.
 fn row_or<'a>(rows: &'a [NamedRow], base: usize, other: &'a [u8]) -> &'a [u8]
-    ensures { result.now ≡ row_or rows.now base other.now }
+    ensures { result.now ≡ row_name_or rows.now base other.now }
 {
     for row in rows {
         if row.base == base {

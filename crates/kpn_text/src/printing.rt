@@ -3,7 +3,7 @@
 ghost use Rattle.std.specs.Prelude.{◌≡◌, ◌≤◌, length, IfOk};
 ghost use Rattle.kpn_limits.specs.declared.TheConstants.{MAX_TEXT_BYTES};
 ghost use Rattle.kpn_text.specs.Document as spec;
-ghost use Rattle.kpn_text.specs.Spells.{Spells};
+ghost use Rattle.kpn_text.specs.Spells.{SpellsDocument};
 
 use crate::document::Document;
 use crate::laws::read_again;
@@ -16,7 +16,7 @@ use std::alloc::{AllocError, Global};
 pub fn print_network(alloc: Global, document: &Document) -> Result<Vec<u8>, AllocError>
     ensures canonical { IfOk result (λ text. text.items ≡ spec.canonical_text document.now) }
     ensures again { IfOk result (λ text.
-        length text.items ≤ MAX_TEXT_BYTES → Spells text.items document.now) }
+        length text.items ≤ MAX_TEXT_BYTES → SpellsDocument text.items document.now) }
 {
     document.known();
     read_again();

@@ -3,9 +3,9 @@
 ghost use Rattle.std.specs.Prelude.{◌≡◌, IfOk, IfErr};
 ghost use Rattle.kpn_text_tokens.specs.Results.{OkOr};
 ghost use Rattle.kpn_text.specs.Document as spec;
-ghost use Rattle.kpn_text.specs.Spells.{Spells};
+ghost use Rattle.kpn_text.specs.Spells.{SpellsDocument};
 ghost use Rattle.kpn_text.specs.Phases.{Refuses};
-ghost use Rattle.kpn_text.specs.Making.{Reads};
+ghost use Rattle.kpn_text.specs.Making.{TextReads};
 
 use crate::document::Document;
 use crate::fault::TextFault;
@@ -18,7 +18,7 @@ use std::alloc::Global;
 
 /// The document that a text spells, phase by phase.
 fn read_text(alloc: Global, text: &[u8]) -> Result<Document, TextFault>
-    ensures { Reads text.now result }
+    ensures { TextReads text.now result }
 {
     let language = language_of(text);
     let tokens = lexemes(alloc, language, text)?;
@@ -46,9 +46,9 @@ fn read_text(alloc: Global, text: &[u8]) -> Result<Document, TextFault>
 /// [`TextFault::NoMemory`] comes only if memory ran out. A call that fails leaves nothing.
 pub fn read_network(alloc: Global, text: &[u8]) -> Result<Document, TextFault>
     // What the call returns is what the text spells.
-    ensures found { IfOk result (λ d. Spells text.now d) }
+    ensures found { IfOk result (λ d. SpellsDocument text.now d) }
     // It returns what the text spells, unless memory runs out.
-    ensures only { (d : spec.Document) → Spells text.now d
+    ensures only { (d : spec.Document) → SpellsDocument text.now d
         → OkOr TextFault.NoMemory result (λ found. found ≡ d) }
     // Which fault it is.
     ensures fault { IfErr result (Refuses text.now) }

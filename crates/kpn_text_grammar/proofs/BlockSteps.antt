@@ -7,7 +7,7 @@ use Rattle.kpn_text_grammar.specs.declared.fault.GrammarFault.TheVariants as fau
 use Rattle.kpn_text_grammar.specs.declared.parser.Scope.{Scope}
 use Rattle.kpn_text_grammar.specs.Syntax.{Statements}
 use Rattle.kpn_text_tokens.specs.Results.{and_then}
-use Rattle.kpn_text_grammar.specs.Reading.{Read, Fails, mark, many, goes_on, one_statement, statements_at, block_behind, opened, too_deep, is_branch, branch, block, second_block}
+use Rattle.kpn_text_grammar.specs.Reading.{Read, ReadingFails, mark, many, stands_in_block, one_statement, statements_at, block_behind, opened, too_deep, is_branch, branch, block, second_block}
 
 pub block_below : (s : Scope) (d : ℕ) (ls inside : List Lexeme) → 0 < d → mark s mark_.LeftBrace ls ≡ Ok inside
     → block s d ls ≡ block_behind s (block s (d - 1)) (second_block s (d - 1)) inside
@@ -23,8 +23,8 @@ unfolding block too_deep and_then
 block_deep s zero ls inside none h = rw h refl
 block_deep s (suc d) ls inside none h = absurd (omega arith)
 
-pub block_unopened : (s : Scope) (d : ℕ) (ls : List Lexeme) (e : GrammarFault) → Fails e (mark s mark_.LeftBrace ls)
-    → Fails e (block s d ls)
+pub block_unopened : (s : Scope) (d : ℕ) (ls : List Lexeme) (e : GrammarFault) → ReadingFails e (mark s mark_.LeftBrace ls)
+    → ReadingFails e (block s d ls)
 unfolding block opened too_deep and_then
 block_unopened s zero ls fault.NoMemory h = tt
 block_unopened s zero ls (fault.Grammar at) h = rw h refl
@@ -59,11 +59,11 @@ unfolding one_statement
 any_number s inner second i ls = refl
 
 pub fails_at_any : (s : Scope) (inner second : List Lexeme → Read Statements) (i : ℕ) (ls : List Lexeme)
-    (e : GrammarFault) → Fails e (one_statement s inner second 0 ls) → Fails e (one_statement s inner second i ls)
+    (e : GrammarFault) → ReadingFails e (one_statement s inner second 0 ls) → ReadingFails e (one_statement s inner second i ls)
 unfolding one_statement
 fails_at_any s inner second i ls e h = h
 
 pub all_statements : (s : Scope) (inner second : List Lexeme → Read Statements) (ls : List Lexeme)
-    → statements_at s inner second ls ≡ many goes_on (one_statement s inner second) 0 (length ls) ls
+    → statements_at s inner second ls ≡ many stands_in_block (one_statement s inner second) 0 (length ls) ls
 unfolding statements_at
 all_statements s inner second ls = refl

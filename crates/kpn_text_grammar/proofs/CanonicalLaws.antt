@@ -8,8 +8,8 @@ use Rattle.kpn_text_tokens.specs.declared.tokens.Token.{Token}
 use Rattle.kpn_text_tokens.specs.declared.tokens.Token.TheVariants as token
 use Rattle.kpn_text_tokens.specs.declared.tokens.Mark.TheVariants as mark_
 use Rattle.kpn_text_tokens.specs.declared.tokens.Keyword.TheVariants as keyword_
-use Rattle.kpn_text_grammar.specs.Syntax.{Statement, assign, store, receive, send, choice, loop, Statements, no_statements, statement, Process, Description}
-use Rattle.kpn_text_grammar.specs.Spelling.{spell_term, spell_statement, spell_statements, spell_else, spell_all, spell_expression, spell_head, spell_table, spell_process, spell_network, spell_description, SpellsAll, SpellsStatement, as_assignment, as_store, as_read, as_write, as_if, as_while, SpellsStatements, nothing, one_more, SpellsElse, left_out, behind_else, SpellsSecond, with_braces, as_branch, SpellsProcess, SpellsByRules, SpellsDescription, IsDescription, begins_else, deepest_term, deepest_term_of_all, ProcessIsWithin, IsWithin}
+use Rattle.kpn_text_grammar.specs.Syntax.{StatementNode, assign, store, receive, send, choice, loop, Statements, no_statements, statement, ProcessNode, Description}
+use Rattle.kpn_text_grammar.specs.Spelling.{spell_term, spell_statement, spell_statements, spell_else, spell_all, spell_expression, spell_head, spell_table, spell_process, spell_network, spell_description, SpellsAll, SpellsStatement, as_assignment, as_store, as_read, as_write, as_if, as_while, SpellsStatements, nothing, one_more, SpellsElse, left_out, behind_else, SpellsSecond, with_braces, as_branch, SpellsProcess, SpellsByRules, SpellsDescription, IsDescription, begins_else, deepest_term, deepest_term_of_all, ProcessIsWithin, IsWithinLimits}
 use Rattle.kpn_text_grammar.proofs.WholeLaws.{canonical_expression}
 
 -- ---- the canonical spelling follows the rules
@@ -24,7 +24,7 @@ no_else l (statement (send o e) ss) more ends = refl
 no_else l (statement (choice e a b) ss) more ends = refl
 no_else l (statement (loop e b) ss) more ends = refl
 
-only_one : {l : Language} {s : Statement} {tokens more : List Token}
+only_one : {l : Language} {s : StatementNode} {tokens more : List Token}
     → SpellsStatements l (statement s no_statements) tokens more → SpellsStatement l s tokens more
 only_one (one_more h nothing) = h
 
@@ -37,7 +37,7 @@ canonical_else language.Two (statement (choice e a b) no_statements) more ends i
 canonical_else l b more ends inside = behind_else (with_braces (inside (token.Mark mark_.RightBrace ∷ more) refl))
 
 mutual
-  canonical_statement : (l : Language) (s : Statement) (more : List Token) → deepest_term s ≤ MAX_LEVELS
+  canonical_statement : (l : Language) (s : StatementNode) (more : List Token) → deepest_term s ≤ MAX_LEVELS
       → begins_else more ≡ false → SpellsStatement l s (spell_statement l s more) more
   canonical_statement l (assign x e) more level ends =
       as_assignment {x = x} {e = e} {more = more} (canonical_expression l e (token.Mark mark_.Semicolon ∷ more) level)
@@ -70,7 +70,7 @@ mutual
       one_more (canonical_statement l s (spell_statements l ss more) (omega (arith, level)) (no_else l ss more ends))
       (canonical_statements l ss more (omega (arith, level)) ends)
 
-canonical_process : (l : Language) (p : Process) (more : List Token) → ProcessIsWithin p
+canonical_process : (l : Language) (p : ProcessNode) (more : List Token) → ProcessIsWithin p
     → SpellsProcess l p (spell_process l p more) more
 canonical_process l p more within = record {
   inside = spell_statements l p.body (token.Mark mark_.RightBrace ∷ more);
@@ -78,7 +78,7 @@ canonical_process l p more within = record {
   body = canonical_statements l p.body (token.Mark mark_.RightBrace ∷ more) within.body.terms refl;
 }
 
-canonical_processes : (l : Language) (ps : List Process) (more : List Token) → AllByRecursion ProcessIsWithin ps
+canonical_processes : (l : Language) (ps : List ProcessNode) (more : List Token) → AllByRecursion ProcessIsWithin ps
     → SpellsAll (SpellsProcess l) ps (spell_all (spell_process l) ps more) more
 canonical_processes l [] more within = refl
 canonical_processes l (p ∷ ps) more within = (
@@ -87,7 +87,7 @@ canonical_processes l (p ∷ ps) more within = (
   canonical_processes l ps more within.1,
 )
 
-canonical_rules : (l : Language) (d : Description) → IsWithin d
+canonical_rules : (l : Language) (d : Description) → IsWithinLimits d
     → SpellsByRules l d (spell_description l d)
 canonical_rules l d within = record {
   inside = spell_all (spell_process l) d.processes (spell_network d.network []);
@@ -95,19 +95,19 @@ canonical_rules l d within = record {
   processes = canonical_processes l d.processes (spell_network d.network []) within.processes;
 }
 
-canonical_by : (l : Language) (d : Description) → IsWithin d
+canonical_by : (l : Language) (d : Description) → IsWithinLimits d
     → SpellsDescription l d (spell_description l d)
 canonical_by language.One d within = refl
 canonical_by language.Two d within = canonical_rules language.Two d within
 
-pub canonical_description : (l : Language) (d : Description) → IsWithin d
+pub canonical_description : (l : Language) (d : Description) → IsWithinLimits d
     → IsDescription l (spell_description l d) d
 canonical_description l d within = record { spelled = canonical_by l d within; within = within }
 
 -- ---- in language 1 nothing else does
 
 mutual
-  one_statement : {s : Statement} {tokens more : List Token} → SpellsStatement language.One s tokens more
+  one_statement : {s : StatementNode} {tokens more : List Token} → SpellsStatement language.One s tokens more
       → tokens ≡ spell_statement language.One s more
   one_statement (as_assignment {x = x} h) =
       ap (λ (ts : List Token). token.Name x ∷ token.Mark mark_.Assign ∷ ts) h
@@ -139,12 +139,12 @@ mutual
   one_second (with_braces h) = ap (λ (ts : List Token). token.Mark mark_.LeftBrace ∷ ts) (one_statements h)
   one_second (as_branch two h) = absurd cc
 
-one_process : (p : Process) (tokens more : List Token) → SpellsProcess language.One p tokens more
+one_process : (p : ProcessNode) (tokens more : List Token) → SpellsProcess language.One p tokens more
     → tokens ≡ spell_process language.One p more
 one_process p tokens more h =
     h.head ∙ ap (spell_head p) (one_statements h.body)
 
-one_processes : (ps : List Process) (tokens more : List Token)
+one_processes : (ps : List ProcessNode) (tokens more : List Token)
     → SpellsAll (SpellsProcess language.One) ps tokens more
     → tokens ≡ spell_all (spell_process language.One) ps more
 one_processes [] tokens more h = h
@@ -161,7 +161,7 @@ by_rules language.One tokens d h =
 by_rules language.Two tokens d h = h
 
 rules_by : (l : Language) (tokens : List Token) (d : Description) → SpellsDescription l d tokens
-    → IsWithin d → SpellsByRules l d tokens
+    → IsWithinLimits d → SpellsByRules l d tokens
 rules_by language.One tokens d h within =
     subst (λ (ts : List Token). SpellsByRules language.One d ts) (sym h) (canonical_rules language.One d within)
 rules_by language.Two tokens d h within = h

@@ -9,7 +9,7 @@ use Rattle.kpn_text_tokens.specs.declared.tokens.Mark.TheVariants as mark_
 use Rattle.kpn_text_tokens.specs.declared.tokens.Keyword.TheVariants as keyword_
 use Rattle.kpn_text_grammar.specs.declared.fault.GrammarFault.TheVariants as fault
 use Rattle.kpn_text_grammar.specs.declared.parser.Scope.{Scope}
-use Rattle.kpn_text_grammar.specs.Syntax.{Name, Literal, Table, Declaration, array, table}
+use Rattle.kpn_text_grammar.specs.Syntax.{NameBytes, Literal, Table, Declaration, array, table}
 use Rattle.kpn_text_grammar.specs.Spelling.{kinds, spell_all, spell_further, spell_list, spell_literal, spell_table, spell_declaration, TableIsWithin, DeclarationIsWithin}
 use Rattle.kpn_text_tokens.specs.Results.{and_then}
 use Rattle.kpn_text_grammar.specs.TokenTests.{is_keyword}
@@ -99,13 +99,13 @@ array_takes s ls d rest h =
       within = found.some;
     })
 
-array_at : (s : Scope) (x : Name) (n : ℕ) (ls a b c d rest : List Lexeme) → name s ls ≡ Ok (x, a)
+array_at : (s : Scope) (x : NameBytes) (n : ℕ) (ls a b c d rest : List Lexeme) → name s ls ≡ Ok (x, a)
     → mark s mark_.LeftBracket a ≡ Ok b → size s b ≡ Ok (n, c) → mark s mark_.RightBracket c ≡ Ok d
     → mark s mark_.Semicolon d ≡ Ok rest → array_behind s ls ≡ Ok (array x n, rest)
 unfolding array_behind and_then
 array_at s x n ls a b c d rest k o m q r = rw (k, o, m, q, r) refl
 
-array_again : (s : Scope) (ls : List Lexeme) (x : Name) (n : ℕ) (more : List Token) → 0 < n
+array_again : (s : Scope) (ls : List Lexeme) (x : NameBytes) (n : ℕ) (more : List Token) → 0 < n
     → kinds ls ≡ token.Name x ∷ token.Mark mark_.LeftBracket ∷ token.Number n ∷ token.Mark mark_.RightBracket
     ∷ token.Mark mark_.Semicolon ∷ more
     → (rest : List Lexeme) × (array_behind s ls ≡ Ok (array x n, rest)) × (kinds rest ≡ more)
@@ -144,7 +144,7 @@ table_takes s ls t rest h =
       within = found.some;
     })
 
-table_at : (s : Scope) (x : Name) (vs : List Literal) (ls a b c rest : List Lexeme) → name s ls ≡ Ok (x, a)
+table_at : (s : Scope) (x : NameBytes) (vs : List Literal) (ls a b c rest : List Lexeme) → name s ls ≡ Ok (x, a)
     → mark s mark_.Assign a ≡ Ok b → values s b ≡ Ok (vs, c) → mark s mark_.Semicolon c ≡ Ok rest
     → table_behind s ls ≡ Ok (record { name = x; values = vs }, rest)
 unfolding table_behind and_then

@@ -8,8 +8,8 @@ use Rattle.kpn_text_tokens.specs.declared.tokens.Mark.TheVariants as mark_
 use Rattle.kpn_text_tokens.specs.declared.tokens.Token.{Token}
 use Rattle.kpn_text_tokens.specs.declared.tokens.Keyword.TheVariants as keyword_
 use Rattle.kpn_text_grammar.specs.declared.parser.Scope.{Scope}
-use Rattle.kpn_text_grammar.specs.Syntax.{Process, Description}
-use Rattle.kpn_text_grammar.specs.Spelling.{kinds, SpellsAll, SpellsProcess, spell_all, spell_table, spell_language, spell_network, ProcessIsWithin, IsWithin, IsDescription}
+use Rattle.kpn_text_grammar.specs.Syntax.{ProcessNode, Description}
+use Rattle.kpn_text_grammar.specs.Spelling.{kinds, SpellsAll, SpellsProcess, spell_all, spell_table, spell_language, spell_network, ProcessIsWithin, IsWithinLimits, IsDescription}
 use Rattle.kpn_text_tokens.specs.Results.{and_then}
 use Rattle.kpn_text_grammar.specs.TokenTests.{is_keyword}
 use Rattle.kpn_text_grammar.specs.Reading.{keyword, language_at, mark, numbered_process, opening, shared_tables, processes, network, at_end, contents, description, two}
@@ -30,14 +30,14 @@ unfolding at_end
 at_end_again [] h = refl
 at_end_again (l ∷ ls) h = absurd cc
 
-processes_takes : (s : Scope) (ls : List Lexeme) (ps : List Process) (rest : List Lexeme)
+processes_takes : (s : Scope) (ls : List Lexeme) (ps : List ProcessNode) (rest : List Lexeme)
     → processes s ls ≡ Ok (ps, rest)
     → TakesSpelled (SpellsAll (SpellsProcess s.language)) (AllByRecursion ProcessIsWithin) ls ps rest
 unfolding processes
 processes_takes s ls ps rest h = all_taken (is_keyword keyword_.Process) (SpellsProcess s.language) ProcessIsWithin
     (numbered_process s) (process_shape s.language) (process_laws s) 0 (length ls) ls ps rest h
 
-processes_again : (s : Scope) (ls : List Lexeme) (ps : List Process) (more : List Token)
+processes_again : (s : Scope) (ls : List Lexeme) (ps : List ProcessNode) (more : List Token)
     → AllByRecursion ProcessIsWithin ps → begins (is_keyword keyword_.Process) more ≡ false
     → SpellsAll (SpellsProcess s.language) ps (kinds ls) more
     → (rest : List Lexeme) × (processes s ls ≡ Ok (ps, rest)) × (kinds rest ≡ more)
@@ -51,7 +51,7 @@ record TakesContents (l : Language) (tokens : List Token) (d : Description) : Ty
   inside : List Token
   tables : tokens ≡ spell_all spell_table d.tables inside
   spelled : SpellsAll (SpellsProcess l) d.processes inside (spell_network d.network [])
-  within : IsWithin d
+  within : IsWithinLimits d
 
 contents_takes : (s : Scope) (ls : List Lexeme) (d : Description) → contents s ls ≡ Ok d
     → TakesContents s.language (kinds ls) d
@@ -115,7 +115,7 @@ unfolding contents and_then
 contents_at s d ls a b c t p n e = rw (t, p, n, e) refl
 
 -- a process or the network begins with its word
-no_table : (l : Language) (ps : List Process) (tokens : List Token) (d : Description)
+no_table : (l : Language) (ps : List ProcessNode) (tokens : List Token) (d : Description)
     → SpellsAll (SpellsProcess l) ps tokens (spell_network d.network [])
     → begins (is_keyword keyword_.Table) tokens ≡ false
 no_table l [] tokens d h = ap (begins (is_keyword keyword_.Table)) h

@@ -10,7 +10,7 @@ use Rattle.kpn_text_tokens.specs.declared.tokens.Keyword.{Keyword}
 use Rattle.kpn_text_tokens.specs.declared.tokens.Keyword.TheVariants as keyword_
 use Rattle.kpn_text_grammar.specs.declared.fault.GrammarFault.TheVariants as fault
 use Rattle.kpn_text_grammar.specs.declared.parser.Scope.{Scope}
-use Rattle.kpn_text_grammar.specs.Syntax.{Name, Statements, Declaration, Process}
+use Rattle.kpn_text_grammar.specs.Syntax.{NameBytes, Statements, Declaration, ProcessNode}
 use Rattle.kpn_text_grammar.specs.Spelling.{kinds, spell_all, spell_further, spell_name, spell_names, spell_part, spell_later_part, spell_parts, spell_declaration, spell_head, SpellsProcess, ProcessIsWithin}
 use Rattle.kpn_text_tokens.specs.Results.{and_then}
 use Rattle.kpn_text_grammar.specs.TokenTests.{is_mark, is_keyword, is_name}
@@ -23,10 +23,10 @@ use Rattle.kpn_text_grammar.proofs.DeclarationLaws.{declarations_takes, declarat
 -- ---- names
 
 -- a name has no limit beside those of its token
-abbrev pub Any : Name → Type 0
+abbrev pub Any : NameBytes → Type 0
 Any x = Unit {0}
 
-any_all : (xs : List Name) → AllByRecursion Any xs
+any_all : (xs : List NameBytes) → AllByRecursion Any xs
 any_all [] = tt
 any_all (x ∷ xs) = (tt, any_all xs)
 
@@ -36,15 +36,15 @@ name_laws s = record {
   again = λ ls x more within h. name_again s ls x more h;
 }
 
-name_no_less : (x : Name) (more : List Token) → length more ≤ length (spell_name x more)
+name_no_less : (x : NameBytes) (more : List Token) → length more ≤ length (spell_name x more)
 name_no_less x more = omega arith
 
-pub names_takes : (s : Scope) (ls : List Lexeme) (xs : List Name) (rest : List Lexeme) → names s ls ≡ Ok (xs, rest)
+pub names_takes : (s : Scope) (ls : List Lexeme) (xs : List NameBytes) (rest : List Lexeme) → names s ls ≡ Ok (xs, rest)
     → TakesSome spell_name Any (kinds ls) xs rest
 unfolding names
 names_takes s ls xs rest h = separated_takes s spell_name Any (name s) (name_laws s) name_no_less ls xs rest h
 
-pub names_again : (s : Scope) (ls : List Lexeme) (xs : List Name) (more : List Token) → 0 < length xs
+pub names_again : (s : Scope) (ls : List Lexeme) (xs : List NameBytes) (more : List Token) → 0 < length xs
     → begins is_comma more ≡ false → kinds ls ≡ spell_names xs more
     → (rest : List Lexeme) × (names s ls ≡ Ok (xs, rest)) × (kinds rest ≡ more)
 unfolding names
@@ -52,7 +52,7 @@ names_again s ls xs more some ends h = separated_again s spell_name Any (name s)
     some (any_all xs) ends h
 
 -- one more name takes a token or more
-pub further_name_shortens : (s : Scope) (i : ℕ) (ls : List Lexeme) (x : Name) (rest : List Lexeme)
+pub further_name_shortens : (s : Scope) (i : ℕ) (ls : List Lexeme) (x : NameBytes) (rest : List Lexeme)
     → further s (name s) i ls ≡ Ok (x, rest) → length rest < length ls
 further_name_shortens s i ls x rest h = further_shortens s spell_name Any (name s) (name_laws s) name_no_less i ls x
     rest h
@@ -61,21 +61,21 @@ no_names_at : (s : Scope) (ls : List Lexeme) → first_is is_name ls ≡ false �
 unfolding optional_names
 no_names_at s ls f = rw f refl
 
-some_names_at : (s : Scope) (ls : List Lexeme) (r : Read (List Name)) → first_is is_name ls ≡ true → names s ls ≡ r
+some_names_at : (s : Scope) (ls : List Lexeme) (r : Read (List NameBytes)) → first_is is_name ls ≡ true → names s ls ≡ r
     → optional_names s ls ≡ r
 unfolding optional_names
 some_names_at s ls r f n = rw f n
 
-pub optional_names_takes : (s : Scope) (ls : List Lexeme) (xs : List Name) (rest : List Lexeme)
+pub optional_names_takes : (s : Scope) (ls : List Lexeme) (xs : List NameBytes) (rest : List Lexeme)
     → optional_names s ls ≡ Ok (xs, rest) → kinds ls ≡ spell_names xs (kinds rest)
 unfolding optional_names
 optional_names_takes s ls xs rest h =
     by_test (first_is is_name ls) (names s ls) (Ok ([], ls)) (Ok (xs, rest)) h
     (λ goes e. (names_takes s ls xs rest e).spelled)
-    (λ stops e. moved (λ (p : List Name × List Lexeme). kinds ls ≡ spell_names p.0 (kinds p.1)) ([], ls) (xs, rest) e
+    (λ stops e. moved (λ (p : List NameBytes × List Lexeme). kinds ls ≡ spell_names p.0 (kinds p.1)) ([], ls) (xs, rest) e
     refl)
 
-pub optional_names_again : (s : Scope) (ls : List Lexeme) (xs : List Name) (more : List Token)
+pub optional_names_again : (s : Scope) (ls : List Lexeme) (xs : List NameBytes) (more : List Token)
     → begins is_name more ≡ false → begins is_comma more ≡ false → kinds ls ≡ spell_names xs more
     → (rest : List Lexeme) × (optional_names s ls ≡ Ok (xs, rest)) × (kinds rest ≡ more)
 optional_names_again s ls [] more no_name ends h = (
@@ -94,65 +94,65 @@ abbrev pub semicolon : Token → Bool
 semicolon = is_mark mark_.Semicolon
 
 -- what comes behind out ports that were read
-record TakesAfterOuts (ins outs : List Name) (tokens : List Token) (p : HeadParts) (rest : List Lexeme) : Type 0 where
+record TakesAfterOuts (ins outs : List NameBytes) (tokens : List Token) (p : HeadParts) (rest : List Lexeme) : Type 0 where
   same_ins : p.ins ≡ ins
   same_outs : p.outs ≡ outs
   spelled : tokens ≡ spell_later_part keyword_.Par p.pars (kinds rest)
 
 -- what comes behind in ports, and is not empty
-record TakesOuts (ins : List Name) (tokens : List Token) (p : HeadParts) (rest : List Lexeme) : Type 0 where
+record TakesOuts (ins : List NameBytes) (tokens : List Token) (p : HeadParts) (rest : List Lexeme) : Type 0 where
   same_ins : p.ins ≡ ins
   some : 0 < length p.outs + length p.pars
   spelled : tokens ≡ spell_parts [] p.outs p.pars (kinds rest)
 
 -- the same behind its semicolon, or nothing
-record TakesAfterIns (ins : List Name) (tokens : List Token) (p : HeadParts) (rest : List Lexeme) : Type 0 where
+record TakesAfterIns (ins : List NameBytes) (tokens : List Token) (p : HeadParts) (rest : List Lexeme) : Type 0 where
   same_ins : p.ins ≡ ins
   spelled : tokens ≡ spell_later_part keyword_.Out p.outs (spell_later_part keyword_.Par p.pars (kinds rest))
 
-spell_later_some : (word : Keyword) (xs : List Name) (more : List Token) → 0 < length xs → token.Mark mark_.Semicolon
+spell_later_some : (word : Keyword) (xs : List NameBytes) (more : List Token) → 0 < length xs → token.Mark mark_.Semicolon
     ∷ token.Keyword word ∷ spell_names xs more ≡ spell_later_part word xs more
 spell_later_some word [] more some = absurd (omega arith)
 spell_later_some word (x ∷ xs) more some = refl
 
-spell_outs : (outs pars : List Name) (more : List Token) → 0 < length outs → token.Keyword keyword_.Out
+spell_outs : (outs pars : List NameBytes) (more : List Token) → 0 < length outs → token.Keyword keyword_.Out
     ∷ spell_names outs (spell_later_part keyword_.Par pars more) ≡ spell_parts [] outs pars more
 spell_outs [] pars more some = absurd (omega arith)
 spell_outs (x ∷ xs) pars more some = refl
 
-spell_pars : (pars : List Name) (more : List Token) → 0 < length pars → token.Keyword keyword_.Par
+spell_pars : (pars : List NameBytes) (more : List Token) → 0 < length pars → token.Keyword keyword_.Par
     ∷ spell_names pars more ≡ spell_parts [] [] pars more
 spell_pars [] more some = absurd (omega arith)
 spell_pars (x ∷ xs) more some = refl
 
-spell_behind_ins : (outs pars : List Name) (more : List Token) → 0 < length outs + length pars
+spell_behind_ins : (outs pars : List NameBytes) (more : List Token) → 0 < length outs + length pars
     → token.Mark mark_.Semicolon ∷ spell_parts [] outs pars more ≡ spell_later_part keyword_.Out outs
     (spell_later_part keyword_.Par pars more)
 spell_behind_ins [] [] more some = absurd (omega arith)
 spell_behind_ins [] (x ∷ xs) more some = refl
 spell_behind_ins (x ∷ xs) pars more some = refl
 
-spell_ins : (ins outs pars : List Name) (more : List Token) → 0 < length ins
+spell_ins : (ins outs pars : List NameBytes) (more : List Token) → 0 < length ins
     → token.Keyword keyword_.In ∷ spell_names ins (spell_later_part keyword_.Out outs
     (spell_later_part keyword_.Par pars more)) ≡ spell_parts ins outs pars more
 spell_ins [] outs pars more some = absurd (omega arith)
 spell_ins (x ∷ xs) outs pars more some = refl
 
 -- a head of these parts
-abbrev of_parts : (ins outs pars : List Name) → HeadParts
+abbrev of_parts : (ins outs pars : List NameBytes) → HeadParts
 of_parts ins outs pars = record { ins = ins; outs = outs; pars = pars }
 
 -- behind a semicolon: the parameters, or what comes behind in ports
-abbrev pars_read : Scope → (ins outs : List Name) → List Lexeme → Read HeadParts
+abbrev pars_read : Scope → (ins outs : List NameBytes) → List Lexeme → Read HeadParts
 pars_read s ins outs ls =
     and_then (mark s mark_.Semicolon ls) (λ after. and_then (keyword s keyword_.Par after)
     (λ word. and_then {B = HeadParts × List Lexeme} (names s word) (λ pars. Ok (of_parts ins outs pars.0, pars.1))))
 
-abbrev outs_read : Scope → List Name → List Lexeme → Read HeadParts
+abbrev outs_read : Scope → List NameBytes → List Lexeme → Read HeadParts
 outs_read s ins ls = and_then (mark s mark_.Semicolon ls)
     (λ after. and_then (next s after) (λ x. outs_or_pars s ins x.0.token x.0.start x.1))
 
-after_outs_takes : (s : Scope) (ins outs : List Name) (ls : List Lexeme) (p : HeadParts) (rest : List Lexeme)
+after_outs_takes : (s : Scope) (ins outs : List NameBytes) (ls : List Lexeme) (p : HeadParts) (rest : List Lexeme)
     → after_outs s ins outs ls ≡ Ok (p, rest) → TakesAfterOuts ins outs (kinds ls) p rest
 unfolding after_outs
 after_outs_takes s ins outs ls p rest h =
@@ -174,7 +174,7 @@ after_outs_takes s ins outs ls p rest h =
     (λ stops e. moved (λ (q : HeadParts × List Lexeme). TakesAfterOuts ins outs (kinds ls) q.0 q.1)
     (of_parts ins outs [], ls) (p, rest) e (record { same_ins = refl; same_outs = refl; spelled = refl }))
 
-outs_or_pars_takes : (s : Scope) (ins : List Name) (t : Token) (start : ℕ) (ls : List Lexeme) (p : HeadParts)
+outs_or_pars_takes : (s : Scope) (ins : List NameBytes) (t : Token) (start : ℕ) (ls : List Lexeme) (p : HeadParts)
     (rest : List Lexeme) → outs_or_pars s ins t start ls ≡ Ok (p, rest) → TakesOuts ins (t ∷ kinds ls) p rest
 unfolding outs_or_pars
 outs_or_pars_takes s ins (token.Keyword keyword_.Out) start ls p rest h =
@@ -187,7 +187,7 @@ outs_or_pars_takes s ins (token.Keyword keyword_.Out) start ls p rest h =
       spelled = ap (λ (ts : List Token). token.Keyword keyword_.Out ∷ ts)
           (found.spelled ∙ ap (spell_names n.0.0) behind.spelled)
           ∙ spell_outs n.0.0 p.pars (kinds rest) found.some ∙ ap
-          (λ (xs : List Name). spell_parts [] xs p.pars (kinds rest)) (sym behind.same_outs);
+          (λ (xs : List NameBytes). spell_parts [] xs p.pars (kinds rest)) (sym behind.same_outs);
     }
 outs_or_pars_takes s ins (token.Keyword keyword_.Par) start ls p rest h =
     let n = bind_ok _ _ _ h in
@@ -201,7 +201,7 @@ outs_or_pars_takes s ins (token.Keyword keyword_.Par) start ls p rest h =
     })
 outs_or_pars_takes s ins _ start ls p rest h = absurd (no_value (fault.Grammar start) (p, rest) h)
 
-after_ins_takes : (s : Scope) (ins : List Name) (ls : List Lexeme) (p : HeadParts) (rest : List Lexeme)
+after_ins_takes : (s : Scope) (ins : List NameBytes) (ls : List Lexeme) (p : HeadParts) (rest : List Lexeme)
     → after_ins s ins ls ≡ Ok (p, rest) → TakesAfterIns ins (kinds ls) p rest
 unfolding after_ins
 after_ins_takes s ins ls p rest h =
@@ -224,7 +224,7 @@ from_outs : (s : Scope) (t : Token) (start : ℕ) (ls : List Lexeme) (p : HeadPa
     → outs_or_pars s [] t start ls ≡ Ok (p, rest) → t ∷ kinds ls ≡ spell_parts p.ins p.outs p.pars (kinds rest)
 from_outs s t start ls p rest h =
     let found = outs_or_pars_takes s [] t start ls p rest h in
-    found.spelled ∙ ap (λ (xs : List Name). spell_parts xs p.outs p.pars (kinds rest)) (sym found.same_ins)
+    found.spelled ∙ ap (λ (xs : List NameBytes). spell_parts xs p.outs p.pars (kinds rest)) (sym found.same_ins)
 
 parts_behind_takes : (s : Scope) (t : Token) (start : ℕ) (ls : List Lexeme) (p : HeadParts) (rest : List Lexeme)
     → parts_behind s t start ls ≡ Ok (p, rest) → t ∷ kinds ls ≡ spell_parts p.ins p.outs p.pars (kinds rest)
@@ -235,7 +235,7 @@ parts_behind_takes s (token.Keyword keyword_.In) start ls p rest h =
     let behind = after_ins_takes s n.0.0 n.0.1 p rest n.2 in
     ap (λ (ts : List Token). token.Keyword keyword_.In ∷ ts) (found.spelled ∙ ap (spell_names n.0.0) behind.spelled)
     ∙ spell_ins n.0.0 p.outs p.pars (kinds rest) found.some
-    ∙ ap (λ (xs : List Name). spell_parts xs p.outs p.pars (kinds rest)) (sym behind.same_ins)
+    ∙ ap (λ (xs : List NameBytes). spell_parts xs p.outs p.pars (kinds rest)) (sym behind.same_ins)
 parts_behind_takes s t start ls p rest h = from_outs s t start ls p rest h
 
 pub parts_takes : (s : Scope) (ls : List Lexeme) (p : HeadParts) (rest : List Lexeme) → parts s ls ≡ Ok (p, rest)
@@ -256,28 +256,28 @@ parts_takes s ls p rest h =
 abbrev pub close : List Token → List Token
 close more = token.Mark mark_.RightParen ∷ more
 
-pars_end : (pars : List Name) (more : List Token) → begins is_comma (spell_later_part keyword_.Par pars (close more)) ≡
+pars_end : (pars : List NameBytes) (more : List Token) → begins is_comma (spell_later_part keyword_.Par pars (close more)) ≡
     false
 pars_end [] more = refl
 pars_end (x ∷ xs) more = refl
 
-outs_end : (outs pars : List Name) (more : List Token) → begins is_comma
+outs_end : (outs pars : List NameBytes) (more : List Token) → begins is_comma
     (spell_later_part keyword_.Out outs (spell_later_part keyword_.Par pars (close more))) ≡ false
 outs_end [] pars more = pars_end pars more
 outs_end (x ∷ xs) pars more = refl
 
-no_pars_at : (s : Scope) (ins outs : List Name) (ls : List Lexeme) → first_is semicolon ls ≡ false
+no_pars_at : (s : Scope) (ins outs : List NameBytes) (ls : List Lexeme) → first_is semicolon ls ≡ false
     → after_outs s ins outs ls ≡ Ok (of_parts ins outs [], ls)
 unfolding after_outs
 no_pars_at s ins outs ls f = rw f refl
 
-pars_at : (s : Scope) (ins outs pars : List Name) (ls a b rest : List Lexeme) → first_is semicolon ls ≡ true
+pars_at : (s : Scope) (ins outs pars : List NameBytes) (ls a b rest : List Lexeme) → first_is semicolon ls ≡ true
     → mark s mark_.Semicolon ls ≡ Ok a → keyword s keyword_.Par a ≡ Ok b → names s b ≡ Ok (pars, rest)
     → after_outs s ins outs ls ≡ Ok (of_parts ins outs pars, rest)
 unfolding after_outs and_then
 pars_at s ins outs pars ls a b rest f m k n = rw (f, m, k, n) refl
 
-after_outs_again : (s : Scope) (ins outs pars : List Name) (ls : List Lexeme) (more : List Token)
+after_outs_again : (s : Scope) (ins outs pars : List NameBytes) (ls : List Lexeme) (more : List Token)
     → kinds ls ≡ spell_later_part keyword_.Par pars (close more)
     → (rest : List Lexeme) × (after_outs s ins outs ls ≡ Ok (of_parts ins outs pars, rest)) × (kinds rest ≡ close more)
 after_outs_again s ins outs [] ls more h = (
@@ -296,19 +296,19 @@ after_outs_again s ins outs (x ∷ xs) ls more h =
       n.2,
     )
 
-outs_at : (s : Scope) (ins outs : List Name) (t : Token) (start : ℕ) (a b : List Lexeme) (r : Read HeadParts)
+outs_at : (s : Scope) (ins outs : List NameBytes) (t : Token) (start : ℕ) (a b : List Lexeme) (r : Read HeadParts)
     → t ≡ token.Keyword keyword_.Out → names s a ≡ Ok (outs, b) → after_outs s ins outs b ≡ r
     → outs_or_pars s ins t start a ≡ r
 unfolding outs_or_pars and_then
 outs_at s ins outs t start a b r k n e = rw (k, n) e
 
-only_pars_at : (s : Scope) (ins pars : List Name) (t : Token) (start : ℕ) (a b : List Lexeme)
+only_pars_at : (s : Scope) (ins pars : List NameBytes) (t : Token) (start : ℕ) (a b : List Lexeme)
     → t ≡ token.Keyword keyword_.Par → names s a ≡ Ok (pars, b)
     → outs_or_pars s ins t start a ≡ Ok (of_parts ins [] pars, b)
 unfolding outs_or_pars and_then
 only_pars_at s ins pars t start a b k n = rw (k, n) refl
 
-outs_or_pars_again : (s : Scope) (ins outs pars : List Name) (l : Lexeme) (ls : List Lexeme) (more : List Token)
+outs_or_pars_again : (s : Scope) (ins outs pars : List NameBytes) (l : Lexeme) (ls : List Lexeme) (more : List Token)
     → 0 < length outs + length pars → kinds (l ∷ ls) ≡ spell_parts [] outs pars (close more)
     → (rest : List Lexeme) × (outs_or_pars s ins l.token l.start ls ≡ Ok (of_parts ins outs pars, rest))
     × (kinds rest ≡ close more)
@@ -333,19 +333,19 @@ outs_or_pars_again s ins (x ∷ xs) pars l ls more some h =
       a.2,
     )
 
-no_outs_at : (s : Scope) (ins : List Name) (ls : List Lexeme) → first_is semicolon ls ≡ false
+no_outs_at : (s : Scope) (ins : List NameBytes) (ls : List Lexeme) → first_is semicolon ls ≡ false
     → after_ins s ins ls ≡ Ok (of_parts ins [] [], ls)
 unfolding after_ins
 no_outs_at s ins ls f = rw f refl
 
-behind_ins_at : (s : Scope) (ins : List Name) (ls a : List Lexeme) (l : Lexeme) (b : List Lexeme) (r : Read HeadParts)
+behind_ins_at : (s : Scope) (ins : List NameBytes) (ls a : List Lexeme) (l : Lexeme) (b : List Lexeme) (r : Read HeadParts)
     → first_is semicolon ls ≡ true → mark s mark_.Semicolon ls ≡ Ok a → a ≡ l ∷ b
     → outs_or_pars s ins l.token l.start b ≡ r
     → after_ins s ins ls ≡ r
 unfolding after_ins and_then
 behind_ins_at s ins ls a l b r f m e o = rw (f, m, e, next_again s l b) o
 
-first_part : (outs pars : List Name) (ls : List Lexeme) (more : List Token) → 0 < length outs + length pars
+first_part : (outs pars : List NameBytes) (ls : List Lexeme) (more : List Token) → 0 < length outs + length pars
     → kinds ls ≡ spell_parts [] outs pars (close more) → (l : Lexeme) × (rest : List Lexeme) × (ls ≡ l ∷ rest)
 first_part [] [] ls more some h = absurd (omega arith)
 first_part [] (x ∷ xs) ls more some h =
@@ -357,7 +357,7 @@ first_part (x ∷ xs) pars ls more some h =
     (f.lexeme, f.rest, f.whole)
 
 -- behind the semicolon
-behind_ins_again : (s : Scope) (ins outs pars : List Name) (ls : List Lexeme) (more : List Token)
+behind_ins_again : (s : Scope) (ins outs pars : List NameBytes) (ls : List Lexeme) (more : List Token)
     → 0 < length outs + length pars → kinds ls ≡ token.Mark mark_.Semicolon ∷ spell_parts [] outs pars (close more)
     → (rest : List Lexeme) × (after_ins s ins ls ≡ Ok (of_parts ins outs pars, rest)) × (kinds rest ≡ close more)
 behind_ins_again s ins outs pars ls more some h =
@@ -370,7 +370,7 @@ behind_ins_again s ins outs pars ls more some h =
       o.2,
     )
 
-after_ins_again : (s : Scope) (ins outs pars : List Name) (ls : List Lexeme) (more : List Token)
+after_ins_again : (s : Scope) (ins outs pars : List NameBytes) (ls : List Lexeme) (more : List Token)
     → kinds ls ≡ spell_later_part keyword_.Out outs (spell_later_part keyword_.Par pars (close more))
     → (rest : List Lexeme) × (after_ins s ins ls ≡ Ok (of_parts ins outs pars, rest)) × (kinds rest ≡ close more)
 after_ins_again s ins [] [] ls more h = (
@@ -393,7 +393,7 @@ some_parts_at : (s : Scope) (ls : List Lexeme) (l : Lexeme) (a : List Lexeme) (r
 unfolding parts and_then
 some_parts_at s ls l a r f e p = rw (f, e, next_again s l a) p
 
-ins_at : (s : Scope) (ins : List Name) (t : Token) (start : ℕ) (a b : List Lexeme) (r : Read HeadParts)
+ins_at : (s : Scope) (ins : List NameBytes) (t : Token) (start : ℕ) (a b : List Lexeme) (r : Read HeadParts)
     → t ≡ token.Keyword keyword_.In → names s a ≡ Ok (ins, b) → after_ins s ins b ≡ r → parts_behind s t start a ≡ r
 unfolding parts_behind and_then
 ins_at s ins t start a b r k n e = rw (k, n) e
@@ -406,7 +406,7 @@ unfolding parts_behind
 no_ins_at s word t start a r (inl w) k o = sym (rw (k, w) refl) ∙ o
 no_ins_at s word t start a r (inr w) k o = sym (rw (k, w) refl) ∙ o
 
-pub parts_again : (s : Scope) (ins outs pars : List Name) (ls : List Lexeme) (more : List Token)
+pub parts_again : (s : Scope) (ins outs pars : List NameBytes) (ls : List Lexeme) (more : List Token)
     → kinds ls ≡ spell_parts ins outs pars (close more)
     → (rest : List Lexeme) × (parts s ls ≡ Ok (of_parts ins outs pars, rest)) × (kinds rest ≡ close more)
 parts_again s [] [] [] ls more h = (ls, no_parts_at s ls (first_begins closes ls ∙ ap (begins closes) h), h)
@@ -443,7 +443,7 @@ parts_again s (x ∷ xs) outs pars ls more h =
 
 -- ---- processes
 
-process_head : (p : Process) (ls a b c d e f : List Lexeme) (inside : List Token)
+process_head : (p : ProcessNode) (ls a b c d e f : List Lexeme) (inside : List Token)
     → kinds ls ≡ token.Keyword keyword_.Process ∷ kinds a → kinds a ≡ token.Name p.name ∷ kinds b
     → kinds b ≡ token.Mark mark_.LeftParen ∷ kinds c
     → kinds c ≡ spell_parts p.ins p.outs p.pars (kinds d) → kinds d ≡ token.Mark mark_.RightParen ∷ kinds e
@@ -452,7 +452,7 @@ process_head : (p : Process) (ls a b c d e f : List Lexeme) (inside : List Token
 process_head p ls a b c d e f inside word named opens head shuts brace declared =
     rw (word, named, opens, head, shuts, brace, declared) refl
 
-process_takes : (s : Scope) (ls : List Lexeme) (p : Process) (rest : List Lexeme) → process s ls ≡ Ok (p, rest)
+process_takes : (s : Scope) (ls : List Lexeme) (p : ProcessNode) (rest : List Lexeme) → process s ls ≡ Ok (p, rest)
     → TakesSpelled (SpellsProcess s.language) ProcessIsWithin ls p rest
 unfolding process
 process_takes s ls p rest h =
@@ -466,7 +466,7 @@ process_takes s ls p rest h =
     let b = bind_ok _ _ _ ds.2 in
     let declared = declarations_takes s o.0 ds.0.0 ds.0.1 ds.1 in
     let body = statements_take s ds.0.1 b.0.0 b.0.1 b.1 in
-    let found : Process = record {
+    let found : ProcessNode = record {
       name = x.0.0;
       ins = q.0.0.ins;
       outs = q.0.0.outs;
@@ -474,7 +474,7 @@ process_takes s ls p rest h =
       declarations = ds.0.0;
       body = b.0.0;
     } in
-    moved (λ (y : Process × List Lexeme). TakesSpelled (SpellsProcess s.language) ProcessIsWithin ls y.0 y.1)
+    moved (λ (y : ProcessNode × List Lexeme). TakesSpelled (SpellsProcess s.language) ProcessIsWithin ls y.0 y.1)
     (found, b.0.1) (p, rest) b.2 (record {
       spelled = record {
         inside = kinds ds.0.1;
@@ -487,7 +487,7 @@ process_takes s ls p rest h =
       within = record { declarations = declared.within; body = body.within };
     })
 
-process_at : (s : Scope) (x : Name) (ins outs pars : List Name) (ds : List Declaration) (body : Statements)
+process_at : (s : Scope) (x : NameBytes) (ins outs pars : List NameBytes) (ds : List Declaration) (body : Statements)
     (ls a b c d e f g rest : List Lexeme)
     → keyword s keyword_.Process ls ≡ Ok a → name s a ≡ Ok (x, b) → mark s mark_.LeftParen b ≡ Ok c
     → parts s c ≡ Ok (of_parts ins outs pars, d) → mark s mark_.RightParen d ≡ Ok e
@@ -506,7 +506,7 @@ process_at : (s : Scope) (x : Name) (ins outs pars : List Name) (ds : List Decla
 unfolding process and_then
 process_at s x ins outs pars ds body ls a b c d e f g rest w n o p m i j k = rw (w, n, o, p, m, i, j, k) refl
 
-process_again : (s : Scope) (ls : List Lexeme) (p : Process) (more : List Token) → ProcessIsWithin p
+process_again : (s : Scope) (ls : List Lexeme) (p : ProcessNode) (more : List Token) → ProcessIsWithin p
     → SpellsProcess s.language p (kinds ls) more
     → (rest : List Lexeme) × (process s ls ≡ Ok (p, rest)) × (kinds rest ≡ more)
 process_again s ls p more within h =
@@ -535,25 +535,25 @@ process_laws s i = record {
   again = process_again (record { end = s.end; process = i; language = s.language });
 }
 
-further_no_less : (xs : List Name) (more : List Token) → length more ≤ length
+further_no_less : (xs : List NameBytes) (more : List Token) → length more ≤ length
     (spell_all (spell_further spell_name) xs more)
 further_no_less [] more = omega arith
 further_no_less (x ∷ xs) more = omega (arith, further_no_less xs more)
 
-pub names_no_less : (xs : List Name) (more : List Token) → length more ≤ length (spell_names xs more)
+pub names_no_less : (xs : List NameBytes) (more : List Token) → length more ≤ length (spell_names xs more)
 names_no_less [] more = omega arith
 names_no_less (x ∷ xs) more = omega (arith, further_no_less xs more)
 
-later_no_less : (word : Keyword) (xs : List Name) (more : List Token)
+later_no_less : (word : Keyword) (xs : List NameBytes) (more : List Token)
     → length more ≤ length (spell_later_part word xs more)
 later_no_less word [] more = omega arith
 later_no_less word (x ∷ xs) more = omega (arith, names_no_less (x ∷ xs) more)
 
-part_no_less : (word : Keyword) (xs : List Name) (more : List Token) → length more ≤ length (spell_part word xs more)
+part_no_less : (word : Keyword) (xs : List NameBytes) (more : List Token) → length more ≤ length (spell_part word xs more)
 part_no_less word [] more = omega arith
 part_no_less word (x ∷ xs) more = omega (arith, names_no_less (x ∷ xs) more)
 
-parts_no_less : (ins outs pars : List Name) (more : List Token) → length more ≤ length (spell_parts ins outs pars more)
+parts_no_less : (ins outs pars : List NameBytes) (more : List Token) → length more ≤ length (spell_parts ins outs pars more)
 parts_no_less [] [] pars more = part_no_less keyword_.Par pars more
 parts_no_less [] (x ∷ xs) pars more =
     omega (
@@ -572,7 +572,7 @@ parts_no_less (x ∷ xs) outs pars more =
       later_no_less keyword_.Par pars more,
     )
 
-process_longer : {l : Language} (p : Process) (tokens more : List Token) → SpellsProcess l p tokens more
+process_longer : {l : Language} (p : ProcessNode) (tokens more : List Token) → SpellsProcess l p tokens more
     → length more < length tokens
 process_longer p tokens more h =
     omega (
@@ -591,7 +591,7 @@ process_shape l = record {
 }
 
 -- a process takes a token or more
-pub process_shortens : (s : Scope) (i : ℕ) (ls : List Lexeme) (p : Process) (rest : List Lexeme)
+pub process_shortens : (s : Scope) (i : ℕ) (ls : List Lexeme) (p : ProcessNode) (rest : List Lexeme)
     → numbered_process s i ls ≡ Ok (p, rest) → length rest < length ls
 process_shortens s i ls p rest h = spelled_shortens (is_keyword keyword_.Process) (SpellsProcess s.language)
     ProcessIsWithin (numbered_process s) (process_shape s.language) (process_laws s) i ls p rest h

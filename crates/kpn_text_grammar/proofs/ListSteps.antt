@@ -5,7 +5,7 @@ use Rattle.kpn_text_tokens.specs.declared.tokens.Keyword.TheVariants as keyword_
 use Rattle.kpn_text_grammar.specs.declared.fault.GrammarFault.{GrammarFault}
 use Rattle.kpn_text_grammar.specs.declared.parser.Scope.{Scope}
 use Rattle.kpn_text_grammar.specs.TokenTests.{is_keyword}
-use Rattle.kpn_text_grammar.specs.Reading.{Read, Fails, many, further, goes_on, item, items, declares, declaration, declarations, shared_table, shared_tables, numbered_process, processes}
+use Rattle.kpn_text_grammar.specs.Reading.{Read, ReadingFails, many, further, stands_in_block, item, items, declares, declaration, declarations, shared_table, shared_tables, numbered_process, processes}
 
 pub further_any : {A : Type 0} (s : Scope) (one : List Lexeme → Read A) (i : ℕ) (ls : List Lexeme)
     → further s one i ls ≡ further s one 0 ls
@@ -13,7 +13,7 @@ unfolding further
 further_any s one i ls = refl
 
 pub further_fails : {A : Type 0} (s : Scope) (one : List Lexeme → Read A) (i : ℕ) (ls : List Lexeme) (e : GrammarFault)
-    → Fails e (further s one 0 ls) → Fails e (further s one i ls)
+    → ReadingFails e (further s one 0 ls) → ReadingFails e (further s one i ls)
 unfolding further
 further_fails s one i ls e h = h
 
@@ -21,12 +21,12 @@ pub item_any : (s : Scope) (i : ℕ) (ls : List Lexeme) → item s i ls ≡ item
 unfolding item
 item_any s i ls = refl
 
-pub item_fails : (s : Scope) (i : ℕ) (ls : List Lexeme) (e : GrammarFault) → Fails e (item s 0 ls)
-    → Fails e (item s i ls)
+pub item_fails : (s : Scope) (i : ℕ) (ls : List Lexeme) (e : GrammarFault) → ReadingFails e (item s 0 ls)
+    → ReadingFails e (item s i ls)
 unfolding item
 item_fails s i ls e h = h
 
-pub all_items : (s : Scope) (ls : List Lexeme) → items s ls ≡ many goes_on (item s) 0 (length ls) ls
+pub all_items : (s : Scope) (ls : List Lexeme) → items s ls ≡ many stands_in_block (item s) 0 (length ls) ls
 unfolding items
 all_items s ls = refl
 
@@ -34,8 +34,8 @@ pub declaration_any : (s : Scope) (i : ℕ) (ls : List Lexeme) → declaration s
 unfolding declaration
 declaration_any s i ls = refl
 
-pub declaration_fails : (s : Scope) (i : ℕ) (ls : List Lexeme) (e : GrammarFault) → Fails e (declaration s 0 ls)
-    → Fails e (declaration s i ls)
+pub declaration_fails : (s : Scope) (i : ℕ) (ls : List Lexeme) (e : GrammarFault) → ReadingFails e (declaration s 0 ls)
+    → ReadingFails e (declaration s i ls)
 unfolding declaration
 declaration_fails s i ls e h = h
 
@@ -48,8 +48,8 @@ pub shared_any : (s : Scope) (i : ℕ) (ls : List Lexeme) → shared_table s i l
 unfolding shared_table
 shared_any s i ls = refl
 
-pub shared_fails : (s : Scope) (i : ℕ) (ls : List Lexeme) (e : GrammarFault) → Fails e (shared_table s 0 ls)
-    → Fails e (shared_table s i ls)
+pub shared_fails : (s : Scope) (i : ℕ) (ls : List Lexeme) (e : GrammarFault) → ReadingFails e (shared_table s 0 ls)
+    → ReadingFails e (shared_table s i ls)
 unfolding shared_table
 shared_fails s i ls e h = h
 
@@ -68,5 +68,5 @@ pub count_is : (s : Scope) (n i : ℕ) (ls : List Lexeme) → n ≡ i → number
 count_is s n i ls e = ap (λ (k : ℕ). numbered_process s k ls) (sym e)
 
 pub count_fails : (s : Scope) (n i : ℕ) (ls : List Lexeme) (e : GrammarFault) → n ≡ i
-    → Fails e (numbered_process s n ls) → Fails e (numbered_process s i ls)
-count_fails s n i ls e same h = subst (λ (k : ℕ). Fails e (numbered_process s k ls)) same h
+    → ReadingFails e (numbered_process s n ls) → ReadingFails e (numbered_process s i ls)
+count_fails s n i ls e same h = subst (λ (k : ℕ). ReadingFails e (numbered_process s k ls)) same h

@@ -11,12 +11,12 @@ use Rattle.kpn_net.specs.declared.tables.Growth.{Growth}
 use Rattle.kpn_net.specs.declared.tables.Policy.{Policy}
 use Rattle.kpn_text_grammar.specs.declared.fault.GrammarFault.TheVariants as fault
 use Rattle.kpn_text_grammar.specs.declared.parser.Scope.{Scope}
-use Rattle.kpn_text_grammar.specs.Syntax.{Name, Literal, Instance, Item, channel, source, sink, instance, Network}
+use Rattle.kpn_text_grammar.specs.Syntax.{NameBytes, Literal, InstanceNode, Item, channel, source, sink, instance, NetworkNode}
 use Rattle.kpn_text_grammar.specs.Words.{growth_word, growth_spelled, policy_word, policy_spelled}
 use Rattle.kpn_text_grammar.specs.Spelling.{kinds, spell_all, spell_further, spell_list, spell_names, spell_literal, spell_values, spell_call, spell_item, spell_setting, spell_number, spell_policy_word, spell_growth_word, spell_limit, spell_policy, spell_growth, spell_network}
 use Rattle.kpn_text_tokens.specs.Results.{and_then}
 use Rattle.kpn_text_grammar.specs.TokenTests.{is_keyword, is_name}
-use Rattle.kpn_text_grammar.specs.Reading.{Read, first_is, mark, keyword, name, number, many, optional_names, goes_on, capacity, channel_behind, source_behind, sink_behind, values, optional_values, call, instance_behind, item_behind, item, items, word_of, setting, limit, policy, growth, network}
+use Rattle.kpn_text_grammar.specs.Reading.{Read, first_is, mark, keyword, name, number, many, optional_names, stands_in_block, capacity, channel_behind, source_behind, sink_behind, values, optional_values, call, instance_behind, item_behind, item, items, word_of, setting, limit, policy, growth, network}
 use Rattle.kpn_text_grammar.proofs.Steps.{bind_ok, by_test, moved, no_value, front, next_takes, next_again, mark_takes, mark_again, keyword_takes, keyword_again, name_takes, name_again, number_takes, number_again, is_keyword_same, word_takes, word_again, growths_spelled, policies_spelled}
 use Rattle.kpn_text_grammar.proofs.ManyLaws.{TakesOne, Reads, Begins, begins, first_begins, is_comma, one_shortens, many_takes, many_again}
 use Rattle.kpn_text_grammar.proofs.HeadLaws.{close, semicolon, names_no_less, optional_names_takes, optional_names_again}
@@ -67,7 +67,7 @@ optional_values_again s ls (v ∷ vs) more no_part ends h =
 
 -- ---- instances
 
-call_spelled : (i : Instance) (ls a b c d e f : List Lexeme) (more : List Token) → kinds ls ≡ token.Name i.program
+call_spelled : (i : InstanceNode) (ls a b c d e f : List Lexeme) (more : List Token) → kinds ls ≡ token.Name i.program
     ∷ kinds a → kinds a ≡ token.Mark mark_.LeftParen ∷ kinds b → kinds b ≡ spell_names i.ins (kinds c)
     → kinds c ≡ token.Mark mark_.Semicolon ∷ kinds d → kinds d ≡ spell_names i.outs (kinds e)
     → kinds e ≡ spell_values i.values (kinds f) → kinds f ≡ token.Mark mark_.RightParen ∷ more
@@ -75,7 +75,7 @@ call_spelled : (i : Instance) (ls a b c d e f : List Lexeme) (more : List Token)
 call_spelled i ls a b c d e f more program opens ins parts outs vs shuts =
     rw (program, opens, ins, parts, outs, vs, shuts) refl
 
-call_takes : (s : Scope) (x : Name) (ls : List Lexeme) (i : Instance) (rest : List Lexeme) → call s x ls ≡ Ok (i, rest)
+call_takes : (s : Scope) (x : NameBytes) (ls : List Lexeme) (i : InstanceNode) (rest : List Lexeme) → call s x ls ≡ Ok (i, rest)
     → (i.name ≡ x) × (kinds ls ≡ spell_call i (kinds rest))
 unfolding call
 call_takes s x ls i rest h =
@@ -86,8 +86,8 @@ call_takes s x ls i rest h =
     let o = bind_ok _ _ _ b.2 in
     let v = bind_ok _ _ _ o.2 in
     let c = bind_ok _ _ _ v.2 in
-    let found : Instance = record { name = x; program = f.0.0; ins = n.0.0; outs = o.0.0; values = v.0.0 } in
-    moved (λ (p : Instance × List Lexeme). (p.0.name ≡ x) × (kinds ls ≡ spell_call p.0 (kinds p.1))) (found, c.0)
+    let found : InstanceNode = record { name = x; program = f.0.0; ins = n.0.0; outs = o.0.0; values = v.0.0 } in
+    moved (λ (p : InstanceNode × List Lexeme). (p.0.name ≡ x) × (kinds ls ≡ spell_call p.0 (kinds p.1))) (found, c.0)
     (i, rest) c.2 (
       refl,
       call_spelled found ls f.0.1 a.0 n.0.1 b.0 o.0.1 v.0.1 (kinds c.0) (name_takes s ls f.0.0 f.0.1 f.1)
@@ -104,7 +104,7 @@ values_no_comma : (vs : List Literal) (more : List Token) → begins is_comma (s
 values_no_comma [] more = refl
 values_no_comma (v ∷ vs) more = refl
 
-call_at : (s : Scope) (x program : Name) (ins outs : List Name) (vs : List Literal) (ls a b c d e f rest : List Lexeme)
+call_at : (s : Scope) (x program : NameBytes) (ins outs : List NameBytes) (vs : List Literal) (ls a b c d e f rest : List Lexeme)
     → name s ls ≡ Ok (program, a) → mark s mark_.LeftParen a ≡ Ok b → optional_names s b ≡ Ok (ins, c)
     → mark s mark_.Semicolon c ≡ Ok d → optional_names s d ≡ Ok (outs, e) → optional_values s e ≡ Ok (vs, f)
     → mark s mark_.RightParen f ≡ Ok rest
@@ -112,7 +112,7 @@ call_at : (s : Scope) (x program : Name) (ins outs : List Name) (vs : List Liter
 unfolding call and_then
 call_at s x program ins outs vs ls a b c d e f rest n o i m u v r = rw (n, o, i, m, u, v, r) refl
 
-call_again : (s : Scope) (i : Instance) (ls : List Lexeme) (more : List Token) → kinds ls ≡ spell_call i more
+call_again : (s : Scope) (i : InstanceNode) (ls : List Lexeme) (more : List Token) → kinds ls ≡ spell_call i more
     → (rest : List Lexeme) × (call s i.name ls ≡ Ok (i, rest)) × (kinds rest ≡ more)
 call_again s i ls more h =
     let at_values = spell_values i.values (close more) in
@@ -204,7 +204,7 @@ source_takes s ls x rest h =
     moved (λ (p : Item × List Lexeme). token.Keyword keyword_.Source ∷ kinds ls ≡ spell_item p.0 (kinds p.1))
     (source n.0.0, m.0) (x, rest) m.2 (rw (named, ends) refl)
 
-instance_takes : (s : Scope) (x : Name) (ls : List Lexeme) (y : Item) (rest : List Lexeme)
+instance_takes : (s : Scope) (x : NameBytes) (ls : List Lexeme) (y : Item) (rest : List Lexeme)
     → instance_behind s x ls ≡ Ok (y, rest) → token.Name x ∷ kinds ls ≡ spell_item y (kinds rest)
 unfolding instance_behind
 instance_takes s x ls y rest h =
@@ -242,24 +242,24 @@ first_at : (s : Scope) (i : ℕ) (ls : List Lexeme) (l : Lexeme) (a : List Lexem
 unfolding item and_then
 first_at s i ls l a r e o = rw (e, next_again s l a) o
 
-channel_at : (s : Scope) (x : Name) (n : ℕ) (t : Token) (start : ℕ) (a b rest : List Lexeme)
+channel_at : (s : Scope) (x : NameBytes) (n : ℕ) (t : Token) (start : ℕ) (a b rest : List Lexeme)
     → t ≡ token.Keyword keyword_.Channel → name s a ≡ Ok (x, b) → capacity s b ≡ Ok (n, rest)
     → item_behind s t start a ≡ Ok (channel x n, rest)
 unfolding item_behind channel_behind and_then
 channel_at s x n t start a b rest k m c = rw (k, m, c) refl
 
-sink_at : (s : Scope) (x : Name) (n : ℕ) (t : Token) (start : ℕ) (a b rest : List Lexeme)
+sink_at : (s : Scope) (x : NameBytes) (n : ℕ) (t : Token) (start : ℕ) (a b rest : List Lexeme)
     → t ≡ token.Keyword keyword_.Sink → name s a ≡ Ok (x, b) → capacity s b ≡ Ok (n, rest)
     → item_behind s t start a ≡ Ok (sink x n, rest)
 unfolding item_behind sink_behind and_then
 sink_at s x n t start a b rest k m c = rw (k, m, c) refl
 
-source_at : (s : Scope) (x : Name) (t : Token) (start : ℕ) (a b rest : List Lexeme) → t ≡ token.Keyword keyword_.Source
+source_at : (s : Scope) (x : NameBytes) (t : Token) (start : ℕ) (a b rest : List Lexeme) → t ≡ token.Keyword keyword_.Source
     → name s a ≡ Ok (x, b) → mark s mark_.Semicolon b ≡ Ok rest → item_behind s t start a ≡ Ok (source x, rest)
 unfolding item_behind source_behind and_then
 source_at s x t start a b rest k n m = rw (k, n, m) refl
 
-instance_at : (s : Scope) (i : Instance) (t : Token) (start : ℕ) (a b c rest : List Lexeme) → t ≡ token.Name i.name
+instance_at : (s : Scope) (i : InstanceNode) (t : Token) (start : ℕ) (a b c rest : List Lexeme) → t ≡ token.Name i.name
     → mark s mark_.Assign a ≡ Ok b → call s i.name b ≡ Ok (i, c) → mark s mark_.Semicolon c ≡ Ok rest
     → item_behind s t start a ≡ Ok (instance i, rest)
 unfolding item_behind instance_behind and_then
@@ -309,7 +309,7 @@ item_again s i ls (instance p) more within h =
 pub item_laws : (s : Scope) (i : ℕ) → Reads spell_item AnyItem (item s i)
 item_laws s i = record { takes = item_takes s i; again = item_again s i }
 
-item_starts : (x : Item) (more : List Token) → begins goes_on (spell_item x more) ≡ true
+item_starts : (x : Item) (more : List Token) → begins stands_in_block (spell_item x more) ≡ true
 item_starts (channel x n) more = refl
 item_starts (source x) more = refl
 item_starts (sink x n) more = refl
@@ -332,7 +332,7 @@ values_no_less (v ∷ vs) more = omega (
   literals_no_less vs more,
 )
 
-call_no_less : (i : Instance) (more : List Token) → length more ≤ length (spell_call i more)
+call_no_less : (i : InstanceNode) (more : List Token) → length more ≤ length (spell_call i more)
 call_no_less i more =
     let at_values = spell_values i.values (close more) in
     let at_outs = spell_names i.outs at_values in
@@ -349,13 +349,13 @@ item_longer (source x) more = omega arith
 item_longer (sink x n) more = omega arith
 item_longer (instance i) more = omega (arith, call_no_less i (token.Mark mark_.Semicolon ∷ more))
 
-pub item_shape : Begins goes_on spell_item
+pub item_shape : Begins stands_in_block spell_item
 item_shape = record { starts = item_starts; longer = item_longer }
 
 -- an item takes a token or more
 pub item_shortens : (s : Scope) (i : ℕ) (ls : List Lexeme) (x : Item) (rest : List Lexeme) → item s i ls ≡ Ok (x, rest)
     → length rest < length ls
-item_shortens s i ls x rest h = one_shortens goes_on spell_item AnyItem (item s) item_shape (item_laws s) i ls x rest h
+item_shortens s i ls x rest h = one_shortens stands_in_block spell_item AnyItem (item s) item_shape (item_laws s) i ls x rest h
 
 -- ---- settings
 
@@ -468,7 +468,7 @@ growth_again s g ls more ends h =
 
 -- ---- the network
 
-network_spelled : (n : Network) (ls a b c d e f : List Lexeme) (more : List Token)
+network_spelled : (n : NetworkNode) (ls a b c d e f : List Lexeme) (more : List Token)
     → kinds ls ≡ token.Keyword keyword_.Network ∷ kinds a → kinds a ≡ token.Mark mark_.LeftBrace ∷ kinds b
     → kinds b ≡ spell_limit n.limit (kinds c) → kinds c ≡ spell_policy n.policy (kinds d)
     → kinds d ≡ spell_growth n.growth (kinds e)
@@ -477,7 +477,7 @@ network_spelled : (n : Network) (ls a b c d e f : List Lexeme) (more : List Toke
 network_spelled n ls a b c d e f more word opens top by grows found shuts =
     rw (word, opens, top, by, grows, found, shuts) refl
 
-pub network_takes : (s : Scope) (ls : List Lexeme) (n : Network) (rest : List Lexeme) → network s ls ≡ Ok (n, rest)
+pub network_takes : (s : Scope) (ls : List Lexeme) (n : NetworkNode) (rest : List Lexeme) → network s ls ≡ Ok (n, rest)
     → kinds ls ≡ spell_network n (kinds rest)
 unfolding network items
 network_takes s ls n rest h =
@@ -488,10 +488,10 @@ network_takes s ls n rest h =
     let g = bind_ok _ _ _ q.2 in
     let f = bind_ok _ _ _ g.2 in
     let c = bind_ok _ _ _ f.2 in
-    let found = many_takes goes_on spell_item AnyItem (item s) item_shape (item_laws s) 0 (length g.0.1) g.0.1 f.0.0
+    let found = many_takes stands_in_block spell_item AnyItem (item s) item_shape (item_laws s) 0 (length g.0.1) g.0.1 f.0.0
     f.0.1 f.1 in
-    let net : Network = record { limit = l.0.0; policy = q.0.0; growth = g.0.0; items = f.0.0 } in
-    moved (λ (p : Network × List Lexeme). kinds ls ≡ spell_network p.0 (kinds p.1)) (net, c.0) (n, rest) c.2
+    let net : NetworkNode = record { limit = l.0.0; policy = q.0.0; growth = g.0.0; items = f.0.0 } in
+    moved (λ (p : NetworkNode × List Lexeme). kinds ls ≡ spell_network p.0 (kinds p.1)) (net, c.0) (n, rest) c.2
     (network_spelled net ls w.0 o.0 l.0.1 q.0.1 g.0.1 f.0.1 (kinds c.0) (keyword_takes s keyword_.Network ls w.0 w.1)
     (mark_takes s mark_.LeftBrace w.0 o.0 o.1) (limit_takes s o.0 l.0.0 l.0.1 l.1)
     (policy_takes s l.0.1 q.0.0 q.0.1 q.1) (growth_takes s q.0.1 g.0.0 g.0.1 g.1) found.spelled
@@ -502,7 +502,7 @@ record NoItemBegins (goes : Token → Bool) : Type 0 where
   at_channel : goes (token.Keyword keyword_.Channel) ≡ false
   at_source : goes (token.Keyword keyword_.Source) ≡ false
   at_sink : goes (token.Keyword keyword_.Sink) ≡ false
-  at_instance : (x : Name) → goes (token.Name x) ≡ false
+  at_instance : (x : NameBytes) → goes (token.Name x) ≡ false
   at_brace : goes (token.Mark mark_.RightBrace) ≡ false
 
 items_begin : (goes : Token → Bool) → NoItemBegins goes → (xs : List Item) (more : List Token)
@@ -532,15 +532,15 @@ setting_begins : {A : Type 0} (goes : Token → Bool) (k : Keyword) (spell : A �
 setting_begins goes k spell None more other ends = ends
 setting_begins goes k spell (Some x) more other ends = other
 
-network_at : (s : Scope) (n : Network) (ls a b c d e f rest : List Lexeme) → keyword s keyword_.Network ls ≡ Ok a
+network_at : (s : Scope) (n : NetworkNode) (ls a b c d e f rest : List Lexeme) → keyword s keyword_.Network ls ≡ Ok a
     → mark s mark_.LeftBrace a ≡ Ok b → limit s b ≡ Ok (n.limit, c) → policy s c ≡ Ok (n.policy, d)
     → growth s d ≡ Ok (n.growth, e)
-    → many goes_on (item s) 0 (length e) e ≡ Ok (n.items, f)
+    → many stands_in_block (item s) 0 (length e) e ≡ Ok (n.items, f)
     → mark s mark_.RightBrace f ≡ Ok rest → network s ls ≡ Ok (n, rest)
 unfolding network items and_then
 network_at s n ls a b c d e f rest w o l q g i m = rw (w, o, l, q, g, i, m) refl
 
-pub network_again : (s : Scope) (n : Network) (ls : List Lexeme) (more : List Token) → kinds ls ≡ spell_network n more
+pub network_again : (s : Scope) (n : NetworkNode) (ls : List Lexeme) (more : List Token) → kinds ls ≡ spell_network n more
     → (rest : List Lexeme) × (network s ls ≡ Ok (n, rest)) × (kinds rest ≡ more)
 network_again s n ls more h =
     let ends = token.Mark mark_.RightBrace ∷ more in
@@ -561,7 +561,7 @@ network_again s n ls more h =
     let l = limit_again s n.limit o.0 at_policy no_limit o.2 in
     let q = policy_again s n.policy l.0 at_growth no_policy l.2 in
     let g = growth_again s n.growth q.0 at_items no_growth q.2 in
-    let f = many_again goes_on spell_item AnyItem (item s) item_shape (item_laws s) 0 (length g.0) g.0 n.items ends
+    let f = many_again stands_in_block spell_item AnyItem (item s) item_shape (item_laws s) 0 (length g.0) g.0 n.items ends
     (omega arith) (any_items n.items) refl g.2 in
     let m = mark_again s mark_.RightBrace f.0 more f.2 in
     (m.0, network_at s n ls w.0 o.0 l.0 q.0 g.0 f.0 m.0 w.1 o.1 l.1 q.1 g.1 f.1 m.1, m.2)

@@ -6,7 +6,7 @@ use Rattle.kpn_text_tokens.specs.declared.tokens.Token.{Token}
 use Rattle.kpn_text_grammar.specs.declared.fault.GrammarFault.{GrammarFault}
 use Rattle.kpn_text_grammar.specs.declared.fault.GrammarFault.TheVariants as fault
 use Rattle.kpn_text_tokens.specs.Results.{and_then}
-use Rattle.kpn_text_grammar.specs.Reading.{Read, Fails, first_is, many}
+use Rattle.kpn_text_grammar.specs.Reading.{Read, ReadingFails, first_is, many}
 
 -- what was read before, and what is still read
 abbrev pub with_front : {A : Type 0} → List A → Read (List A) → Read (List A)
@@ -63,7 +63,7 @@ module _ {A : Type 0} (goes : Token → Bool) (one : ℕ → List Lexeme → Rea
   stops_here front i ls total stands ends = sym stands.whole ∙ stop front i stands.most ls ends
 
   fail : (e : GrammarFault) (front : List A) (i n : ℕ) (ls : List Lexeme) (total : Read (List A)) → length ls ≤ n
-      → first_is goes ls ≡ true → Fails e (one i ls) → with_front front (many goes one i n ls) ≡ total → Fails e total
+      → first_is goes ls ≡ true → ReadingFails e (one i ls) → with_front front (many goes one i n ls) ≡ total → ReadingFails e total
   unfolding many and_then
   fail e front i n [] total room goes_so failed so_far = absurd cc
   fail e front i zero (l ∷ ls) total room goes_so failed so_far = absurd (omega arith)
@@ -78,7 +78,7 @@ module _ {A : Type 0} (goes : Token → Bool) (one : ℕ → List Lexeme → Rea
       sym so_far ∙ one
 
   pub fails_here : (e : GrammarFault) (front : List A) (i : ℕ) (ls : List Lexeme) (total : Read (List A))
-      → StandsAt goes one front i ls total → first_is goes ls ≡ true → Fails e (one i ls) → Fails e total
+      → StandsAt goes one front i ls total → first_is goes ls ≡ true → ReadingFails e (one i ls) → ReadingFails e total
   fails_here e front i ls total stands goes_so failed = fail e front i stands.most ls total stands.room goes_so failed
       stands.whole
 

@@ -13,11 +13,11 @@ use Rattle.kpn_text_tokens.specs.declared.tokens.Mark.TheVariants as mark_
 use Rattle.kpn_text_tokens.specs.declared.tokens.Keyword.TheVariants as keyword_
 use Rattle.kpn_text_grammar.specs.declared.fault.GrammarFault.TheVariants as fault
 use Rattle.kpn_text_grammar.specs.declared.parser.Scope.{Scope}
-use Rattle.kpn_text_grammar.specs.Syntax.{Term, Statement, assign, store, receive, send, choice, loop, Statements, no_statements, statement, statements_of}
+use Rattle.kpn_text_grammar.specs.Syntax.{ExpressionNode, StatementNode, assign, store, receive, send, choice, loop, Statements, no_statements, statement, as_statements}
 use Rattle.kpn_text_grammar.specs.Spelling.{kinds, SpellsTerm, SpellsAll, SpellsStatement, as_assignment, as_store, as_read, as_write, as_if, as_while, SpellsStatements, nothing, one_more, SpellsElse, left_out, behind_else, SpellsSecond, with_braces, as_branch, begins_else, inner_levels, deepest_term, BlockIsWithin}
 use Rattle.kpn_text_tokens.specs.Results.{and_then}
 use Rattle.kpn_text_grammar.specs.TokenTests.{is_keyword}
-use Rattle.kpn_text_grammar.specs.Reading.{Read, next, first_is, mark, keyword, name, is_second, whole, many, assignment_behind, store_behind, target_behind, receive_behind, send_behind, else_behind, choice_behind, loop_behind, statement_behind, one_statement, declares, goes_on, statements_at, block_behind, opened, too_deep, is_branch, branch, block, second_block, body_behind}
+use Rattle.kpn_text_grammar.specs.Reading.{Read, next, first_is, mark, keyword, name, is_second, whole, many, assignment_behind, store_behind, target_behind, receive_behind, send_behind, else_behind, choice_behind, loop_behind, statement_behind, one_statement, declares, stands_in_block, statements_at, block_behind, opened, too_deep, is_branch, branch, block, second_block, body_behind}
 use Rattle.kpn_text_grammar.proofs.Steps.{bind_ok, by_test, first_kind, is_mark_same, is_keyword_same, moved, ok_is, no_value, kind_of, kinds_of, next_takes, next_again, mark_takes, mark_again, keyword_takes, keyword_again, name_takes, name_again}
 use Rattle.kpn_text_grammar.proofs.TermLaws.{is_index}
 use Rattle.kpn_text_grammar.proofs.TightLaws.{at_brace, at_bracket, at_semicolon}
@@ -25,18 +25,18 @@ use Rattle.kpn_text_grammar.proofs.WholeLaws.{whole_takes, whole_again, whole_lo
 use Rattle.kpn_text_grammar.proofs.ManyLaws.{TakesSpelled, ReadsSpelled, AreBegun, begins, spelled_shortens, all_taken, all_again}
 
 -- a statement within the limits of depth: its blocks nest at most so deep, and its expressions at most 32 levels
-pub record StatementIsWithin (depth : ℕ) (s : Statement) : Type 0 where
+pub record StatementIsWithin (depth : ℕ) (s : StatementNode) : Type 0 where
   pub blocks : inner_levels s ≤ depth
   pub terms : deepest_term s ≤ MAX_LEVELS
 
 -- a block as a list of its statements
-abbrev list_of : Statements → List Statement
+abbrev list_of : Statements → List StatementNode
 list_of no_statements = []
 list_of (statement s ss) = s ∷ list_of ss
 
 -- what was read as a statement, as a block, as a block behind its opening brace, as what stands behind `else`, and as
 -- that with its `else`
-pub record TakesStatement (l : Language) (d : ℕ) (tokens : List Token) (st : Statement) (rest : List Lexeme)
+pub record TakesStatement (l : Language) (d : ℕ) (tokens : List Token) (st : StatementNode) (rest : List Lexeme)
     : Type 0 where
   pub spelled : SpellsStatement l st tokens (kinds rest)
   pub within : StatementIsWithin d st
@@ -80,7 +80,7 @@ pub record ReadsSecond (l : Language) (d : ℕ) (second : List Lexeme → Read S
 -- ---- spellings are no gaps, and begin as statements do
 
 mutual
-  statement_longer : {l : Language} {st : Statement} {tokens more : List Token} → SpellsStatement l st tokens more
+  statement_longer : {l : Language} {st : StatementNode} {tokens more : List Token} → SpellsStatement l st tokens more
       → length more < length tokens
   statement_longer {l} (as_assignment {e = e} {tokens = ts} {more = more} h) =
       omega (arith, whole_longer l e ts (token.Mark mark_.Semicolon ∷ more) h)
@@ -118,8 +118,8 @@ mutual
   second_longer (with_braces h) = omega (arith, statements_longer h)
   second_longer (as_branch two h) = omega (arith, statement_longer h)
 
-statement_starts : {l : Language} {st : Statement} {tokens more : List Token} → SpellsStatement l st tokens more
-    → begins goes_on tokens ≡ true
+statement_starts : {l : Language} {st : StatementNode} {tokens more : List Token} → SpellsStatement l st tokens more
+    → begins stands_in_block tokens ≡ true
 statement_starts (as_assignment h) = refl
 statement_starts (as_store at_e hi he) = refl
 statement_starts as_read = refl
@@ -138,7 +138,7 @@ no_declaration (one_more (as_write h) hs) = refl
 no_declaration (one_more (as_if he ha hb) hs) = refl
 no_declaration (one_more (as_while he hb) hs) = refl
 
-pub statement_shape : (l : Language) → AreBegun goes_on (SpellsStatement l)
+pub statement_shape : (l : Language) → AreBegun stands_in_block (SpellsStatement l)
 statement_shape l = record {
   starts = λ st tokens more h. statement_starts h;
   longer = λ st tokens more h. statement_longer h;
@@ -146,8 +146,8 @@ statement_shape l = record {
 
 -- ---- lists as statements
 
-all_spelled : (l : Language) (ss : List Statement) (tokens more : List Token)
-    → SpellsAll (SpellsStatement l) ss tokens more → SpellsStatements l (statements_of ss) tokens more
+all_spelled : (l : Language) (ss : List StatementNode) (tokens more : List Token)
+    → SpellsAll (SpellsStatement l) ss tokens more → SpellsStatements l (as_statements ss) tokens more
 all_spelled l [] tokens more h = subst (λ (ts : List Token). SpellsStatements l no_statements ts more) (sym h) nothing
 all_spelled l (st ∷ ss) tokens more (others, first, rest) = one_more first (all_spelled l ss others more rest)
 
@@ -156,12 +156,12 @@ each_spelled : {l : Language} {b : Statements} {tokens more : List Token} → Sp
 each_spelled nothing = refl
 each_spelled (one_more {others = others} h hs) = (others, h, each_spelled hs)
 
-list_back : (b : Statements) → statements_of (list_of b) ≡ b
+list_back : (b : Statements) → as_statements (list_of b) ≡ b
 list_back no_statements = refl
 list_back (statement st ss) = ap (statement st) (list_back ss)
 
-all_are_within : (d : ℕ) (ss : List Statement) → AllByRecursion (StatementIsWithin d) ss
-    → BlockIsWithin (suc d) (statements_of ss)
+all_are_within : (d : ℕ) (ss : List StatementNode) → AllByRecursion (StatementIsWithin d) ss
+    → BlockIsWithin (suc d) (as_statements ss)
 all_are_within d [] within = record { blocks = omega arith; terms = omega arith }
 all_are_within d (st ∷ ss) within =
     let others = all_are_within d ss within.1 in
@@ -201,18 +201,18 @@ first_else (l ∷ ls) = refl
 
 module _ (s : Scope) (d : ℕ) (inner second : List Lexeme → Read Statements) (laws : ReadsBlocks s.language d inner)
     (second_laws : ReadsSecond s.language d second) where
-  same : (tokens : List Token) (st other : Statement) (rest after : List Lexeme)
-      → ◌≡◌ {A = Read Statement} (Ok (st, rest)) (Ok (other, after)) → TakesStatement s.language d tokens st rest
+  same : (tokens : List Token) (st other : StatementNode) (rest after : List Lexeme)
+      → ◌≡◌ {A = Read StatementNode} (Ok (st, rest)) (Ok (other, after)) → TakesStatement s.language d tokens st rest
       → TakesStatement s.language d tokens other after
   same tokens st other rest after h t =
-      moved (λ (p : Statement × List Lexeme). TakesStatement s.language d tokens p.0 p.1) (st, rest) (other, after) h t
+      moved (λ (p : StatementNode × List Lexeme). TakesStatement s.language d tokens p.0 p.1) (st, rest) (other, after) h t
 
   -- a term up to a mark
-  term_to : (e : Term) (tokens more more_is : List Token) → SpellsTerm s.language e tokens more → more ≡ more_is
+  term_to : (e : ExpressionNode) (tokens more more_is : List Token) → SpellsTerm s.language e tokens more → more ≡ more_is
       → SpellsTerm s.language e tokens more_is
   term_to e tokens more more_is h same_more = subst (λ (ts : List Token). SpellsTerm s.language e tokens ts) same_more h
 
-  assignment_takes : (x : List ℕ) (ls : List Lexeme) (st : Statement) (rest : List Lexeme)
+  assignment_takes : (x : List ℕ) (ls : List Lexeme) (st : StatementNode) (rest : List Lexeme)
       → assignment_behind s x ls ≡ Ok (st, rest) → TakesStatement s.language d (token.Name x ∷ kinds ls) st rest
   unfolding assignment_behind
   assignment_takes x ls st rest h =
@@ -229,7 +229,7 @@ module _ (s : Scope) (d : ℕ) (inner second : List Lexeme → Read Statements) 
         within = record { blocks = omega arith; terms = value.level };
       })
 
-  store_takes : (x : List ℕ) (ls : List Lexeme) (st : Statement) (rest : List Lexeme)
+  store_takes : (x : List ℕ) (ls : List Lexeme) (st : StatementNode) (rest : List Lexeme)
       → store_behind s x ls ≡ Ok (st, rest) → TakesStatement s.language d (token.Name x ∷ kinds ls) st rest
   unfolding store_behind
   store_takes x ls st rest h =
@@ -255,14 +255,14 @@ module _ (s : Scope) (d : ℕ) (inner second : List Lexeme → Read Statements) 
         within = record { blocks = omega arith; terms = omega (arith, index.level, value.level) };
       })
 
-  target_takes : (x : List ℕ) (ls : List Lexeme) (st : Statement) (rest : List Lexeme)
+  target_takes : (x : List ℕ) (ls : List Lexeme) (st : StatementNode) (rest : List Lexeme)
       → target_behind s x ls ≡ Ok (st, rest) → TakesStatement s.language d (token.Name x ∷ kinds ls) st rest
   unfolding target_behind
   target_takes x ls st rest h =
       by_test (first_is is_index ls) (store_behind s x ls) (assignment_behind s x ls) (Ok (st, rest)) h
       (λ _ k. store_takes x ls st rest k) (λ _ k. assignment_takes x ls st rest k)
 
-  receive_takes : (ls : List Lexeme) (st : Statement) (rest : List Lexeme) → receive_behind s ls ≡ Ok (st, rest)
+  receive_takes : (ls : List Lexeme) (st : StatementNode) (rest : List Lexeme) → receive_behind s ls ≡ Ok (st, rest)
       → TakesStatement s.language d (token.Keyword keyword_.Read ∷ kinds ls) st rest
   unfolding receive_behind
   receive_takes ls st rest h =
@@ -281,7 +281,7 @@ module _ (s : Scope) (d : ℕ) (inner second : List Lexeme → Read Statements) 
         within = record { blocks = omega arith; terms = omega arith };
       })
 
-  send_takes : (ls : List Lexeme) (st : Statement) (rest : List Lexeme) → send_behind s ls ≡ Ok (st, rest)
+  send_takes : (ls : List Lexeme) (st : StatementNode) (rest : List Lexeme) → send_behind s ls ≡ Ok (st, rest)
       → TakesStatement s.language d (token.Keyword keyword_.Write ∷ kinds ls) st rest
   unfolding send_behind
   send_takes ls st rest h =
@@ -325,9 +325,9 @@ module _ (s : Scope) (d : ℕ) (inner second : List Lexeme → Read Statements) 
         within = t.within;
       })
 
-  choice_takes : (ls : List Lexeme) (st : Statement) (rest : List Lexeme)
+  choice_takes : (ls : List Lexeme) (st : StatementNode) (rest : List Lexeme)
       → choice_behind s inner second ls ≡ Ok (st, rest)
-      → (e : Term) × (a : Statements) × (b : Statements) × (choice e a b ≡ st)
+      → (e : ExpressionNode) × (a : Statements) × (b : Statements) × (choice e a b ≡ st)
       × TakesStatement s.language d (token.Keyword keyword_.If ∷ kinds ls) (choice e a b) rest
   unfolding choice_behind
   choice_takes ls st rest h =
@@ -341,9 +341,9 @@ module _ (s : Scope) (d : ℕ) (inner second : List Lexeme → Read Statements) 
         e.0.0,
         a.0.0,
         b.0.0,
-        ap (λ (q : Statement × List Lexeme). q.0) p,
+        ap (λ (q : StatementNode × List Lexeme). q.0) p,
         subst (λ (after : List Lexeme). TakesStatement s.language d (token.Keyword keyword_.If ∷ kinds ls)
-            (choice e.0.0 a.0.0 b.0.0) after) (ap (λ (q : Statement × List Lexeme). q.1) p) (record {
+            (choice e.0.0 a.0.0 b.0.0) after) (ap (λ (q : StatementNode × List Lexeme). q.1) p) (record {
               spelled = as_if {e = e.0.0} {a = a.0.0} {b = b.0.0} {at_e = kinds ls} {at_a = first.inside}
                   {at_else = kinds a.0.1} {more = kinds b.0.1}
                   (term_to e.0.0 (kinds ls) (kinds e.0.1) (token.Mark mark_.LeftBrace ∷ first.inside) test.spelled first.head)
@@ -355,7 +355,7 @@ module _ (s : Scope) (d : ℕ) (inner second : List Lexeme → Read Statements) 
             }),
       )
 
-  loop_takes : (ls : List Lexeme) (st : Statement) (rest : List Lexeme) → loop_behind s inner ls ≡ Ok (st, rest)
+  loop_takes : (ls : List Lexeme) (st : StatementNode) (rest : List Lexeme) → loop_behind s inner ls ≡ Ok (st, rest)
       → TakesStatement s.language d (token.Keyword keyword_.While ∷ kinds ls) st rest
   unfolding loop_behind
   loop_takes ls st rest h =
@@ -374,7 +374,7 @@ module _ (s : Scope) (d : ℕ) (inner second : List Lexeme → Read Statements) 
         };
       })
 
-  behind_takes : (t : Token) (start : ℕ) (ls : List Lexeme) (st : Statement) (rest : List Lexeme)
+  behind_takes : (t : Token) (start : ℕ) (ls : List Lexeme) (st : StatementNode) (rest : List Lexeme)
       → statement_behind s inner second t start ls ≡ Ok (st, rest)
       → TakesStatement s.language d (t ∷ kinds ls) st rest
   unfolding statement_behind
@@ -383,11 +383,11 @@ module _ (s : Scope) (d : ℕ) (inner second : List Lexeme → Read Statements) 
   behind_takes (token.Keyword keyword_.Write) start ls st rest h = send_takes ls st rest h
   behind_takes (token.Keyword keyword_.If) start ls st rest h =
       let c = choice_takes ls st rest h in
-      subst (λ (x : Statement). TakesStatement s.language d (token.Keyword keyword_.If ∷ kinds ls) x rest) c.3 c.4
+      subst (λ (x : StatementNode). TakesStatement s.language d (token.Keyword keyword_.If ∷ kinds ls) x rest) c.3 c.4
   behind_takes (token.Keyword keyword_.While) start ls st rest h = loop_takes ls st rest h
   behind_takes _ start ls st rest h = absurd (no_value (fault.Grammar start) (st, rest) h)
 
-  statement_takes : (i : ℕ) (ls : List Lexeme) (st : Statement) (rest : List Lexeme)
+  statement_takes : (i : ℕ) (ls : List Lexeme) (st : StatementNode) (rest : List Lexeme)
       → one_statement s inner second i ls ≡ Ok (st, rest)
       → TakesSpelled (SpellsStatement s.language) (StatementIsWithin d) ls st rest
   unfolding one_statement
@@ -402,18 +402,18 @@ module _ (s : Scope) (d : ℕ) (inner second : List Lexeme → Read Statements) 
 
   -- ---- again
 
-  first_at : (i : ℕ) (l : Lexeme) (rest : List Lexeme) (r : Read Statement)
+  first_at : (i : ℕ) (l : Lexeme) (rest : List Lexeme) (r : Read StatementNode)
       → statement_behind s inner second l.token l.start rest ≡ r → one_statement s inner second i (l ∷ rest) ≡ r
   unfolding one_statement and_then
   first_at i l rest r o = rw (next_again s l rest) o
 
-  assign_at : (t : Token) (start : ℕ) (x : List ℕ) (e : Term) (a b c rest : List Lexeme) → t ≡ token.Name x
+  assign_at : (t : Token) (start : ℕ) (x : List ℕ) (e : ExpressionNode) (a b c rest : List Lexeme) → t ≡ token.Name x
       → first_is is_index a ≡ false → mark s mark_.Assign a ≡ Ok b → whole s b ≡ Ok (e, c)
       → mark s mark_.Semicolon c ≡ Ok rest → statement_behind s inner second t start a ≡ Ok (assign x e, rest)
   unfolding statement_behind target_behind assignment_behind and_then
   assign_at t start x e a b c rest k none p q r = rw (k, none, p, q, r) refl
 
-  store_at : (t : Token) (start : ℕ) (x : List ℕ) (i e : Term) (a b c f g after rest : List Lexeme)
+  store_at : (t : Token) (start : ℕ) (x : List ℕ) (i e : ExpressionNode) (a b c f g after rest : List Lexeme)
       → t ≡ token.Name x → first_is is_index a ≡ true → mark s mark_.LeftBracket a ≡ Ok b → whole s b ≡ Ok (i, c)
       → mark s mark_.RightBracket c ≡ Ok f → mark s mark_.Assign f ≡ Ok g → whole s g ≡ Ok (e, after)
       → mark s mark_.Semicolon after ≡ Ok rest
@@ -427,25 +427,25 @@ module _ (s : Scope) (d : ℕ) (inner second : List Lexeme → Read Statements) 
   unfolding statement_behind receive_behind and_then
   receive_at t start i x a b c rest k p q r = rw (k, p, q, r) refl
 
-  send_at : (t : Token) (start : ℕ) (o : List ℕ) (e : Term) (a b c rest : List Lexeme)
+  send_at : (t : Token) (start : ℕ) (o : List ℕ) (e : ExpressionNode) (a b c rest : List Lexeme)
       → t ≡ token.Keyword keyword_.Write → name s a ≡ Ok (o, b) → whole s b ≡ Ok (e, c)
       → mark s mark_.Semicolon c ≡ Ok rest
       → statement_behind s inner second t start a ≡ Ok (send o e, rest)
   unfolding statement_behind send_behind and_then
   send_at t start o e a b c rest k p q r = rw (k, p, q, r) refl
 
-  if_at : (t : Token) (start : ℕ) (a : List Lexeme) (r : Read Statement) → t ≡ token.Keyword keyword_.If
+  if_at : (t : Token) (start : ℕ) (a : List Lexeme) (r : Read StatementNode) → t ≡ token.Keyword keyword_.If
       → choice_behind s inner second a ≡ r → statement_behind s inner second t start a ≡ r
   unfolding statement_behind
   if_at t start a r k p = rw k p
 
-  choice_at : (e : Term) (x y : Statements) (a b c rest : List Lexeme) → whole s a ≡ Ok (e, b)
+  choice_at : (e : ExpressionNode) (x y : Statements) (a b c rest : List Lexeme) → whole s a ≡ Ok (e, b)
       → inner b ≡ Ok (x, c) → else_behind s second c ≡ Ok (y, rest)
       → choice_behind s inner second a ≡ Ok (choice e x y, rest)
   unfolding choice_behind and_then
   choice_at e x y a b c rest p q r = rw (p, q, r) refl
 
-  loop_at : (t : Token) (start : ℕ) (e : Term) (x : Statements) (a b rest : List Lexeme)
+  loop_at : (t : Token) (start : ℕ) (e : ExpressionNode) (x : Statements) (a b rest : List Lexeme)
       → t ≡ token.Keyword keyword_.While → whole s a ≡ Ok (e, b) → inner b ≡ Ok (x, rest)
       → statement_behind s inner second t start a ≡ Ok (loop e x, rest)
   unfolding statement_behind loop_behind and_then
@@ -477,7 +477,7 @@ module _ (s : Scope) (d : ℕ) (inner second : List Lexeme → Read Statements) 
       let o = second_laws.again w.0 b tokens more within w.2 hs in
       (o.0, else_at ls w.0 (Ok (b, o.0)) (and_false (is_second s.language) _ (ap not there)) w.1 o.1, o.2)
 
-  pub choice_again : (ls : List Lexeme) (e : Term) (a b : Statements) (at_e at_a at_else more : List Token)
+  pub choice_again : (ls : List Lexeme) (e : ExpressionNode) (a b : Statements) (at_e at_a at_else more : List Token)
       → StatementIsWithin d (choice e a b) → kinds ls ≡ at_e
       → SpellsTerm s.language e at_e (token.Mark mark_.LeftBrace ∷ at_a)
       → SpellsStatements s.language a at_a (token.Mark mark_.RightBrace ∷ at_else)
@@ -495,7 +495,7 @@ module _ (s : Scope) (d : ℕ) (inner second : List Lexeme → Read Statements) 
       }) q.2 hb in
       (r.0, choice_at e a b ls p.rest q.0 r.0 p.reads q.1 r.1, r.2)
 
-  behind_again : {st : Statement} {tokens more : List Token} → SpellsStatement s.language st tokens more → (l : Lexeme)
+  behind_again : {st : StatementNode} {tokens more : List Token} → SpellsStatement s.language st tokens more → (l : Lexeme)
       (ls : List Lexeme) → StatementIsWithin d st → kinds (l ∷ ls) ≡ tokens
       → Again more (statement_behind s inner second l.token l.start ls) st
   behind_again (as_assignment {x = x} {e = e} {tokens = ts} {more = more} he) l ls within h =
@@ -564,7 +564,7 @@ module _ (s : Scope) (d : ℕ) (inner second : List Lexeme → Read Statements) 
         q.2,
       )
 
-  statement_again : (i : ℕ) (ls : List Lexeme) (st : Statement) (more : List Token) → StatementIsWithin d st
+  statement_again : (i : ℕ) (ls : List Lexeme) (st : StatementNode) (more : List Token) → StatementIsWithin d st
       → SpellsStatement s.language st (kinds ls) more → Again more (one_statement s inner second i ls) st
   statement_again i [] st more within h =
       let less : length more < length {A = Token} [] = statement_longer h in
@@ -579,9 +579,9 @@ module _ (s : Scope) (d : ℕ) (inner second : List Lexeme → Read Statements) 
 
   -- ---- blocks
 
-  block_at : (ls : List Lexeme) (found : List Statement) (a rest : List Lexeme)
-      → many goes_on (one_statement s inner second) 0 (length ls) ls ≡ Ok (found, a)
-      → mark s mark_.RightBrace a ≡ Ok rest → block_behind s inner second ls ≡ Ok (statements_of found, rest)
+  block_at : (ls : List Lexeme) (found : List StatementNode) (a rest : List Lexeme)
+      → many stands_in_block (one_statement s inner second) 0 (length ls) ls ≡ Ok (found, a)
+      → mark s mark_.RightBrace a ≡ Ok rest → block_behind s inner second ls ≡ Ok (as_statements found, rest)
   unfolding block_behind statements_at and_then
   block_at ls found a rest p q = rw (p, q) refl
 
@@ -591,13 +591,13 @@ module _ (s : Scope) (d : ℕ) (inner second : List Lexeme → Read Statements) 
   body_takes ls b rest h =
       let f = bind_ok _ _ _ h in
       let m = bind_ok _ _ _ f.2 in
-      let found = all_taken goes_on (SpellsStatement s.language) (StatementIsWithin d) (one_statement s inner second)
+      let found = all_taken stands_in_block (SpellsStatement s.language) (StatementIsWithin d) (one_statement s inner second)
       (statement_shape s.language) statement_laws 0 (length ls) ls f.0.0 f.0.1 f.1 in
       let close = mark_takes s mark_.RightBrace f.0.1 m.0 m.1 in
       moved (λ (p : Statements × List Lexeme). TakesBody s.language (suc d) (kinds ls) p.0 p.1)
-      (statements_of f.0.0, m.0) (b, rest) m.2
+      (as_statements f.0.0, m.0) (b, rest) m.2
       (record {
-        spelled = subst (λ (ts : List Token). SpellsStatements s.language (statements_of f.0.0) (kinds ls) ts) close
+        spelled = subst (λ (ts : List Token). SpellsStatements s.language (as_statements f.0.0) (kinds ls) ts) close
             (all_spelled s.language f.0.0 (kinds ls) (kinds f.0.1) found.spelled);
         within = all_are_within d f.0.0 found.within;
       })
@@ -613,7 +613,7 @@ module _ (s : Scope) (d : ℕ) (inner second : List Lexeme → Read Statements) 
       → SpellsStatements s.language b (kinds ls) (token.Mark mark_.RightBrace ∷ more)
       → Again more (block_behind s inner second ls) b
   inside_again ls b more within h =
-      let f = all_again goes_on (SpellsStatement s.language) (StatementIsWithin d) (one_statement s inner second)
+      let f = all_again stands_in_block (SpellsStatement s.language) (StatementIsWithin d) (one_statement s inner second)
       (statement_shape s.language) statement_laws 0 (length ls) ls (list_of b) (token.Mark mark_.RightBrace ∷ more)
       (omega arith) (each_is_within d b within) refl (each_spelled h) in
       let m = mark_again s mark_.RightBrace f.0 more f.2 in
@@ -650,7 +650,7 @@ module _ (s : Scope) (d : ℕ) (inner second : List Lexeme → Read Statements) 
       let c = bind_ok _ _ _ w.2 in
       let word = keyword_takes s keyword_.If ls w.0 w.1 in
       let t = choice_takes w.0 c.0.0 c.0.1 c.1 in
-      let P : Statement → Type 0 = λ x. TakesSecond s.language (suc d) (kinds ls) (statement x no_statements) c.0.1 in
+      let P : StatementNode → Type 0 = λ x. TakesSecond s.language (suc d) (kinds ls) (statement x no_statements) c.0.1 in
       moved (λ (p : Statements × List Lexeme). TakesSecond s.language (suc d) (kinds ls) p.0 p.1)
       (statement c.0.0 no_statements, c.0.1) (b, rest) c.2
       (subst P t.3 (record {
@@ -662,7 +662,7 @@ module _ (s : Scope) (d : ℕ) (inner second : List Lexeme → Read Statements) 
         };
       }))
 
-  branch_at : (ls a : List Lexeme) (st : Statement) (rest : List Lexeme) → keyword s keyword_.If ls ≡ Ok a
+  branch_at : (ls a : List Lexeme) (st : StatementNode) (rest : List Lexeme) → keyword s keyword_.If ls ≡ Ok a
       → choice_behind s inner second a ≡ Ok (st, rest)
       → branch s inner second ls ≡ Ok (statement st no_statements, rest)
   unfolding branch and_then
@@ -797,10 +797,10 @@ statements_again s ls b tokens more within h spelled =
 -- ---- as the code counts
 
 -- a statement takes a token or more
-pub statement_shortens : (s : Scope) (d i : ℕ) (ls : List Lexeme) (st : Statement) (rest : List Lexeme)
+pub statement_shortens : (s : Scope) (d i : ℕ) (ls : List Lexeme) (st : StatementNode) (rest : List Lexeme)
     → one_statement s (block s d) (second_block s d) i ls ≡ Ok (st, rest) → length rest < length ls
 statement_shortens s d i ls st rest h =
     let laws = both_laws s d in
-    spelled_shortens goes_on (SpellsStatement s.language) (StatementIsWithin d)
+    spelled_shortens stands_in_block (SpellsStatement s.language) (StatementIsWithin d)
     (one_statement s (block s d) (second_block s d)) (statement_shape s.language)
     (statement_laws s d (block s d) (second_block s d) laws.blocks laws.seconds) i ls st rest h

@@ -20,13 +20,13 @@ use Rattle.kpn_net.specs.declared.tables.Growth.{Growth}
 use Rattle.kpn_net.specs.declared.tables.Growth.TheVariants as growth
 use Rattle.kpn_net.specs.declared.tables.Policy.{Policy}
 use Rattle.kpn_net.specs.declared.tables.Policy.TheVariants as policy
-use Rattle.kpn_text_grammar.specs.Syntax.{Name}
-use Rattle.kpn_text_grammar.specs.Operators.{operators, operator_mark, operator_of}
+use Rattle.kpn_text_grammar.specs.Syntax.{NameBytes}
+use Rattle.kpn_text_grammar.specs.Operators.{every_operator, operator_mark, operator_of}
 use Rattle.kpn_text_grammar.specs.Words.{growth_word, growths, growth_spelled, policy_word, policies, policy_spelled}
 use Rattle.kpn_text_grammar.specs.Spelling.{kinds}
 use Rattle.kpn_text_tokens.specs.Results.{and_then, OkOr}
-use Rattle.kpn_text_grammar.specs.TokenTests.{same_mark, same_keyword, is_mark, is_keyword, is_two}
-use Rattle.kpn_text_grammar.specs.Reading.{Fails, Gives, first_is, next, mark, keyword, named, name, numbered, number, token_operator, or_fault_at, operator, token_word, word_of, two}
+use Rattle.kpn_text_grammar.specs.TokenTests.{same_mark, same_keyword, is_mark, is_keyword, is_number_two}
+use Rattle.kpn_text_grammar.specs.Reading.{ReadingFails, ReadingGives, first_is, next, mark, keyword, named, name, numbered, number, token_operator, or_fault_at, operator, token_word, word_of, two}
 use Rattle.kpn_text_tokens.proofs.Pieces.{find_passes}
 
 -- the value of a step that had no fault
@@ -40,7 +40,7 @@ pub ok_is : {A : Type 0} (x y : A) → ◌≡◌ {A = Result A GrammarFault} (Ok
 ok_is x y e = cc
 
 -- a fault that a call returns
-pub fails_with : {A : Type 0} (e : GrammarFault) (read : Result A GrammarFault) → read ≡ Err e → Fails e read
+pub fails_with : {A : Type 0} (e : GrammarFault) (read : Result A GrammarFault) → read ≡ Err e → ReadingFails e read
 fails_with fault.NoMemory read h = tt
 fails_with (fault.Grammar at) read h = h
 fails_with (fault.TooDeep p) read h = h
@@ -209,7 +209,7 @@ name_again s ls x more h =
 operator_is : (m : Mark) (o : Op) → operator_of m ≡ Some o → m ≡ operator_mark o
 unfolding operator_of
 operator_is m o h =
-    sym (same_mark_true (operator_mark o) m (find_passes (λ p. same_mark (operator_mark p) m) operators o h))
+    sym (same_mark_true (operator_mark o) m (find_passes (λ p. same_mark (operator_mark p) m) every_operator o h))
 
 pub operator_back : (o : Op) → operator_of (operator_mark o) ≡ Some o
 unfolding operator_of
@@ -271,11 +271,11 @@ operator_again s ls o more h =
 -- ---- a name that stands for something
 
 -- only the name that stands for something spells it
-pub record Spells {A : Type 0} (meant : Name → Option A) (spelled : A → Name) : Type 0 where
-  pub back : (n : Name) (x : A) → meant n ≡ Some x → n ≡ spelled x
+pub record Spells {A : Type 0} (meant : NameBytes → Option A) (spelled : A → NameBytes) : Type 0 where
+  pub back : (n : NameBytes) (x : A) → meant n ≡ Some x → n ≡ spelled x
   pub found : (x : A) → meant (spelled x) ≡ Some x
 
-module _ {A : Type 0} (meant : Name → Option A) (spelled : A → Name) (table : Spells meant spelled) where
+module _ {A : Type 0} (meant : NameBytes → Option A) (spelled : A → NameBytes) (table : Spells meant spelled) where
   meant_takes : (t : Token) (x : A) → token_word meant t ≡ Some x → t ≡ token.Name (spelled x)
   meant_takes (token.Name n) x h = ap token.Name (table.back n x h)
   meant_takes (token.Number n) x h = absurd cc
@@ -308,7 +308,7 @@ unfolding policy_spelled
 policy_found policy.Cycles = refl
 policy_found policy.All = refl
 
-policy_back : (n : Name) (q : Policy) → policy_spelled n ≡ Some q → n ≡ policy_word q
+policy_back : (n : NameBytes) (q : Policy) → policy_spelled n ≡ Some q → n ≡ policy_word q
 unfolding policy_spelled
 policy_back n q h =
     sym ((bytes_eq-Decides (policy_word q) n).0 (find_passes (λ k. bytes_eq (policy_word k) n) policies q h))
@@ -321,7 +321,7 @@ unfolding growth_spelled
 growth_found growth.One = refl
 growth_found growth.Double = refl
 
-growth_back : (n : Name) (g : Growth) → growth_spelled n ≡ Some g → n ≡ growth_word g
+growth_back : (n : NameBytes) (g : Growth) → growth_spelled n ≡ Some g → n ≡ growth_word g
 unfolding growth_spelled
 growth_back n g h =
     sym ((bytes_eq-Decides (growth_word g) n).0 (find_passes (λ k. bytes_eq (growth_word k) n) growths g h))
@@ -359,7 +359,7 @@ number_again s ls n more h =
 
 -- ---- the number 2
 
-is_two_true : (t : Token) → is_two t ≡ true → t ≡ token.Number 2
+is_two_true : (t : Token) → is_number_two t ≡ true → t ≡ token.Number 2
 is_two_true (token.Number n) h = ap token.Number (eqb-true n 2 h)
 is_two_true (token.Name x) h = absurd cc
 is_two_true (token.Mark m) h = absurd cc
@@ -368,13 +368,13 @@ is_two_true (token.Keyword k) h = absurd cc
 pub two_takes : (s : Scope) (ls rest : List Lexeme) → two s ls ≡ Ok rest → kinds ls ≡ token.Number 2 ∷ kinds rest
 unfolding two
 two_takes s ls rest h =
-    let b = bind_ok (next s ls) (λ x. cond (is_two x.0.token) (Ok x.1) (Err (fault.Grammar x.0.start))) rest h in
-    let t = test_ok (is_two b.0.0.token) b.0.1 rest (fault.Grammar b.0.0.start) b.2 in
+    let b = bind_ok (next s ls) (λ x. cond (is_number_two x.0.token) (Ok x.1) (Err (fault.Grammar x.0.start))) rest h in
+    let t = test_ok (is_number_two b.0.0.token) b.0.1 rest (fault.Grammar b.0.0.start) b.2 in
     ap kinds (next_takes s ls b.0.0 b.0.1 b.1) ∙ ap (λ (u : Token). u ∷ kinds b.0.1) (is_two_true b.0.0.token t.0)
     ∙ ap (λ (r : List Lexeme). token.Number 2 ∷ kinds r) t.1
 
 two_at : (s : Scope) (ls : List Lexeme) (l : Lexeme) (rest : List Lexeme) → ls ≡ l ∷ rest
-    → is_two l.token ≡ true → two s ls ≡ Ok rest
+    → is_number_two l.token ≡ true → two s ls ≡ Ok rest
 unfolding two and_then
 two_at s ls l rest e t = rw (e, next_again s l rest, t) refl
 
@@ -382,19 +382,19 @@ pub two_again : (s : Scope) (ls : List Lexeme) (more : List Token) → kinds ls 
     → (rest : List Lexeme) × (two s ls ≡ Ok rest) × (kinds rest ≡ more)
 two_again s ls more h =
     let f = front ls (token.Number 2) more h in
-    (f.rest, two_at s ls f.lexeme f.rest f.whole (ap is_two f.kind), f.after)
+    (f.rest, two_at s ls f.lexeme f.rest f.whole (ap is_number_two f.kind), f.after)
 
 -- ---- calls beside what reading returns
 
 -- what a call returned was read
 pub was_read : {A B : Type 0} (view : A → B) (P : A → Type 0) (r : Result A GrammarFault) (read : Result B GrammarFault)
-    → Gives view r read → ((x : A) → read ≡ Ok (view x) → P x) → IfOk r P
+    → ReadingGives view r read → ((x : A) → read ≡ Ok (view x) → P x) → IfOk r P
 was_read view P (Ok x) read g k = k x g
 was_read view P (Err e) read g k = tt
 
 -- what can be read was returned, unless memory ran out
 pub is_returned : {A B : Type 0} (view : A → B) (P : A → Type 0) (r : Result A GrammarFault)
-    (read : Result B GrammarFault) (y : B) → Gives view r read → read ≡ Ok y → ((x : A) → view x ≡ y → P x)
+    (read : Result B GrammarFault) (y : B) → ReadingGives view r read → read ≡ Ok y → ((x : A) → view x ≡ y → P x)
     → OkOr fault.NoMemory r P
 is_returned view P (Ok x) read y g h k = k x (ok_is (view x) y (sym g ∙ h))
 is_returned view P (Err fault.NoMemory) read y g h k = refl

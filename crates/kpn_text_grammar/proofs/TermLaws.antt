@@ -10,12 +10,12 @@ use Rattle.kpn_text_grammar.specs.declared.fault.GrammarFault.TheVariants as fau
 use Rattle.kpn_text_grammar.specs.declared.parser.Scope.{Scope}
 use Rattle.kpn_lang.specs.declared.syntax.Op.{Op}
 use Rattle.kpn_lang.specs.declared.syntax.Op.TheVariants as op
-use Rattle.kpn_text_grammar.specs.Syntax.{Name, Term, numeral, variable, element, minus, negation, complement, binary, conditional}
+use Rattle.kpn_text_grammar.specs.Syntax.{NameBytes, ExpressionNode, numeral, variable, element, minus, negation, complement, binary, conditional}
 use Rattle.kpn_text_grammar.specs.Operators.{operator_mark}
 use Rattle.kpn_text_grammar.specs.Spelling.{kinds, spell_term, term_level}
 use Rattle.kpn_text_tokens.specs.Results.{and_then}
 use Rattle.kpn_text_grammar.specs.TokenTests.{is_mark}
-use Rattle.kpn_text_grammar.specs.Reading.{Read, next, mark, operator, level_fault, Fails, first_is, element_behind, behind_name, binary_behind, conditional_behind, group_behind, group, operand, expression}
+use Rattle.kpn_text_grammar.specs.Reading.{Read, next, mark, operator, level_fault, ReadingFails, first_is, element_behind, behind_name, binary_behind, conditional_behind, group_behind, group, operand, expression}
 use Rattle.kpn_text_grammar.proofs.Steps.{bind_ok, by_test, is_mark_same, ok_is, no_value, first_kind, kind_of, kinds_of, next_takes, next_again, mark_takes, mark_again, operator_takes, operator_again}
 use Rattle.kpn_text_grammar.proofs.ManyLaws.{begins, first_begins}
 
@@ -36,8 +36,8 @@ expression_deep s zero ls l rest none h = rw h refl
 expression_deep s (suc d) ls l rest none h = absurd (omega arith)
 
 -- if no token is left
-pub expression_ends : (s : Scope) (d : ℕ) (ls : List Lexeme) (e : GrammarFault) → Fails e (next s ls)
-    → Fails e (expression s d ls)
+pub expression_ends : (s : Scope) (d : ℕ) (ls : List Lexeme) (e : GrammarFault) → ReadingFails e (next s ls)
+    → ReadingFails e (expression s d ls)
 unfolding expression and_then
 expression_ends s zero ls fault.NoMemory h = tt
 expression_ends s zero ls (fault.Grammar at) h = rw h refl
@@ -47,7 +47,7 @@ expression_ends s (suc d) ls (fault.Grammar at) h = rw h refl
 expression_ends s (suc d) ls (fault.TooDeep p) h = rw h refl
 
 -- what was read as a term: its tokens are at the front, and it has at most so many levels
-pub record TakesTerm (d : ℕ) (tokens : List Token) (e : Term) (rest : List Lexeme) : Type 0 where
+pub record TakesTerm (d : ℕ) (tokens : List Token) (e : ExpressionNode) (rest : List Lexeme) : Type 0 where
   pub spelled : tokens ≡ spell_term e (kinds rest)
   pub level : term_level e ≤ d
 
@@ -56,14 +56,14 @@ abbrev pub is_index : Token → Bool
 is_index = is_mark mark_.LeftBracket
 
 -- the two laws of a parser of terms
-pub record ReadsTerms (d : ℕ) (inner : List Lexeme → Read Term) : Type 0 where
-  pub takes : (ls : List Lexeme) (e : Term) (rest : List Lexeme) → inner ls ≡ Ok (e, rest)
+pub record ReadsTerms (d : ℕ) (inner : List Lexeme → Read ExpressionNode) : Type 0 where
+  pub takes : (ls : List Lexeme) (e : ExpressionNode) (rest : List Lexeme) → inner ls ≡ Ok (e, rest)
       → TakesTerm d (kinds ls) e rest
-  pub again : (ls : List Lexeme) (e : Term) (more : List Token) → term_level e ≤ d → begins is_index more ≡ false
+  pub again : (ls : List Lexeme) (e : ExpressionNode) (more : List Token) → term_level e ≤ d → begins is_index more ≡ false
       → kinds ls ≡ spell_term e more → (rest : List Lexeme) × (inner ls ≡ Ok (e, rest)) × (kinds rest ≡ more)
 
 -- each expression has a level
-pub some_level : (e : Term) → term_level e ≤ 0 → ⊥
+pub some_level : (e : ExpressionNode) → term_level e ≤ 0 → ⊥
 some_level (numeral n) h = omega arith
 some_level (variable x) h = omega arith
 some_level (element x e) h = omega (arith, h)
@@ -84,14 +84,14 @@ no_bracket op.Add = refl
 no_bracket _ = refl
 
 -- the same tree and rest
-moved : (d : ℕ) (tokens : List Token) (e f : Term) (rest after : List Lexeme)
-    → ◌≡◌ {A = Read Term} (Ok (e, rest)) (Ok (f, after)) → TakesTerm d tokens e rest → TakesTerm d tokens f after
-moved d tokens e f rest after h t = subst (λ (p : Term × List Lexeme). TakesTerm d tokens p.0 p.1)
+moved : (d : ℕ) (tokens : List Token) (e f : ExpressionNode) (rest after : List Lexeme)
+    → ◌≡◌ {A = Read ExpressionNode} (Ok (e, rest)) (Ok (f, after)) → TakesTerm d tokens e rest → TakesTerm d tokens f after
+moved d tokens e f rest after h t = subst (λ (p : ExpressionNode × List Lexeme). TakesTerm d tokens p.0 p.1)
     (ok_is (e, rest) (f, after) h) t
 
-module _ (s : Scope) (d : ℕ) (inner : List Lexeme → Read Term) (laws : ReadsTerms d inner) where
+module _ (s : Scope) (d : ℕ) (inner : List Lexeme → Read ExpressionNode) (laws : ReadsTerms d inner) where
   -- behind the parenthesis and the first expression, of which this is known
-  binary_takes : (tokens : List Token) (a : Term) (ls : List Lexeme) (e : Term) (rest : List Lexeme)
+  binary_takes : (tokens : List Token) (a : ExpressionNode) (ls : List Lexeme) (e : ExpressionNode) (rest : List Lexeme)
       → TakesTerm d tokens a ls → binary_behind s inner a ls ≡ Ok (e, rest)
       → TakesTerm (suc d) (token.Mark mark_.LeftParen ∷ tokens) e rest
   unfolding binary_behind
@@ -107,7 +107,7 @@ module _ (s : Scope) (d : ℕ) (inner : List Lexeme → Read Term) (laws : Reads
         level = omega (arith, left.level, right.level);
       })
 
-  conditional_takes : (tokens : List Token) (c : Term) (ls : List Lexeme) (e : Term) (rest : List Lexeme)
+  conditional_takes : (tokens : List Token) (c : ExpressionNode) (ls : List Lexeme) (e : ExpressionNode) (rest : List Lexeme)
       → TakesTerm d tokens c ls → conditional_behind s inner c ls ≡ Ok (e, rest)
       → TakesTerm (suc d) (token.Mark mark_.LeftParen ∷ tokens) e rest
   unfolding conditional_behind
@@ -127,7 +127,7 @@ module _ (s : Scope) (d : ℕ) (inner : List Lexeme → Read Term) (laws : Reads
         level = omega (arith, test.level, first.level, second.level);
       })
 
-  group_takes : (ls : List Lexeme) (e : Term) (rest : List Lexeme) → group s inner ls ≡ Ok (e, rest)
+  group_takes : (ls : List Lexeme) (e : ExpressionNode) (rest : List Lexeme) → group s inner ls ≡ Ok (e, rest)
       → TakesTerm (suc d) (token.Mark mark_.LeftParen ∷ kinds ls) e rest
   unfolding group group_behind
   group_takes ls e rest h =
@@ -138,7 +138,7 @@ module _ (s : Scope) (d : ℕ) (inner : List Lexeme → Read Term) (laws : Reads
       (λ _ k. conditional_takes (kinds ls) a.0.0 a.0.1 e rest first k)
       (λ _ k. binary_takes (kinds ls) a.0.0 a.0.1 e rest first k)
 
-  element_takes : (x : Name) (ls : List Lexeme) (e : Term) (rest : List Lexeme)
+  element_takes : (x : NameBytes) (ls : List Lexeme) (e : ExpressionNode) (rest : List Lexeme)
       → element_behind s inner x ls ≡ Ok (e, rest) → TakesTerm (suc d) (token.Name x ∷ kinds ls) e rest
   unfolding element_behind
   element_takes x ls e rest h =
@@ -153,7 +153,7 @@ module _ (s : Scope) (d : ℕ) (inner : List Lexeme → Read Term) (laws : Reads
         level = omega (arith, index.level);
       })
 
-  behind_name_takes : (x : Name) (ls : List Lexeme) (e : Term) (rest : List Lexeme)
+  behind_name_takes : (x : NameBytes) (ls : List Lexeme) (e : ExpressionNode) (rest : List Lexeme)
       → behind_name s inner x ls ≡ Ok (e, rest) → TakesTerm (suc d) (token.Name x ∷ kinds ls) e rest
   unfolding behind_name
   behind_name_takes x ls e rest h =
@@ -161,7 +161,7 @@ module _ (s : Scope) (d : ℕ) (inner : List Lexeme → Read Term) (laws : Reads
       (λ _ k. element_takes x ls e rest k)
       (λ _ k. moved (suc d) _ (variable x) e ls rest k (record { spelled = refl; level = omega arith }))
 
-  operand_takes : (t : Token) (start : ℕ) (ls : List Lexeme) (e : Term) (rest : List Lexeme)
+  operand_takes : (t : Token) (start : ℕ) (ls : List Lexeme) (e : ExpressionNode) (rest : List Lexeme)
       → operand s inner t start ls ≡ Ok (e, rest) → TakesTerm (suc d) (t ∷ kinds ls) e rest
   unfolding operand
   operand_takes (token.Number n) start ls e rest h = moved (suc d) _ (numeral n) e ls rest h
@@ -204,29 +204,29 @@ module _ (s : Scope) (d : ℕ) (inner : List Lexeme → Read Term) (laws : Reads
   unfolding operand behind_name
   variable_at t start x ls k none = rw (k, none) refl
 
-  element_at : (t : Token) (start : ℕ) (x : List ℕ) (ls : List Lexeme) (e : Term) (inside after rest : List Lexeme)
+  element_at : (t : Token) (start : ℕ) (x : List ℕ) (ls : List Lexeme) (e : ExpressionNode) (inside after rest : List Lexeme)
       → t ≡ token.Name x → first_is is_index ls ≡ true → mark s mark_.LeftBracket ls ≡ Ok inside
       → inner inside ≡ Ok (e, after) → mark s mark_.RightBracket after ≡ Ok rest
       → operand s inner t start ls ≡ Ok (element x e, rest)
   unfolding operand behind_name element_behind and_then
   element_at t start x ls e inside after rest k there o i m = rw (k, there, o, i, m) refl
 
-  minus_at : (t : Token) (start : ℕ) (ls : List Lexeme) (e : Term) (rest : List Lexeme) → t ≡ token.Mark mark_.Minus
+  minus_at : (t : Token) (start : ℕ) (ls : List Lexeme) (e : ExpressionNode) (rest : List Lexeme) → t ≡ token.Mark mark_.Minus
       → inner ls ≡ Ok (e, rest) → operand s inner t start ls ≡ Ok (minus e, rest)
   unfolding operand and_then
   minus_at t start ls e rest k i = rw (k, i) refl
 
-  negation_at : (t : Token) (start : ℕ) (ls : List Lexeme) (e : Term) (rest : List Lexeme) → t ≡ token.Mark mark_.Not
+  negation_at : (t : Token) (start : ℕ) (ls : List Lexeme) (e : ExpressionNode) (rest : List Lexeme) → t ≡ token.Mark mark_.Not
       → inner ls ≡ Ok (e, rest) → operand s inner t start ls ≡ Ok (negation e, rest)
   unfolding operand and_then
   negation_at t start ls e rest k i = rw (k, i) refl
 
-  complement_at : (t : Token) (start : ℕ) (ls : List Lexeme) (e : Term) (rest : List Lexeme)
+  complement_at : (t : Token) (start : ℕ) (ls : List Lexeme) (e : ExpressionNode) (rest : List Lexeme)
       → t ≡ token.Mark mark_.BitNot → inner ls ≡ Ok (e, rest) → operand s inner t start ls ≡ Ok (complement e, rest)
   unfolding operand and_then
   complement_at t start ls e rest k i = rw (k, i) refl
 
-  binary_at : (t : Token) (start : ℕ) (ls : List Lexeme) (op : Op) (a b : Term)
+  binary_at : (t : Token) (start : ℕ) (ls : List Lexeme) (op : Op) (a b : ExpressionNode)
       (after_a after_op after_b rest : List Lexeme) → t ≡ token.Mark mark_.LeftParen
       → inner ls ≡ Ok (a, after_a) → first_is (is_mark mark_.Question) after_a ≡ false
       → operator s after_a ≡ Ok (op, after_op) → inner after_op ≡ Ok (b, after_b)
@@ -235,7 +235,7 @@ module _ (s : Scope) (d : ℕ) (inner : List Lexeme → Read Term) (laws : Reads
   unfolding operand group group_behind binary_behind and_then
   binary_at t start ls op a b after_a after_op after_b rest k i differs o j m = rw (k, i, differs, o, j, m) refl
 
-  conditional_at : (t : Token) (start : ℕ) (ls : List Lexeme) (c a b : Term)
+  conditional_at : (t : Token) (start : ℕ) (ls : List Lexeme) (c a b : ExpressionNode)
       (after_c inside after_a other after_b rest : List Lexeme) → t ≡ token.Mark mark_.LeftParen
       → inner ls ≡ Ok (c, after_c) → first_is (is_mark mark_.Question) after_c ≡ true
       → mark s mark_.Question after_c ≡ Ok inside → inner inside ≡ Ok (a, after_a)
@@ -246,7 +246,7 @@ module _ (s : Scope) (d : ℕ) (inner : List Lexeme → Read Term) (laws : Reads
   conditional_at t start ls c a b after_c inside after_a other after_b rest k i there q ia o ib m =
       rw (k, i, there, q, ia, o, ib, m) refl
 
-  operand_again : (l : Lexeme) (ls : List Lexeme) (e : Term) (more : List Token) → term_level e ≤ suc d
+  operand_again : (l : Lexeme) (ls : List Lexeme) (e : ExpressionNode) (more : List Token) → term_level e ≤ suc d
       → begins is_index more ≡ false → kinds (l ∷ ls) ≡ spell_term e more
       → (rest : List Lexeme) × (operand s inner l.token l.start ls ≡ Ok (e, rest)) × (kinds rest ≡ more)
   operand_again l ls (numeral n) more within ends h =
@@ -313,7 +313,7 @@ module _ (s : Scope) (d : ℕ) (inner : List Lexeme → Read Term) (laws : Reads
       (m.0, conditional_at l.token l.start ls c a b i.0 q.0 j.0 o.0 n.0 m.0 k i.1 there q.1 j.1 o.1 n.1 m.1, m.2)
 
 -- the first token of an expression is there
-spelled_front : (ls : List Lexeme) (e : Term) (more : List Token) → kinds ls ≡ spell_term e more → (l : Lexeme)
+spelled_front : (ls : List Lexeme) (e : ExpressionNode) (more : List Token) → kinds ls ≡ spell_term e more → (l : Lexeme)
     × (rest : List Lexeme) × (ls ≡ l ∷ rest)
 spelled_front [] (numeral n) more h = absurd cc
 spelled_front [] (variable x) more h = absurd cc
@@ -325,14 +325,14 @@ spelled_front [] (binary op a b) more h = absurd cc
 spelled_front [] (conditional c a b) more h = absurd cc
 spelled_front (l ∷ ls) e more h = (l, ls, refl)
 
-first_at : (s : Scope) (inner : List Lexeme → Read Term) (ls : List Lexeme) (l : Lexeme) (rest : List Lexeme)
-    (r : Read Term) → ls ≡ l ∷ rest → operand s inner l.token l.start rest ≡ r
+first_at : (s : Scope) (inner : List Lexeme → Read ExpressionNode) (ls : List Lexeme) (l : Lexeme) (rest : List Lexeme)
+    (r : Read ExpressionNode) → ls ≡ l ∷ rest → operand s inner l.token l.start rest ≡ r
     → and_then (next s ls) (λ x. operand s inner x.0.token x.0.start x.1) ≡ r
 unfolding and_then
 first_at s inner ls l rest r e o = rw (e, next_again s l rest) o
 
-reads_again : (s : Scope) (d : ℕ) (inner : List Lexeme → Read Term) → ReadsTerms d inner
-    → (ls : List Lexeme) (e : Term) (more : List Token) → term_level e ≤ suc d → begins is_index more ≡ false
+reads_again : (s : Scope) (d : ℕ) (inner : List Lexeme → Read ExpressionNode) → ReadsTerms d inner
+    → (ls : List Lexeme) (e : ExpressionNode) (more : List Token) → term_level e ≤ suc d → begins is_index more ≡ false
     → kinds ls ≡ spell_term e more
     → (rest : List Lexeme) × (and_then (next s ls) (λ x. operand s inner x.0.token x.0.start x.1) ≡ Ok (e, rest))
     × (kinds rest ≡ more)
@@ -342,8 +342,8 @@ reads_again s d inner laws ls e more within ends h =
     let o = operand_again s d inner laws f.0 f.1 e more within ends k in
     (o.0, first_at s inner ls f.0 f.1 (Ok (e, o.0)) f.2 o.1, o.2)
 
-reads_takes : (s : Scope) (d : ℕ) (inner : List Lexeme → Read Term) → ReadsTerms d inner
-    → (ls : List Lexeme) (e : Term) (rest : List Lexeme)
+reads_takes : (s : Scope) (d : ℕ) (inner : List Lexeme → Read ExpressionNode) → ReadsTerms d inner
+    → (ls : List Lexeme) (e : ExpressionNode) (rest : List Lexeme)
     → and_then (next s ls) (λ x. operand s inner x.0.token x.0.start x.1) ≡ Ok (e, rest)
     → TakesTerm (suc d) (kinds ls) e rest
 reads_takes s d inner laws ls e rest h =
@@ -352,11 +352,11 @@ reads_takes s d inner laws ls e rest h =
     subst (λ (ts : List Token). TakesTerm (suc d) ts e rest) (sym first)
     (operand_takes s d inner laws b.0.0.token b.0.0.start b.0.1 e rest b.2)
 
-deep_takes : (s : Scope) (ls : List Lexeme) (e : Term) (rest : List Lexeme)
-    → and_then {B = Term × List Lexeme} (next s ls) (λ x. Err (level_fault s x.0)) ≡ Ok (e, rest) → ⊥
+deep_takes : (s : Scope) (ls : List Lexeme) (e : ExpressionNode) (rest : List Lexeme)
+    → and_then {B = ExpressionNode × List Lexeme} (next s ls) (λ x. Err (level_fault s x.0)) ≡ Ok (e, rest) → ⊥
 deep_takes s ls e rest h =
-    let b = bind_ok {B = Term × List Lexeme} (next s ls) (λ x. Err (level_fault s x.0)) (e, rest) h in
-    no_value {A = Term × List Lexeme} (level_fault s b.0.0) (e, rest) b.2
+    let b = bind_ok {B = ExpressionNode × List Lexeme} (next s ls) (λ x. Err (level_fault s x.0)) (e, rest) h in
+    no_value {A = ExpressionNode × List Lexeme} (level_fault s b.0.0) (e, rest) b.2
 
 -- an expression of at most so many levels
 pub expression_laws : (s : Scope) (d : ℕ) → ReadsTerms d (expression s d)

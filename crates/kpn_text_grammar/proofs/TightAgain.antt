@@ -9,7 +9,7 @@ use Rattle.kpn_text_tokens.specs.declared.tokens.Mark.TheVariants as mark_
 use Rattle.kpn_text_grammar.specs.declared.fault.GrammarFault.TheVariants as fault
 use Rattle.kpn_text_grammar.specs.declared.parser.Scope.{Scope}
 use Rattle.kpn_lang.specs.declared.syntax.Op.{Op}
-use Rattle.kpn_text_grammar.specs.Syntax.{Name, Term, numeral, variable, element, minus, negation, complement, binary, conditional}
+use Rattle.kpn_text_grammar.specs.Syntax.{NameBytes, ExpressionNode, numeral, variable, element, minus, negation, complement, binary, conditional}
 use Rattle.kpn_text_grammar.specs.Operators.{operator_mark, tightness, left_side, right_side, LOOSEST, OPERAND}
 use Rattle.kpn_text_grammar.specs.Spelling.{kinds, term_level, spell_tight, SpellsTight, as_number, as_name, as_element, as_minus, as_negation, as_complement, in_parentheses, as_conditional, as_binary}
 use Rattle.kpn_text_tokens.specs.Results.{and_then}
@@ -22,9 +22,9 @@ use Rattle.kpn_text_grammar.proofs.TightLaws.{right_below, left_below, left_is_t
 
 -- ---- operators behind a left side
 
-module _ (s : Scope) (side : ℕ → List Lexeme → Read Term) (levels n : ℕ) where
+module _ (s : Scope) (side : ℕ → List Lexeme → Read ExpressionNode) (levels n : ℕ) where
   -- as many steps as there are levels suffice
-  pub same_steps : (i j bound : ℕ) (left : Term) (ls : List Lexeme) → levels ≤ term_level left + i
+  pub same_steps : (i j bound : ℕ) (left : ExpressionNode) (ls : List Lexeme) → levels ≤ term_level left + i
       → levels ≤ term_level left + j
       → sides_behind s side levels n i bound left ls ≡ sides_behind s side levels n j bound left ls
   unfolding sides_behind
@@ -42,7 +42,7 @@ module _ (s : Scope) (side : ℕ → List Lexeme → Read Term) (levels n : ℕ)
       (λ right. same_steps i j (tightness o.0) (binary o.0 left right.0) right.1 (omega (arith, a)) (omega (arith, b)) x))))
       (Ok (left, ls))
 
-  one_step : (i bound : ℕ) (left : Term) (ls : List Lexeme) (o : Op) (after : List Lexeme) (b : Term)
+  one_step : (i bound : ℕ) (left : ExpressionNode) (ls : List Lexeme) (o : Op) (after : List Lexeme) (b : ExpressionNode)
       (rest : List Lexeme) → first_is (goes_further n bound) ls ≡ true → term_level left < levels
       → operator s ls ≡ Ok (o, after) → side (right_side o) after ≡ Ok (b, rest)
       → sides_behind s side levels n (suc i) bound left ls
@@ -53,7 +53,7 @@ module _ (s : Scope) (side : ℕ → List Lexeme → Read Term) (levels n : ℕ)
       rw (goes, some, sign, right) refl
 
   -- an operator that goes further, and its right side
-  pub one_side : (bound : ℕ) (left : Term) (ls : List Lexeme) (o : Op) (after : List Lexeme) (b : Term)
+  pub one_side : (bound : ℕ) (left : ExpressionNode) (ls : List Lexeme) (o : Op) (after : List Lexeme) (b : ExpressionNode)
       (rest : List Lexeme) → first_is (goes_further n bound) ls ≡ true → term_level left < levels
       → operator s ls ≡ Ok (o, after) → side (right_side o) after ≡ Ok (b, rest)
       → sides_behind s side levels n levels bound left ls
@@ -62,21 +62,21 @@ module _ (s : Scope) (side : ℕ → List Lexeme → Read Term) (levels n : ℕ)
       same_steps levels (suc levels) bound left ls (omega arith) (omega arith)
       ∙ one_step levels bound left ls o after b rest goes room sign right
 
-  no_step : (i bound : ℕ) (left : Term) (ls : List Lexeme) → first_is (goes_further n bound) ls ≡ false
+  no_step : (i bound : ℕ) (left : ExpressionNode) (ls : List Lexeme) → first_is (goes_further n bound) ls ≡ false
       → sides_behind s side levels n i bound left ls ≡ Ok (left, ls)
   unfolding sides_behind
   no_step zero bound left ls stops = rw stops refl
   no_step (suc i) bound left ls stops = rw stops refl
 
   -- no operator goes further
-  pub no_side : (bound : ℕ) (left : Term) (ls : List Lexeme) → first_is (goes_further n bound) ls ≡ false
+  pub no_side : (bound : ℕ) (left : ExpressionNode) (ls : List Lexeme) → first_is (goes_further n bound) ls ≡ false
       → sides_behind s side levels n levels bound left ls ≡ Ok (left, ls)
   no_side = no_step levels
 
 -- ---- to read is to go on
 
 -- Tokens are read as an expression and the operators behind it.
-pub record ReadsOn (s : Scope) (depth d n k : ℕ) (e : Term) (more : List Token) (ls : List Lexeme) : Type 0 where
+pub record ReadsOn (s : Scope) (depth d n k : ℕ) (e : ExpressionNode) (more : List Token) (ls : List Lexeme) : Type 0 where
   pub bound : ℕ
   pub rest : List Lexeme
   pub binds : k ≤ bound
@@ -85,12 +85,12 @@ pub record ReadsOn (s : Scope) (depth d n k : ℕ) (e : Term) (more : List Token
   pub after : kinds rest ≡ more
 
 -- what was read, if no operator goes further
-pub record IsRead (more : List Token) (read : Read Term) (e : Term) : Type 0 where
+pub record IsRead (more : List Token) (read : Read ExpressionNode) (e : ExpressionNode) : Type 0 where
   pub rest : List Lexeme
   pub reads : read ≡ Ok (e, rest)
   pub after : kinds rest ≡ more
 
-stopped : (s : Scope) (depth d n k : ℕ) (e : Term) (more : List Token) (ls : List Lexeme)
+stopped : (s : Scope) (depth d n k : ℕ) (e : ExpressionNode) (more : List Token) (ls : List Lexeme)
     → ReadsOn s depth d n k e more ls → first_tightness more < n → IsRead more (tight s depth (suc d) n ls) e
 stopped s depth d n k e more ls r loose =
     let last : first_tightness (kinds r.rest) < n = subst (λ (ts : List Token). first_tightness ts < n) (sym r.after)
@@ -102,7 +102,7 @@ stopped s depth d n k e more ls r loose =
     }
 
 module _ (s : Scope) (depth d : ℕ) where
-  operand_at : (n : ℕ) (ls : List Lexeme) (l : Lexeme) (behind : List Lexeme) (e : Term) (rest : List Lexeme)
+  operand_at : (n : ℕ) (ls : List Lexeme) (l : Lexeme) (behind : List Lexeme) (e : ExpressionNode) (rest : List Lexeme)
       → ls ≡ l ∷ behind → tight_operand s (tight s depth) d l.token l.start behind ≡ Ok (e, rest)
       → tight s (suc depth) (suc d) n ls
       ≡ sides_behind s (tight s (suc depth) d) (suc d) n (suc d) OPERAND e rest
@@ -110,7 +110,7 @@ module _ (s : Scope) (depth d : ℕ) where
   operand_at n ls l behind e rest w h = rw (w, next_again s l behind, h) refl
 
   -- an operand, of which this is known
-  operand_on : (n k : ℕ) (ls : List Lexeme) (t : Token) (inside more : List Token) (f : Front ls t inside) (e : Term)
+  operand_on : (n k : ℕ) (ls : List Lexeme) (t : Token) (inside more : List Token) (f : Front ls t inside) (e : ExpressionNode)
       (rest : List Lexeme) → k ≤ OPERAND
       → tight_operand s (tight s depth) d f.lexeme.token f.lexeme.start f.rest ≡ Ok (e, rest) → kinds rest ≡ more
       → ReadsOn s (suc depth) d n k e more ls
@@ -127,44 +127,44 @@ module _ (s : Scope) (depth d : ℕ) where
   unfolding tight_operand
   number_at t start k ls e = rw e refl
 
-  name_at : (t : Token) (start : ℕ) (x : Name) (ls : List Lexeme) → t ≡ token.Name x → first_is is_index ls ≡ false
+  name_at : (t : Token) (start : ℕ) (x : NameBytes) (ls : List Lexeme) → t ≡ token.Name x → first_is is_index ls ≡ false
       → tight_operand s (tight s depth) d t start ls ≡ Ok (variable x, ls)
   unfolding tight_operand behind_name
   name_at t start x ls e none = rw (e, none) refl
 
-  element_at : (t : Token) (start : ℕ) (x : Name) (ls : List Lexeme) (e : Term) (inside after rest : List Lexeme)
+  element_at : (t : Token) (start : ℕ) (x : NameBytes) (ls : List Lexeme) (e : ExpressionNode) (inside after rest : List Lexeme)
       → t ≡ token.Name x → first_is is_index ls ≡ true → mark s mark_.LeftBracket ls ≡ Ok inside
       → tight s depth d LOOSEST inside ≡ Ok (e, after) → mark s mark_.RightBracket after ≡ Ok rest
       → tight_operand s (tight s depth) d t start ls ≡ Ok (element x e, rest)
   unfolding tight_operand behind_name element_behind and_then
   element_at t start x ls e inside after rest k there o i m = rw (k, there, o, i, m) refl
 
-  minus_at : (t : Token) (start : ℕ) (ls : List Lexeme) (e : Term) (rest : List Lexeme) → t ≡ token.Mark mark_.Minus
+  minus_at : (t : Token) (start : ℕ) (ls : List Lexeme) (e : ExpressionNode) (rest : List Lexeme) → t ≡ token.Mark mark_.Minus
       → tight s depth d OPERAND ls ≡ Ok (e, rest)
       → tight_operand s (tight s depth) d t start ls ≡ Ok (minus e, rest)
   unfolding tight_operand and_then
   minus_at t start ls e rest k i = rw (k, i) refl
 
-  negation_at : (t : Token) (start : ℕ) (ls : List Lexeme) (e : Term) (rest : List Lexeme) → t ≡ token.Mark mark_.Not
+  negation_at : (t : Token) (start : ℕ) (ls : List Lexeme) (e : ExpressionNode) (rest : List Lexeme) → t ≡ token.Mark mark_.Not
       → tight s depth d OPERAND ls ≡ Ok (e, rest)
       → tight_operand s (tight s depth) d t start ls ≡ Ok (negation e, rest)
   unfolding tight_operand and_then
   negation_at t start ls e rest k i = rw (k, i) refl
 
-  complement_at : (t : Token) (start : ℕ) (ls : List Lexeme) (e : Term) (rest : List Lexeme)
+  complement_at : (t : Token) (start : ℕ) (ls : List Lexeme) (e : ExpressionNode) (rest : List Lexeme)
       → t ≡ token.Mark mark_.BitNot → tight s depth d OPERAND ls ≡ Ok (e, rest)
       → tight_operand s (tight s depth) d t start ls ≡ Ok (complement e, rest)
   unfolding tight_operand and_then
   complement_at t start ls e rest k i = rw (k, i) refl
 
-  group_at : (t : Token) (start : ℕ) (ls : List Lexeme) (e : Term) (a rest : List Lexeme)
+  group_at : (t : Token) (start : ℕ) (ls : List Lexeme) (e : ExpressionNode) (a rest : List Lexeme)
       → t ≡ token.Mark mark_.LeftParen → tight s depth (suc d) LOOSEST ls ≡ Ok (e, a)
       → first_is (is_mark mark_.Question) a ≡ false → mark s mark_.RightParen a ≡ Ok rest
       → tight_operand s (tight s depth) d t start ls ≡ Ok (e, rest)
   unfolding tight_operand inside_behind and_then
   group_at t start ls e a rest k i differs m = rw (k, i, differs, m) refl
 
-  conditional_at : (t : Token) (start : ℕ) (ls : List Lexeme) (c a b : Term)
+  conditional_at : (t : Token) (start : ℕ) (ls : List Lexeme) (c a b : ExpressionNode)
       (after_c inside after_a other after_b rest : List Lexeme) → t ≡ token.Mark mark_.LeftParen
       → tight s depth (suc d) LOOSEST ls ≡ Ok (c, after_c) → first_is (is_mark mark_.Question) after_c ≡ true
       → nat_le (suc d) (term_level c) ≡ false
@@ -177,7 +177,7 @@ module _ (s : Scope) (depth d : ℕ) where
       rw (k, i, there, room, q, ia, o, ib, m) refl
 
 -- an operator and its right side, behind a left side that was read
-side_on : (s : Scope) (depth d n k j : ℕ) (o : Op) (a b : Term) (beside more : List Token) (ls after : List Lexeme)
+side_on : (s : Scope) (depth d n k j : ℕ) (o : Op) (a b : ExpressionNode) (beside more : List Token) (ls after : List Lexeme)
     (ra : ReadsOn s depth d n j a beside ls) (rb : IsRead more (tight s depth d (right_side o) after) b)
     → first_is (goes_further n ra.bound) ra.rest ≡ true → term_level a < suc d → operator s ra.rest ≡ Ok (o, after)
     → k ≤ tightness o → ReadsOn s depth d n k (binary o a b) more ls
@@ -190,7 +190,7 @@ side_on s depth d n k j o a b beside more ls after ra rb goes room sign fits = r
 }
 
 -- The lemma of reading.
-pub reads_on : {depth k : ℕ} {e : Term} {tokens more : List Token} → SpellsTight depth k e tokens more → (s : Scope)
+pub reads_on : {depth k : ℕ} {e : ExpressionNode} {tokens more : List Token} → SpellsTight depth k e tokens more → (s : Scope)
     (d n : ℕ) (ls : List Lexeme) → k ≤ OPERAND → n ≤ k → term_level e ≤ suc d → first_tightness more ≤ k
     → kinds ls ≡ tokens → ReadsOn s depth d n k e more ls
 reads_on (as_number {depth} {n = k} {k = value} {more}) s d n ls small tight_enough level ends h =
@@ -299,7 +299,7 @@ reads_on (as_binary {depth} {n = k} {op = o} {a} {b} {at_a} {at_b} {more} fits h
     (omega (arith, level)) sign.1 fits
 
 -- An expression that no operator follows is read.
-pub tight_again : (s : Scope) (depth levels : ℕ) (e : Term) (tokens more : List Token) (ls : List Lexeme)
+pub tight_again : (s : Scope) (depth levels : ℕ) (e : ExpressionNode) (tokens more : List Token) (ls : List Lexeme)
     → SpellsTight depth LOOSEST e tokens more → term_level e ≤ levels → first_tightness more ≡ 0 → kinds ls ≡ tokens
     → IsRead more (tight s depth levels LOOSEST ls) e
 tight_again s depth zero e tokens more ls spelled level ends h = absurd (some_level e level)
@@ -309,7 +309,7 @@ tight_again s depth (suc d) e tokens more ls spelled level ends h =
 
 -- ---- the canonical spelling
 
-spell_binary : (depth n : ℕ) (o : Op) (a b : Term) (at_a inside_a more : List Token)
+spell_binary : (depth n : ℕ) (o : Op) (a b : ExpressionNode) (at_a inside_a more : List Token)
     → (n ≤ tightness o → SpellsTight depth n (binary o a b) at_a more)
     → SpellsTight depth n (binary o a b) (token.Mark mark_.LeftParen ∷ inside_a) more
     → SpellsTight depth n (binary o a b)
@@ -319,7 +319,7 @@ spell_binary depth n o a b at_a inside_a more bare inside =
     (λ (ts : List Token). SpellsTight depth n (binary o a b) ts more)
     (λ e. bare (leb-true n (tightness o) e)) (λ _. inside)
 
-pub canonical_tight : (e : Term) (depth n : ℕ) (more : List Token) → term_level e ≤ depth
+pub canonical_tight : (e : ExpressionNode) (depth n : ℕ) (more : List Token) → term_level e ≤ depth
     → SpellsTight depth n e (spell_tight n e more) more
 canonical_tight e zero n more level = absurd (some_level e level)
 canonical_tight (numeral k) (suc depth) n more level = as_number
@@ -345,7 +345,7 @@ canonical_tight (conditional c a b) (suc depth) n more level =
 
 -- ---- spellings are no gaps
 
-pub tight_longer : {depth n : ℕ} {e : Term} {tokens more : List Token} → SpellsTight depth n e tokens more
+pub tight_longer : {depth n : ℕ} {e : ExpressionNode} {tokens more : List Token} → SpellsTight depth n e tokens more
     → length more < length tokens
 tight_longer as_number = omega arith
 tight_longer as_name = omega arith

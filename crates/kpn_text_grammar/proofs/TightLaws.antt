@@ -10,7 +10,7 @@ use Rattle.kpn_text_grammar.specs.declared.fault.GrammarFault.TheVariants as fau
 use Rattle.kpn_text_grammar.specs.declared.parser.Scope.{Scope}
 use Rattle.kpn_lang.specs.declared.syntax.Op.{Op}
 use Rattle.kpn_lang.specs.declared.syntax.Op.TheVariants as op
-use Rattle.kpn_text_grammar.specs.Syntax.{Name, Term, numeral, variable, element, minus, negation, complement, binary, conditional}
+use Rattle.kpn_text_grammar.specs.Syntax.{NameBytes, ExpressionNode, numeral, variable, element, minus, negation, complement, binary, conditional}
 use Rattle.kpn_text_grammar.specs.Operators.{operator_mark, operator_of, tightness, left_side, right_side, LOOSEST, OPERAND}
 use Rattle.kpn_text_grammar.specs.Spelling.{kinds, term_level, SpellsTight, as_number, as_name, as_element, as_minus, as_negation, as_complement, in_parentheses, as_conditional, as_binary}
 use Rattle.kpn_text_tokens.specs.Results.{and_then}
@@ -160,30 +160,30 @@ goes_of n bound ls o more e fits =
 -- ---- what is read is spelled so
 
 -- what was read as an expression
-pub record TakesTight (depth levels n : ℕ) (tokens : List Token) (e : Term) (rest : List Lexeme) : Type 0 where
+pub record TakesTight (depth levels n : ℕ) (tokens : List Token) (e : ExpressionNode) (rest : List Lexeme) : Type 0 where
   pub spelled : SpellsTight depth n e tokens (kinds rest)
   pub level : term_level e ≤ levels
 
 -- what was read as an operand or a left side: it binds as tight as this
-record TakesBound (depth levels bound : ℕ) (tokens : List Token) (e : Term) (rest : List Lexeme) : Type 0 where
+record TakesBound (depth levels bound : ℕ) (tokens : List Token) (e : ExpressionNode) (rest : List Lexeme) : Type 0 where
   spelled : (n : ℕ) → n ≤ bound → SpellsTight depth n e tokens (kinds rest)
   level : term_level e ≤ levels
 
 -- a right side, by the number of its levels
-abbrev Sides : (depth levels : ℕ) → (ℕ → List Lexeme → Read Term) → Type 0
-Sides depth levels side = (n : ℕ) (ls : List Lexeme) (e : Term) (rest : List Lexeme) → n ≤ OPERAND
+abbrev Sides : (depth levels : ℕ) → (ℕ → List Lexeme → Read ExpressionNode) → Type 0
+Sides depth levels side = (n : ℕ) (ls : List Lexeme) (e : ExpressionNode) (rest : List Lexeme) → n ≤ OPERAND
     → side n ls ≡ Ok (e, rest) → TakesTight depth levels n (kinds ls) e rest
 
-module _ (s : Scope) (depth d n : ℕ) (side : ℕ → List Lexeme → Read Term) (laws : Sides depth d side) where
-  bound_left : (bound : ℕ) (tokens : List Token) (left : Term) (ls : List Lexeme) (e : Term) (rest : List Lexeme)
-      → n ≤ bound → TakesBound depth (suc d) bound tokens left ls → ◌≡◌ {A = Read Term} (Ok (left, ls)) (Ok (e, rest))
+module _ (s : Scope) (depth d n : ℕ) (side : ℕ → List Lexeme → Read ExpressionNode) (laws : Sides depth d side) where
+  bound_left : (bound : ℕ) (tokens : List Token) (left : ExpressionNode) (ls : List Lexeme) (e : ExpressionNode) (rest : List Lexeme)
+      → n ≤ bound → TakesBound depth (suc d) bound tokens left ls → ◌≡◌ {A = Read ExpressionNode} (Ok (left, ls)) (Ok (e, rest))
       → TakesTight depth (suc d) n tokens e rest
   bound_left bound tokens left ls e rest tight_enough t h =
-      moved (λ (p : Term × List Lexeme). TakesTight depth (suc d) n tokens p.0 p.1) (left, ls) (e, rest) h
+      moved (λ (p : ExpressionNode × List Lexeme). TakesTight depth (suc d) n tokens p.0 p.1) (left, ls) (e, rest) h
       (record { spelled = t.spelled n tight_enough; level = t.level })
 
   -- an operator and its right side more
-  one_side : (bound : ℕ) (tokens : List Token) (left : Term) (ls : List Lexeme) (o : Op) (after : List Lexeme) (b : Term)
+  one_side : (bound : ℕ) (tokens : List Token) (left : ExpressionNode) (ls : List Lexeme) (o : Op) (after : List Lexeme) (b : ExpressionNode)
       (rest : List Lexeme) → Fits n bound o → TakesBound depth (suc d) bound tokens left ls
       → kinds ls ≡ token.Mark (operator_mark o) ∷ kinds after → term_level left < suc d
       → TakesTight depth d (right_side o) (kinds after) b rest
@@ -194,12 +194,12 @@ module _ (s : Scope) (depth d n : ℕ) (side : ℕ → List Lexeme → Read Term
     level = omega (arith, room, right.level);
   }
 
-  abbrev others : (steps : ℕ) → Term → List Lexeme → Read Term
+  abbrev others : (steps : ℕ) → ExpressionNode → List Lexeme → Read ExpressionNode
   others steps left ls =
       and_then (operator s ls) (λ o. and_then (side (right_side o.0) o.1)
       (λ right. sides_behind s side (suc d) n steps (tightness o.0) (binary o.0 left right.0) right.1))
 
-  sides_take : (steps bound : ℕ) (tokens : List Token) (left : Term) (ls : List Lexeme) (e : Term) (rest : List Lexeme)
+  sides_take : (steps bound : ℕ) (tokens : List Token) (left : ExpressionNode) (ls : List Lexeme) (e : ExpressionNode) (rest : List Lexeme)
       → n ≤ bound → TakesBound depth (suc d) bound tokens left ls
       → sides_behind s side (suc d) n steps bound left ls ≡ Ok (e, rest) → TakesTight depth (suc d) n tokens e rest
   unfolding sides_behind
@@ -225,18 +225,18 @@ module _ (s : Scope) (depth d n : ℕ) (side : ℕ → List Lexeme → Read Term
 
 -- an expression that is read at a depth
 abbrev Deep : Scope → ℕ → Type 0
-Deep s depth = (levels n : ℕ) (ls : List Lexeme) (e : Term) (rest : List Lexeme) → n ≤ OPERAND
+Deep s depth = (levels n : ℕ) (ls : List Lexeme) (e : ExpressionNode) (rest : List Lexeme) → n ≤ OPERAND
     → tight s depth levels n ls ≡ Ok (e, rest) → TakesTight depth levels n (kinds ls) e rest
 
 module _ (s : Scope) (depth : ℕ) (laws : Deep s depth) where
   -- the same tree and rest
-  same : (levels : ℕ) (tokens : List Token) (e f : Term) (rest after : List Lexeme)
-      → ◌≡◌ {A = Read Term} (Ok (e, rest)) (Ok (f, after)) → TakesBound (suc depth) levels OPERAND tokens e rest
+  same : (levels : ℕ) (tokens : List Token) (e f : ExpressionNode) (rest after : List Lexeme)
+      → ◌≡◌ {A = Read ExpressionNode} (Ok (e, rest)) (Ok (f, after)) → TakesBound (suc depth) levels OPERAND tokens e rest
       → TakesBound (suc depth) levels OPERAND tokens f after
   same levels tokens e f rest after h t =
-      moved (λ (p : Term × List Lexeme). TakesBound (suc depth) levels OPERAND tokens p.0 p.1) (e, rest) (f, after) h t
+      moved (λ (p : ExpressionNode × List Lexeme). TakesBound (suc depth) levels OPERAND tokens p.0 p.1) (e, rest) (f, after) h t
 
-  conditional_takes : (d : ℕ) (tokens : List Token) (c : Term) (ls : List Lexeme) (e : Term) (rest : List Lexeme)
+  conditional_takes : (d : ℕ) (tokens : List Token) (c : ExpressionNode) (ls : List Lexeme) (e : ExpressionNode) (rest : List Lexeme)
       → TakesTight depth (suc d) LOOSEST tokens c ls → term_level c < suc d
       → conditional_behind s (tight s depth d LOOSEST) c ls ≡ Ok (e, rest)
       → TakesBound (suc depth) (suc d) OPERAND (token.Mark mark_.LeftParen ∷ tokens) e rest
@@ -260,7 +260,7 @@ module _ (s : Scope) (depth : ℕ) (laws : Deep s depth) where
         level = omega (arith, room, first.level, second.level);
       })
 
-  inside_takes : (d : ℕ) (ls : List Lexeme) (e : Term) (rest : List Lexeme)
+  inside_takes : (d : ℕ) (ls : List Lexeme) (e : ExpressionNode) (rest : List Lexeme)
       → inside_behind s (suc d) (tight s depth (suc d) LOOSEST) (tight s depth d LOOSEST) ls ≡ Ok (e, rest)
       → TakesBound (suc depth) (suc d) OPERAND (token.Mark mark_.LeftParen ∷ kinds ls) e rest
   unfolding inside_behind
@@ -283,7 +283,7 @@ module _ (s : Scope) (depth : ℕ) (laws : Deep s depth) where
         level = first.level;
       }))
 
-  element_takes : (d : ℕ) (x : Name) (ls : List Lexeme) (e : Term) (rest : List Lexeme)
+  element_takes : (d : ℕ) (x : NameBytes) (ls : List Lexeme) (e : ExpressionNode) (rest : List Lexeme)
       → element_behind s (tight s depth d LOOSEST) x ls ≡ Ok (e, rest)
       → TakesBound (suc depth) (suc d) OPERAND (token.Name x ∷ kinds ls) e rest
   unfolding element_behind
@@ -302,7 +302,7 @@ module _ (s : Scope) (depth : ℕ) (laws : Deep s depth) where
         level = omega (arith, index.level);
       })
 
-  behind_name_takes : (d : ℕ) (x : Name) (ls : List Lexeme) (e : Term) (rest : List Lexeme)
+  behind_name_takes : (d : ℕ) (x : NameBytes) (ls : List Lexeme) (e : ExpressionNode) (rest : List Lexeme)
       → behind_name s (tight s depth d LOOSEST) x ls ≡ Ok (e, rest)
       → TakesBound (suc depth) (suc d) OPERAND (token.Name x ∷ kinds ls) e rest
   unfolding behind_name
@@ -311,7 +311,7 @@ module _ (s : Scope) (depth : ℕ) (laws : Deep s depth) where
       (Ok (e, rest)) h (λ _ k. element_takes d x ls e rest k)
       (λ _ k. same (suc d) _ (variable x) e ls rest k (record { spelled = λ n _. as_name; level = omega arith }))
 
-  operand_takes : (d : ℕ) (t : Token) (start : ℕ) (ls : List Lexeme) (e : Term) (rest : List Lexeme)
+  operand_takes : (d : ℕ) (t : Token) (start : ℕ) (ls : List Lexeme) (e : ExpressionNode) (rest : List Lexeme)
       → tight_operand s (tight s depth) d t start ls ≡ Ok (e, rest)
       → TakesBound (suc depth) (suc d) OPERAND (t ∷ kinds ls) e rest
   unfolding tight_operand
@@ -336,12 +336,12 @@ module _ (s : Scope) (depth : ℕ) (laws : Deep s depth) where
   operand_takes d (token.Mark mark_.LeftParen) start ls e rest h = inside_takes d ls e rest h
   operand_takes d _ start ls e rest h = absurd (no_value (fault.Grammar start) (e, rest) h)
 
-  over_takes : (levels n : ℕ) (ls : List Lexeme) (e : Term) (rest : List Lexeme) → n ≤ OPERAND
+  over_takes : (levels n : ℕ) (ls : List Lexeme) (e : ExpressionNode) (rest : List Lexeme) → n ≤ OPERAND
       → tight_over s (tight s depth) levels n ls ≡ Ok (e, rest) → TakesTight (suc depth) levels n (kinds ls) e rest
   unfolding tight_over
   over_takes zero n ls e rest small h =
-      let b = bind_ok {B = Term × List Lexeme} (next s ls) (λ x. Err (level_fault s x.0)) (e, rest) h in
-      absurd (no_value {A = Term × List Lexeme} (level_fault s b.0.0) (e, rest) b.2)
+      let b = bind_ok {B = ExpressionNode × List Lexeme} (next s ls) (λ x. Err (level_fault s x.0)) (e, rest) h in
+      absurd (no_value {A = ExpressionNode × List Lexeme} (level_fault s b.0.0) (e, rest) b.2)
   over_takes (suc d) n ls e rest small h =
       let x = bind_ok (next s ls) _ (e, rest) h in
       let a = bind_ok (tight_operand s (tight s depth) d x.0.0.token x.0.0.start x.0.1) _ (e, rest) x.2 in
@@ -351,10 +351,10 @@ module _ (s : Scope) (depth : ℕ) (laws : Deep s depth) where
       (sides_take s (suc depth) d n (tight_over s (tight s depth) d) (over_takes d) (suc d) OPERAND
       (x.0.0.token ∷ kinds x.0.1) a.0.0 a.0.1 e rest small operand a.2)
 
-pub tight_takes : (s : Scope) (depth levels n : ℕ) (ls : List Lexeme) (e : Term) (rest : List Lexeme) → n ≤ OPERAND
+pub tight_takes : (s : Scope) (depth levels n : ℕ) (ls : List Lexeme) (e : ExpressionNode) (rest : List Lexeme) → n ≤ OPERAND
     → tight s depth levels n ls ≡ Ok (e, rest) → TakesTight depth levels n (kinds ls) e rest
 unfolding tight
 tight_takes s zero levels n ls e rest small h =
-    let b = bind_ok {B = Term × List Lexeme} (next s ls) (λ x. Err (level_fault s x.0)) (e, rest) h in
-    absurd (no_value {A = Term × List Lexeme} (level_fault s b.0.0) (e, rest) b.2)
+    let b = bind_ok {B = ExpressionNode × List Lexeme} (next s ls) (λ x. Err (level_fault s x.0)) (e, rest) h in
+    absurd (no_value {A = ExpressionNode × List Lexeme} (level_fault s b.0.0) (e, rest) b.2)
 tight_takes s (suc depth) levels n ls e rest small h = over_takes s depth (tight_takes s depth) levels n ls e rest small h

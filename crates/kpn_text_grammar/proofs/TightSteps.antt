@@ -7,26 +7,26 @@ use Rattle.kpn_text_grammar.specs.declared.fault.GrammarFault.{GrammarFault}
 use Rattle.kpn_text_grammar.specs.declared.fault.GrammarFault.TheVariants as fault
 use Rattle.kpn_text_grammar.specs.declared.parser.Scope.{Scope}
 use Rattle.kpn_lang.specs.declared.syntax.Op.{Op}
-use Rattle.kpn_text_grammar.specs.Syntax.{Term, binary}
+use Rattle.kpn_text_grammar.specs.Syntax.{ExpressionNode, binary}
 use Rattle.kpn_text_grammar.specs.Operators.{tightness, right_side, OPERAND}
 use Rattle.kpn_text_grammar.specs.Spelling.{term_level}
 use Rattle.kpn_text_tokens.specs.Results.{and_then}
-use Rattle.kpn_text_grammar.specs.Reading.{Read, Fails, next, operator, level_fault, first_is, goes_further, sides_behind, tight_operand, tight_over, tight}
+use Rattle.kpn_text_grammar.specs.Reading.{Read, ReadingFails, next, operator, level_fault, first_is, goes_further, sides_behind, tight_operand, tight_over, tight}
 use Rattle.kpn_text_grammar.proofs.ManyLaws.{kinds_length}
 use Rattle.kpn_text_grammar.proofs.Steps.{operator_takes}
 use Rattle.kpn_text_grammar.proofs.TightAgain.{no_side, one_side, tight_longer}
 use Rattle.kpn_text_grammar.proofs.TightLaws.{tight_takes}
 
 -- How far the loop is: its left side has so many levels, no more than there are.
-pub record GoesOn (s : Scope) (depth levels n bound left_levels : ℕ) (left : Term) (ls : List Lexeme)
-    (total : Read Term) : Type 0 where
+pub record GoesOn (s : Scope) (depth levels n bound left_levels : ℕ) (left : ExpressionNode) (ls : List Lexeme)
+    (total : Read ExpressionNode) : Type 0 where
   pub counted : left_levels ≡ term_level left
   pub few : left_levels ≤ levels
   pub some : 0 < levels
   pub whole : sides_behind s (tight s depth (levels - 1)) levels n levels bound left ls ≡ total
 
 -- before the first turn
-pub first_turn : (s : Scope) (depth levels n : ℕ) (ls : List Lexeme) (l : Lexeme) (after : List Lexeme) (left : Term)
+pub first_turn : (s : Scope) (depth levels n : ℕ) (ls : List Lexeme) (l : Lexeme) (after : List Lexeme) (left : ExpressionNode)
     (rest : List Lexeme) → 0 < depth → 0 < levels → next s ls ≡ Ok (l, after)
     → tight_operand s (tight s (depth - 1)) (levels - 1) l.token l.start after ≡ Ok (left, rest)
     → sides_behind s (tight s depth (levels - 1)) levels n levels OPERAND left rest ≡ tight s depth levels n ls
@@ -41,7 +41,7 @@ first_turn s (suc depth) (suc levels) n ls l after left rest some_depth some h o
     rw (e, h, operand) refl
 
 -- an operator and its right side take tokens
-pub side_shortens : (s : Scope) (depth levels n : ℕ) (ls : List Lexeme) (o : Op) (after : List Lexeme) (b : Term)
+pub side_shortens : (s : Scope) (depth levels n : ℕ) (ls : List Lexeme) (o : Op) (after : List Lexeme) (b : ExpressionNode)
     (rest : List Lexeme) → n ≤ OPERAND → operator s ls ≡ Ok (o, after) → tight s depth levels n after ≡ Ok (b, rest)
     → length rest < length ls
 side_shortens s depth levels n ls o after b rest small sign side =
@@ -57,8 +57,8 @@ side_shortens s depth levels n ls o after b rest small sign side =
 -- the operand fails
 pub operand_fails : (s : Scope) (depth levels n : ℕ) (ls : List Lexeme) (l : Lexeme) (after : List Lexeme)
     (e : GrammarFault) → 0 < depth → 0 < levels → next s ls ≡ Ok (l, after)
-    → Fails e (tight_operand s (tight s (depth - 1)) (levels - 1) l.token l.start after)
-    → Fails e (tight s depth levels n ls)
+    → ReadingFails e (tight_operand s (tight s (depth - 1)) (levels - 1) l.token l.start after)
+    → ReadingFails e (tight s depth levels n ls)
 unfolding tight tight_over and_then
 operand_fails s zero levels n ls l after e some_depth some h failed = absurd (omega arith)
 operand_fails s (suc depth) zero n ls l after e some_depth some h failed = absurd (omega arith)
@@ -84,8 +84,8 @@ tight_none s zero levels n ls l after none h = rw h refl
 tight_none s (suc depth) zero n ls l after none h = rw h refl
 tight_none s (suc depth) (suc levels) n ls l after none h = absurd (omega arith)
 
-pub tight_ends : (s : Scope) (depth levels n : ℕ) (ls : List Lexeme) (e : GrammarFault) → Fails e (next s ls)
-    → Fails e (tight s depth levels n ls)
+pub tight_ends : (s : Scope) (depth levels n : ℕ) (ls : List Lexeme) (e : GrammarFault) → ReadingFails e (next s ls)
+    → ReadingFails e (tight s depth levels n ls)
 unfolding tight tight_over and_then
 tight_ends s zero levels n ls fault.NoMemory h = tt
 tight_ends s zero levels n ls (fault.Grammar at) h = rw h refl
@@ -97,7 +97,7 @@ tight_ends s (suc depth) (suc levels) n ls fault.NoMemory h = tt
 tight_ends s (suc depth) (suc levels) n ls (fault.Grammar at) h = rw h refl
 tight_ends s (suc depth) (suc levels) n ls (fault.TooDeep p) h = rw h refl
 
-module _ (s : Scope) (depth levels n bound left_levels : ℕ) (left : Term) (ls : List Lexeme) (total : Read Term)
+module _ (s : Scope) (depth levels n bound left_levels : ℕ) (left : ExpressionNode) (ls : List Lexeme) (total : Read ExpressionNode)
     (stands : GoesOn s depth levels n bound left_levels left ls total) where
   full_step : (i : ℕ) → first_is (goes_further n bound) ls ≡ true → levels ≤ left_levels
       → sides_behind s (tight s depth (levels - 1)) levels n i bound left ls ≡ Err (fault.TooDeep s.process)
@@ -142,14 +142,14 @@ module _ (s : Scope) (depth levels n bound left_levels : ℕ) (left : Term) (ls 
 
   -- the operator or its right side fails
   pub sign_fails : (e : GrammarFault) → first_is (goes_further n bound) ls ≡ true → left_levels < levels
-      → Fails e (operator s ls) → Fails e total
+      → ReadingFails e (operator s ls) → ReadingFails e total
   sign_fails fault.NoMemory goes room failed = tt
   sign_fails (fault.Grammar at) goes room failed = sign_err (fault.Grammar at) goes room failed
   sign_fails (fault.TooDeep p) goes room failed = sign_err (fault.TooDeep p) goes room failed
 
   pub side_fails : (e : GrammarFault) (o : Op) (after : List Lexeme) → first_is (goes_further n bound) ls ≡ true
       → left_levels < levels → operator s ls ≡ Ok (o, after)
-      → Fails e (tight s depth (levels - 1) (right_side o) after) → Fails e total
+      → ReadingFails e (tight s depth (levels - 1) (right_side o) after) → ReadingFails e total
   side_fails fault.NoMemory o after goes room sign failed = tt
   side_fails (fault.Grammar at) o after goes room sign failed =
       side_err (fault.Grammar at) o after goes room sign failed
@@ -159,7 +159,7 @@ module _ (s : Scope) (depth levels n bound left_levels : ℕ) (left : Term) (ls 
   pub last_turn : first_is (goes_further n bound) ls ≡ false → total ≡ Ok (left, ls)
   last_turn stops = sym stands.whole ∙ no_side s (tight s depth (levels - 1)) levels n bound left ls stops
 
-  pub next_turn : (o : Op) (after : List Lexeme) (b : Term) (rest : List Lexeme) (more both_levels : ℕ)
+  pub next_turn : (o : Op) (after : List Lexeme) (b : ExpressionNode) (rest : List Lexeme) (more both_levels : ℕ)
       → first_is (goes_further n bound) ls ≡ true → left_levels < levels → operator s ls ≡ Ok (o, after)
       → tight s depth (levels - 1) (right_side o) after ≡ Ok (b, rest) → more ≡ term_level b → more ≤ levels - 1
       → both_levels ≡ term_level (binary o left b)

@@ -9,7 +9,7 @@ use Rattle.kpn_text_tokens.specs.declared.tokens.Token.TheVariants as token
 use Rattle.kpn_text_tokens.specs.declared.tokens.Mark.TheVariants as mark_
 use Rattle.kpn_text_grammar.specs.declared.parser.Scope.{Scope}
 use Rattle.kpn_text_grammar.specs.Operators.{operator_mark, LOOSEST}
-use Rattle.kpn_text_grammar.specs.Syntax.{Term, numeral, variable, element, minus, negation, complement, binary, conditional}
+use Rattle.kpn_text_grammar.specs.Syntax.{ExpressionNode, numeral, variable, element, minus, negation, complement, binary, conditional}
 use Rattle.kpn_text_grammar.specs.Spelling.{kinds, spell_term, spell_expression, term_level, SpellsTerm}
 use Rattle.kpn_text_grammar.specs.Reading.{expression, is_second, tight, whole}
 use Rattle.kpn_text_grammar.proofs.TermLaws.{expression_laws}
@@ -17,11 +17,11 @@ use Rattle.kpn_text_grammar.proofs.TightAgain.{IsRead, canonical_tight, tight_ag
 use Rattle.kpn_text_grammar.proofs.TightLaws.{first_tightness, no_index, tight_takes}
 
 -- what was read as an expression of a statement
-pub record TakesWhole (l : Language) (tokens : List Token) (e : Term) (more : List Token) : Type 0 where
+pub record TakesWhole (l : Language) (tokens : List Token) (e : ExpressionNode) (more : List Token) : Type 0 where
   pub spelled : SpellsTerm l e tokens more
   pub level : term_level e ≤ MAX_LEVELS
 
-takes_by : (s : Scope) (l : Language) (ls : List Lexeme) (e : Term) (rest : List Lexeme)
+takes_by : (s : Scope) (l : Language) (ls : List Lexeme) (e : ExpressionNode) (rest : List Lexeme)
     → cond (is_second l) (tight s MAX_LEVELS MAX_LEVELS LOOSEST ls) (expression s MAX_LEVELS ls) ≡ Ok (e, rest)
     → TakesWhole l (kinds ls) e (kinds rest)
 takes_by s language.One ls e rest h =
@@ -31,12 +31,12 @@ takes_by s language.Two ls e rest h =
     let t = tight_takes s MAX_LEVELS MAX_LEVELS LOOSEST ls e rest (omega arith) h in
     record { spelled = t.spelled; level = t.level }
 
-pub whole_takes : (s : Scope) (ls : List Lexeme) (e : Term) (rest : List Lexeme) → whole s ls ≡ Ok (e, rest)
+pub whole_takes : (s : Scope) (ls : List Lexeme) (e : ExpressionNode) (rest : List Lexeme) → whole s ls ≡ Ok (e, rest)
     → TakesWhole s.language (kinds ls) e (kinds rest)
 unfolding whole
 whole_takes s ls e rest h = takes_by s s.language ls e rest h
 
-again_by : (s : Scope) (l : Language) (ls : List Lexeme) (e : Term) (more : List Token)
+again_by : (s : Scope) (l : Language) (ls : List Lexeme) (e : ExpressionNode) (more : List Token)
     → SpellsTerm l e (kinds ls) more → term_level e ≤ MAX_LEVELS → first_tightness more ≡ 0
     → IsRead more (cond (is_second l) (tight s MAX_LEVELS MAX_LEVELS LOOSEST ls) (expression s MAX_LEVELS ls)) e
 again_by s language.One ls e more spelled level ends =
@@ -46,7 +46,7 @@ again_by s language.Two ls e more spelled level ends =
     tight_again s MAX_LEVELS MAX_LEVELS e (kinds ls) more ls spelled level ends refl
 
 -- An expression that no operator follows is read.
-pub whole_again : (s : Scope) (ls : List Lexeme) (e : Term) (tokens more : List Token)
+pub whole_again : (s : Scope) (ls : List Lexeme) (e : ExpressionNode) (tokens more : List Token)
     → SpellsTerm s.language e tokens more → term_level e ≤ MAX_LEVELS → first_tightness more ≡ 0 → kinds ls ≡ tokens
     → IsRead more (whole s ls) e
 unfolding whole
@@ -55,14 +55,14 @@ whole_again s ls e tokens more spelled level ends h =
     (subst (λ (ts : List Token). SpellsTerm s.language e ts more) (sym h) spelled) level ends
 
 -- the canonical spelling is one
-pub canonical_expression : (l : Language) (e : Term) (more : List Token) → term_level e ≤ MAX_LEVELS
+pub canonical_expression : (l : Language) (e : ExpressionNode) (more : List Token) → term_level e ≤ MAX_LEVELS
     → SpellsTerm l e (spell_expression l e more) more
 canonical_expression language.One e more level = refl
 canonical_expression language.Two e more level = canonical_tight e MAX_LEVELS LOOSEST more level
 
 -- ---- spellings are no gaps
 
-term_longer : (e : Term) (more : List Token) → length more < length (spell_term e more)
+term_longer : (e : ExpressionNode) (more : List Token) → length more < length (spell_term e more)
 term_longer (numeral n) more = omega arith
 term_longer (variable x) more = omega arith
 term_longer (element x e) more = omega (arith, term_longer e (token.Mark mark_.RightBracket ∷ more))
@@ -85,7 +85,7 @@ term_longer (conditional c a b) more =
       term_longer b after_b,
     )
 
-pub whole_longer : (l : Language) (e : Term) (tokens more : List Token) → SpellsTerm l e tokens more
+pub whole_longer : (l : Language) (e : ExpressionNode) (tokens more : List Token) → SpellsTerm l e tokens more
     → length more < length tokens
 whole_longer language.One e tokens more h =
     subst (λ (ts : List Token). length more < length ts) (sym h) (term_longer e more)

@@ -6,7 +6,7 @@ use Rattle.kpn_text_tokens.specs.declared.tokens.Lexeme.{Lexeme}
 use Rattle.kpn_text_tokens.specs.declared.tokens.Token.{Token}
 use Rattle.kpn_text_grammar.specs.declared.parser.Scope.{Scope}
 use Rattle.kpn_text_grammar.specs.Syntax.{Description}
-use Rattle.kpn_text_grammar.specs.Spelling.{kinds, spell_description, IsWithin, IsDescription}
+use Rattle.kpn_text_grammar.specs.Spelling.{kinds, spell_description, IsWithinLimits, IsDescription}
 use Rattle.kpn_text_grammar.specs.Reading.{description}
 
 -- Tokens are read as a description if and only if they spell it within the limits, wherever they are in the text.
@@ -23,4 +23,4 @@ SpelledOnce =
 -- The canonical spelling of a description within the limits spells it.
 abbrev pub CanonicalSpells : Type 0
 CanonicalSpells =
-    (l : Language) (d : Description) → IsWithin d → IsDescription l (spell_description l d) d
+    (l : Language) (d : Description) → IsWithinLimits d → IsDescription l (spell_description l d) d

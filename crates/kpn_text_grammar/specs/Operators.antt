@@ -29,14 +29,14 @@ operator_mark op.Shl = mark.ShiftLeft
 operator_mark op.Shr = mark.ShiftRight
 
 -- every operator
-abbrev pub operators : List Op
-operators =
+abbrev pub every_operator : List Op
+every_operator =
     op.Add ∷ op.Sub ∷ op.Mul ∷ op.Div ∷ op.Rem ∷ op.Lt ∷ op.Le ∷ op.Gt ∷ op.Ge ∷ op.Eq ∷ op.Ne ∷ op.And ∷ op.Or
     ∷ op.BitAnd ∷ op.BitOr ∷ op.BitXor ∷ op.Shl ∷ op.Shr ∷ []
 
 -- the operator that a mark stands for, if it stands for one
 unfoldable pub operator_of : Mark → Option Op
-operator_of m = find (λ o. same_mark (operator_mark o) m) operators
+operator_of m = find (λ o. same_mark (operator_mark o) m) every_operator
 
 -- ---- precedence, in language 2
 

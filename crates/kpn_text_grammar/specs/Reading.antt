@@ -17,28 +17,28 @@ use Rattle.kpn_text_tokens.specs.Results.{◌>>=◌}
 use Rattle.kpn_text_grammar.specs.declared.fault.GrammarFault.{GrammarFault}
 use Rattle.kpn_text_grammar.specs.declared.fault.GrammarFault.TheVariants as fault
 use Rattle.kpn_text_grammar.specs.declared.parser.Scope.{Scope}
-use Rattle.kpn_text_grammar.specs.TokenTests.{is_mark, is_keyword, is_two, is_name}
+use Rattle.kpn_text_grammar.specs.TokenTests.{is_mark, is_keyword, is_number_two, is_name}
 use Rattle.kpn_net.specs.declared.tables.Growth.{Growth}
 use Rattle.kpn_net.specs.declared.tables.Policy.{Policy}
 use Rattle.kpn_text_grammar.specs.Operators.{operator_of, tightness, left_side, right_side, LOOSEST, OPERAND}
 use Rattle.kpn_text_grammar.specs.Spelling.{term_level}
 use Rattle.kpn_text_grammar.specs.Words.{growth_spelled, policy_spelled}
-use Rattle.kpn_text_grammar.specs.Syntax.{Name, Term, numeral, variable, element, minus, negation, complement, binary, conditional, Statement, assign, store, receive, send, choice, loop, Statements, no_statements, statement, statements_of, Literal, plain, negated, Table, Declaration, array, table, Process, Instance, Item, channel, source, sink, instance, Network, Description}
+use Rattle.kpn_text_grammar.specs.Syntax.{NameBytes, ExpressionNode, numeral, variable, element, minus, negation, complement, binary, conditional, StatementNode, assign, store, receive, send, choice, loop, Statements, no_statements, statement, as_statements, Literal, plain, negated, Table, Declaration, array, table, ProcessNode, InstanceNode, Item, channel, source, sink, instance, NetworkNode, Description}
 
 -- what was read and the tokens after it, or the first fault
 abbrev pub Read : Type 0 → Type 0
 Read A = Result (A × List Lexeme) GrammarFault
 
 -- a call failed as reading does, or memory ran out
-abbrev pub Fails : {B : Type 0} → GrammarFault → Result B GrammarFault → Type 0
-Fails fault.NoMemory read = Unit {0}
-Fails (fault.Grammar at) read = read ≡ Err (fault.Grammar at)
-Fails (fault.TooDeep process) read = read ≡ Err (fault.TooDeep process)
+abbrev pub ReadingFails : {B : Type 0} → GrammarFault → Result B GrammarFault → Type 0
+ReadingFails fault.NoMemory read = Unit {0}
+ReadingFails (fault.Grammar at) read = read ≡ Err (fault.Grammar at)
+ReadingFails (fault.TooDeep process) read = read ≡ Err (fault.TooDeep process)
 
 -- What a call returned, seen by a view, is what reading returns, unless memory ran out.
-abbrev pub Gives : {A B : Type 0} → (A → B) → Result A GrammarFault → Result B GrammarFault → Type 0
-Gives view (Ok x) read = read ≡ Ok (view x)
-Gives view (Err e) read = Fails e read
+abbrev pub ReadingGives : {A B : Type 0} → (A → B) → Result A GrammarFault → Result B GrammarFault → Type 0
+ReadingGives view (Ok x) read = read ≡ Ok (view x)
+ReadingGives view (Err e) read = ReadingFails e read
 
 -- ---- one token
 
@@ -65,11 +65,11 @@ keyword s k ls = do
   if is_keyword k x.0.token then Ok x.1 else Err (fault.Grammar x.0.start)
 
 -- a name
-abbrev pub named : Token → ℕ → List Lexeme → Read Name
+abbrev pub named : Token → ℕ → List Lexeme → Read NameBytes
 named (token.Name bytes) start rest = Ok (bytes, rest)
 named _ start rest = Err (fault.Grammar start)
 
-unfoldable pub name : Scope → List Lexeme → Read Name
+unfoldable pub name : Scope → List Lexeme → Read NameBytes
 name s ls = do
   x ← next s ls
   named x.0.token x.0.start x.1
@@ -99,12 +99,12 @@ operator s ls = do
   or_fault_at x.0.start x.1 (token_operator x.0.token)
 
 -- what a token stands for, if it is a name that stands for something
-abbrev pub token_word : {A : Type 0} → (Name → Option A) → Token → Option A
+abbrev pub token_word : {A : Type 0} → (NameBytes → Option A) → Token → Option A
 token_word meant (token.Name x) = meant x
 token_word meant _ = None
 
 -- one of the names that stand for something, by what each stands for
-unfoldable pub word_of : {A : Type 0} → (Name → Option A) → Scope → List Lexeme → Read A
+unfoldable pub word_of : {A : Type 0} → (NameBytes → Option A) → Scope → List Lexeme → Read A
 word_of meant s ls = do
   x ← next s ls
   or_fault_at x.0.start x.1 (token_word meant x.0.token)
@@ -132,17 +132,17 @@ separated s one ls = do
   Ok (x.0 ∷ xs.0, xs.1)
 
 -- names, with commas between them
-unfoldable pub names : Scope → List Lexeme → Read (List Name)
+unfoldable pub names : Scope → List Lexeme → Read (List NameBytes)
 names s ls = separated s (name s) ls
 
 -- the same, or none if no name is at the front
-unfoldable pub optional_names : Scope → List Lexeme → Read (List Name)
+unfoldable pub optional_names : Scope → List Lexeme → Read (List NameBytes)
 optional_names s ls = if first_is is_name ls then names s ls else Ok ([], ls)
 
 -- ---- a name or an element, by a parser of the index
 
 -- behind the name of an array or a table
-unfoldable pub element_behind : Scope → (List Lexeme → Read Term) → Name → List Lexeme → Read Term
+unfoldable pub element_behind : Scope → (List Lexeme → Read ExpressionNode) → NameBytes → List Lexeme → Read ExpressionNode
 element_behind s inner x ls = do
   inside ← mark s mark_.LeftBracket ls
   e ← inner inside
@@ -150,7 +150,7 @@ element_behind s inner x ls = do
   Ok (element x e.0, rest)
 
 -- behind a name
-unfoldable pub behind_name : Scope → (List Lexeme → Read Term) → Name → List Lexeme → Read Term
+unfoldable pub behind_name : Scope → (List Lexeme → Read ExpressionNode) → NameBytes → List Lexeme → Read ExpressionNode
 behind_name s inner x ls =
     if first_is (is_mark mark_.LeftBracket) ls then element_behind s inner x ls else Ok (variable x, ls)
 
@@ -170,7 +170,7 @@ abbrev pub level_fault : Scope → Lexeme → GrammarFault
 level_fault s l = if begins_expression l.token then fault.TooDeep s.process else fault.Grammar l.start
 
 -- an operator and the right side, behind the left one
-unfoldable pub binary_behind : Scope → (List Lexeme → Read Term) → Term → List Lexeme → Read Term
+unfoldable pub binary_behind : Scope → (List Lexeme → Read ExpressionNode) → ExpressionNode → List Lexeme → Read ExpressionNode
 binary_behind s inner left ls = do
   op ← operator s ls
   right ← inner op.1
@@ -178,7 +178,7 @@ binary_behind s inner left ls = do
   Ok (binary op.0 left right.0, rest)
 
 -- `?` and the two values, behind what decides between them
-unfoldable pub conditional_behind : Scope → (List Lexeme → Read Term) → Term → List Lexeme → Read Term
+unfoldable pub conditional_behind : Scope → (List Lexeme → Read ExpressionNode) → ExpressionNode → List Lexeme → Read ExpressionNode
 conditional_behind s inner c ls = do
   after ← mark s mark_.Question ls
   a ← inner after
@@ -188,18 +188,18 @@ conditional_behind s inner c ls = do
   Ok (conditional c a.0 b.0, rest)
 
 -- one of them, behind the first expression
-unfoldable pub group_behind : Scope → (List Lexeme → Read Term) → Term → List Lexeme → Read Term
+unfoldable pub group_behind : Scope → (List Lexeme → Read ExpressionNode) → ExpressionNode → List Lexeme → Read ExpressionNode
 group_behind s inner first ls =
     if first_is (is_mark mark_.Question) ls
     then conditional_behind s inner first ls
     else binary_behind s inner first ls
 
 -- behind the opening parenthesis
-unfoldable pub group : Scope → (List Lexeme → Read Term) → List Lexeme → Read Term
+unfoldable pub group : Scope → (List Lexeme → Read ExpressionNode) → List Lexeme → Read ExpressionNode
 group s inner ls = inner ls >>= λ first. group_behind s inner first.0 first.1
 
 -- behind its first token, which begins at this byte
-unfoldable pub operand : Scope → (List Lexeme → Read Term) → Token → ℕ → List Lexeme → Read Term
+unfoldable pub operand : Scope → (List Lexeme → Read ExpressionNode) → Token → ℕ → List Lexeme → Read ExpressionNode
 operand s inner (token.Number n) start rest = Ok (numeral n, rest)
 operand s inner (token.Name x) start rest = behind_name s inner x rest
 operand s inner (token.Mark mark_.Minus) start rest = inner rest >>= λ e. Ok (minus e.0, e.1)
@@ -209,7 +209,7 @@ operand s inner (token.Mark mark_.LeftParen) start rest = group s inner rest
 operand s inner _ start rest = Err (fault.Grammar start)
 
 -- an expression of at most so many levels
-unfoldable pub expression : Scope → ℕ → List Lexeme → Read Term
+unfoldable pub expression : Scope → ℕ → List Lexeme → Read ExpressionNode
 expression s zero ls = next s ls >>= λ x. Err (level_fault s x.0)
 expression s (suc d) ls = next s ls >>= λ x. operand s (expression s d) x.0.token x.0.start x.1
 
@@ -224,13 +224,13 @@ abbrev pub goes_further : (n left : ℕ) → Token → Bool
 goes_further n left t = operator_fits n left (token_operator t)
 
 -- what is read behind a left side, if that has fewer levels than there are
-abbrev pub unless_full : Scope → (levels : ℕ) → Term → Read Term → Read Term
+abbrev pub unless_full : Scope → (levels : ℕ) → ExpressionNode → Read ExpressionNode → Read ExpressionNode
 unless_full s levels left read = if nat_le levels (term_level left) then Err (fault.TooDeep s.process) else read
 
 -- Operators that bind as tight as n, each with its right side, behind a left side that binds as tight as `bound`. The
 -- whole has at most so many levels. Each operator takes one, so `steps` that are as many suffice.
-unfoldable pub sides_behind : Scope → (side : ℕ → List Lexeme → Read Term) → (levels n steps bound : ℕ) → Term
-    → List Lexeme → Read Term
+unfoldable pub sides_behind : Scope → (side : ℕ → List Lexeme → Read ExpressionNode) → (levels n steps bound : ℕ) → ExpressionNode
+    → List Lexeme → Read ExpressionNode
 sides_behind s side levels n zero bound left ls =
     if first_is (goes_further n bound) ls then Err (fault.TooDeep s.process) else Ok (left, ls)
 sides_behind s side levels n (suc steps) bound left ls =
@@ -241,7 +241,7 @@ sides_behind s side levels n (suc steps) bound left ls =
     else Ok (left, ls)
 
 -- what stands between parentheses, by parsers of one that has so many levels and of one that has one less
-unfoldable pub inside_behind : Scope → (levels : ℕ) → (inner deeper : List Lexeme → Read Term) → List Lexeme → Read Term
+unfoldable pub inside_behind : Scope → (levels : ℕ) → (inner deeper : List Lexeme → Read ExpressionNode) → List Lexeme → Read ExpressionNode
 inside_behind s levels inner deeper ls =
     inner ls >>= λ first. if first_is (is_mark mark_.Question) first.1
     then unless_full s levels first.0 (conditional_behind s deeper first.0 first.1)
@@ -249,8 +249,8 @@ inside_behind s levels inner deeper ls =
 
 -- An operand of at most one level more than these, from its first token on, which begins at this byte. `inner` parses
 -- what stands behind a sign, `(` or `[`, by its levels and by how tight it has to bind.
-unfoldable pub tight_operand : Scope → (inner : ℕ → ℕ → List Lexeme → Read Term) → (levels : ℕ) → Token → ℕ
-    → List Lexeme → Read Term
+unfoldable pub tight_operand : Scope → (inner : ℕ → ℕ → List Lexeme → Read ExpressionNode) → (levels : ℕ) → Token → ℕ
+    → List Lexeme → Read ExpressionNode
 tight_operand s inner levels (token.Number k) start rest = Ok (numeral k, rest)
 tight_operand s inner levels (token.Name x) start rest = behind_name s (inner levels LOOSEST) x rest
 tight_operand s inner levels (token.Mark mark_.Minus) start rest =
@@ -264,7 +264,7 @@ tight_operand s inner levels (token.Mark mark_.LeftParen) start rest =
 tight_operand s inner levels _ start rest = Err (fault.Grammar start)
 
 -- an expression of at most so many levels that binds as tight as n
-unfoldable pub tight_over : Scope → (inner : ℕ → ℕ → List Lexeme → Read Term) → (levels n : ℕ) → List Lexeme → Read Term
+unfoldable pub tight_over : Scope → (inner : ℕ → ℕ → List Lexeme → Read ExpressionNode) → (levels n : ℕ) → List Lexeme → Read ExpressionNode
 tight_over s inner zero n ls = next s ls >>= λ x. Err (level_fault s x.0)
 tight_over s inner (suc levels) n ls = do
   x ← next s ls
@@ -272,7 +272,7 @@ tight_over s inner (suc levels) n ls = do
   sides_behind s (tight_over s inner levels) (suc levels) n (suc levels) OPERAND left.0 left.1
 
 -- The same. At most so many operands, signs, `(` and `[` stand in each other.
-unfoldable pub tight : Scope → (depth levels n : ℕ) → List Lexeme → Read Term
+unfoldable pub tight : Scope → (depth levels n : ℕ) → List Lexeme → Read ExpressionNode
 tight s zero levels n ls = next s ls >>= λ x. Err (level_fault s x.0)
 tight s (suc depth) levels n ls = tight_over s (tight s depth) levels n ls
 
@@ -282,14 +282,14 @@ abbrev pub is_second : Language → Bool
 is_second language.One = false
 is_second language.Two = true
 
-unfoldable pub whole : Scope → List Lexeme → Read Term
+unfoldable pub whole : Scope → List Lexeme → Read ExpressionNode
 whole s ls =
     if is_second s.language then tight s MAX_LEVELS MAX_LEVELS LOOSEST ls else expression s MAX_LEVELS ls
 
 -- ---- statements, by a parser of the blocks one level deeper
 
 -- behind the name of a variable
-unfoldable pub assignment_behind : Scope → Name → List Lexeme → Read Statement
+unfoldable pub assignment_behind : Scope → NameBytes → List Lexeme → Read StatementNode
 assignment_behind s x ls = do
   after ← mark s mark_.Assign ls
   e ← whole s after
@@ -297,7 +297,7 @@ assignment_behind s x ls = do
   Ok (assign x e.0, rest)
 
 -- behind the name of an array
-unfoldable pub store_behind : Scope → Name → List Lexeme → Read Statement
+unfoldable pub store_behind : Scope → NameBytes → List Lexeme → Read StatementNode
 store_behind s x ls = do
   inside ← mark s mark_.LeftBracket ls
   i ← whole s inside
@@ -308,12 +308,12 @@ store_behind s x ls = do
   Ok (store x i.0 e.0, rest)
 
 -- behind the name of what is set
-unfoldable pub target_behind : Scope → Name → List Lexeme → Read Statement
+unfoldable pub target_behind : Scope → NameBytes → List Lexeme → Read StatementNode
 target_behind s x ls =
     if first_is (is_mark mark_.LeftBracket) ls then store_behind s x ls else assignment_behind s x ls
 
 -- behind `read`
-unfoldable pub receive_behind : Scope → List Lexeme → Read Statement
+unfoldable pub receive_behind : Scope → List Lexeme → Read StatementNode
 receive_behind s ls = do
   i ← name s ls
   x ← name s i.1
@@ -321,7 +321,7 @@ receive_behind s ls = do
   Ok (receive i.0 x.0, rest)
 
 -- behind `write`
-unfoldable pub send_behind : Scope → List Lexeme → Read Statement
+unfoldable pub send_behind : Scope → List Lexeme → Read StatementNode
 send_behind s ls = do
   o ← name s ls
   e ← whole s o.1
@@ -336,7 +336,7 @@ else_behind s second ls =
     else (keyword s keyword_.Else ls >>= second)
 
 -- behind `if`, by a parser of what stands behind `else` too
-unfoldable pub choice_behind : Scope → (inner second : List Lexeme → Read Statements) → List Lexeme → Read Statement
+unfoldable pub choice_behind : Scope → (inner second : List Lexeme → Read Statements) → List Lexeme → Read StatementNode
 choice_behind s inner second ls = do
   e ← whole s ls
   a ← inner e.1
@@ -344,7 +344,7 @@ choice_behind s inner second ls = do
   Ok (choice e.0 a.0 b.0, b.1)
 
 -- behind `while`
-unfoldable pub loop_behind : Scope → (List Lexeme → Read Statements) → List Lexeme → Read Statement
+unfoldable pub loop_behind : Scope → (List Lexeme → Read Statements) → List Lexeme → Read StatementNode
 loop_behind s inner ls = do
   e ← whole s ls
   b ← inner e.1
@@ -352,7 +352,7 @@ loop_behind s inner ls = do
 
 -- behind its first token, which begins at this byte
 unfoldable pub statement_behind : Scope → (inner second : List Lexeme → Read Statements) → Token → ℕ → List Lexeme
-    → Read Statement
+    → Read StatementNode
 statement_behind s inner second (token.Name x) start rest = target_behind s x rest
 statement_behind s inner second (token.Keyword keyword_.Read) start rest = receive_behind s rest
 statement_behind s inner second (token.Keyword keyword_.Write) start rest = send_behind s rest
@@ -360,24 +360,24 @@ statement_behind s inner second (token.Keyword keyword_.If) start rest = choice_
 statement_behind s inner second (token.Keyword keyword_.While) start rest = loop_behind s inner rest
 statement_behind s inner second _ start rest = Err (fault.Grammar start)
 
-unfoldable pub one_statement : Scope → (inner second : List Lexeme → Read Statements) → ℕ → List Lexeme → Read Statement
+unfoldable pub one_statement : Scope → (inner second : List Lexeme → Read Statements) → ℕ → List Lexeme → Read StatementNode
 one_statement s inner second i ls = next s ls >>= λ x. statement_behind s inner second x.0.token x.0.start x.1
 
 -- anything but the brace that ends a block or the network
-abbrev pub goes_on : Token → Bool
-goes_on t = not (is_mark mark_.RightBrace t)
+abbrev pub stands_in_block : Token → Bool
+stands_in_block t = not (is_mark mark_.RightBrace t)
 
 -- the statements up to the closing brace
 unfoldable pub statements_at : Scope → (inner second : List Lexeme → Read Statements) → List Lexeme
-    → Read (List Statement)
-statements_at s inner second ls = many goes_on (one_statement s inner second) 0 (length ls) ls
+    → Read (List StatementNode)
+statements_at s inner second ls = many stands_in_block (one_statement s inner second) 0 (length ls) ls
 
 -- the statements of a block and its closing brace
 unfoldable pub block_behind : Scope → (inner second : List Lexeme → Read Statements) → List Lexeme → Read Statements
 block_behind s inner second ls = do
   found ← statements_at s inner second ls
   rest ← mark s mark_.RightBrace found.1
-  Ok (statements_of found.0, rest)
+  Ok (as_statements found.0, rest)
 
 -- the braces of a block and what is in it
 unfoldable pub opened : Scope → (inner second : List Lexeme → Read Statements) → List Lexeme → Read Statements
@@ -485,12 +485,12 @@ shared_tables s ls = many (is_keyword keyword_.Table) (shared_table s) 0 (length
 
 -- the ports and parameters of a process
 pub record HeadParts : Type 0 where
-  pub ins : List Name
-  pub outs : List Name
-  pub pars : List Name
+  pub ins : List NameBytes
+  pub outs : List NameBytes
+  pub pars : List NameBytes
 
 -- [ ";" "par" names ] behind the ports
-unfoldable pub after_outs : Scope → List Name → List Name → List Lexeme → Read HeadParts
+unfoldable pub after_outs : Scope → List NameBytes → List NameBytes → List Lexeme → Read HeadParts
 after_outs s ins outs ls =
     if first_is (is_mark mark_.Semicolon) ls
     then (do
@@ -502,14 +502,14 @@ after_outs s ins outs ls =
 
 -- "out" names [ ";" "par" names ] or "par" names behind the in ports, from its first token on, which begins at this
 -- byte
-unfoldable pub outs_or_pars : Scope → List Name → Token → ℕ → List Lexeme → Read HeadParts
+unfoldable pub outs_or_pars : Scope → List NameBytes → Token → ℕ → List Lexeme → Read HeadParts
 outs_or_pars s ins (token.Keyword keyword_.Out) start rest = names s rest >>= λ outs. after_outs s ins outs.0 outs.1
 outs_or_pars s ins (token.Keyword keyword_.Par) start rest =
     names s rest >>= λ pars. Ok (record { ins = ins; outs = []; pars = pars.0 }, pars.1)
 outs_or_pars s ins _ start rest = Err (fault.Grammar start)
 
 -- the same behind a semicolon, if one is at the front
-unfoldable pub after_ins : Scope → List Name → List Lexeme → Read HeadParts
+unfoldable pub after_ins : Scope → List NameBytes → List Lexeme → Read HeadParts
 after_ins s ins ls =
     if first_is (is_mark mark_.Semicolon) ls
     then (do
@@ -535,7 +535,7 @@ unfoldable pub body_behind : Scope → List Lexeme → Read Statements
 body_behind s ls = block_behind s (block s (MAX_LEVELS - 1)) (second_block s (MAX_LEVELS - 1)) ls
 
 -- a process
-unfoldable pub process : Scope → List Lexeme → Read Process
+unfoldable pub process : Scope → List Lexeme → Read ProcessNode
 process s ls = do
   word ← keyword s keyword_.Process ls
   x ← name s word
@@ -558,11 +558,11 @@ process s ls = do
   )
 
 -- the process of a number
-unfoldable pub numbered_process : Scope → ℕ → List Lexeme → Read Process
+unfoldable pub numbered_process : Scope → ℕ → List Lexeme → Read ProcessNode
 numbered_process s i ls = process (record { end = s.end; process = i; language = s.language }) ls
 
 -- the processes, numbered from 0
-unfoldable pub processes : Scope → List Lexeme → Read (List Process)
+unfoldable pub processes : Scope → List Lexeme → Read (List ProcessNode)
 processes s ls = many (is_keyword keyword_.Process) (numbered_process s) 0 (length ls) ls
 
 -- ---- networks
@@ -604,7 +604,7 @@ optional_values s ls =
     else Ok ([], ls)
 
 -- the program of the instance of this name, its channels and values
-unfoldable pub call : Scope → Name → List Lexeme → Read Instance
+unfoldable pub call : Scope → NameBytes → List Lexeme → Read InstanceNode
 call s x ls = do
   f ← name s ls
   inside ← mark s mark_.LeftParen f.1
@@ -616,7 +616,7 @@ call s x ls = do
   Ok (record { name = x; program = f.0; ins = ins.0; outs = outs.0; values = vs.0 }, rest)
 
 -- behind the name of the instance
-unfoldable pub instance_behind : Scope → Name → List Lexeme → Read Item
+unfoldable pub instance_behind : Scope → NameBytes → List Lexeme → Read Item
 instance_behind s x ls = do
   after ← mark s mark_.Assign ls
   i ← call s x after
@@ -636,7 +636,7 @@ item s i ls = next s ls >>= λ x. item_behind s x.0.token x.0.start x.1
 
 -- the items up to the closing brace
 unfoldable pub items : Scope → List Lexeme → Read (List Item)
-items s ls = many goes_on (item s) 0 (length ls) ls
+items s ls = many stands_in_block (item s) 0 (length ls) ls
 
 -- a setting and the semicolon behind its reserved word, if that is at the front
 unfoldable pub setting : {A : Type 0} → Keyword → (Scope → List Lexeme → Read A) → Scope → List Lexeme
@@ -663,7 +663,7 @@ unfoldable pub growth : Scope → List Lexeme → Read (Option Growth)
 growth = setting keyword_.Grow (word_of growth_spelled)
 
 -- the network
-unfoldable pub network : Scope → List Lexeme → Read Network
+unfoldable pub network : Scope → List Lexeme → Read NetworkNode
 network s ls = do
   word ← keyword s keyword_.Network ls
   inside ← mark s mark_.LeftBrace word
@@ -685,7 +685,7 @@ at_end (l ∷ ls) = Err (fault.Grammar l.start)
 unfoldable pub two : Scope → List Lexeme → Result (List Lexeme) GrammarFault
 two s ls = do
   x ← next s ls
-  if is_two x.0.token then Ok x.1 else Err (fault.Grammar x.0.start)
+  if is_number_two x.0.token then Ok x.1 else Err (fault.Grammar x.0.start)
 
 -- `language 2;`
 unfoldable pub opening : Scope → List Lexeme → Result (List Lexeme) GrammarFault

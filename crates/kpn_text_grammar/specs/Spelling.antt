@@ -18,7 +18,7 @@ use Rattle.kpn_net.specs.declared.tables.Policy.{Policy}
 use Rattle.kpn_text_grammar.specs.Operators.{operator_mark, tightness, left_side, right_side, LOOSEST, OPERAND}
 use Rattle.kpn_text_grammar.specs.TokenTests.{is_keyword}
 use Rattle.kpn_text_grammar.specs.Words.{growth_word, policy_word}
-use Rattle.kpn_text_grammar.specs.Syntax.{Name, Term, numeral, variable, element, minus, negation, complement, binary, conditional, Statement, assign, store, receive, send, choice, loop, Statements, no_statements, statement, Literal, plain, negated, Table, Declaration, array, table, Process, Instance, Item, channel, source, sink, instance, Network, Description}
+use Rattle.kpn_text_grammar.specs.Syntax.{NameBytes, ExpressionNode, numeral, variable, element, minus, negation, complement, binary, conditional, StatementNode, assign, store, receive, send, choice, loop, Statements, no_statements, statement, Literal, plain, negated, Table, Declaration, array, table, ProcessNode, InstanceNode, Item, channel, source, sink, instance, NetworkNode, Description}
 
 -- the tokens of a text without their places
 abbrev pub kinds : List Lexeme → List Token
@@ -27,7 +27,7 @@ kinds ls = map (λ l. l.token) ls
 -- ---- expressions
 
 -- in language 1: a number, a name, x[e], -e, !e, ~e, (a op b), (c ? a : b)
-abbrev pub spell_term : Term → List Token → List Token
+abbrev pub spell_term : ExpressionNode → List Token → List Token
 spell_term (numeral n) more = token.Number n ∷ more
 spell_term (variable x) more = token.Name x ∷ more
 spell_term (element x e) more =
@@ -44,7 +44,7 @@ spell_term (conditional c a b) more =
 
 -- In language 2, where an expression has to bind as tight as this: the same, with parentheses around an operator only
 -- if it binds looser.
-abbrev pub spell_tight : ℕ → Term → List Token → List Token
+abbrev pub spell_tight : ℕ → ExpressionNode → List Token → List Token
 spell_tight n (numeral k) more = token.Number k ∷ more
 spell_tight n (variable x) more = token.Name x ∷ more
 spell_tight n (element x e) more =
@@ -62,45 +62,45 @@ spell_tight n (conditional c a b) more =
     ∷ spell_tight LOOSEST a (token.Mark mark.Colon ∷ spell_tight LOOSEST b (token.Mark mark.RightParen ∷ more)))
 
 -- the canonical spelling of an expression
-abbrev pub spell_expression : Language → Term → List Token → List Token
+abbrev pub spell_expression : Language → ExpressionNode → List Token → List Token
 spell_expression language.One e more = spell_term e more
 spell_expression language.Two e more = spell_tight LOOSEST e more
 
 -- The rules of expressions in language 2, a rule for each form: tokens up to those that follow spell a term that binds
 -- as tight as this, or tighter. `depth` is how many operands, signs, `(` and `[` may stand in each other.
-pub data SpellsTight : (depth n : ℕ) → Term → List Token → List Token → Type 0 where
+pub data SpellsTight : (depth n : ℕ) → ExpressionNode → List Token → List Token → Type 0 where
   as_number : {depth n k : ℕ} {more : List Token} → SpellsTight (suc depth) n (numeral k) (token.Number k ∷ more) more
-  as_name : {depth n : ℕ} {x : Name} {more : List Token}
+  as_name : {depth n : ℕ} {x : NameBytes} {more : List Token}
       → SpellsTight (suc depth) n (variable x) (token.Name x ∷ more) more
-  as_element : {depth n : ℕ} {x : Name} {e : Term} {tokens more : List Token}
+  as_element : {depth n : ℕ} {x : NameBytes} {e : ExpressionNode} {tokens more : List Token}
       → SpellsTight depth LOOSEST e tokens (token.Mark mark.RightBracket ∷ more)
       → SpellsTight (suc depth) n (element x e) (token.Name x ∷ token.Mark mark.LeftBracket ∷ tokens) more
-  as_minus : {depth n : ℕ} {e : Term} {tokens more : List Token} → SpellsTight depth OPERAND e tokens more
+  as_minus : {depth n : ℕ} {e : ExpressionNode} {tokens more : List Token} → SpellsTight depth OPERAND e tokens more
       → SpellsTight (suc depth) n (minus e) (token.Mark mark.Minus ∷ tokens) more
-  as_negation : {depth n : ℕ} {e : Term} {tokens more : List Token} → SpellsTight depth OPERAND e tokens more
+  as_negation : {depth n : ℕ} {e : ExpressionNode} {tokens more : List Token} → SpellsTight depth OPERAND e tokens more
       → SpellsTight (suc depth) n (negation e) (token.Mark mark.Not ∷ tokens) more
-  as_complement : {depth n : ℕ} {e : Term} {tokens more : List Token} → SpellsTight depth OPERAND e tokens more
+  as_complement : {depth n : ℕ} {e : ExpressionNode} {tokens more : List Token} → SpellsTight depth OPERAND e tokens more
       → SpellsTight (suc depth) n (complement e) (token.Mark mark.BitNot ∷ tokens) more
-  in_parentheses : {depth n : ℕ} {e : Term} {tokens more : List Token}
+  in_parentheses : {depth n : ℕ} {e : ExpressionNode} {tokens more : List Token}
       → SpellsTight depth LOOSEST e tokens (token.Mark mark.RightParen ∷ more)
       → SpellsTight (suc depth) n e (token.Mark mark.LeftParen ∷ tokens) more
-  as_conditional : {depth n : ℕ} {c a b : Term} {at_c at_a at_b more : List Token}
+  as_conditional : {depth n : ℕ} {c a b : ExpressionNode} {at_c at_a at_b more : List Token}
       → SpellsTight depth LOOSEST c at_c (token.Mark mark.Question ∷ at_a)
       → SpellsTight depth LOOSEST a at_a (token.Mark mark.Colon ∷ at_b)
       → SpellsTight depth LOOSEST b at_b (token.Mark mark.RightParen ∷ more)
       → SpellsTight (suc depth) n (conditional c a b) (token.Mark mark.LeftParen ∷ at_c) more
-  as_binary : {depth n : ℕ} {op : Op} {a b : Term} {at_a at_b more : List Token} → n ≤ tightness op
+  as_binary : {depth n : ℕ} {op : Op} {a b : ExpressionNode} {at_a at_b more : List Token} → n ≤ tightness op
       → SpellsTight depth (left_side op) a at_a (token.Mark (operator_mark op) ∷ at_b)
       → SpellsTight depth (right_side op) b at_b more
       → SpellsTight depth n (binary op a b) at_a more
 
 -- the tokens up to those that follow spell an expression of a statement
-abbrev pub SpellsTerm : Language → Term → List Token → List Token → Type 0
+abbrev pub SpellsTerm : Language → ExpressionNode → List Token → List Token → Type 0
 SpellsTerm language.One e tokens more = tokens ≡ spell_term e more
 SpellsTerm language.Two e tokens more = SpellsTight MAX_LEVELS LOOSEST e tokens more
 
 -- a number or a name has one level, and an index, a sign, an operator or a choice one more than its deepest part
-abbrev pub term_level : Term → ℕ
+abbrev pub term_level : ExpressionNode → ℕ
 term_level (numeral n) = 1
 term_level (variable x) = 1
 term_level (element x e) = suc (term_level e)
@@ -122,7 +122,7 @@ spell_else l b inside more =
 
 abbrev mutual
   -- x = e;  x[i] = e;  read i x;  write o e;  if e { .. } else { .. }  while e { .. }
-  pub spell_statement : Language → Statement → List Token → List Token
+  pub spell_statement : Language → StatementNode → List Token → List Token
   spell_statement l (assign x e) more = token.Name x ∷ token.Mark mark.Assign
       ∷ spell_expression l e (token.Mark mark.Semicolon ∷ more)
   spell_statement l (store x i e) more = token.Name x ∷ token.Mark mark.LeftBracket
@@ -151,25 +151,25 @@ begins_else (t ∷ ts) = is_keyword keyword.Else t
 
 mutual
   -- The rules of statements: the tokens up to those that follow spell the statement in a language.
-  pub data SpellsStatement (l : Language) : Statement → List Token → List Token → Type 0 where
-    as_assignment : {x : Name} {e : Term} {tokens more : List Token}
+  pub data SpellsStatement (l : Language) : StatementNode → List Token → List Token → Type 0 where
+    as_assignment : {x : NameBytes} {e : ExpressionNode} {tokens more : List Token}
         → SpellsTerm l e tokens (token.Mark mark.Semicolon ∷ more)
         → SpellsStatement l (assign x e) (token.Name x ∷ token.Mark mark.Assign ∷ tokens) more
-    as_store : {x : Name} {i e : Term} {at_i more : List Token} (at_e : List Token)
+    as_store : {x : NameBytes} {i e : ExpressionNode} {at_i more : List Token} (at_e : List Token)
         → SpellsTerm l i at_i (token.Mark mark.RightBracket ∷ token.Mark mark.Assign ∷ at_e)
         → SpellsTerm l e at_e (token.Mark mark.Semicolon ∷ more)
         → SpellsStatement l (store x i e) (token.Name x ∷ token.Mark mark.LeftBracket ∷ at_i) more
-    as_read : {i x : Name} {more : List Token}
+    as_read : {i x : NameBytes} {more : List Token}
         → SpellsStatement l (receive i x)
         (token.Keyword keyword.Read ∷ token.Name i ∷ token.Name x ∷ token.Mark mark.Semicolon ∷ more) more
-    as_write : {o : Name} {e : Term} {tokens more : List Token}
+    as_write : {o : NameBytes} {e : ExpressionNode} {tokens more : List Token}
         → SpellsTerm l e tokens (token.Mark mark.Semicolon ∷ more)
         → SpellsStatement l (send o e) (token.Keyword keyword.Write ∷ token.Name o ∷ tokens) more
-    as_if : {e : Term} {a b : Statements} {at_e at_a at_else more : List Token}
+    as_if : {e : ExpressionNode} {a b : Statements} {at_e at_a at_else more : List Token}
         → SpellsTerm l e at_e (token.Mark mark.LeftBrace ∷ at_a)
         → SpellsStatements l a at_a (token.Mark mark.RightBrace ∷ at_else) → SpellsElse l b at_else more
         → SpellsStatement l (choice e a b) (token.Keyword keyword.If ∷ at_e) more
-    as_while : {e : Term} {b : Statements} {at_e at_b more : List Token}
+    as_while : {e : ExpressionNode} {b : Statements} {at_e at_b more : List Token}
         → SpellsTerm l e at_e (token.Mark mark.LeftBrace ∷ at_b)
         → SpellsStatements l b at_b (token.Mark mark.RightBrace ∷ more)
         → SpellsStatement l (loop e b) (token.Keyword keyword.While ∷ at_e) more
@@ -177,7 +177,7 @@ mutual
   -- one after the other
   pub data SpellsStatements (l : Language) : Statements → List Token → List Token → Type 0 where
     nothing : {more : List Token} → SpellsStatements l no_statements more more
-    one_more : {s : Statement} {ss : Statements} {tokens others more : List Token}
+    one_more : {s : StatementNode} {ss : Statements} {tokens others more : List Token}
         → SpellsStatement l s tokens others → SpellsStatements l ss others more
         → SpellsStatements l (statement s ss) tokens more
 
@@ -193,13 +193,13 @@ mutual
     with_braces : {b : Statements} {tokens more : List Token}
         → SpellsStatements l b tokens (token.Mark mark.RightBrace ∷ more)
         → SpellsSecond l b (token.Mark mark.LeftBrace ∷ tokens) more
-    as_branch : {e : Term} {a b : Statements} {tokens more : List Token} → l ≡ language.Two
+    as_branch : {e : ExpressionNode} {a b : Statements} {tokens more : List Token} → l ≡ language.Two
         → SpellsStatement l (choice e a b) tokens more
         → SpellsSecond l (statement (choice e a b) no_statements) tokens more
 
 abbrev mutual
   -- how many levels of blocks are inside a statement
-  pub inner_levels : Statement → ℕ
+  pub inner_levels : StatementNode → ℕ
   inner_levels (assign x e) = 0
   inner_levels (store x i e) = 0
   inner_levels (receive i x) = 0
@@ -218,7 +218,7 @@ block_level b = suc (levels_within b)
 
 abbrev mutual
   -- the most levels of an expression in a statement
-  pub deepest_term : Statement → ℕ
+  pub deepest_term : StatementNode → ℕ
   deepest_term (assign x e) = term_level e
   deepest_term (store x i e) = max (term_level i) (term_level e)
   deepest_term (receive i x) = 0
@@ -260,11 +260,11 @@ abbrev pub spell_list : {A : Type 0} → (A → List Token → List Token) → L
 spell_list spell [] more = more
 spell_list spell (x ∷ xs) more = spell x (spell_all (spell_further spell) xs more)
 
-abbrev pub spell_name : Name → List Token → List Token
+abbrev pub spell_name : NameBytes → List Token → List Token
 spell_name x more = token.Name x ∷ more
 
 -- names, with commas between them
-abbrev pub spell_names : List Name → List Token → List Token
+abbrev pub spell_names : List NameBytes → List Token → List Token
 spell_names = spell_list spell_name
 
 -- ---- tables and arrays
@@ -297,35 +297,35 @@ DeclarationIsWithin (table t) = TableIsWithin t
 -- ---- processes
 
 -- a part of a head; nothing if it has no names
-abbrev pub spell_part : Keyword → List Name → List Token → List Token
+abbrev pub spell_part : Keyword → List NameBytes → List Token → List Token
 spell_part word [] more = more
 spell_part word (x ∷ xs) more = token.Keyword word ∷ spell_names (x ∷ xs) more
 
 -- the same behind another part
-abbrev pub spell_later_part : Keyword → List Name → List Token → List Token
+abbrev pub spell_later_part : Keyword → List NameBytes → List Token → List Token
 spell_later_part word [] more = more
 spell_later_part word (x ∷ xs) more = token.Mark mark.Semicolon ∷ token.Keyword word ∷ spell_names (x ∷ xs) more
 
 -- in a, b; out c; par k, l; a part without names is left out
-abbrev pub spell_parts : (ins outs pars : List Name) → List Token → List Token
+abbrev pub spell_parts : (ins outs pars : List NameBytes) → List Token → List Token
 spell_parts (x ∷ xs) outs pars more = spell_part keyword.In (x ∷ xs)
     (spell_later_part keyword.Out outs (spell_later_part keyword.Par pars more))
 spell_parts [] (x ∷ xs) pars more = spell_part keyword.Out (x ∷ xs) (spell_later_part keyword.Par pars more)
 spell_parts [] [] pars more = spell_part keyword.Par pars more
 
 -- process p(..) { and its arrays and tables, in front of its statements
-abbrev pub spell_head : Process → List Token → List Token
+abbrev pub spell_head : ProcessNode → List Token → List Token
 spell_head p more =
     token.Keyword keyword.Process ∷ token.Name p.name ∷ token.Mark mark.LeftParen
     ∷ spell_parts p.ins p.outs p.pars (token.Mark mark.RightParen ∷ token.Mark mark.LeftBrace
     ∷ spell_all spell_declaration p.declarations more)
 
 -- process p(..) { .. }
-abbrev pub spell_process : Language → Process → List Token → List Token
+abbrev pub spell_process : Language → ProcessNode → List Token → List Token
 spell_process l p more = spell_head p (spell_statements l p.body (token.Mark mark.RightBrace ∷ more))
 
 -- The tokens up to those that follow spell the process in a language: those of its head, and then of its statements.
-pub record SpellsProcess (l : Language) (p : Process) (tokens more : List Token) : Type 0 where
+pub record SpellsProcess (l : Language) (p : ProcessNode) (tokens more : List Token) : Type 0 where
   pub inside : List Token
   pub head : tokens ≡ spell_head p inside
   pub body : SpellsStatements l p.body inside (token.Mark mark.RightBrace ∷ more)
@@ -338,7 +338,7 @@ spell_values [] more = more
 spell_values (v ∷ vs) more = token.Mark mark.Semicolon ∷ spell_list spell_literal (v ∷ vs) more
 
 -- f(a, b; c; 1, -2)
-abbrev pub spell_call : Instance → List Token → List Token
+abbrev pub spell_call : InstanceNode → List Token → List Token
 spell_call i more =
     token.Name i.program ∷ token.Mark mark.LeftParen ∷ spell_names i.ins
     (token.Mark mark.Semicolon ∷ spell_names i.outs (spell_values i.values (token.Mark mark.RightParen ∷ more)))
@@ -382,7 +382,7 @@ abbrev pub spell_growth : Option Growth → List Token → List Token
 spell_growth = spell_setting keyword.Grow spell_growth_word
 
 -- network { .. }
-abbrev pub spell_network : Network → List Token → List Token
+abbrev pub spell_network : NetworkNode → List Token → List Token
 spell_network n more =
     token.Keyword keyword.Network ∷ token.Mark mark.LeftBrace
     ∷ spell_limit n.limit
@@ -415,16 +415,16 @@ SpellsDescription language.Two d tokens = SpellsByRules language.Two d tokens
 
 -- its arrays and tables are within the limits, its blocks nest at most 32 levels, its body among them, and its
 -- expressions at most 32
-pub record ProcessIsWithin (p : Process) : Type 0 where
+pub record ProcessIsWithin (p : ProcessNode) : Type 0 where
   pub declarations : AllByRecursion DeclarationIsWithin p.declarations
   pub body : BlockIsWithin MAX_LEVELS p.body
 
 -- a description within the limits of the grammar
-pub record IsWithin (d : Description) : Type 0 where
+pub record IsWithinLimits (d : Description) : Type 0 where
   pub tables : AllByRecursion TableIsWithin d.tables
   pub processes : AllByRecursion ProcessIsWithin d.processes
 
 -- The tokens are those of the description in a language, and it is within the limits of the grammar.
 pub record IsDescription (l : Language) (tokens : List Token) (d : Description) : Type 0 where
   pub spelled : SpellsDescription l d tokens
-  pub within : IsWithin d
+  pub within : IsWithinLimits d

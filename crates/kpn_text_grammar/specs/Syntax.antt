@@ -6,39 +6,39 @@ use Rattle.kpn_net.specs.declared.tables.Growth.{Growth}
 use Rattle.kpn_net.specs.declared.tables.Policy.{Policy}
 
 -- a name, by its bytes
-abbrev pub Name : Type 0
-Name = List ℕ
+abbrev pub NameBytes : Type 0
+NameBytes = List ℕ
 
 -- an expression
-pub data Term : Type 0 where
-  numeral : ℕ → Term
-  variable : Name → Term
-  element : Name → Term → Term
-  minus : Term → Term
-  negation : Term → Term
-  complement : Term → Term
-  binary : Op → Term → Term → Term
-  conditional : Term → Term → Term → Term
+pub data ExpressionNode : Type 0 where
+  numeral : ℕ → ExpressionNode
+  variable : NameBytes → ExpressionNode
+  element : NameBytes → ExpressionNode → ExpressionNode
+  minus : ExpressionNode → ExpressionNode
+  negation : ExpressionNode → ExpressionNode
+  complement : ExpressionNode → ExpressionNode
+  binary : Op → ExpressionNode → ExpressionNode → ExpressionNode
+  conditional : ExpressionNode → ExpressionNode → ExpressionNode → ExpressionNode
 
 mutual
   -- a statement: x = e;  x[i] = e;  read i x;  write o e;  if e { .. } else { .. }  while e { .. }
-  pub data Statement : Type 0 where
-    assign : Name → Term → Statement
-    store : Name → Term → Term → Statement
-    receive : Name → Name → Statement
-    send : Name → Term → Statement
-    choice : Term → Statements → Statements → Statement
-    loop : Term → Statements → Statement
+  pub data StatementNode : Type 0 where
+    assign : NameBytes → ExpressionNode → StatementNode
+    store : NameBytes → ExpressionNode → ExpressionNode → StatementNode
+    receive : NameBytes → NameBytes → StatementNode
+    send : NameBytes → ExpressionNode → StatementNode
+    choice : ExpressionNode → Statements → Statements → StatementNode
+    loop : ExpressionNode → Statements → StatementNode
 
   -- the statements of a block, in order
   pub data Statements : Type 0 where
     no_statements : Statements
-    statement : Statement → Statements → Statements
+    statement : StatementNode → Statements → Statements
 
 -- a list of statements as a block
-abbrev pub statements_of : List Statement → Statements
-statements_of [] = no_statements
-statements_of (s ∷ ss) = statement s (statements_of ss)
+abbrev pub as_statements : List StatementNode → Statements
+as_statements [] = no_statements
+as_statements (s ∷ ss) = statement s (as_statements ss)
 
 -- a value as it is written: a number, or a number behind a minus; so 0 and -0 are two spellings of one value
 pub data Literal : Type 0 where
@@ -52,41 +52,41 @@ literal_value (negated n) = neg_ℤ (pos n)
 
 -- a table: its name and its values
 pub record Table : Type 0 where
-  pub name : Name
+  pub name : NameBytes
   pub values : List Literal
 
 -- what stands at the head of the body of a process: an array with its size, a table
 pub data Declaration : Type 0 where
-  array : Name → ℕ → Declaration
+  array : NameBytes → ℕ → Declaration
   table : Table → Declaration
 
 -- a process: its name, its in ports, out ports and parameters, its arrays and tables in order, and its body
-pub record Process : Type 0 where
-  pub name : Name
-  pub ins : List Name
-  pub outs : List Name
-  pub pars : List Name
+pub record ProcessNode : Type 0 where
+  pub name : NameBytes
+  pub ins : List NameBytes
+  pub outs : List NameBytes
+  pub pars : List NameBytes
   pub declarations : List Declaration
   pub body : Statements
 
 -- an instance: its name and that of its program, the channels at its in ports and at its out ports, and the values of
 -- its parameters
-pub record Instance : Type 0 where
-  pub name : Name
-  pub program : Name
-  pub ins : List Name
-  pub outs : List Name
+pub record InstanceNode : Type 0 where
+  pub name : NameBytes
+  pub program : NameBytes
+  pub ins : List NameBytes
+  pub outs : List NameBytes
   pub values : List Literal
 
 -- an item of a network: a channel or a sink with its capacity, a source, an instance
 pub data Item : Type 0 where
-  channel : Name → ℕ → Item
-  source : Name → Item
-  sink : Name → ℕ → Item
-  instance : Instance → Item
+  channel : NameBytes → ℕ → Item
+  source : NameBytes → Item
+  sink : NameBytes → ℕ → Item
+  instance : InstanceNode → Item
 
 -- a network: its limit, its policy and its growth, each if it is written, and its items in order
-pub record Network : Type 0 where
+pub record NetworkNode : Type 0 where
   pub limit : Option ℕ
   pub policy : Option Policy
   pub growth : Option Growth
@@ -95,5 +95,5 @@ pub record Network : Type 0 where
 -- a description: the tables that its processes share and its processes, each in order, and its network
 pub record Description : Type 0 where
   pub tables : List Table
-  pub processes : List Process
-  pub network : Network
+  pub processes : List ProcessNode
+  pub network : NetworkNode

@@ -24,9 +24,9 @@ abbrev pub is_keyword : Keyword → Token → Bool
 is_keyword k (token.Keyword n) = same_keyword n k
 is_keyword k _ = false
 
-abbrev pub is_two : Token → Bool
-is_two (token.Number n) = n == 2
-is_two _ = false
+abbrev pub is_number_two : Token → Bool
+is_number_two (token.Number n) = n == 2
+is_number_two _ = false
 
 abbrev pub is_name : Token → Bool
 is_name (token.Name x) = true

@@ -2,36 +2,36 @@
 use Rattle.std.specs.Prelude.{◌≡◌, ◌≤◌, ℕ, List, map, drop, Result}
 use Rattle.kpn_text_tokens.specs.declared.tokens.Lexeme.{Lexeme}
 use Rattle.kpn_text_grammar.specs.declared.parser.Source.{Source}
-use Rattle.kpn_text_grammar.specs.declared.precedence.Tree.{Tree}
+use Rattle.kpn_text_grammar.specs.declared.precedence.Subtree.{Subtree}
 use Rattle.kpn_text_grammar.specs.declared.tree.Declaration.{Declaration as DeclarationCode}
 use Rattle.kpn_text_grammar.specs.declared.tree.Declaration.TheVariants as declaration
 use Rattle.kpn_text_grammar.specs.declared.tree.Description.{Description as DescriptionCode}
 use Rattle.kpn_text_grammar.specs.declared.tree.Expression.{Expression, fold-Expression}
 use Rattle.kpn_text_grammar.specs.declared.tree.Expression.TheOpen.{Expression-F}
 use Rattle.kpn_text_grammar.specs.declared.tree.Identifier.{Identifier}
-use Rattle.kpn_text_grammar.specs.declared.tree.Instance.{Instance as InstanceCode}
+use Rattle.kpn_text_grammar.specs.declared.tree.InstanceNode.{InstanceNode as InstanceCode}
 use Rattle.kpn_text_grammar.specs.declared.tree.Item.{Item as ItemCode}
 use Rattle.kpn_text_grammar.specs.declared.tree.Item.TheVariants as item
 use Rattle.kpn_text_grammar.specs.declared.tree.Literal.{Literal as LiteralCode}
 use Rattle.kpn_text_grammar.specs.declared.tree.Literal.TheVariants as literal
-use Rattle.kpn_text_grammar.specs.declared.tree.Network.{Network as NetworkCode}
+use Rattle.kpn_text_grammar.specs.declared.tree.NetworkNode.{NetworkNode as NetworkCode}
 use Rattle.kpn_text_grammar.specs.declared.tree.HeadParts.{HeadParts as HeadPartsCode}
-use Rattle.kpn_text_grammar.specs.declared.tree.Process.{Process as ProcessCode}
-use Rattle.kpn_text_grammar.specs.declared.tree.Statement.{Statement as StatementCode, fold-Statement}
-use Rattle.kpn_text_grammar.specs.declared.tree.Statement.TheOpen.{Statement-F}
+use Rattle.kpn_text_grammar.specs.declared.tree.ProcessNode.{ProcessNode as ProcessCode}
+use Rattle.kpn_text_grammar.specs.declared.tree.StatementNode.{StatementNode as StatementCode, fold-StatementNode}
+use Rattle.kpn_text_grammar.specs.declared.tree.StatementNode.TheOpen.{StatementNode-F}
 use Rattle.kpn_text_grammar.specs.declared.tree.Table.{Table as TableCode}
 use Rattle.kpn_text_grammar.specs.declared.fault.GrammarFault.{GrammarFault}
 use Rattle.kpn_text_grammar.specs.declared.parser.Scope.{Scope}
-use Rattle.kpn_text_grammar.specs.Reading.{HeadParts, Read, Gives}
+use Rattle.kpn_text_grammar.specs.Reading.{HeadParts, Read, ReadingGives}
 use Rattle.kpn_text_grammar.specs.Spelling.{term_level}
-use Rattle.kpn_text_grammar.specs.Syntax.{Name, Term, numeral, variable, element, minus, negation, complement, binary, conditional, Statement, assign, store, receive, send, choice, loop, Statements, statements_of, Literal, plain, negated, Table, Declaration, array, table, Process, Instance, Item, channel, source, sink, instance, Network, Description}
+use Rattle.kpn_text_grammar.specs.Syntax.{NameBytes, ExpressionNode, numeral, variable, element, minus, negation, complement, binary, conditional, StatementNode, assign, store, receive, send, choice, loop, Statements, as_statements, Literal, plain, negated, Table, Declaration, array, table, ProcessNode, InstanceNode, Item, channel, source, sink, instance, NetworkNode, Description}
 
 -- names as written
-abbrev pub names_seen : List Identifier → List Name
+abbrev pub names_seen : List Identifier → List NameBytes
 names_seen xs = map (λ x. x.bytes.now) xs
 
 -- one level, with each expression inside already seen as its term
-abbrev pub term_step : Expression-F Term → Term
+abbrev pub term_step : Expression-F ExpressionNode → ExpressionNode
 term_step (Expression-F.Number n) = numeral n
 term_step (Expression-F.Name x) = variable x.bytes.now
 term_step (Expression-F.Element x e) = element x.bytes.now e.value
@@ -42,33 +42,33 @@ term_step (Expression-F.Binary op a b) = binary op a.value b.value
 term_step (Expression-F.Choice c a b) = conditional c.value a.value b.value
 
 -- the term of an expression
-abbrev pub term : Expression → Term
-term = fold-Expression Term term_step
+abbrev pub term : Expression → ExpressionNode
+term = fold-Expression ExpressionNode term_step
 
 -- an expression and its levels, which are at most so many
-pub record HasLevels (most : ℕ) (tree : Tree) : Type 0 where
+pub record HasLevels (most : ℕ) (tree : Subtree) : Type 0 where
   pub counted : tree.levels ≡ term_level (term tree.root.value)
   pub few : tree.levels ≤ most
 
 -- one level, with each statement inside already seen
-abbrev pub statement_step : Statement-F Statement → Statement
-statement_step (Statement-F.Assign x e) = assign x.bytes.now (term e)
-statement_step (Statement-F.Store x i e) = store x.bytes.now (term i) (term e)
-statement_step (Statement-F.Read i x) = receive i.bytes.now x.bytes.now
-statement_step (Statement-F.Write o e) = send o.bytes.now (term e)
-statement_step (Statement-F.If e a b) = choice (term e) (statements_of a.items) (statements_of b.items)
-statement_step (Statement-F.While e b) = loop (term e) (statements_of b.items)
+abbrev pub statement_step : StatementNode-F StatementNode → StatementNode
+statement_step (StatementNode-F.Assign x e) = assign x.bytes.now (term e)
+statement_step (StatementNode-F.Store x i e) = store x.bytes.now (term i) (term e)
+statement_step (StatementNode-F.Read i x) = receive i.bytes.now x.bytes.now
+statement_step (StatementNode-F.Write o e) = send o.bytes.now (term e)
+statement_step (StatementNode-F.If e a b) = choice (term e) (as_statements a.items) (as_statements b.items)
+statement_step (StatementNode-F.While e b) = loop (term e) (as_statements b.items)
 
 -- the statement that the code's statement stands for
-abbrev pub statement_seen : StatementCode → Statement
-statement_seen = fold-Statement Statement statement_step
+abbrev pub statement_seen : StatementCode → StatementNode
+statement_seen = fold-StatementNode StatementNode statement_step
 
 -- the same of several statements, and of a block
-abbrev pub statements_seen : List StatementCode → List Statement
+abbrev pub statements_seen : List StatementCode → List StatementNode
 statements_seen ss = map statement_seen ss
 
 abbrev pub block_seen : List StatementCode → Statements
-block_seen ss = statements_of (statements_seen ss)
+block_seen ss = as_statements (statements_seen ss)
 
 -- a value as written
 abbrev pub literal_seen : LiteralCode → Literal
@@ -93,7 +93,7 @@ abbrev pub declarations_seen : List DeclarationCode → List Declaration
 declarations_seen ds = map declaration_seen ds
 
 -- the process that the code's process stands for
-abbrev pub process_seen : ProcessCode → Process
+abbrev pub process_seen : ProcessCode → ProcessNode
 process_seen p = record {
   name = p.name.bytes.now;
   ins = names_seen p.parts.ins.items;
@@ -103,11 +103,11 @@ process_seen p = record {
   body = block_seen p.body.items;
 }
 
-abbrev pub processes_seen : List ProcessCode → List Process
+abbrev pub processes_seen : List ProcessCode → List ProcessNode
 processes_seen ps = map process_seen ps
 
 -- the instance, the item, the network and the description that the code's stand for
-abbrev pub instance_seen : InstanceCode → Instance
+abbrev pub instance_seen : InstanceCode → InstanceNode
 instance_seen i = record {
   name = i.name.bytes.now;
   program = i.program.bytes.now;
@@ -125,7 +125,7 @@ item_seen (item.Instance i) = instance (instance_seen i)
 abbrev pub items_seen : List ItemCode → List Item
 items_seen is = map item_seen is
 
-abbrev pub network_seen : NetworkCode → Network
+abbrev pub network_seen : NetworkCode → NetworkNode
 network_seen n = record { limit = n.limit; policy = n.policy; growth = n.growth; items = items_seen n.items.items }
 
 abbrev pub document : DescriptionCode → Description
@@ -150,9 +150,9 @@ tokens_from s at = drop at s.tokens.now
 abbrev pub Parses : {A B : Type 0} → (A → B) → (Scope → List Lexeme → Read B) → Source → ℕ
     → Result (A × ℕ) GrammarFault → Type 0
 Parses view rule from at result =
-    Gives (λ x. (view x.0, tokens_from from x.1)) result (rule from.scope (tokens_from from at))
+    ReadingGives (λ x. (view x.0, tokens_from from x.1)) result (rule from.scope (tokens_from from at))
 
 -- The same of a parser that returns nothing but the place after it.
 abbrev pub Passes : (Scope → List Lexeme → Result (List Lexeme) GrammarFault) → Source → ℕ
     → Result ℕ GrammarFault → Type 0
-Passes rule from at result = Gives (λ after. tokens_from from after) result (rule from.scope (tokens_from from at))
+Passes rule from at result = ReadingGives (λ after. tokens_from from after) result (rule from.scope (tokens_from from at))

@@ -7,10 +7,10 @@ use Rattle.kpn_net.specs.declared.tables.Growth.{Growth}
 use Rattle.kpn_net.specs.declared.tables.Growth.TheVariants as growth
 use Rattle.kpn_net.specs.declared.tables.Policy.{Policy}
 use Rattle.kpn_net.specs.declared.tables.Policy.TheVariants as policy
-use Rattle.kpn_text_grammar.specs.Syntax.{Name}
+use Rattle.kpn_text_grammar.specs.Syntax.{NameBytes}
 
 -- the word that stands for a policy
-abbrev pub policy_word : Policy → Name
+abbrev pub policy_word : Policy → NameBytes
 policy_word policy.Cycles = codes "cycles"
 policy_word policy.All = codes "all"
 
@@ -19,11 +19,11 @@ abbrev pub policies : List Policy
 policies = policy.Cycles ∷ policy.All ∷ []
 
 -- the policy that a word stands for, if it stands for one
-unfoldable pub policy_spelled : Name → Option Policy
+unfoldable pub policy_spelled : NameBytes → Option Policy
 policy_spelled word = find (λ q. bytes_eq (policy_word q) word) policies
 
 -- the word that stands for a growth
-abbrev pub growth_word : Growth → Name
+abbrev pub growth_word : Growth → NameBytes
 growth_word growth.One = codes "one"
 growth_word growth.Double = codes "double"
 
@@ -32,5 +32,5 @@ abbrev pub growths : List Growth
 growths = growth.One ∷ growth.Double ∷ []
 
 -- the growth that a word stands for, if it stands for one
-unfoldable pub growth_spelled : Name → Option Growth
+unfoldable pub growth_spelled : NameBytes → Option Growth
 growth_spelled word = find (λ g. bytes_eq (growth_word g) word) growths

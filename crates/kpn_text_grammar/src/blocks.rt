@@ -10,7 +10,7 @@ use crate::parser::{
     Read, Source, at_keyword, at_mark, goes_on, is_second, keyword, mark, name, next,
 };
 use crate::precedence::whole;
-use crate::tree::{Block, Identifier, Statement};
+use crate::tree::{Block, Identifier, StatementNode};
 use kpn_limits::MAX_LEVELS;
 use kpn_text_tokens::{Keyword, Mark, Token};
 use std::alloc::Global;
@@ -77,7 +77,7 @@ fn one_statement<'a>(
     source: Source<'a>,
     depth: usize,
     at: usize,
-) -> Read<Statement<'a>>
+) -> Read<StatementNode<'a>>
     ensures { Parses statement_seen
         (λ s. spec.one_statement s (spec.block s depth) (spec.second_block s depth) 0) source.entry at result }
 {
@@ -102,7 +102,7 @@ fn set_statement<'a>(
     source: Source<'a>,
     target: Identifier<'a>,
     at: usize,
-) -> Read<Statement<'a>>
+) -> Read<StatementNode<'a>>
     ensures { Parses statement_seen
         (λ s. spec.target_behind s target.entry.bytes.now) source.entry at result }
 {
@@ -120,7 +120,7 @@ fn store<'a>(
     source: Source<'a>,
     array: Identifier<'a>,
     at: usize,
-) -> Read<Statement<'a>>
+) -> Read<StatementNode<'a>>
     ensures { Parses statement_seen
         (λ s. spec.store_behind s array.entry.bytes.now) source.entry at result }
 {
@@ -130,7 +130,7 @@ fn store<'a>(
     let at = mark(source, Mark::Assign, at)?;
     let (value, at) = whole(alloc, source, at)?;
     let at = mark(source, Mark::Semicolon, at)?;
-    Ok((Statement::Store(array, index, value), at))
+    Ok((StatementNode::Store(array, index, value), at))
 }
 
 /// An assignment behind its target.
@@ -140,34 +140,34 @@ fn assignment<'a>(
     source: Source<'a>,
     target: Identifier<'a>,
     at: usize,
-) -> Read<Statement<'a>>
+) -> Read<StatementNode<'a>>
     ensures { Parses statement_seen
         (λ s. spec.assignment_behind s target.entry.bytes.now) source.entry at result }
 {
     let at = mark(source, Mark::Assign, at)?;
     let (value, at) = whole(alloc, source, at)?;
     let at = mark(source, Mark::Semicolon, at)?;
-    Ok((Statement::Assign(target, value), at))
+    Ok((StatementNode::Assign(target, value), at))
 }
 
 #[tactic(auto, unfolding(crate::specs::Reading::receive_behind, kpn_text_tokens::specs::Results::and_then))]
-fn read_statement<'a>(source: Source<'a>, at: usize) -> Read<Statement<'a>>
+fn read_statement<'a>(source: Source<'a>, at: usize) -> Read<StatementNode<'a>>
     ensures { Parses statement_seen spec.receive_behind source.entry at result }
 {
     let (port, at) = name(source, at)?;
     let (variable, at) = name(source, at)?;
     let at = mark(source, Mark::Semicolon, at)?;
-    Ok((Statement::Read(port, variable), at))
+    Ok((StatementNode::Read(port, variable), at))
 }
 
 #[tactic(auto, unfolding(crate::specs::Reading::send_behind, kpn_text_tokens::specs::Results::and_then))]
-fn write_statement<'a>(alloc: Global, source: Source<'a>, at: usize) -> Read<Statement<'a>>
+fn write_statement<'a>(alloc: Global, source: Source<'a>, at: usize) -> Read<StatementNode<'a>>
     ensures { Parses statement_seen spec.send_behind source.entry at result }
 {
     let (port, at) = name(source, at)?;
     let (item, at) = whole(alloc, source, at)?;
     let at = mark(source, Mark::Semicolon, at)?;
-    Ok((Statement::Write(port, item), at))
+    Ok((StatementNode::Write(port, item), at))
 }
 
 #[cycle(block)]
@@ -177,14 +177,14 @@ fn if_statement<'a>(
     source: Source<'a>,
     depth: usize,
     at: usize,
-) -> Read<Statement<'a>>
+) -> Read<StatementNode<'a>>
     ensures { Parses statement_seen
         (λ s. spec.choice_behind s (spec.block s depth) (spec.second_block s depth)) source.entry at result }
 {
     let (test, at) = whole(alloc, source, at)?;
     let (then_block, at) = block(alloc, source, depth, at)?;
     let (else_block, at) = else_behind(alloc, source, depth, at)?;
-    Ok((Statement::If(test, then_block, else_block), at))
+    Ok((StatementNode::If(test, then_block, else_block), at))
 }
 
 /// `else` and what stands behind it. In language 2 it may be missing.
@@ -245,11 +245,11 @@ fn while_statement<'a>(
     source: Source<'a>,
     depth: usize,
     at: usize,
-) -> Read<Statement<'a>>
+) -> Read<StatementNode<'a>>
     ensures { Parses statement_seen
         (λ s. spec.loop_behind s (spec.block s depth)) source.entry at result }
 {
     let (test, at) = whole(alloc, source, at)?;
     let (body, at) = block(alloc, source, depth, at)?;
-    Ok((Statement::While(test, body), at))
+    Ok((StatementNode::While(test, body), at))
 }

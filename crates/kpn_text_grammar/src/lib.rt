@@ -23,8 +23,8 @@ pub use fault::GrammarFault;
 pub use laws::{canonical_spells, read_where_spelled, spelled_once};
 pub use operators::{LOOSEST, OPERAND, left_side, mark_of, right_side, tightness};
 pub use tree::{
-    Block, Declaration, Description, Expression, HeadParts, Identifier, Instance, Item, Literal,
-    Names, Network, Process, Statement, Table,
+    Block, Declaration, Description, Expression, HeadParts, Identifier, InstanceNode, Item,
+    Literal, Names, NetworkNode, ProcessNode, StatementNode, Table,
 };
 pub use whole::description;
 pub use words::{growth_word, policy_word};

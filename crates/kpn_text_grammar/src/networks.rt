@@ -8,7 +8,7 @@ ghost use Rattle.kpn_text_grammar.specs.View.{Parses, instance_seen, item_seen, 
 use crate::fault::GrammarFault;
 use crate::lists::{optional_names, optional_values};
 use crate::parser::{Read, Source, at_keyword, goes_on, keyword, mark, name, next, number};
-use crate::tree::{Identifier, Instance, Item, Network};
+use crate::tree::{Identifier, InstanceNode, Item, NetworkNode};
 use crate::words::{growth_spelled, policy_spelled};
 use kpn_net::{Growth, Policy};
 use kpn_text_tokens::{Keyword, Mark, Number, Token};
@@ -59,7 +59,7 @@ fn call<'a>(
     source: Source<'a>,
     name: Identifier<'a>,
     at: usize,
-) -> Read<Instance<'a>>
+) -> Read<InstanceNode<'a>>
     ensures { Parses instance_seen (λ s. spec.call s name.entry.bytes.now) source.entry at result }
 {
     let (program, at) = crate::parser::name(source, at)?;
@@ -69,7 +69,7 @@ fn call<'a>(
     let (outs, at) = optional_names(alloc, source, at)?;
     let (values, at) = optional_values(alloc, source, at)?;
     let at = mark(source, Mark::RightParen, at)?;
-    let instance = Instance {
+    let instance = InstanceNode {
         name,
         program,
         ins,
@@ -200,7 +200,7 @@ fn growth(source: Source<'_>, at: usize) -> Read<Option<Growth>>
 
 /// The network.
 #[tactic(auto, unfolding(crate::specs::Reading::network, kpn_text_tokens::specs::Results::and_then))]
-pub(crate) fn network<'a>(alloc: Global, source: Source<'a>, at: usize) -> Read<Network<'a>>
+pub(crate) fn network<'a>(alloc: Global, source: Source<'a>, at: usize) -> Read<NetworkNode<'a>>
     ensures { Parses network_seen spec.network source.entry at result }
 {
     let at = keyword(source, Keyword::Network, at)?;
@@ -210,7 +210,7 @@ pub(crate) fn network<'a>(alloc: Global, source: Source<'a>, at: usize) -> Read<
     let (growth, at) = growth(source, at)?;
     let (items, at) = items(alloc, source, at)?;
     let at = mark(source, Mark::RightBrace, at)?;
-    let network = Network {
+    let network = NetworkNode {
         limit,
         policy,
         growth,

@@ -7,7 +7,7 @@ ghost use Rattle.kpn_text_grammar.specs.Operators as table;
 use kpn_lang::Op;
 use kpn_text_tokens::Mark;
 
-const ALL: [Op; 18] = [
+const OPERATORS: [Op; 18] = [
     Op::Add,
     Op::Sub,
     Op::Mul,
@@ -59,7 +59,8 @@ pub fn mark_of(operator: Op) -> Mark
 pub(crate) fn operator_of(mark: Mark) -> Option<Op>
     ensures { result ≡ table.operator_of mark }
 {
-    ALL.iter()
+    OPERATORS
+        .iter()
         .copied()
         .find(|operator| mark_of(*operator) == mark)
 }

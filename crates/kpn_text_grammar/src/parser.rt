@@ -62,7 +62,7 @@ fn is_keyword(token: &Token<'_>, keyword: Keyword) -> bool
 }
 
 fn is_two(token: &Token<'_>) -> bool
-    ensures { result ≡ tests.is_two token.now }
+    ensures { result ≡ tests.is_number_two token.now }
 {
     match token {
         Token::Number(number) => number.value() == 2,
@@ -115,7 +115,7 @@ pub(crate) fn declares(source: Source<'_>, at: usize) -> bool
 
 /// Whether a token other than a closing brace is at a place.
 pub(crate) fn goes_on(source: Source<'_>, at: usize) -> bool
-    ensures { result ≡ spec.first_is spec.goes_on (tokens_from source.entry at) }
+    ensures { result ≡ spec.first_is spec.stands_in_block (tokens_from source.entry at) }
 {
     match source.tokens.get(at) {
         Some(first) => !is_mark(&first.token, Mark::RightBrace),

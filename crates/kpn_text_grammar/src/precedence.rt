@@ -25,7 +25,7 @@ pub(crate) struct Room {
 
 /// An expression and its levels.
 #[derive(Drop)]
-pub(crate) struct Tree<'a> {
+pub(crate) struct Subtree<'a> {
     pub root: Box<Expression<'a>>,
     pub levels: usize,
 }
@@ -38,7 +38,7 @@ pub(crate) fn tight<'a>(
     room: Room,
     least: usize,
     at: usize,
-) -> Read<Tree<'a>>
+) -> Read<Subtree<'a>>
     ensures read { Parses (λ tree. term tree.root.value)
         (λ s. spec.tight s room.depth room.levels least) source.entry at result }
     ensures levels { IfOk result (λ found. HasLevels room.levels found.0) }
@@ -48,7 +48,7 @@ pub(crate) fn tight<'a>(
         return Err(level_fault(source.scope, first));
     }
     let (operand, after) = tight_operand(alloc, source, room, first, after)?;
-    let Tree {
+    let Subtree {
         mut root,
         mut levels,
     } = operand;
@@ -64,7 +64,7 @@ pub(crate) fn tight<'a>(
             depth: room.depth,
         };
         let (right, after) = tight(alloc, source, beside, right_side(sign), side)?;
-        let Tree {
+        let Subtree {
             root: other,
             levels: others,
         } = right;
@@ -73,7 +73,7 @@ pub(crate) fn tight<'a>(
         bound = tightness(sign);
         place = after;
     }
-    Ok((Tree { root, levels }, place))
+    Ok((Subtree { root, levels }, place))
 }
 
 /// An operand behind its first token.
@@ -85,7 +85,7 @@ fn tight_operand<'a>(
     room: Room,
     first: &'a Lexeme<'a>,
     at: usize,
-) -> Read<Tree<'a>>
+) -> Read<Subtree<'a>>
     requires levels { 0 < room.levels }
     requires depth { 0 < room.depth }
     ensures read { Parses (λ tree. term tree.root.value)
@@ -97,29 +97,29 @@ fn tight_operand<'a>(
     match &first.token {
         Token::Number(number) => {
             let root = Box::new(alloc, Expression::Number(*number))?;
-            Ok((Tree { root, levels: 1 }, at))
+            Ok((Subtree { root, levels: 1 }, at))
         }
         Token::Name(name) => {
             let name = Identifier::new(name, first.start);
             behind_name(alloc, source, room, name, at)
         }
         Token::Mark(Mark::Minus) => {
-            let (Tree { root, levels }, after) = behind_sign(alloc, source, room, at)?;
+            let (Subtree { root, levels }, after) = behind_sign(alloc, source, room, at)?;
             let root = Box::new(alloc, Expression::Negative(root))?;
             let levels = levels + 1;
-            Ok((Tree { root, levels }, after))
+            Ok((Subtree { root, levels }, after))
         }
         Token::Mark(Mark::Not) => {
-            let (Tree { root, levels }, after) = behind_sign(alloc, source, room, at)?;
+            let (Subtree { root, levels }, after) = behind_sign(alloc, source, room, at)?;
             let root = Box::new(alloc, Expression::Not(root))?;
             let levels = levels + 1;
-            Ok((Tree { root, levels }, after))
+            Ok((Subtree { root, levels }, after))
         }
         Token::Mark(Mark::BitNot) => {
-            let (Tree { root, levels }, after) = behind_sign(alloc, source, room, at)?;
+            let (Subtree { root, levels }, after) = behind_sign(alloc, source, room, at)?;
             let root = Box::new(alloc, Expression::BitNot(root))?;
             let levels = levels + 1;
-            Ok((Tree { root, levels }, after))
+            Ok((Subtree { root, levels }, after))
         }
         Token::Mark(Mark::LeftParen) => parentheses(alloc, source, room, at),
         _ => Err(GrammarFault::Grammar(first.start)),
@@ -135,7 +135,7 @@ fn behind_name<'a>(
     room: Room,
     name: Identifier<'a>,
     at: usize,
-) -> Read<Tree<'a>>
+) -> Read<Subtree<'a>>
     requires levels { 0 < room.levels }
     requires depth { 0 < room.depth }
     ensures read { Parses (λ tree. term tree.root.value)
@@ -148,7 +148,7 @@ fn behind_name<'a>(
         return element(alloc, source, room, name, at);
     }
     let root = Box::new(alloc, Expression::Name(name))?;
-    Ok((Tree { root, levels: 1 }, at))
+    Ok((Subtree { root, levels: 1 }, at))
 }
 
 /// An element, behind the name of the array or the table.
@@ -160,7 +160,7 @@ fn element<'a>(
     room: Room,
     name: Identifier<'a>,
     at: usize,
-) -> Read<Tree<'a>>
+) -> Read<Subtree<'a>>
     requires levels { 0 < room.levels }
     requires depth { 0 < room.depth }
     ensures read { Parses (λ tree. term tree.root.value)
@@ -176,15 +176,15 @@ fn element<'a>(
     let at = mark(source, Mark::LeftBracket, at)?;
     let (index, at) = tight(alloc, source, inside, LOOSEST, at)?;
     let at = mark(source, Mark::RightBracket, at)?;
-    let Tree { root, levels } = index;
+    let Subtree { root, levels } = index;
     let root = Box::new(alloc, Expression::Element(name, root))?;
     let levels = levels + 1;
-    Ok((Tree { root, levels }, at))
+    Ok((Subtree { root, levels }, at))
 }
 
 /// The operand of a sign.
 #[cycle(tight)]
-fn behind_sign<'a>(alloc: Global, source: Source<'a>, room: Room, at: usize) -> Read<Tree<'a>>
+fn behind_sign<'a>(alloc: Global, source: Source<'a>, room: Room, at: usize) -> Read<Subtree<'a>>
     requires levels { 0 < room.levels }
     requires depth { 0 < room.depth }
     ensures read { Parses (λ tree. term tree.root.value)
@@ -201,7 +201,7 @@ fn behind_sign<'a>(alloc: Global, source: Source<'a>, room: Room, at: usize) -> 
 /// What stands between parentheses, behind the opening one: an expression, or a choice.
 #[cycle(tight)]
 #[tactic(auto, unfolding(crate::specs::Reading::inside_behind, kpn_text_tokens::specs::Results::and_then))]
-fn parentheses<'a>(alloc: Global, source: Source<'a>, room: Room, at: usize) -> Read<Tree<'a>>
+fn parentheses<'a>(alloc: Global, source: Source<'a>, room: Room, at: usize) -> Read<Subtree<'a>>
     requires levels { 0 < room.levels }
     requires depth { 0 < room.depth }
     ensures read { Parses (λ tree. term tree.root.value)
@@ -232,9 +232,9 @@ fn values<'a>(
     alloc: Global,
     source: Source<'a>,
     room: Room,
-    test: Tree<'a>,
+    test: Subtree<'a>,
     at: usize,
-) -> Read<Tree<'a>>
+) -> Read<Subtree<'a>>
     requires levels { 0 < room.levels }
     requires depth { 0 < room.depth }
     requires test { HasLevels (room.levels - 1) test }
@@ -253,12 +253,12 @@ fn values<'a>(
     let at = mark(source, Mark::Colon, at)?;
     let (second, at) = tight(alloc, source, inside, LOOSEST, at)?;
     let at = mark(source, Mark::RightParen, at)?;
-    let Tree { root: c, levels: i } = test;
-    let Tree { root: a, levels: j } = first;
-    let Tree { root: b, levels: k } = second;
+    let Subtree { root: c, levels: i } = test;
+    let Subtree { root: a, levels: j } = first;
+    let Subtree { root: b, levels: k } = second;
     let levels = i.max(j.max(k)) + 1;
     let root = Box::new(alloc, Expression::Choice(c, a, b))?;
-    Ok((Tree { root, levels }, at))
+    Ok((Subtree { root, levels }, at))
 }
 
 /// An expression of a statement, by the rules of the language.
@@ -273,6 +273,6 @@ pub(crate) fn whole<'a>(alloc: Global, source: Source<'a>, at: usize) -> Read<Ex
         levels: MAX_LEVELS,
         depth: MAX_LEVELS,
     };
-    let (Tree { root, .. }, at) = tight(alloc, source, room, LOOSEST, at)?;
+    let (Subtree { root, .. }, at) = tight(alloc, source, room, LOOSEST, at)?;
     Ok((Box::into_inner(root), at))
 }

@@ -9,7 +9,7 @@ use crate::declarations::declarations;
 use crate::fault::GrammarFault;
 use crate::lists::names;
 use crate::parser::{Read, Scope, Source, at_keyword, at_mark, keyword, mark, name, next};
-use crate::tree::{HeadParts, Names, Process};
+use crate::tree::{HeadParts, Names, ProcessNode};
 use kpn_text_tokens::{Keyword, Lexeme, Mark, Token};
 use std::alloc::Global;
 
@@ -123,7 +123,7 @@ fn parts<'a>(alloc: Global, source: Source<'a>, at: usize) -> Read<HeadParts<'a>
 }
 
 #[tactic(auto, unfolding(crate::specs::Reading::process, kpn_text_tokens::specs::Results::and_then))]
-fn process<'a>(alloc: Global, source: Source<'a>, at: usize) -> Read<Process<'a>>
+fn process<'a>(alloc: Global, source: Source<'a>, at: usize) -> Read<ProcessNode<'a>>
     ensures { Parses process_seen spec.process source.entry at result }
 {
     let at = keyword(source, Keyword::Process, at)?;
@@ -134,7 +134,7 @@ fn process<'a>(alloc: Global, source: Source<'a>, at: usize) -> Read<Process<'a>
     let at = mark(source, Mark::LeftBrace, at)?;
     let (declarations, at) = declarations(alloc, source, at)?;
     let (body, at) = body(alloc, source, at)?;
-    let process = Process {
+    let process = ProcessNode {
         name,
         parts,
         declarations,
@@ -150,7 +150,7 @@ fn numbered_process<'a>(
     source: Source<'a>,
     number: usize,
     at: usize,
-) -> Read<Process<'a>>
+) -> Read<ProcessNode<'a>>
     ensures { Parses process_seen (λ s. spec.numbered_process s number) source.entry at result }
 {
     let scope = Scope {
@@ -163,7 +163,11 @@ fn numbered_process<'a>(
 }
 
 /// The processes, numbered from 0.
-pub(crate) fn processes<'a>(alloc: Global, source: Source<'a>, at: usize) -> Read<Vec<Process<'a>>>
+pub(crate) fn processes<'a>(
+    alloc: Global,
+    source: Source<'a>,
+    at: usize,
+) -> Read<Vec<ProcessNode<'a>>>
     ensures { Parses (λ found. processes_seen found.items) spec.processes source.entry at result }
 {
     let mut found = Vec::new(alloc);

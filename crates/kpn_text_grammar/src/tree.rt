@@ -48,7 +48,7 @@ pub enum Expression<'a> {
 
 /// A statement.
 #[derive(Drop)]
-pub enum Statement<'a> {
+pub enum StatementNode<'a> {
     /// `target = value;`
     Assign(Identifier<'a>, Expression<'a>),
     /// `array[index] = value;`
@@ -58,13 +58,13 @@ pub enum Statement<'a> {
     /// `write port value;`
     Write(Identifier<'a>, Expression<'a>),
     /// `if test { .. } else { .. }`
-    If(Expression<'a>, Vec<Statement<'a>>, Vec<Statement<'a>>),
+    If(Expression<'a>, Vec<StatementNode<'a>>, Vec<StatementNode<'a>>),
     /// `while test { .. }`
-    While(Expression<'a>, Vec<Statement<'a>>),
+    While(Expression<'a>, Vec<StatementNode<'a>>),
 }
 
 /// The statements between two braces.
-pub type Block<'a> = Vec<Statement<'a>>;
+pub type Block<'a> = Vec<StatementNode<'a>>;
 
 /// Names with commas between them.
 pub type Names<'a> = Vec<Identifier<'a>>;
@@ -102,7 +102,7 @@ pub enum Declaration<'a> {
 
 /// A process: `process name(in ins; out outs; par pars) { declarations body }`.
 #[derive(Drop)]
-pub struct Process<'a> {
+pub struct ProcessNode<'a> {
     pub name: Identifier<'a>,
     pub parts: HeadParts<'a>,
     /// Its arrays and tables, in order.
@@ -112,7 +112,7 @@ pub struct Process<'a> {
 
 /// An instance of a process: `name = program(ins; outs; values);`.
 #[derive(Drop)]
-pub struct Instance<'a> {
+pub struct InstanceNode<'a> {
     pub name: Identifier<'a>,
     pub program: Identifier<'a>,
     /// The channels at its in ports and at its out ports, by place.
@@ -131,12 +131,12 @@ pub enum Item<'a> {
     Source(Identifier<'a>),
     /// `sink name cap capacity;`
     Sink(Identifier<'a>, Number),
-    Instance(Instance<'a>),
+    Instance(InstanceNode<'a>),
 }
 
 /// The network: its limit, its policy and its growth, each if it is written, and its items in order.
 #[derive(Drop)]
-pub struct Network<'a> {
+pub struct NetworkNode<'a> {
     pub limit: Option<Number>,
     pub policy: Option<Policy>,
     pub growth: Option<Growth>,
@@ -147,6 +147,6 @@ pub struct Network<'a> {
 #[derive(Drop)]
 pub struct Description<'a> {
     pub tables: Vec<Table<'a>>,
-    pub processes: Vec<Process<'a>>,
-    pub network: Network<'a>,
+    pub processes: Vec<ProcessNode<'a>>,
+    pub network: NetworkNode<'a>,
 }

@@ -19,7 +19,7 @@ use std::alloc::Global;
 /// Nothing is at the place.
 #[tactic(auto, unfolding(crate::specs::Reading::at_end))]
 fn at_end(source: Source<'_>, at: usize) -> Result<(), GrammarFault>
-    ensures { spec.Gives (λ x. tt) result (spec.at_end (tokens_from source.entry at)) }
+    ensures { spec.ReadingGives (λ x. tt) result (spec.at_end (tokens_from source.entry at)) }
 {
     match source.tokens.get(at) {
         Some(first) => Err(GrammarFault::Grammar(first.start)),
@@ -55,7 +55,7 @@ fn contents<'a>(
     source: Source<'a>,
     at: usize,
 ) -> Result<Description<'a>, GrammarFault>
-    ensures { spec.Gives document result
+    ensures { spec.ReadingGives document result
         (spec.contents source.entry.scope (tokens_from source.entry at)) }
 {
     let (tables, at) = shared_tables(alloc, source, at)?;
@@ -73,7 +73,7 @@ fn contents<'a>(
 /// The same behind the language.
 #[tactic(auto, unfolding(crate::specs::Reading::description, kpn_text_tokens::specs::Results::and_then))]
 fn whole<'a>(alloc: Global, source: Source<'a>) -> Result<Description<'a>, GrammarFault>
-    ensures { spec.Gives document result
+    ensures { spec.ReadingGives document result
         (spec.description source.entry.scope source.entry.tokens.now) }
 {
     let at = language_at(source, source.scope.language, 0)?;
@@ -104,7 +104,7 @@ pub fn description<'a>(
     ensures only { (d : Document) → IsDescription language (kinds tokens.now) d
         → OkOr GrammarFault.NoMemory result (λ x. document x ≡ d) }
     // Which fault it is.
-    ensures exact { spec.Gives document result (spec.description_of language end tokens.now) }
+    ensures exact { spec.ReadingGives document result (spec.description_of language end tokens.now) }
 {
     let scope = Scope {
         end,

@@ -4,14 +4,14 @@ use Rattle.std.proofs.lemmas.List.{length-map}
 use Rattle.kpn_net.specs.declared.tables.ChannelSpec.{ChannelSpec}
 use Rattle.kpn_net.specs.declared.tables.ChannelSpec.TheVariants.{Inner, Source, Sink}
 use Rattle.kpn_text_grammar.specs.Syntax as grammar
-use Rattle.kpn_text_grammar.specs.Syntax.{Name, Process, Item, channel, source, sink, instance, Description}
+use Rattle.kpn_text_grammar.specs.Syntax.{NameBytes, ProcessNode, Item, channel, source, sink, instance, Description}
 use Rattle.kpn_text_names.specs.Fault.{each}
 use Rattle.kpn_text_tokens.specs.Results.{and_then}
-use Rattle.kpn_text_names.specs.declared.tables.Shared.{Shared}
+use Rattle.kpn_text_names.specs.declared.tables.SharedTables.{SharedTables}
 use Rattle.kpn_text_names.specs.Shared.{shared_of}
 use Rattle.kpn_text_names.specs.Names.{declared}
-use Rattle.kpn_text_names.specs.Network.{settings_of, Wiring, within_32_bits, with_channel, with_instance, with_item, instance_of, all_channels, wiring}
-use Rattle.kpn_text_names.specs.Named.{NamedProgram, Programs, program_of, with_process, programs_of, Named, named_with, EachIsNamed, resolve}
+use Rattle.kpn_text_names.specs.Network.{settings_of, Wiring, within_32_bits, with_wired_channel, with_instance, with_wired_item, instance_of, all_channels, wiring}
+use Rattle.kpn_text_names.specs.Named.{NamedProgram, Programs, named_program, with_named_process, programs_of, Named, named_with, EachIsNamed, resolve}
 use Rattle.kpn_text_names.specs.NetworkNames.{AreNamed, names_in, paired, process_names_in}
 use Rattle.kpn_text_names.proofs.Chains.{ok_is, went}
 use Rattle.kpn_text_names.proofs.KnownNames.{declared_is}
@@ -20,11 +20,11 @@ use Rattle.kpn_text_names.proofs.Steps.{keeps}
 -- ---- a name more
 
 -- a table to which a name was added
-one_longer : (table names : List Name) (x : Name) → declared table x ≡ Ok names → length names ≡ suc (length table)
+one_longer : (table names : List NameBytes) (x : NameBytes) → declared table x ≡ Ok names → length names ≡ suc (length table)
 one_longer table names x e =
     ap length (sym ((declared_is table x names e).1)) ∙ simp length-append (omega arith)
 
-both_longer : {A : Type 0} (table names : List Name) (things : List A) (thing : A) (x : Name)
+both_longer : {A : Type 0} (table names : List NameBytes) (things : List A) (thing : A) (x : NameBytes)
     → declared table x ≡ Ok names → length table ≡ length things
     → length names ≡ length (things ++ thing ∷ [])
 both_longer table names things thing x e p = let q = one_longer table names x e in simp length-append (omega arith)
@@ -34,14 +34,14 @@ both_longer table names things thing x e p = let q = one_longer table names x e 
 abbrev pub ProgramsMatch : Programs → Type 0
 ProgramsMatch s = length s.names ≡ length s.programs
 
-one_process : (shared : Shared) (s t : Programs) (p : Process) → with_process shared s p ≡ Ok t → ProgramsMatch s → ProgramsMatch t
+one_process : (shared : SharedTables) (s t : Programs) (p : ProcessNode) → with_named_process shared s p ≡ Ok t → ProgramsMatch s → ProgramsMatch t
 one_process shared s t p e match =
     let b =
     went (declared s.names p.name)
-    (λ names. and_then (program_of shared p) (λ made. Ok (record { names = names; programs = s.programs ++ made ∷ [] })))
+    (λ names. and_then (named_program shared p) (λ made. Ok (record { names = names; programs = s.programs ++ made ∷ [] })))
     t e in
     let d =
-    went (program_of shared p) (λ made. Ok (record { names = b.value; programs = s.programs ++ made ∷ [] })) t b.rest in
+    went (named_program shared p) (λ made. Ok (record { names = b.value; programs = s.programs ++ made ∷ [] })) t b.rest in
     let is : ◌≡◌ {A = Programs} (record { names = b.value; programs = s.programs ++ d.value ∷ [] }) t =
     ok_is (record { names = b.value; programs = s.programs ++ d.value ∷ [] }) t d.rest in
     subst ProgramsMatch is (both_longer s.names b.value s.programs d.value p.name b.first match)
@@ -52,7 +52,7 @@ pub record WiringMatches (w : Wiring) : Type 0 where
   pub channels : length w.channel_names ≡ length w.channels
   pub instances : length w.instance_names ≡ length w.instances
 
-one_channel : (w v : Wiring) (x : Name) (c : ChannelSpec) → with_channel w x c ≡ Ok v → WiringMatches w
+one_channel : (w v : Wiring) (x : NameBytes) (c : ChannelSpec) → with_wired_channel w x c ≡ Ok v → WiringMatches w
     → WiringMatches v
 one_channel w v x c e match =
     let b =
@@ -66,7 +66,7 @@ one_channel w v x c e match =
       instances = match.instances;
     })
 
-one_instance : (programs channels : List Name) (w v : Wiring) (i : grammar.Instance)
+one_instance : (programs channels : List NameBytes) (w v : Wiring) (i : grammar.InstanceNode)
     → with_instance programs channels w i ≡ Ok v → WiringMatches w → WiringMatches v
 one_instance programs channels w v i e match =
     let b =
@@ -85,7 +85,7 @@ one_instance programs channels w v i e match =
       instances = both_longer w.instance_names b.value w.instances d.value i.name b.first match.instances;
     })
 
-one_item : (programs channels : List Name) (w v : Wiring) (i : Item) → with_item programs channels w i ≡ Ok v
+one_item : (programs channels : List NameBytes) (w v : Wiring) (i : Item) → with_wired_item programs channels w i ≡ Ok v
     → WiringMatches w → WiringMatches v
 one_item programs channels w v (channel x n) e match = one_channel w v x (Inner (within_32_bits n)) e match
 one_item programs channels w v (source x) e match = one_channel w v x Source e match
@@ -94,14 +94,14 @@ one_item programs channels w v (instance i) e match = one_instance programs chan
 
 -- ---- the whole
 
-pub programs_match : (shared : Shared) (processes : List Process) (p : Programs) → programs_of shared processes ≡ Ok p → ProgramsMatch p
+pub programs_match : (shared : SharedTables) (processes : List ProcessNode) (p : Programs) → programs_of shared processes ≡ Ok p → ProgramsMatch p
 programs_match shared processes p e =
-    keeps (with_process shared) ProgramsMatch (one_process shared) processes (record { names = []; programs = [] }) p e refl
+    keeps (with_named_process shared) ProgramsMatch (one_process shared) processes (record { names = []; programs = [] }) p e refl
 
-pub wiring_matches : (programs : List Name) (items : List Item) (w : Wiring) → wiring programs items ≡ Ok w
+pub wiring_matches : (programs : List NameBytes) (items : List Item) (w : Wiring) → wiring programs items ≡ Ok w
     → WiringMatches w
 wiring_matches programs items w e =
-    keeps (with_item programs (all_channels items)) WiringMatches (one_item programs (all_channels items)) items
+    keeps (with_wired_item programs (all_channels items)) WiringMatches (one_item programs (all_channels items)) items
     (record { channel_names = []; channels = []; instance_names = []; instances = [] }) w e
     (record { channels = refl; instances = refl })
 

@@ -2,21 +2,21 @@
 use Rattle.std.proofs.Common.{◌≡◌, Bool, true, false, cond, not, ◌&&◌, ◌||◌, List, [], ◌∷◌, ◌++◌, Result, Ok, Err, refl, sym, ap, ◌∙◌, append_assoc, append-nil}
 use Rattle.std.proofs.lemmas.List.Folds.{list_any-append}
 use Rattle.std.specs.Str.{bytes_eq}
-use Rattle.kpn_text_grammar.specs.Syntax.{Name, Process}
-use Rattle.kpn_text_names.specs.declared.scope.Scope.{Scope}
-use Rattle.kpn_text_names.specs.declared.scope.Part.{Part}
-use Rattle.kpn_text_names.specs.declared.scope.Part.TheVariants.{In, Out, Parameter}
+use Rattle.kpn_text_grammar.specs.Syntax.{NameBytes, ProcessNode}
+use Rattle.kpn_text_names.specs.declared.scope.NameScope.{NameScope}
+use Rattle.kpn_text_names.specs.declared.scope.HeadPart.{HeadPart}
+use Rattle.kpn_text_names.specs.declared.scope.HeadPart.TheVariants.{In, Out, Parameter}
 use Rattle.kpn_text_names.specs.declared.fault.NameFault.{NameFault}
-use Rattle.kpn_text_names.specs.Fault.{NameError, double, each, Fails}
+use Rattle.kpn_text_names.specs.Fault.{NameError, double, each, ResolvingFails}
 use Rattle.kpn_text_tokens.specs.Results.{and_then}
 use Rattle.kpn_text_names.proofs.Chains.{then_ok}
 use Rattle.kpn_text_names.proofs.Steps.{fails_first}
 use Rattle.kpn_text_names.specs.Names.{has}
-use Rattle.kpn_text_names.specs.Scope.{are_new, scope_with, head, is_taken}
-use Rattle.kpn_text_names.specs.Writer.{with_part, declared_in}
+use Rattle.kpn_text_names.specs.Scope.{are_new, scope_with, head_scope, is_taken}
+use Rattle.kpn_text_names.specs.Writer.{with_head_name, declared_in}
 
 -- the three parts in turn
-abbrev head_by_parts : (shared ins outs pars : List Name) → Result Scope NameError
+abbrev head_by_parts : (shared ins outs pars : List NameBytes) → Result NameScope NameError
 head_by_parts shared ins outs pars =
     and_then (each (declared_in shared In) (scope_with [] [] []) ins)
     (λ s. and_then (each (declared_in shared Out) s outs) (λ t. each (declared_in shared Parameter) t pars))
@@ -27,7 +27,7 @@ and_assoc : (a b c : Bool) → ((a && b) && c) ≡ (a && (b && c))
 and_assoc true b c = refl
 and_assoc false b c = refl
 
-are_new-append : (before xs ys : List Name)
+are_new-append : (before xs ys : List NameBytes)
     → are_new before (xs ++ ys) ≡ (are_new before xs && are_new (before ++ xs) ys)
 are_new-append before [] ys = ap (λ l. are_new l ys) (sym (append-nil before))
 are_new-append before (x ∷ xs) ys =
@@ -37,18 +37,18 @@ are_new-append before (x ∷ xs) ys =
     ∙ sym (and_assoc (not (has before x)) (are_new (before ++ x ∷ []) xs) (are_new (before ++ x ∷ xs) ys))
 
 -- the names with one more, if it is not taken
-abbrev if_taken : Bool → Scope → Result Scope NameError
+abbrev if_taken : Bool → NameScope → Result NameScope NameError
 if_taken b s = cond b (Err double) (Ok s)
 
 -- ---- a part of the head: `at` says where the names go, and `before` what comes before them
 
-module _ (shared : List Name) (part : Part) (before : List Name) (at : List Name → Scope)
-    (taken : (names : List Name) (x : Name) → is_taken shared (at names) x ≡ has (before ++ names) x)
-    (put : (names : List Name) (x : Name) → with_part part (at names) x ≡ at (names ++ x ∷ [])) where
-  name_then : (names xs : List Name) (x : Name) (b : Bool)
+module _ (shared : List NameBytes) (part : HeadPart) (before : List NameBytes) (at : List NameBytes → NameScope)
+    (taken : (names : List NameBytes) (x : NameBytes) → is_taken shared (at names) x ≡ has (before ++ names) x)
+    (put : (names : List NameBytes) (x : NameBytes) → with_head_name part (at names) x ≡ at (names ++ x ∷ [])) where
+  name_then : (names xs : List NameBytes) (x : NameBytes) (b : Bool)
       → each (declared_in shared part) (at (names ++ x ∷ [])) xs
       ≡ cond (are_new (before ++ (names ++ x ∷ [])) xs) (Ok (at ((names ++ x ∷ []) ++ xs))) (Err double)
-      → and_then (if_taken b (with_part part (at names) x)) (λ s. each (declared_in shared part) s xs)
+      → and_then (if_taken b (with_head_name part (at names) x)) (λ s. each (declared_in shared part) s xs)
       ≡ cond (not b && are_new ((before ++ names) ++ x ∷ []) xs) (Ok (at (names ++ x ∷ xs))) (Err double)
   unfolding and_then
   name_then names xs x true rest = refl
@@ -58,13 +58,13 @@ module _ (shared : List Name) (part : Part) (before : List Name) (at : List Name
       cond (are_new (sym (append_assoc before names (x ∷ [])) i) xs) (Ok (at (append_assoc names (x ∷ []) xs i)))
       (Err double))
 
-  part_is : (names xs : List Name)
+  part_is : (names xs : List NameBytes)
       → each (declared_in shared part) (at names) xs
       ≡ cond (are_new (before ++ names) xs) (Ok (at (names ++ xs))) (Err double)
   unfolding each
   part_is names [] = ap (λ l. Ok (at l)) (sym (append-nil names))
   part_is names (x ∷ xs) =
-      ap (λ b. and_then (if_taken b (with_part part (at names) x)) (λ s. each (declared_in shared part) s xs))
+      ap (λ b. and_then (if_taken b (with_head_name part (at names) x)) (λ s. each (declared_in shared part) s xs))
       (taken names x)
       ∙ name_then names xs x (has (before ++ names) x) (part_is (names ++ x ∷ []) xs)
 
@@ -79,10 +79,10 @@ or_assoc true b c = refl
 or_assoc false b c = refl
 
 -- a name is taken by these, which are known before it
-has_both : (xs ys : List Name) (x : Name) → (has xs x || has ys x) ≡ has (xs ++ ys) x
+has_both : (xs ys : List NameBytes) (x : NameBytes) → (has xs x || has ys x) ≡ has (xs ++ ys) x
 has_both xs ys x = sym (list_any-append (bytes_eq x) xs ys)
 
-taken_by : (shared ins outs vars : List Name) (x : Name)
+taken_by : (shared ins outs vars : List NameBytes) (x : NameBytes)
     → is_taken shared (scope_with ins outs vars) x ≡ has (((shared ++ ins) ++ outs) ++ vars) x
 taken_by shared ins outs vars x =
     ap (λ b. b || ((has ins x || has outs x) || has vars x)) (or_false (has shared x))
@@ -91,7 +91,7 @@ taken_by shared ins outs vars x =
     ∙ ap (λ b. (b || has outs x) || has vars x) (has_both shared ins x)
     ∙ ap (λ b. b || has vars x) (has_both (shared ++ ins) outs x) ∙ has_both ((shared ++ ins) ++ outs) vars x
 
-ins_are : (shared ins : List Name)
+ins_are : (shared ins : List NameBytes)
     → each (declared_in shared In) (scope_with [] [] []) ins
     ≡ cond (are_new shared ins) (Ok (scope_with ins [] [])) (Err double)
 ins_are shared ins =
@@ -100,7 +100,7 @@ ins_are shared ins =
     ∙ ap (λ l. has l x) (append-nil ((shared ++ names) ++ []) ∙ append-nil (shared ++ names))) (λ names x. refl) [] ins
     ∙ ap (λ l. cond (are_new l ins) (Ok (scope_with ins [] [])) (Err double)) (append-nil shared)
 
-outs_are : (shared ins outs : List Name)
+outs_are : (shared ins outs : List NameBytes)
     → each (declared_in shared Out) (scope_with ins [] []) outs
     ≡ cond (are_new (shared ++ ins) outs) (Ok (scope_with ins outs [])) (Err double)
 outs_are shared ins outs =
@@ -109,7 +109,7 @@ outs_are shared ins outs =
     (λ names x. refl) [] outs
     ∙ ap (λ l. cond (are_new l outs) (Ok (scope_with ins outs [])) (Err double)) (append-nil (shared ++ ins))
 
-pars_are : (shared ins outs pars : List Name)
+pars_are : (shared ins outs pars : List NameBytes)
     → each (declared_in shared Parameter) (scope_with ins outs []) pars
     ≡ cond (are_new ((shared ++ ins) ++ outs) pars) (Ok (scope_with ins outs pars)) (Err double)
 pars_are shared ins outs pars =
@@ -129,11 +129,11 @@ all_three true true c r e = refl
 all_three true false c r e = refl
 all_three false b c r e = refl
 
-pub heads_are : (shared ins outs pars : List Name) → head_by_parts shared ins outs pars
+pub heads_are : (shared ins outs pars : List NameBytes) → head_by_parts shared ins outs pars
     ≡ cond (are_new shared (ins ++ outs ++ pars)) (Ok (scope_with ins outs pars)) (Err double)
 heads_are shared ins outs pars =
-    let last : Scope → Result Scope NameError = λ s. each (declared_in shared Parameter) s pars in
-    let later : Scope → Result Scope NameError = λ s. and_then (each (declared_in shared Out) s outs) last in
+    let last : NameScope → Result NameScope NameError = λ s. each (declared_in shared Parameter) s pars in
+    let later : NameScope → Result NameScope NameError = λ s. and_then (each (declared_in shared Out) s outs) last in
     ap (λ r. and_then r later) (ins_are shared ins)
     ∙ then_where (are_new shared ins) (scope_with ins [] []) later
     ∙ ap (λ r. cond (are_new shared ins) (and_then r last) (Err double)) (outs_are shared ins outs)
@@ -152,22 +152,22 @@ heads_are shared ins outs pars =
 
 -- ---- what the code knows after each part
 
-abbrev nothing : Scope
+abbrev nothing : NameScope
 nothing = scope_with [] [] []
 
-pub head_is : (shared : List Name) (p : Process) → head shared p ≡ head_by_parts shared p.ins p.outs p.pars
+pub head_is : (shared : List NameBytes) (p : ProcessNode) → head_scope shared p ≡ head_by_parts shared p.ins p.outs p.pars
 head_is shared p = sym (heads_are shared p.ins p.outs p.pars)
 
-pub fails_at_ins : (shared : List Name) (e : NameFault) (p : Process) (s : Scope) (ins : List Name) → s ≡ nothing → ins ≡ p.ins
-    → Fails e (each (declared_in shared In) s ins) → Fails e (head shared p)
+pub fails_at_ins : (shared : List NameBytes) (e : NameFault) (p : ProcessNode) (s : NameScope) (ins : List NameBytes) → s ≡ nothing → ins ≡ p.ins
+    → ResolvingFails e (each (declared_in shared In) s ins) → ResolvingFails e (head_scope shared p)
 fails_at_ins shared e p s ins start is h =
     rw (head_is shared p, ← is, ← start)
     (fails_first e (each (declared_in shared In) s ins)
     (λ t. and_then (each (declared_in shared Out) t p.outs) (λ u. each (declared_in shared Parameter) u p.pars)) h)
 
-pub fails_at_outs : (shared : List Name) (e : NameFault) (p : Process) (s t : Scope) (ins outs : List Name) → s ≡ nothing → ins ≡ p.ins
+pub fails_at_outs : (shared : List NameBytes) (e : NameFault) (p : ProcessNode) (s t : NameScope) (ins outs : List NameBytes) → s ≡ nothing → ins ≡ p.ins
     → outs ≡ p.outs
-    → each (declared_in shared In) s ins ≡ Ok t → Fails e (each (declared_in shared Out) t outs) → Fails e (head shared p)
+    → each (declared_in shared In) s ins ≡ Ok t → ResolvingFails e (each (declared_in shared Out) t outs) → ResolvingFails e (head_scope shared p)
 fails_at_outs shared e p s t ins outs start is os first h =
     rw (
       head_is shared p,
@@ -179,10 +179,10 @@ fails_at_outs shared e p s t ins outs start is os first h =
     )
     (fails_first e (each (declared_in shared Out) t outs) (λ u. each (declared_in shared Parameter) u p.pars) h)
 
-pub made_of : (shared : List Name) (p : Process) (s t u : Scope) (ins outs pars : List Name) → s ≡ nothing → ins ≡ p.ins → outs ≡ p.outs
+pub made_of : (shared : List NameBytes) (p : ProcessNode) (s t u : NameScope) (ins outs pars : List NameBytes) → s ≡ nothing → ins ≡ p.ins → outs ≡ p.outs
     → pars ≡ p.pars
     → each (declared_in shared In) s ins ≡ Ok t → each (declared_in shared Out) t outs ≡ Ok u
-    → head shared p ≡ each (declared_in shared Parameter) u pars
+    → head_scope shared p ≡ each (declared_in shared Parameter) u pars
 made_of shared p s t u ins outs pars start is os ps first second =
     rw (head_is shared p, ← is, ← os, ← ps, ← start)
     (then_ok (each (declared_in shared In) s ins)

@@ -5,7 +5,7 @@ use Rattle.std.specs.Str.{bytes_eq}
 use Rattle.std.specs.Cmp.Lexicographic.{bytes_decides}
 use Rattle.std.proofs.lemmas.List.Quantifiers.{position-Some}
 use Rattle.std.proofs.lemmas.List.{get_or_append_left}
-use Rattle.kpn_text_grammar.specs.Syntax.{Name}
+use Rattle.kpn_text_grammar.specs.Syntax.{NameBytes}
 use Rattle.kpn_text_names.specs.Fault.{NameError, double, each}
 use Rattle.kpn_text_names.proofs.Chains.{ok_is, went}
 use Rattle.kpn_text_names.specs.Names.{has, number_of, or_unknown, known, with_number, all_known, declared, with_name, name_at}
@@ -13,11 +13,11 @@ use Rattle.kpn_text_names.specs.Names.{has, number_of, or_unknown, known, with_n
 -- ---- the number of a name
 
 -- the name with this number
-pub record IsNamed (table : List Name) (k : ℕ) (x : Name) : Type 0 where
+pub record IsNamed (table : List NameBytes) (k : ℕ) (x : NameBytes) : Type 0 where
   pub here : k < length table
   pub name : name_at table k ≡ x
 
-pub is_named-append : (table more : List Name) (k : ℕ) (x : Name) → IsNamed table k x → IsNamed (table ++ more) k x
+pub is_named-append : (table more : List NameBytes) (k : ℕ) (x : NameBytes) → IsNamed table k x → IsNamed (table ++ more) k x
 is_named-append table more k x h =
     record {
       here = omega (arith, length-append table more);
@@ -29,16 +29,16 @@ or_known : (o : Option ℕ) (k : ℕ) → or_unknown o ≡ Ok k → o ≡ Some k
 or_known (Some j) k e = ap (λ n. Some n) (ok_is j k e)
 or_known None k e = absurd (cc)
 
-same_bytes : (x y : Name) → bytes_eq x y ≡ true → y ≡ x
+same_bytes : (x y : NameBytes) → bytes_eq x y ≡ true → y ≡ x
 same_bytes x y h = sym ((bytes_decides x y).0 h)
 
-pub known_named : (table : List Name) (x : Name) (k : ℕ) → known table x ≡ Ok k → IsNamed table k x
+pub known_named : (table : List NameBytes) (x : NameBytes) (k : ℕ) → known table x ≡ Ok k → IsNamed table k x
 known_named table x k e =
     let p = position-Some (bytes_eq x) table k [] (or_known (number_of table x) k e) in
     record { here = p.0; name = same_bytes x (name_at table k) p.1 }
 
 -- a name that is put at the end if it is new
-first_or_later : (b c : Bool) (y x : Name) (table : List Name) (k : ℕ) → (b ≡ true → y ≡ x)
+first_or_later : (b c : Bool) (y x : NameBytes) (table : List NameBytes) (k : ℕ) → (b ≡ true → y ≡ x)
     → IsNamed (cond c table (table ++ x ∷ [])) k x
     → IsNamed (cond (b || c) (y ∷ table) (y ∷ (table ++ x ∷ []))) (cond (not b) (1 + k) 0) x
 first_or_later true c y x table k same rest = record { here = omega arith; name = same refl }
@@ -51,7 +51,7 @@ first_or_later false false y x table k same rest =
     let here : k < length (table ++ x ∷ []) = rest.here in
     record { here = omega arith; name = ap (λ n. name_at (y ∷ (table ++ x ∷ [])) n) one ∙ rest.name }
 
-pub target_named : (table : List Name) (x : Name) → IsNamed (with_name table x) (position_or_len (bytes_eq x) table) x
+pub target_named : (table : List NameBytes) (x : NameBytes) → IsNamed (with_name table x) (position_or_len (bytes_eq x) table) x
 target_named [] x = record { here = omega arith; name = refl }
 target_named (y ∷ table) x =
     first_or_later (bytes_eq x y) (list_any (bytes_eq x) table) y x table (position_or_len (bytes_eq x) table)
@@ -60,15 +60,15 @@ target_named (y ∷ table) x =
 -- ---- tables that grow
 
 -- a table with more names behind it
-pub record Longer (table longer : List Name) : Type 0 where
-  pub more : List Name
+pub record Longer (table longer : List NameBytes) : Type 0 where
+  pub more : List NameBytes
   pub is : longer ≡ table ++ more
 
-longer_if : (b : Bool) (table : List Name) (x : Name) → Longer table (cond b table (table ++ x ∷ []))
+longer_if : (b : Bool) (table : List NameBytes) (x : NameBytes) → Longer table (cond b table (table ++ x ∷ []))
 longer_if true table x = record { more = []; is = sym (append-nil table) }
 longer_if false table x = record { more = x ∷ []; is = refl }
 
-pub with_name_longer : (table : List Name) (x : Name) → Longer table (with_name table x)
+pub with_name_longer : (table : List NameBytes) (x : NameBytes) → Longer table (with_name table x)
 with_name_longer table x = longer_if (has table x) table x
 
 -- what is there only if a test is not passed
@@ -84,24 +84,24 @@ if_so true x y h = (refl, ok_is x y h)
 if_so false x y h = absurd (cc)
 
 -- a name that was new
-pub declared_is : (table : List Name) (x : Name) (names : List Name) → declared table x ≡ Ok names
+pub declared_is : (table : List NameBytes) (x : NameBytes) (names : List NameBytes) → declared table x ≡ Ok names
     → (has table x ≡ false) × (table ++ x ∷ [] ≡ names)
 declared_is table x names h = if_not (has table x) (table ++ x ∷ []) names h
 
-pub declared_new : (table : List Name) (x : Name) → has table x ≡ false → declared table x ≡ Ok (table ++ x ∷ [])
+pub declared_new : (table : List NameBytes) (x : NameBytes) → has table x ≡ false → declared table x ≡ Ok (table ++ x ∷ [])
 declared_new table x new = ap (λ b. cond b (Err double) (Ok (table ++ x ∷ []))) new
 
-pub with_name_new : (table : List Name) (x : Name) → has table x ≡ false → with_name table x ≡ table ++ x ∷ []
+pub with_name_new : (table : List NameBytes) (x : NameBytes) → has table x ≡ false → with_name table x ≡ table ++ x ∷ []
 with_name_new table x new = ap (λ b. cond b table (table ++ x ∷ [])) new
 
 -- ---- the numbers of several names
 
-record Numbers (table : List Name) (before : List ℕ) (xs : List Name) (ks : List ℕ) : Type 0 where
+record Numbers (table : List NameBytes) (before : List ℕ) (xs : List NameBytes) (ks : List ℕ) : Type 0 where
   more : List ℕ
   is : ks ≡ before ++ more
   names : map (name_at table) more ≡ xs
 
-numbers_of : (table : List Name) (before : List ℕ) (xs : List Name) (ks : List ℕ)
+numbers_of : (table : List NameBytes) (before : List ℕ) (xs : List NameBytes) (ks : List ℕ)
     → each (with_number table) before xs ≡ Ok ks → Numbers table before xs ks
 unfolding each
 numbers_of table before [] ks e =
@@ -119,7 +119,7 @@ numbers_of table before (x ∷ xs) ks e =
       names = λ i. name.name i ∷ rest.names i;
     }
 
-pub all_known_named : (table : List Name) (xs : List Name) (ks : List ℕ) → all_known table xs ≡ Ok ks
+pub all_known_named : (table : List NameBytes) (xs : List NameBytes) (ks : List ℕ) → all_known table xs ≡ Ok ks
     → map (name_at table) ks ≡ xs
 all_known_named table xs ks e =
     let n = numbers_of table [] xs ks e in

@@ -13,18 +13,18 @@ use Rattle.kpn_lang.specs.Tree.{Tree}
 use Rattle.kpn_net.specs.declared.tables.ChannelSpec.{ChannelSpec}
 use Rattle.kpn_net.specs.declared.tables.ChannelSpec.TheVariants.{Inner, Source, Sink}
 use Rattle.kpn_text_grammar.specs.Syntax as grammar
-use Rattle.kpn_text_grammar.specs.Syntax.{Name, Statement, assign, store, receive, send, choice, loop, Statements, no_statements, statement, Declaration, Process, Item, channel, source, sink, instance, Description}
-use Rattle.kpn_text_names.specs.declared.scope.Scope.{Scope}
+use Rattle.kpn_text_grammar.specs.Syntax.{NameBytes, StatementNode, assign, store, receive, send, choice, loop, Statements, no_statements, statement, Declaration, ProcessNode, Item, channel, source, sink, instance, Description}
+use Rattle.kpn_text_names.specs.declared.scope.NameScope.{NameScope}
 use Rattle.kpn_text_tokens.specs.Results.{and_then}
 use Rattle.kpn_text_names.specs.Names.{name_at, has, declared, with_name}
-use Rattle.kpn_text_names.specs.declared.tables.Shared.{Shared}
+use Rattle.kpn_text_names.specs.declared.tables.SharedTables.{SharedTables}
 use Rattle.kpn_text_names.specs.Fault.{each}
-use Rattle.kpn_text_names.specs.Scope.{are_new, scope_with, head, is_port, is_row, is_taken, declared_name, with_declaration, declare, target}
+use Rattle.kpn_text_names.specs.Scope.{are_new, scope_with, head_scope, is_port, is_row, is_taken, declared_name, with_declaration, declare, target}
 use Rattle.kpn_text_names.specs.Shared.{shared_of}
 use Rattle.kpn_text_names.specs.Body.{statement_in, tree_in}
-use Rattle.kpn_text_names.specs.Blocks.{Written, blocks_of, body_of}
-use Rattle.kpn_text_names.specs.Network.{Settings, settings_of, Wiring, within_32_bits, with_channel, with_instance, with_item, instance_of, all_channels, wiring}
-use Rattle.kpn_text_names.specs.Named.{NamedProgram, program_with, with_uses, program_of, Programs, with_process, programs_of, Named, named_with, resolve}
+use Rattle.kpn_text_names.specs.Blocks.{WrittenBody, body_blocks, body_of}
+use Rattle.kpn_text_names.specs.Network.{Settings, settings_of, Wiring, within_32_bits, with_wired_channel, with_instance, with_wired_item, instance_of, all_channels, wiring}
+use Rattle.kpn_text_names.specs.Named.{NamedProgram, program_with, with_uses, named_program, Programs, with_named_process, programs_of, Named, named_with, resolve}
 use Rattle.kpn_text_names.specs.NetworkNames.{paired, process_names_in, names_in}
 use Rattle.kpn_text_names.specs.Once.{StandOnce, names_inside, EachStandsOnce}
 use Rattle.kpn_text_names.proofs.Chains.{ok_is, went}
@@ -35,21 +35,21 @@ use Rattle.kpn_text_names.proofs.Counts.{programs_match}
 -- ---- one table
 
 -- no name is one that comes before it
-abbrev Apart : List Name → Type 0
+abbrev Apart : List NameBytes → Type 0
 Apart table = (i j : ℕ) → i < j → j < length table → bytes_eq (name_at table j) (name_at table i) ≡ false
 
 false_unless : (b : Bool) → (b ≡ true → ⊥) → b ≡ false
 false_unless true h = absurd (h refl)
 false_unless false h = refl
 
-not_there : (table : List Name) (x : Name) (i : ℕ) → has table x ≡ false → i < length table
+not_there : (table : List NameBytes) (x : NameBytes) (i : ℕ) → has table x ≡ false → i < length table
     → bytes_eq x (name_at table i) ≡ false
 not_there table x i new here =
     false_unless (bytes_eq x (name_at table i))
     (λ same. false≢true (sym new ∙ list_any_at (bytes_eq x) table i [] here same))
 
 -- a name more, which is new
-one_more : (table : List Name) (x : Name) → has table x ≡ false → Apart table → Apart (table ++ x ∷ [])
+one_more : (table : List NameBytes) (x : NameBytes) → has table x ≡ false → Apart table → Apart (table ++ x ∷ [])
 one_more table x new apart i j before here =
     let longer : length (table ++ x ∷ []) ≡ suc (length table) = simp length-append (omega arith) in
     elim (cases_eq j (length table)) [
@@ -64,14 +64,14 @@ one_more table x new apart i j before here =
           (apart i j before (omega arith))
     ]
 
-stand_once : (table : List Name) → Apart table → StandOnce table
+stand_once : (table : List NameBytes) → Apart table → StandOnce table
 stand_once table apart k here =
     let at : position_or_len (bytes_eq (name_at table k)) table ≡ k =
     position_or_len_is (bytes_eq (name_at table k)) table k [] (omega arith) (λ i before. apart i k before here)
     (λ below. (bytes_decides (name_at table k) (name_at table k)).1 refl) in
     rw (at, lt-ltb k (length table) here) refl
 
-declared_apart : (table names : List Name) (x : Name) → declared table x ≡ Ok names → Apart table → Apart names
+declared_apart : (table names : List NameBytes) (x : NameBytes) → declared table x ≡ Ok names → Apart table → Apart names
 declared_apart table names x e apart =
     let d = declared_is table x names e in
     subst Apart d.1 (one_more table x d.0 apart)
@@ -81,17 +81,17 @@ none_apart i j before here = absurd (omega arith)
 
 -- ---- the names in a process
 
-abbrev known_in : Scope → List Name
+abbrev known_in : NameScope → List NameBytes
 known_in s = s.ins ++ s.outs ++ s.vars
 
-abbrev ScopeApart : Scope → Type 0
+abbrev ScopeApart : NameScope → Type 0
 ScopeApart s = Apart (known_in s)
 
 is_false : (b : Bool) → not b ≡ true → b ≡ false
 is_false true h = absurd (cc)
 is_false false h = refl
 
-new_apart : (before xs : List Name) → are_new before xs ≡ true → Apart before → Apart (before ++ xs)
+new_apart : (before xs : List NameBytes) → are_new before xs ≡ true → Apart before → Apart (before ++ xs)
 new_apart before [] e apart = subst Apart (sym (append-nil before)) apart
 new_apart before (x ∷ xs) e apart =
     let parts = and_parts (not (has before x)) (are_new (before ++ x ∷ []) xs) e in
@@ -99,7 +99,7 @@ new_apart before (x ∷ xs) e apart =
     (new_apart (before ++ x ∷ []) xs parts.1 (one_more before x (is_false (has before x) parts.0) apart))
 
 -- names that are new beside more are new beside fewer
-new_beside : (more before xs : List Name) → are_new (more ++ before) xs ≡ true → are_new before xs ≡ true
+new_beside : (more before xs : List NameBytes) → are_new (more ++ before) xs ≡ true → are_new before xs ≡ true
 new_beside more before [] e = refl
 new_beside more before (x ∷ xs) e =
     let parts = and_parts (not (has (more ++ before) x)) (are_new ((more ++ before) ++ x ∷ []) xs) e in
@@ -107,38 +107,38 @@ new_beside more before (x ∷ xs) e =
     (sym (list_any-append (bytes_eq x) more before) ∙ is_false (has (more ++ before) x) parts.0) in
     and_from (not (has before x)) (are_new (before ++ x ∷ []) xs) (ap not apart.1)
     (new_beside more (before ++ x ∷ []) xs
-    (subst (λ (l : List Name). are_new l xs ≡ true) (append_assoc more before (x ∷ [])) parts.1))
+    (subst (λ (l : List NameBytes). are_new l xs ≡ true) (append_assoc more before (x ∷ [])) parts.1))
 
-head_apart : (shared : List Name) (p : Process) (s : Scope) → head shared p ≡ Ok s → ScopeApart s
+head_apart : (shared : List NameBytes) (p : ProcessNode) (s : NameScope) → head_scope shared p ≡ Ok s → ScopeApart s
 head_apart shared p s e =
-    let made : Scope = scope_with p.ins p.outs p.pars in
+    let made : NameScope = scope_with p.ins p.outs p.pars in
     let given = if_so (are_new shared (p.ins ++ p.outs ++ p.pars)) made s e in
     let new = new_beside shared [] (p.ins ++ p.outs ++ p.pars)
-    (subst (λ (l : List Name). are_new l (p.ins ++ p.outs ++ p.pars) ≡ true) (sym (append-nil shared)) given.0) in
+    (subst (λ (l : List NameBytes). are_new l (p.ins ++ p.outs ++ p.pars) ≡ true) (sym (append-nil shared)) given.0) in
     subst ScopeApart given.1 (new_apart [] (p.ins ++ p.outs ++ p.pars) new none_apart)
 
 -- an array or a table is no port and no variable
-same_names : (s : Scope) (d : Declaration) → known_in (with_declaration s d) ≡ known_in s
+same_names : (s : NameScope) (d : Declaration) → known_in (with_declaration s d) ≡ known_in s
 same_names s (grammar.array x n) = refl
 same_names s (grammar.table t) = refl
 
-declare_apart : (shared : List Name) (s t : Scope) (d : Declaration) → declare shared s d ≡ Ok t → ScopeApart s
+declare_apart : (shared : List NameBytes) (s t : NameScope) (d : Declaration) → declare shared s d ≡ Ok t → ScopeApart s
     → ScopeApart t
 declare_apart shared s t d e apart =
     let given = if_not (is_taken shared s (declared_name d)) (with_declaration s d) t e in
     subst ScopeApart given.1 (subst Apart (sym (same_names s d)) apart)
 
 -- a variable, which is none of the ports
-with_name_apart : (ports vars : List Name) (x : Name) (b : Bool) → has vars x ≡ b → has ports x ≡ false
+with_name_apart : (ports vars : List NameBytes) (x : NameBytes) (b : Bool) → has vars x ≡ b → has ports x ≡ false
     → Apart (ports ++ vars) → Apart (ports ++ cond b vars (vars ++ x ∷ []))
 with_name_apart ports vars x true stands free apart = apart
 with_name_apart ports vars x false stands free apart =
     let new : has (ports ++ vars) x ≡ false = rw (list_any-append (bytes_eq x) ports vars, free) stands in
     subst Apart (append_assoc ports vars (x ∷ [])) (one_more (ports ++ vars) x new apart)
 
-target_apart : (shared : List Name) (s : Scope) (x : Name) (r : Scope × ℕ) → target shared s x ≡ Ok r → ScopeApart s → ScopeApart r.0
+target_apart : (shared : List NameBytes) (s : NameScope) (x : NameBytes) (r : NameScope × ℕ) → target shared s x ≡ Ok r → ScopeApart s → ScopeApart r.0
 target_apart shared s x r e apart =
-    let made : Scope × ℕ = (record s { vars = with_name s.vars x }, position_or_len (bytes_eq x) s.vars) in
+    let made : NameScope × ℕ = (record s { vars = with_name s.vars x }, position_or_len (bytes_eq x) s.vars) in
     let given = if_not (is_port s x || is_row shared s x) made r e in
     let free : has (s.ins ++ s.outs) x ≡ false = list_any-append (bytes_eq x) s.ins s.outs
     ∙ (or_parts (is_port s x) (is_row shared s x) given.0).0 in
@@ -148,7 +148,7 @@ target_apart shared s x r e apart =
 mutual
   unfolding statement_in tree_in
 
-  statement_apart : (shared : List Name) (s : Scope) (x : Statement) (r : Scope × (Tree → Tree)) → statement_in shared s x ≡ Ok r
+  statement_apart : (shared : List NameBytes) (s : NameScope) (x : StatementNode) (r : NameScope × (Tree → Tree)) → statement_in shared s x ≡ Ok r
       → ScopeApart s → ScopeApart r.0
   statement_apart shared s (assign x e) r h apart =
       let t = went _ _ r h in
@@ -178,7 +178,7 @@ mutual
       let body = went _ _ r a.rest in
       subst (λ q. ScopeApart q.0) (ok_is _ r body.rest) (tree_apart shared s b body.value body.first apart)
 
-  tree_apart : (shared : List Name) (s : Scope) (b : Statements) (r : Scope × Tree) → tree_in shared s b ≡ Ok r → ScopeApart s → ScopeApart r.0
+  tree_apart : (shared : List NameBytes) (s : NameScope) (b : Statements) (r : NameScope × Tree) → tree_in shared s b ≡ Ok r → ScopeApart s → ScopeApart r.0
   tree_apart shared s no_statements r h apart = subst (λ q. ScopeApart q.0) (ok_is _ r h) apart
   tree_apart shared s (statement x xs) r h apart =
       let first = went _ _ r h in
@@ -186,16 +186,16 @@ mutual
       subst (λ q. ScopeApart q.0) (ok_is _ r rest.rest)
       (tree_apart shared first.value.0 xs rest.value rest.first (statement_apart shared s x first.value first.first apart))
 
-body_apart : (shared : List Name) (s : Scope) (b : Statements) (w : Written) → body_of shared s b ≡ Ok w → ScopeApart s
+body_apart : (shared : List NameBytes) (s : NameScope) (b : Statements) (w : WrittenBody) → body_of shared s b ≡ Ok w → ScopeApart s
     → ScopeApart w.scope
 body_apart shared s b w e apart =
-    let made : Scope × Tree → Written = λ r. record { scope = r.0; blocks = blocks_of r.1 } in
+    let made : NameScope × Tree → WrittenBody = λ r. record { scope = r.0; blocks = body_blocks r.1 } in
     let r = went (tree_in shared s b) (λ r. Ok (made r)) w e in
     subst (λ v. ScopeApart v.scope) (ok_is (made r.value) w r.rest) (tree_apart shared s b r.value r.first apart)
 
-program_apart : (shared : Shared) (p : Process) (q : NamedProgram) → program_of shared p ≡ Ok q → ScopeApart q.names
+program_apart : (shared : SharedTables) (p : ProcessNode) (q : NamedProgram) → named_program shared p ≡ Ok q → ScopeApart q.names
 program_apart shared p q e =
-    let h = went (head shared.names p) _ q e in
+    let h = went (head_scope shared.names p) _ q e in
     let s = went (each (declare shared.names) h.value p.declarations) _ q h.rest in
     let body = went (body_of shared.names (with_uses shared s.value p.body) p.body) _ q s.rest in
     let declared : ScopeApart s.value = keeps (declare shared.names) ScopeApart (declare_apart shared.names) p.declarations
@@ -209,22 +209,22 @@ record ProgramsApart (s : Programs) : Type 0 where
   names : Apart s.names
   inside : All (λ q. ScopeApart q.names) s.programs
 
-process_apart : (shared : Shared) (s t : Programs) (p : Process) → with_process shared s p ≡ Ok t → ProgramsApart s → ProgramsApart t
+process_apart : (shared : SharedTables) (s t : Programs) (p : ProcessNode) → with_named_process shared s p ≡ Ok t → ProgramsApart s → ProgramsApart t
 process_apart shared s t p e apart =
-    let made : List Name → NamedProgram → Programs =
+    let made : List NameBytes → NamedProgram → Programs =
     λ names made. record { names = names; programs = s.programs ++ made ∷ [] } in
-    let names = went (declared s.names p.name) (λ names. and_then (program_of shared p) (λ q. Ok (made names q))) t e in
-    let q = went (program_of shared p) (λ q. Ok (made names.value q)) t names.rest in
+    let names = went (declared s.names p.name) (λ names. and_then (named_program shared p) (λ q. Ok (made names q))) t e in
+    let q = went (named_program shared p) (λ q. Ok (made names.value q)) t names.rest in
     subst ProgramsApart (ok_is (made names.value q.value) t q.rest)
     (record {
       names = declared_apart s.names names.value p.name names.first apart.names;
       inside = All-push (λ q. ScopeApart q.names) s.programs q.value apart.inside (program_apart shared p q.value q.first);
     })
 
-programs_apart : (shared : Shared) (processes : List Process) (p : Programs) → programs_of shared processes ≡ Ok p
+programs_apart : (shared : SharedTables) (processes : List ProcessNode) (p : Programs) → programs_of shared processes ≡ Ok p
     → ProgramsApart p
 programs_apart shared processes p e =
-    keeps (with_process shared) ProgramsApart (process_apart shared) processes (record { names = []; programs = [] }) p e
+    keeps (with_named_process shared) ProgramsApart (process_apart shared) processes (record { names = []; programs = [] }) p e
     (record { names = none_apart; inside = λ k d here. absurd (omega arith) })
 
 -- ---- items
@@ -233,10 +233,10 @@ record WiringApart (w : Wiring) : Type 0 where
   channels : Apart w.channel_names
   instances : Apart w.instance_names
 
-channel_apart : (w v : Wiring) (x : Name) (c : ChannelSpec) → with_channel w x c ≡ Ok v → WiringApart w
+channel_apart : (w v : Wiring) (x : NameBytes) (c : ChannelSpec) → with_wired_channel w x c ≡ Ok v → WiringApart w
     → WiringApart v
 channel_apart w v x c e apart =
-    let made : List Name → Wiring =
+    let made : List NameBytes → Wiring =
     λ names. record w { channel_names = names; channels = w.channels ++ c ∷ [] } in
     let names = went (declared w.channel_names x) (λ names. Ok (made names)) v e in
     subst WiringApart (ok_is (made names.value) v names.rest)
@@ -245,7 +245,7 @@ channel_apart w v x c e apart =
       instances = apart.instances;
     })
 
-instance_apart : (programs channels : List Name) (w v : Wiring) (i : grammar.Instance)
+instance_apart : (programs channels : List NameBytes) (w v : Wiring) (i : grammar.InstanceNode)
     → with_instance programs channels w i ≡ Ok v → WiringApart w → WiringApart v
 instance_apart programs channels w v i e apart =
     let names = went (declared w.instance_names i.name) _ v e in
@@ -256,28 +256,28 @@ instance_apart programs channels w v i e apart =
       instances = declared_apart w.instance_names names.value i.name names.first apart.instances;
     })
 
-item_apart : (programs channels : List Name) (w v : Wiring) (i : Item) → with_item programs channels w i ≡ Ok v
+item_apart : (programs channels : List NameBytes) (w v : Wiring) (i : Item) → with_wired_item programs channels w i ≡ Ok v
     → WiringApart w → WiringApart v
 item_apart programs channels w v (channel x n) e apart = channel_apart w v x (Inner (within_32_bits n)) e apart
 item_apart programs channels w v (source x) e apart = channel_apart w v x Source e apart
 item_apart programs channels w v (sink x n) e apart = channel_apart w v x (Sink (within_32_bits n)) e apart
 item_apart programs channels w v (instance i) e apart = instance_apart programs channels w v i e apart
 
-wiring_apart : (programs : List Name) (items : List Item) (w : Wiring) → wiring programs items ≡ Ok w → WiringApart w
+wiring_apart : (programs : List NameBytes) (items : List Item) (w : Wiring) → wiring programs items ≡ Ok w → WiringApart w
 wiring_apart programs items w e =
-    keeps (with_item programs (all_channels items)) WiringApart (item_apart programs (all_channels items)) items
+    keeps (with_wired_item programs (all_channels items)) WiringApart (item_apart programs (all_channels items)) items
     (record { channel_names = []; channels = []; instance_names = []; instances = [] }) w e
     (record { channels = none_apart; instances = none_apart })
 
 -- ---- the whole
 
-paired_names : (xs : List Name) (ss : List Scope) → length xs ≡ length ss
+paired_names : (xs : List NameBytes) (ss : List NameScope) → length xs ≡ length ss
     → map (λ p. p.name) (paired process_names_in xs ss) ≡ xs
 paired_names [] ss e = refl
 paired_names (x ∷ xs) [] e = absurd (omega arith)
 paired_names (x ∷ xs) (s ∷ ss) e = ap (λ l. x ∷ l) (paired_names xs ss (omega arith))
 
-paired_inside : (xs : List Name) (ps : List NamedProgram) → All (λ q. ScopeApart q.names) ps
+paired_inside : (xs : List NameBytes) (ps : List NamedProgram) → All (λ q. ScopeApart q.names) ps
     → All (λ p. StandOnce (names_inside p)) (paired process_names_in xs (map (λ q. q.names) ps))
 paired_inside [] ps apart k d here = absurd (omega arith)
 paired_inside (x ∷ xs) [] apart k d here = absurd (omega arith)
@@ -285,7 +285,7 @@ paired_inside (x ∷ xs) (p ∷ ps) apart zero d here = stand_once (known_in p.n
 paired_inside (x ∷ xs) (p ∷ ps) apart (suc k) d here =
     paired_inside xs ps (λ i e below. apart (suc i) e (omega arith)) k d (omega arith)
 
-named_once : (shared : Shared) (s : Settings) (p : Programs) (w : Wiring) → ProgramsApart p → WiringApart w
+named_once : (shared : SharedTables) (s : Settings) (p : Programs) (w : Wiring) → ProgramsApart p → WiringApart w
     → length p.names ≡ length p.programs
     → EachStandsOnce (names_in (named_with shared s p w))
 named_once shared s p w programs wires match =

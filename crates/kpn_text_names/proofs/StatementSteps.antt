@@ -7,31 +7,31 @@ use Rattle.kpn_lang.specs.Syntax as lang
 use Rattle.kpn_lang.specs.declared.syntax.Stmt.{Stmt}
 use Rattle.kpn_lang.specs.View.{blocks_of}
 use Rattle.kpn_lang.specs.View as code
-use Rattle.kpn_text_grammar.specs.declared.tree.Statement.{Statement}
+use Rattle.kpn_text_grammar.specs.declared.tree.StatementNode.{StatementNode}
 use Rattle.kpn_text_grammar.specs.View.{statement_seen, block_seen}
-use Rattle.kpn_text_grammar.specs.Syntax.{Name, Statements}
-use Rattle.kpn_text_names.specs.declared.scope.Scope.{Scope}
+use Rattle.kpn_text_grammar.specs.Syntax.{NameBytes, Statements}
+use Rattle.kpn_text_names.specs.declared.scope.NameScope.{NameScope}
 use Rattle.kpn_text_names.specs.declared.fault.NameFault.{NameFault}
-use Rattle.kpn_text_names.specs.Fault.{Fails}
+use Rattle.kpn_text_names.specs.Fault.{ResolvingFails}
 use Rattle.kpn_text_tokens.specs.Results.{and_then}
-use Rattle.kpn_text_names.specs.Writer.{statement_at, statements_at, block_at}
-use Rattle.kpn_text_names.specs.Blocks.{Written}
+use Rattle.kpn_text_names.specs.Writer.{statement_at, statements_at, numbered_block}
+use Rattle.kpn_text_names.specs.Blocks.{WrittenBody}
 use Rattle.kpn_text_names.proofs.Steps.{fails_first}
 
-module _ (shared : List Name) (w : Written) (done : List lang.Statement) (xs : List Statement) (i : ℕ) where
+module _ (shared : List NameBytes) (w : WrittenBody) (done : List lang.Statement) (xs : List StatementNode) (i : ℕ) where
   pub ends : length xs ≤ i → statements_at shared w done (block_seen (drop i xs)) ≡ Ok (w, done)
   unfolding statements_at
   ends h = rw (drop_all i xs h) refl
 
-  pub goes : (d x : Statement) (v : Written) (s : lang.Statement) → i < length xs → get_or xs i d ≡ x
+  pub goes : (d x : StatementNode) (v : WrittenBody) (s : lang.Statement) → i < length xs → get_or xs i d ≡ x
       → statement_at shared w (statement_seen x) ≡ Ok (v, s)
       → statements_at shared w done (block_seen (drop i xs))
       ≡ statements_at shared v (done ++ s ∷ []) (block_seen (drop (i + 1) xs))
   unfolding statements_at and_then
   goes d x v s h is e = rw (add-one, drop-cons xs i d h, is, e) refl
 
-  pub fails : (d x : Statement) (e : NameFault) → i < length xs → get_or xs i d ≡ x
-      → Fails e (statement_at shared w (statement_seen x)) → Fails e (statements_at shared w done (block_seen (drop i xs)))
+  pub fails : (d x : StatementNode) (e : NameFault) → i < length xs → get_or xs i d ≡ x
+      → ResolvingFails e (statement_at shared w (statement_seen x)) → ResolvingFails e (statements_at shared w done (block_seen (drop i xs)))
   unfolding statements_at
   fails d x e h is f =
       rw (drop-cons xs i d h, is)
@@ -39,12 +39,12 @@ module _ (shared : List Name) (w : Written) (done : List lang.Statement) (xs : L
       (λ y. statements_at shared y.0 (done ++ y.1 ∷ []) (block_seen (drop (suc i) xs))) f)
 
 -- a block from its opening brace to its closing brace, as the code has it
-pub block_closed : (shared : List Name) (s : Scope) (before : List (Vec Stmt)) (empty : Vec Stmt) (opened : List (Vec Stmt)) (u : Scope)
+pub block_closed : (shared : List NameBytes) (s : NameScope) (before : List (Vec Stmt)) (empty : Vec Stmt) (opened : List (Vec Stmt)) (u : NameScope)
     (inside : List (Vec Stmt)) (n : ℕ) (own : Vec Stmt) (b : Statements)
     → empty.items ≡ [] → opened ≡ before ++ empty ∷ [] → n ≡ length before
     → statements_at shared (record { scope = s; blocks = blocks_of opened }) [] b
     ≡ Ok (record { scope = u; blocks = blocks_of inside }, code.statements_of own.items)
-    → block_at shared (record { scope = s; blocks = blocks_of before }) b
+    → numbered_block shared (record { scope = s; blocks = blocks_of before }) b
     ≡ Ok (record { scope = u; blocks = blocks_of (set inside n own) }, n)
 unfolding and_then
 block_closed shared s before empty opened u inside n own b none is at e =

@@ -4,13 +4,13 @@ use Rattle.std.proofs.Math.Seq.{drop-cons}
 use Rattle.std.proofs.lemmas.List.{drop_all}
 use Rattle.kpn_text_names.specs.declared.fault.NameFault.{NameFault}
 use Rattle.kpn_text_names.specs.declared.fault.NameFault.TheVariants as fault
-use Rattle.kpn_text_names.specs.Fault.{NameError, each, Fails}
+use Rattle.kpn_text_names.specs.Fault.{NameError, each, ResolvingFails}
 use Rattle.kpn_text_tokens.specs.Results.{and_then}
 use Rattle.kpn_text_names.proofs.Chains.{ok_is, went}
 
 -- a step that failed decides
-pub fails_first : {A B : Type 0} (e : NameFault) (r : Result A NameError) (f : A → Result B NameError) → Fails e r
-    → Fails e (and_then r f)
+pub fails_first : {A B : Type 0} (e : NameFault) (r : Result A NameError) (f : A → Result B NameError) → ResolvingFails e r
+    → ResolvingFails e (and_then r f)
 unfolding and_then
 fails_first fault.NoMemory r f h = tt
 fails_first (fault.UnknownName at) r f h = rw h refl
@@ -26,8 +26,8 @@ module _ {S X Y : Type 0} (step : S → Y → Result S NameError) (view : X → 
   unfolding each and_then
   goes d x t h is e = rw (add-one, drop-cons xs i d h, is, e) refl
 
-  pub fails : (d x : X) (e : NameFault) → i < length xs → get_or xs i d ≡ x → Fails e (step s (view x))
-      → Fails e (each step s (map view (drop i xs)))
+  pub fails : (d x : X) (e : NameFault) → i < length xs → get_or xs i d ≡ x → ResolvingFails e (step s (view x))
+      → ResolvingFails e (each step s (map view (drop i xs)))
   unfolding each
   fails d x e h is w =
       rw (drop-cons xs i d h, is) (fails_first e (step s (view x)) (λ t. each step t (map view (drop (suc i) xs))) w)

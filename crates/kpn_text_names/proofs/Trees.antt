@@ -3,7 +3,7 @@ use Rattle.std.proofs.Common.{◌≡◌, ℕ, zero, suc, ◌+◌, ◌≤◌, Lis
 use Rattle.std.proofs.Math.Seq.{get_or-append_seam}
 use Rattle.kpn_lang.specs.Syntax as lang
 use Rattle.kpn_lang.specs.Tree.{Tree, End, Assign, Read, Write, If, While, Set, tree_over, tree_to, tree_of, block_at}
-use Rattle.kpn_text_names.specs.Blocks.{blocks_in, own, inner, blocks_of}
+use Rattle.kpn_text_names.specs.Blocks.{blocks_in, own, inner, body_blocks}
 use Rattle.kpn_text_names.proofs.Writing.{length-inner}
 
 abbrev Blocks : Type 0
@@ -92,7 +92,7 @@ tree_at (While e a rest) all n (suc levels) before after is at fits =
     tree_at rest all m (suc levels) (before ++ first) after all_third (length_behind before a n at) (omega arith) in
     λ i. While e (tree_a i) (tree_rest i)
 
-pub blocks_are_the_tree : (t : Tree) → tree_of (blocks_of t) 0 ≡ t
+pub blocks_are_the_tree : (t : Tree) → tree_of (body_blocks t) 0 ≡ t
 blocks_are_the_tree t =
     let p : length (inner 1 t) ≡ blocks_in t = length-inner 1 t in
     tree_at t (own 1 t ∷ inner 1 t) 1 (length (inner 1 t)) (own 1 t ∷ []) []

@@ -4,17 +4,17 @@ use Rattle.std.proofs.Common.{◌≡◌, ℕ, suc, ◌+◌, List, [], ◌∷◌,
 use Rattle.std.proofs.Math.Seq.{set-append_seam}
 use Rattle.kpn_lang.specs.Syntax as lang
 use Rattle.kpn_lang.specs.Tree.{Tree, End, Assign, Read, Write, If, While, Set}
-use Rattle.kpn_text_grammar.specs.Syntax.{Name, Statement, assign, store, receive, send, choice, loop, Statements, no_statements, statement}
-use Rattle.kpn_text_names.specs.declared.scope.Scope.{Scope}
+use Rattle.kpn_text_grammar.specs.Syntax.{NameBytes, StatementNode, assign, store, receive, send, choice, loop, Statements, no_statements, statement}
+use Rattle.kpn_text_names.specs.declared.scope.NameScope.{NameScope}
 use Rattle.kpn_text_names.specs.declared.fault.NameFault.{NameFault}
 use Rattle.kpn_text_names.specs.declared.fault.NameFault.TheVariants as fault
-use Rattle.kpn_text_names.specs.Fault.{NameError, Fails}
+use Rattle.kpn_text_names.specs.Fault.{NameError, ResolvingFails}
 use Rattle.kpn_text_tokens.specs.Results.{and_then}
 use Rattle.kpn_text_names.specs.Rows.{row_at}
 use Rattle.kpn_text_names.specs.Body.{statement_in, tree_in}
-use Rattle.kpn_text_names.specs.Blocks.{blocks_in, own, inner, blocks_of, Written, body_of}
+use Rattle.kpn_text_names.specs.Blocks.{blocks_in, own, inner, body_blocks, WrittenBody, body_of}
 use Rattle.kpn_text_names.proofs.Chains.{ok_is, ok_then, bind_assoc, same_after}
-use Rattle.kpn_text_names.specs.Writer.{with_scope, opened, closed, statement_at, statements_at, block_at}
+use Rattle.kpn_text_names.specs.Writer.{with_scope, with_open_block, closed, statement_at, statements_at, numbered_block}
 
 -- ---- a step that a number follows
 
@@ -26,7 +26,7 @@ first_part {A} (Ok w) v m n e = let same : ◌≡◌ {A = A × ℕ} (w, m) (v, n
 first_part (Err d) v m n e = absurd cc
 
 fails_back : {A : Type 0} (e : NameFault) (r : Result A NameError) (m : ℕ)
-    → Fails e (and_then {B = A × ℕ} r (λ w. Ok (w, m))) → Fails e r
+    → ResolvingFails e (and_then {B = A × ℕ} r (λ w. Ok (w, m))) → ResolvingFails e r
 unfolding and_then
 fails_back fault.NoMemory r m h = tt
 fails_back (fault.UnknownName at) (Ok w) m h = absurd cc
@@ -58,23 +58,23 @@ length-inner n (While e a rest) =
 -- ---- the law
 
 -- what is written when the tree of what follows is known
-abbrev with_tree : Written → List lang.Statement → Scope × Tree → Written × List lang.Statement
+abbrev with_tree : WrittenBody → List lang.Statement → NameScope × Tree → WrittenBody × List lang.Statement
 with_tree w done r =
     (record { scope = r.0; blocks = w.blocks ++ inner (length w.blocks) r.1 }, done ++ own (length w.blocks) r.1)
 
 -- the same of a whole block, with its number
-abbrev with_block : Written → Scope × Tree → Written × ℕ
+abbrev with_block : WrittenBody → NameScope × Tree → WrittenBody × ℕ
 with_block w r = (
   record { scope = r.0; blocks = w.blocks ++ own (suc (length w.blocks)) r.1 ∷ inner (suc (length w.blocks)) r.1 },
   length w.blocks,
 )
 
-abbrev Law : List Name → Statements → Type 0
+abbrev Law : List NameBytes → Statements → Type 0
 Law shared b =
-    (w : Written) (done : List lang.Statement)
+    (w : WrittenBody) (done : List lang.Statement)
     → statements_at shared w done b ≡ and_then (tree_in shared w.scope b) (λ r. Ok (with_tree w done r))
 
-after : (shared : List Name) (w v : Written) (done : List lang.Statement) (s : lang.Statement) (front : Tree → Tree) (ss : Statements)
+after : (shared : List NameBytes) (w v : WrittenBody) (done : List lang.Statement) (s : lang.Statement) (front : Tree → Tree) (ss : Statements)
     → Law shared ss
     → ((t : Tree) → v.blocks ++ inner (length v.blocks) t ≡ w.blocks ++ inner (length w.blocks) (front t))
     → ((t : Tree) → s ∷ own (length v.blocks) t ≡ own (length w.blocks) (front t))
@@ -92,10 +92,10 @@ after shared w v done s front ss law blocks statements =
 
 -- ---- a block
 
-length-opened : (w : Written) → length (opened w).blocks ≡ suc (length w.blocks)
+length-opened : (w : WrittenBody) → length (with_open_block w).blocks ≡ suc (length w.blocks)
 length-opened w = simp length-append (omega arith)
 
-length-with_block : (w : Written) (r : Scope × Tree)
+length-with_block : (w : WrittenBody) (r : NameScope × Tree)
     → length (with_block w r).0.blocks ≡ length w.blocks + suc (blocks_in r.1)
 length-with_block w r = let p : length (inner (suc (length w.blocks)) r.1) ≡ blocks_in r.1 =
     length-inner (suc (length w.blocks)) r.1 in simp length-append (omega (arith, p))
@@ -104,9 +104,9 @@ put_there : (before after : List (List lang.Statement)) (statements : List lang.
     → set ((before ++ [] ∷ []) ++ after) (length before) statements ≡ before ++ statements ∷ after
 put_there before after statements = rw append_assoc (set-append_seam before [] after statements)
 
-closed_is : (w : Written) (r : Scope × Tree) (n : ℕ) → n ≡ suc (length w.blocks)
-    → ◌≡◌ {A = Written}
-    (closed (record { scope = r.0; blocks = (opened w).blocks ++ inner n r.1 }) (length w.blocks) (own n r.1))
+closed_is : (w : WrittenBody) (r : NameScope × Tree) (n : ℕ) → n ≡ suc (length w.blocks)
+    → ◌≡◌ {A = WrittenBody}
+    (closed (record { scope = r.0; blocks = (with_open_block w).blocks ++ inner n r.1 }) (length w.blocks) (own n r.1))
     (with_block w r).0
 closed_is w r n e =
     rw e
@@ -116,27 +116,27 @@ closed_is w r n e =
       blocks = put_there w.blocks (inner (suc (length w.blocks)) r.1) (own (suc (length w.blocks)) r.1) i;
     })
 
-block_then : {B : Type 0} (shared : List Name) (w : Written) (b : Statements) (next : Written × ℕ → Result B NameError) → Law shared b
-    → and_then (statements_at shared (opened w) [] b) (λ r. next (closed r.0 (length w.blocks) r.1, length w.blocks))
+block_then : {B : Type 0} (shared : List NameBytes) (w : WrittenBody) (b : Statements) (next : WrittenBody × ℕ → Result B NameError) → Law shared b
+    → and_then (statements_at shared (with_open_block w) [] b) (λ r. next (closed r.0 (length w.blocks) r.1, length w.blocks))
     ≡ and_then (tree_in shared w.scope b) (λ r. next (with_block w r))
 block_then shared w b next law =
-    ap (λ r. and_then r (λ r. next (closed r.0 (length w.blocks) r.1, length w.blocks))) (law (opened w) [])
-    ∙ bind_assoc (tree_in shared w.scope b) (λ r. Ok (with_tree (opened w) [] r))
+    ap (λ r. and_then r (λ r. next (closed r.0 (length w.blocks) r.1, length w.blocks))) (law (with_open_block w) [])
+    ∙ bind_assoc (tree_in shared w.scope b) (λ r. Ok (with_tree (with_open_block w) [] r))
     (λ r. next (closed r.0 (length w.blocks) r.1, length w.blocks))
     ∙ same_after (tree_in shared w.scope b)
-    (λ r. and_then (Ok (with_tree (opened w) [] r)) (λ r. next (closed r.0 (length w.blocks) r.1, length w.blocks)))
+    (λ r. and_then (Ok (with_tree (with_open_block w) [] r)) (λ r. next (closed r.0 (length w.blocks) r.1, length w.blocks)))
     (λ r. next (with_block w r))
-    (λ r. ok_then (with_tree (opened w) [] r) (λ r. next (closed r.0 (length w.blocks) r.1, length w.blocks))
-    ∙ ap (λ v. next (v, length w.blocks)) (closed_is w r (length (opened w).blocks) (length-opened w)))
+    (λ r. ok_then (with_tree (with_open_block w) [] r) (λ r. next (closed r.0 (length w.blocks) r.1, length w.blocks))
+    ∙ ap (λ v. next (v, length w.blocks)) (closed_is w r (length (with_open_block w).blocks) (length-opened w)))
 
 -- ---- a statement in front of others
 
-one_block : (w : Written) (f : Scope × Tree) (e : lang.Term) (t : Tree)
+one_block : (w : WrittenBody) (f : NameScope × Tree) (e : lang.Term) (t : Tree)
     → (with_block w f).0.blocks ++ inner (length (with_block w f).0.blocks) t
     ≡ w.blocks ++ inner (length w.blocks) (While e f.1 t)
 one_block w f e t = rw (length-with_block w f, append_assoc) refl
 
-one_number : (w : Written) (f : Scope × Tree) (e : lang.Term) (t : Tree)
+one_number : (w : WrittenBody) (f : NameScope × Tree) (e : lang.Term) (t : Tree)
     → lang.While e (length w.blocks) ∷ own (length (with_block w f).0.blocks) t
     ≡ own (length w.blocks) (While e f.1 t)
 one_number w f e t = rw (length-with_block w f) refl
@@ -144,12 +144,12 @@ one_number w f e t = rw (length-with_block w f) refl
 regroup : (a b c d : List (List lang.Statement)) → ((a ++ b) ++ c) ++ d ≡ a ++ (b ++ (c ++ d))
 regroup a b c d = append_assoc (a ++ b) c d ∙ append_assoc a b (c ++ d)
 
-two_lengths : (w : Written) (f g : Scope × Tree)
+two_lengths : (w : WrittenBody) (f g : NameScope × Tree)
     → length (with_block (with_block w f).0 g).0.blocks
     ≡ (length w.blocks + suc (blocks_in f.1)) + suc (blocks_in g.1)
 two_lengths w f g = length-with_block (with_block w f).0 g ∙ ap (λ n. n + suc (blocks_in g.1)) (length-with_block w f)
 
-two_blocks : (w : Written) (f g : Scope × Tree) (e : lang.Term) (t : Tree)
+two_blocks : (w : WrittenBody) (f g : NameScope × Tree) (e : lang.Term) (t : Tree)
     → (with_block (with_block w f).0 g).0.blocks ++ inner (length (with_block (with_block w f).0 g).0.blocks) t
     ≡ w.blocks ++ inner (length w.blocks) (If e f.1 g.1 t)
 two_blocks w f g e t =
@@ -159,7 +159,7 @@ two_blocks w f g e t =
     (regroup w.blocks (own (suc n) f.1 ∷ inner (suc n) f.1) (own (suc m) g.1 ∷ inner (suc m) g.1)
     (inner (m + suc (blocks_in g.1)) t))
 
-two_numbers : (w : Written) (f g : Scope × Tree) (e : lang.Term) (t : Tree)
+two_numbers : (w : WrittenBody) (f g : NameScope × Tree) (e : lang.Term) (t : Tree)
     → lang.If e (length w.blocks) (length (with_block w f).0.blocks)
     ∷ own (length (with_block (with_block w f).0 g).0.blocks) t ≡ own (length w.blocks) (If e f.1 g.1 t)
 two_numbers w f g e t = rw (two_lengths w f g, length-with_block w f) refl
@@ -167,7 +167,7 @@ two_numbers w f g e t = rw (two_lengths w f g, length-with_block w f) refl
 mutual
   unfolding statements_at statement_at tree_in statement_in
 
-  first : (shared : List Name) (s : Statement) (ss : Statements) → Law shared ss → Law shared (statement s ss)
+  first : (shared : List NameBytes) (s : StatementNode) (ss : Statements) → Law shared ss → Law shared (statement s ss)
   first shared (assign x e) ss law w done =
       simp (bind_assoc, ok_then)
       (same_after _ _ _
@@ -205,7 +205,7 @@ mutual
       simp (bind_assoc, ok_then) (same_after _ _ _ (λ a.
       block_then shared w b
       (λ x.
-      and_then (statements_at shared (opened x.0) [] c)
+      and_then (statements_at shared (with_open_block x.0) [] c)
       (λ r.
       statements_at shared (closed r.0 (length x.0.blocks) r.1)
       (done ++ lang.If a x.1 (length x.0.blocks) ∷ []) ss)) (all shared b)
@@ -226,27 +226,27 @@ mutual
       after shared w (with_block w f).0 done (lang.While a (length w.blocks)) (While a f.1) ss law (one_block w f a)
       (one_number w f a))))
 
-  all : (shared : List Name) (ss : Statements) → Law shared ss
+  all : (shared : List NameBytes) (ss : Statements) → Law shared ss
   all shared no_statements w done =
       rw ok_then (λ i. Ok (record { scope = w.scope; blocks = sym (append-nil w.blocks) i }, sym (append-nil done) i))
   all shared (statement s ss) w done = first shared s ss (all shared ss) w done
 
 -- ---- a body, which is block 0
 
-pub body_law : (shared : List Name) (s : Scope) (b : Statements)
-    → block_at shared (record { scope = s; blocks = [] }) b ≡ and_then (body_of shared s b) (λ w. Ok (w, 0))
+pub body_law : (shared : List NameBytes) (s : NameScope) (b : Statements)
+    → numbered_block shared (record { scope = s; blocks = [] }) b ≡ and_then (body_of shared s b) (λ w. Ok (w, 0))
 body_law shared s b =
     block_then shared (record { scope = s; blocks = [] }) b (λ x. Ok x) (all shared b)
-    ∙ sym (bind_assoc (tree_in shared s b) (λ r. Ok (record { scope = r.0; blocks = blocks_of r.1 })) (λ w. Ok (w, 0))
-    ∙ same_after (tree_in shared s b) (λ r. and_then (Ok (record { scope = r.0; blocks = blocks_of r.1 })) (λ w. Ok (w, 0)))
-    (λ r. Ok (record { scope = r.0; blocks = blocks_of r.1 }, 0))
-    (λ r. ok_then (record { scope = r.0; blocks = blocks_of r.1 }) (λ w. Ok (w, 0))))
+    ∙ sym (bind_assoc (tree_in shared s b) (λ r. Ok (record { scope = r.0; blocks = body_blocks r.1 })) (λ w. Ok (w, 0))
+    ∙ same_after (tree_in shared s b) (λ r. and_then (Ok (record { scope = r.0; blocks = body_blocks r.1 })) (λ w. Ok (w, 0)))
+    (λ r. Ok (record { scope = r.0; blocks = body_blocks r.1 }, 0))
+    (λ r. ok_then (record { scope = r.0; blocks = body_blocks r.1 }) (λ w. Ok (w, 0))))
 
 -- what is written of a body
-pub body_written : (shared : List Name) (s : Scope) (b : Statements) (v : Written) (n : ℕ)
-    → block_at shared (record { scope = s; blocks = [] }) b ≡ Ok (v, n) → body_of shared s b ≡ Ok v
+pub body_written : (shared : List NameBytes) (s : NameScope) (b : Statements) (v : WrittenBody) (n : ℕ)
+    → numbered_block shared (record { scope = s; blocks = [] }) b ≡ Ok (v, n) → body_of shared s b ≡ Ok v
 body_written shared s b v n e = first_part (body_of shared s b) v 0 n (sym (body_law shared s b) ∙ e)
 
-pub body_fails : (shared : List Name) (s : Scope) (b : Statements) (e : NameFault)
-    → Fails e (block_at shared (record { scope = s; blocks = [] }) b) → Fails e (body_of shared s b)
-body_fails shared s b e h = fails_back e (body_of shared s b) 0 (subst (λ r. Fails e r) (body_law shared s b) h)
+pub body_fails : (shared : List NameBytes) (s : NameScope) (b : Statements) (e : NameFault)
+    → ResolvingFails e (numbered_block shared (record { scope = s; blocks = [] }) b) → ResolvingFails e (body_of shared s b)
+body_fails shared s b e h = fails_back e (body_of shared s b) 0 (subst (λ r. ResolvingFails e r) (body_law shared s b) h)

@@ -3,8 +3,8 @@
 use Rattle.std.specs.Prelude.{ℕ, suc, ◌+◌, List, [], ◌∷◌, ◌++◌, Result, Ok}
 use Rattle.kpn_lang.specs.Syntax as lang
 use Rattle.kpn_lang.specs.Tree.{Tree, End, Assign, Read, Write, If, While, Set}
-use Rattle.kpn_text_grammar.specs.Syntax.{Name, Statements}
-use Rattle.kpn_text_names.specs.declared.scope.Scope.{Scope}
+use Rattle.kpn_text_grammar.specs.Syntax.{NameBytes, Statements}
+use Rattle.kpn_text_names.specs.declared.scope.NameScope.{NameScope}
 use Rattle.kpn_text_names.specs.Fault.{NameError}
 use Rattle.kpn_text_tokens.specs.Results.{◌>>=◌}
 use Rattle.kpn_text_names.specs.Body.{tree_in}
@@ -45,14 +45,14 @@ inner n (While e a rest) = own (suc n) a ∷ inner (suc n) a ++ inner (n + suc (
 inner n (Set base size i e rest) = inner n rest
 
 -- all blocks of a body, which is block 0
-abbrev pub blocks_of : Tree → List (List lang.Statement)
-blocks_of body = own 1 body ∷ inner 1 body
+abbrev pub body_blocks : Tree → List (List lang.Statement)
+body_blocks body = own 1 body ∷ inner 1 body
 
 -- what is written of a body: the names known so far, and the blocks so far
-pub record Written : Type 0 where
-  pub scope : Scope
+pub record WrittenBody : Type 0 where
+  pub scope : NameScope
   pub blocks : List (List lang.Statement)
 
 -- a body, if these names are known before it, and these are the shared tables
-abbrev pub body_of : (shared : List Name) → Scope → Statements → Result Written NameError
-body_of shared s b = tree_in shared s b >>= λ r. Ok (record { scope = r.0; blocks = blocks_of r.1 })
+abbrev pub body_of : (shared : List NameBytes) → NameScope → Statements → Result WrittenBody NameError
+body_of shared s b = tree_in shared s b >>= λ r. Ok (record { scope = r.0; blocks = body_blocks r.1 })

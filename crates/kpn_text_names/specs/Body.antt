@@ -3,15 +3,15 @@
 use Rattle.std.specs.Prelude.{pos, List, Result, Ok}
 use Rattle.kpn_lang.specs.Syntax as lang
 use Rattle.kpn_lang.specs.Tree.{Tree, End, Assign, Read, Write, If, While, Set}
-use Rattle.kpn_text_grammar.specs.Syntax.{Name, Term, numeral, variable, element, minus, negation, complement, binary, conditional, Statement, assign, store, receive, send, choice, loop, Statements, no_statements, statement}
-use Rattle.kpn_text_names.specs.declared.scope.Scope.{Scope}
+use Rattle.kpn_text_grammar.specs.Syntax.{NameBytes, ExpressionNode, numeral, variable, element, minus, negation, complement, binary, conditional, StatementNode, assign, store, receive, send, choice, loop, Statements, no_statements, statement}
+use Rattle.kpn_text_names.specs.declared.scope.NameScope.{NameScope}
 use Rattle.kpn_text_names.specs.Fault.{NameError}
 use Rattle.kpn_text_tokens.specs.Results.{◌>>=◌}
 use Rattle.kpn_text_names.specs.Names.{known}
 use Rattle.kpn_text_names.specs.Scope.{target, array_row, row_of}
 
 -- an expression: each name in it must be a variable, an array or a table
-unfoldable pub term_in : Scope → Term → Result lang.Term NameError
+unfoldable pub term_in : NameScope → ExpressionNode → Result lang.Term NameError
 term_in s (numeral n) = Ok (lang.Num (pos n))
 term_in s (variable x) = known s.vars x >>= λ k. Ok (lang.Var k)
 term_in s (element x e) = do
@@ -34,7 +34,7 @@ term_in s (conditional e f g) = do
 unfoldable mutual
   -- a statement in front of what follows, with the names known from there on, if these are the shared tables. The
   -- expression of an assignment knows its target. A read is from an in port, a write to an out port
-  pub statement_in : (shared : List Name) → Scope → Statement → Result (Scope × (Tree → Tree)) NameError
+  pub statement_in : (shared : List NameBytes) → NameScope → StatementNode → Result (NameScope × (Tree → Tree)) NameError
   statement_in shared s (assign x e) = do
     t ← target shared s x
     a ← term_in t.0 e
@@ -63,7 +63,7 @@ unfoldable mutual
     Ok (body.0, While a body.1)
 
   -- the statements of a block, with the names known after them
-  pub tree_in : (shared : List Name) → Scope → Statements → Result (Scope × Tree) NameError
+  pub tree_in : (shared : List NameBytes) → NameScope → Statements → Result (NameScope × Tree) NameError
   tree_in shared s no_statements = Ok (s, End)
   tree_in shared s (statement x xs) = do
     first ← statement_in shared s x

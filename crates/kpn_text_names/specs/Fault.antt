@@ -15,12 +15,12 @@ each step s [] = Ok s
 each step s (x ∷ xs) = step s x >>= λ t. each step t xs
 
 -- a call failed for this cause, or memory ran out
-abbrev pub Fails : {B : Type 0} → NameFault → Result B NameError → Type 0
-Fails fault.NoMemory r = Unit {0}
-Fails (fault.UnknownName at) r = r ≡ Err unknown
-Fails (fault.DoubleName at) r = r ≡ Err double
+abbrev pub ResolvingFails : {B : Type 0} → NameFault → Result B NameError → Type 0
+ResolvingFails fault.NoMemory r = Unit {0}
+ResolvingFails (fault.UnknownName at) r = r ≡ Err unknown
+ResolvingFails (fault.DoubleName at) r = r ≡ Err double
 
 -- what a call returned, seen by a view, is this, unless memory ran out
-abbrev pub Gives : {A B : Type 0} → (A → B) → Result A NameFault → Result B NameError → Type 0
-Gives view (Ok x) r = r ≡ Ok (view x)
-Gives view (Err e) r = Fails e r
+abbrev pub ResolvingGives : {A B : Type 0} → (A → B) → Result A NameFault → Result B NameError → Type 0
+ResolvingGives view (Ok x) r = r ≡ Ok (view x)
+ResolvingGives view (Err e) r = ResolvingFails e r

@@ -2,14 +2,14 @@
 use Rattle.std.specs.Prelude.{◌≡◌, Ok}
 use Rattle.kpn_lang.specs.Tree.{Tree, tree_of}
 use Rattle.kpn_text_grammar.specs.Syntax.{Description}
-use Rattle.kpn_text_names.specs.Blocks.{blocks_of}
+use Rattle.kpn_text_names.specs.Blocks.{body_blocks}
 use Rattle.kpn_text_names.specs.Named.{Named, resolve}
 use Rattle.kpn_text_names.specs.NetworkNames.{names_in}
 use Rattle.kpn_text_names.specs.Once.{EachStandsOnce}
 
 -- The blocks of a tree, put together by their numbers, are that tree.
 abbrev pub BlocksAreTheTree : Type 0
-BlocksAreTheTree = (t : Tree) → tree_of (blocks_of t) 0 ≡ t
+BlocksAreTheTree = (t : Tree) → tree_of (body_blocks t) 0 ≡ t
 
 -- No name is twice in a table of the names of a description.
 abbrev pub NamesStandOnce : Type 0

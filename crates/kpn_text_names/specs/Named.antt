@@ -5,32 +5,32 @@ use Rattle.kpn_limits.specs.declared.TheConstants.{MAX_VARIABLES}
 use Rattle.kpn_lang.specs.View.{vars_with}
 use Rattle.kpn_lang.specs.Parts.{Parts}
 use Rattle.kpn_net.specs.Tables.{Tables}
-use Rattle.kpn_text_grammar.specs.Syntax.{Name, Statements, Process, Description}
-use Rattle.kpn_text_names.specs.declared.scope.Scope.{Scope}
+use Rattle.kpn_text_grammar.specs.Syntax.{NameBytes, Statements, ProcessNode, Description}
+use Rattle.kpn_text_names.specs.declared.scope.NameScope.{NameScope}
 use Rattle.kpn_text_names.specs.Fault.{NameError, each}
 use Rattle.kpn_text_tokens.specs.Results.{◌>>=◌}
 use Rattle.kpn_text_names.specs.Names.{declared}
-use Rattle.kpn_text_names.specs.declared.tables.Shared.{Shared}
-use Rattle.kpn_text_names.specs.Scope.{head, declare}
+use Rattle.kpn_text_names.specs.declared.tables.SharedTables.{SharedTables}
+use Rattle.kpn_text_names.specs.Scope.{head_scope, declare}
 use Rattle.kpn_text_names.specs.Shared.{shared_of, values_at, used_in}
-use Rattle.kpn_text_names.specs.Blocks.{Written, body_of}
+use Rattle.kpn_text_names.specs.Blocks.{WrittenBody, body_of}
 use Rattle.kpn_text_names.specs.Network.{Wiring, Settings, settings_of, wiring}
 
 -- the parts of a program, and the names of its ports and variables, arrays and tables
 pub record NamedProgram : Type 0 where
-  pub names : Scope
+  pub names : NameScope
   pub parts : Parts
 
 -- how many cells the arrays have
-abbrev pub free_of : Scope → ℕ
+abbrev pub free_of : NameScope → ℕ
 free_of s = s.arrays.end - MAX_VARIABLES
 
 -- the values of the tables: those of the process, and those of the shared ones that it names
-abbrev pub values_of : Shared → Scope → List ℤ
+abbrev pub values_of : SharedTables → NameScope → List ℤ
 values_of shared s = s.tables.values ++ flat_map (values_at shared) s.tables.used
 
 -- the program of a head and a body, if these are the shared tables
-abbrev pub program_with : Shared → Scope → Written → NamedProgram
+abbrev pub program_with : SharedTables → NameScope → WrittenBody → NamedProgram
 program_with shared s body =
     let free : ℕ = free_of body.scope in
     let values : List ℤ = values_of shared body.scope in
@@ -49,43 +49,43 @@ program_with shared s body =
     }
 
 -- with the shared tables that a body names
-abbrev pub with_uses : Shared → Scope → Statements → Scope
+abbrev pub with_uses : SharedTables → NameScope → Statements → NameScope
 with_uses shared s b = record s { tables = used_in shared s.tables b }
 
 -- a process: its head, its arrays and tables, and its body with the locals that it makes
-abbrev pub program_of : Shared → Process → Result NamedProgram NameError
-program_of shared p = do
-  h ← head shared.names p
+abbrev pub named_program : SharedTables → ProcessNode → Result NamedProgram NameError
+named_program shared p = do
+  h ← head_scope shared.names p
   s ← each (declare shared.names) h p.declarations
   body ← body_of shared.names (with_uses shared s p.body) p.body
   Ok (program_with shared s body)
 
 -- the processes so far, with their names
 pub record Programs : Type 0 where
-  pub names : List Name
+  pub names : List NameBytes
   pub programs : List NamedProgram
 
-abbrev pub with_process : Shared → Programs → Process → Result Programs NameError
-with_process shared so_far p = do
+abbrev pub with_named_process : SharedTables → Programs → ProcessNode → Result Programs NameError
+with_named_process shared so_far p = do
   names ← declared so_far.names p.name
-  made ← program_of shared p
+  made ← named_program shared p
   Ok (record { names = names; programs = so_far.programs ++ made ∷ [] })
 
 -- the processes in the order of the text
-abbrev pub programs_of : Shared → List Process → Result Programs NameError
-programs_of shared processes = each (with_process shared) (record { names = []; programs = [] }) processes
+abbrev pub programs_of : SharedTables → List ProcessNode → Result Programs NameError
+programs_of shared processes = each (with_named_process shared) (record { names = []; programs = [] }) processes
 
 -- a description with numbers for names: the tables of a network, the shared tables, and the names by number
 pub record Named : Type 0 where
   pub tables : Tables
-  pub shared : Shared
-  pub processes : List Name
-  pub scopes : List Scope
-  pub instances : List Name
-  pub channels : List Name
+  pub shared : SharedTables
+  pub processes : List NameBytes
+  pub scopes : List NameScope
+  pub instances : List NameBytes
+  pub channels : List NameBytes
 
 -- what the tables of the processes and of the network come to, under these settings
-abbrev pub named_with : Shared → Settings → Programs → Wiring → Named
+abbrev pub named_with : SharedTables → Settings → Programs → Wiring → Named
 named_with shared s p w = record {
   tables =
       record {

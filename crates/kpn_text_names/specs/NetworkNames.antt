@@ -1,18 +1,18 @@
 -- The names of a network by number.
 use Rattle.std.specs.Prelude.{◌≡◌, ℤ, ◌-◌, List, [], ◌∷◌, length, map}
 use Rattle.kpn_net.specs.Tables.{Tables}
-use Rattle.kpn_text_grammar.specs.Syntax.{Name}
+use Rattle.kpn_text_grammar.specs.Syntax.{NameBytes}
 use Rattle.kpn_text_names.specs.declared.network_names.NetworkNames.{NetworkNames}
 use Rattle.kpn_text_names.specs.declared.network_names.ProcessNames.{ProcessNames}
 use Rattle.kpn_text_names.specs.declared.network_names.NamedRow.{NamedRow}
 use Rattle.kpn_text_names.specs.declared.network_names.NamedTable.{NamedTable}
 use Rattle.kpn_text_names.specs.declared.rows.Row.{Row}
-use Rattle.kpn_text_names.specs.declared.scope.Scope.{Scope}
+use Rattle.kpn_text_names.specs.declared.scope.NameScope.{NameScope}
 use Rattle.kpn_text_names.specs.Named.{Named}
 use Rattle.kpn_text_names.specs.Scope.{behind_arrays}
 
 -- the names of the processes
-abbrev pub process_names : NetworkNames → List Name
+abbrev pub process_names : NetworkNames → List NameBytes
 process_names names = map (λ p. p.name) names.processes
 
 -- the items of two lists, each with the one at its place in the other
@@ -22,14 +22,14 @@ paired f (a ∷ rest) [] = []
 paired f (a ∷ rest) (b ∷ bs) = f a b ∷ paired f rest bs
 
 -- a row with its name, a shared table with its name
-abbrev pub named_row : Name → Row → NamedRow
+abbrev pub named_row : NameBytes → Row → NamedRow
 named_row x r = record { name = x; base = r.base; size = r.size }
 
-abbrev pub named_table : Name → List ℤ → NamedTable
+abbrev pub named_table : NameBytes → List ℤ → NamedTable
 named_table x values = record { name = x; values = values }
 
 -- a process with the names in it
-abbrev pub process_names_in : Name → Scope → ProcessNames
+abbrev pub process_names_in : NameBytes → NameScope → ProcessNames
 process_names_in x s = record {
   name = x;
   ins = s.ins;

@@ -3,17 +3,17 @@ use Rattle.std.specs.Prelude.{ℕ, ◌+◌, ℤ, List, length, map}
 use Rattle.kpn_lang.specs.View.{blocks_of, parts_with_cells, vars_with}
 use Rattle.kpn_net.specs.View.{tables_with}
 use Rattle.kpn_text_names.specs.declared.writer.Writer.{Writer}
-use Rattle.kpn_text_names.specs.declared.tables.Shared.{Shared}
+use Rattle.kpn_text_names.specs.declared.tables.SharedTables.{SharedTables}
 use Rattle.kpn_text_names.specs.declared.process.ProgramParts.{ProgramParts}
 use Rattle.kpn_text_names.specs.declared.process.Processes.{Processes}
 use Rattle.kpn_text_names.specs.declared.network.Wiring.{Wiring as WiringCode}
 use Rattle.kpn_text_names.specs.declared.document.Named.{Named as NamedCode}
-use Rattle.kpn_text_names.specs.Blocks.{Written}
+use Rattle.kpn_text_names.specs.Blocks.{WrittenBody}
 use Rattle.kpn_text_names.specs.Network.{Wiring}
 use Rattle.kpn_text_names.specs.Named.{NamedProgram, Programs, Named, free_of, values_of}
 
 -- the parts are those that `Program::with_cells` gets, if these are the shared tables
-abbrev pub program_seen : Shared → ProgramParts → NamedProgram
+abbrev pub program_seen : SharedTables → ProgramParts → NamedProgram
 program_seen shared p =
     let free : ℕ = free_of p.scope in
     let values : List ℤ = values_of shared p.scope in
@@ -39,10 +39,10 @@ named_seen n = record {
 
 -- ---- scaffolding: what the code's values stand for while it reads a description
 
-abbrev pub written : Writer → Written
-written w = record { scope = w.scope; blocks = blocks_of w.blocks.items }
+abbrev pub body_written : Writer → WrittenBody
+body_written w = record { scope = w.scope; blocks = blocks_of w.blocks.items }
 
-abbrev pub programs_seen : Shared → Processes → Programs
+abbrev pub programs_seen : SharedTables → Processes → Programs
 programs_seen shared p = record { names = p.names; programs = map (program_seen shared) p.programs.items }
 
 abbrev pub wiring_seen : WiringCode → Wiring

@@ -2,7 +2,7 @@
 
 ghost use Rattle.std.specs.Prelude.{◌≡◌, IfOk};
 ghost use Rattle.kpn_text_grammar.specs.View.{document};
-ghost use Rattle.kpn_text_names.specs.Fault.{Gives};
+ghost use Rattle.kpn_text_names.specs.Fault.{ResolvingGives};
 ghost use Rattle.kpn_text_names.specs.Named as spec;
 ghost use Rattle.kpn_text_names.specs.Network.{growth_of, limit_of, policy_of};
 ghost use Rattle.kpn_text_names.specs.View.{named_seen};
@@ -11,7 +11,7 @@ use crate::fault::NameFault;
 use crate::names::NameTable;
 use crate::network::{Wiring, within_32_bits};
 use crate::process::{Processes, ProgramParts};
-use crate::tables::Shared;
+use crate::tables::SharedTables;
 use kpn_limits::MAX_CAPACITY;
 use kpn_net::{ChannelSpec, Growth, Instance, Policy};
 use kpn_text_grammar::Description;
@@ -24,7 +24,7 @@ use std::alloc::Global;
 #[derive(Drop)]
 pub struct Named<'a> {
     /// The tables before the processes.
-    pub shared: Shared<'a>,
+    pub shared: SharedTables<'a>,
     /// The names of the processes.
     pub processes: NameTable<'a>,
     /// The parts of their programs.
@@ -86,10 +86,10 @@ fn growth(written: Option<Growth>) -> Growth
 /// ran out.
 #[tactic(auto, unfolding(kpn_text_tokens::specs::Results::and_then))]
 pub fn resolve<'a>(alloc: Global, description: &Description<'a>) -> Result<Named<'a>, NameFault>
-    ensures exact { Gives named_seen result (spec.resolve (document description.now)) }
+    ensures exact { ResolvingGives named_seen result (spec.resolve (document description.now)) }
     ensures each { IfOk result (λ n. spec.EachIsNamed (named_seen n)) }
 {
-    let shared = Shared::read(alloc, description.tables.as_slice())?;
+    let shared = SharedTables::read(alloc, description.tables.as_slice())?;
     let processes = Processes::read(alloc, &shared, description.processes.as_slice())?;
     let Processes { names, programs } = processes;
     let wiring = Wiring::read(alloc, &names, description.network.items.as_slice())?;

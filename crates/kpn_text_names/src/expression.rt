@@ -2,11 +2,11 @@
 
 ghost use Rattle.kpn_lang.specs.Syntax.{term_of};
 ghost use Rattle.kpn_text_grammar.specs.View.{term};
-ghost use Rattle.kpn_text_names.specs.Fault.{Gives};
+ghost use Rattle.kpn_text_names.specs.Fault.{ResolvingGives};
 ghost use Rattle.kpn_text_names.specs.Body.{term_in};
 
 use crate::fault::NameFault;
-use crate::scope::Scope;
+use crate::scope::NameScope;
 use kpn_lang::Expr;
 use kpn_text_grammar::Expression;
 use std::alloc::Global;
@@ -15,10 +15,10 @@ use std::alloc::Global;
 #[tactic(auto, unfolding(crate::specs::Body::term_in, kpn_text_tokens::specs::Results::and_then))]
 pub(crate) fn expr<'a>(
     alloc: Global,
-    scope: &Scope<'a>,
+    scope: &NameScope<'a>,
     expression: &Expression<'a>,
 ) -> Result<Expr, NameFault>
-    ensures { Gives term_of result (term_in scope.now (term expression.now)) }
+    ensures { ResolvingGives term_of result (term_in scope.now (term expression.now)) }
 {
     match expression {
         Expression::Number(number) => Ok(Expr::Num(number.value())),

@@ -25,5 +25,5 @@ pub use names::NameTable;
 pub use network_names::{NamedRow, NamedTable, NetworkNames, ProcessNames};
 pub use process::ProgramParts;
 pub use rows::{Row, Rows};
-pub use scope::Scope;
-pub use tables::{Shared, Tables};
+pub use scope::NameScope;
+pub use tables::{KnownTables, SharedTables};

@@ -7,7 +7,7 @@ ghost use Rattle.std.specs.Str.{bytes_eq};
 ghost use Rattle.std.specs.List.{position_or_len};
 ghost use Rattle.std.specs.Hash as fed;
 ghost use Rattle.kpn_text_grammar.specs.View.{names_seen};
-ghost use Rattle.kpn_text_names.specs.Fault.{Gives};
+ghost use Rattle.kpn_text_names.specs.Fault.{ResolvingGives};
 ghost use Rattle.kpn_text_names.specs.Names as spec;
 
 use crate::fault::NameFault;
@@ -113,7 +113,7 @@ impl<'a> NameTable<'a> {
 
     /// The number of a name that must be known.
     pub(crate) fn known(&self, name: &Identifier<'a>) -> Result<usize, NameFault>
-        ensures { Gives (λ k. k) result (spec.known self.now name.now.bytes.now) }
+        ensures { ResolvingGives (λ k. k) result (spec.known self.now name.now.bytes.now) }
     {
         match self.find(name.bytes) {
             Some(number) => Ok(number),
@@ -127,7 +127,7 @@ impl<'a> NameTable<'a> {
         alloc: Global,
         names: &[Identifier<'a>],
     ) -> Result<Sequence<usize>, NameFault>
-        ensures { Gives (λ numbers. numbers) result
+        ensures { ResolvingGives (λ numbers. numbers) result
             (spec.all_known self.now (names_seen names.now)) }
     {
         let mut numbers = Sequence::new(alloc);
@@ -150,7 +150,7 @@ impl<'a> NameTable<'a> {
 
     /// Puts a name at the end. It must be new.
     pub(crate) fn declare(&mut self, name: &Identifier<'a>) -> Result<(), NameFault>
-        ensures { Gives (λ _. self.new) result (spec.declared self.old name.now.bytes.now) }
+        ensures { ResolvingGives (λ _. self.new) result (spec.declared self.old name.now.bytes.now) }
     {
         let (_, is_new) = self.words.insert_full(Word { bytes: name.bytes })?;
         if is_new {

@@ -3,7 +3,7 @@
 ghost use Rattle.std.specs.Prelude.{◌≡◌, map, option_copied, IfOk, IfErr};
 ghost use Rattle.kpn_text_grammar.specs.Syntax.{literal_value};
 ghost use Rattle.kpn_text_grammar.specs.View.{literal_seen, instance_seen, item_seen};
-ghost use Rattle.kpn_text_names.specs.Fault.{Gives};
+ghost use Rattle.kpn_text_names.specs.Fault.{ResolvingGives};
 ghost use Rattle.kpn_text_names.specs.Network as spec;
 ghost use Rattle.kpn_text_names.specs.View.{wiring_seen};
 
@@ -77,9 +77,9 @@ fn instance_of<'a>(
     alloc: Global,
     programs: &NameTable<'a>,
     channels: &NameTable<'a>,
-    instance: &kpn_text_grammar::Instance<'a>,
+    instance: &kpn_text_grammar::InstanceNode<'a>,
 ) -> Result<Instance, NameFault>
-    ensures { Gives (λ i. i) result
+    ensures { ResolvingGives (λ i. i) result
         (spec.instance_of programs.now channels.now (instance_seen instance.now)) }
 {
     let program = programs.known(&instance.program)?;
@@ -111,7 +111,7 @@ impl<'a> Wiring<'a> {
         programs: &NameTable<'a>,
         items: &[Item<'a>],
     ) -> Result<Wiring<'a>, NameFault>
-        ensures { Gives wiring_seen result (spec.wiring programs.now (map item_seen items.now)) }
+        ensures { ResolvingGives wiring_seen result (spec.wiring programs.now (map item_seen items.now)) }
     {
         let channels = all_channels(alloc, items)?;
         let mut read = Wiring {
@@ -134,8 +134,8 @@ impl<'a> Wiring<'a> {
         channels: &NameTable<'a>,
         item: &Item<'a>,
     ) -> Result<(), NameFault>
-        ensures { Gives (λ _. wiring_seen self.new) result
-            (spec.with_item programs.now channels.now (wiring_seen self.old)
+        ensures { ResolvingGives (λ _. wiring_seen self.new) result
+            (spec.with_wired_item programs.now channels.now (wiring_seen self.old)
             (item_seen item.now)) }
     {
         match item {
@@ -153,8 +153,8 @@ impl<'a> Wiring<'a> {
     /// Adds a channel, whose name must be new.
     #[tactic(auto, unfolding(kpn_text_tokens::specs::Results::and_then))]
     fn add_channel(&mut self, name: &Identifier<'a>, channel: ChannelSpec) -> Result<(), NameFault>
-        ensures { Gives (λ _. wiring_seen self.new) result
-            (spec.with_channel (wiring_seen self.old) name.now.bytes.now channel) }
+        ensures { ResolvingGives (λ _. wiring_seen self.new) result
+            (spec.with_wired_channel (wiring_seen self.old) name.now.bytes.now channel) }
     {
         self.channel_names.declare(name)?;
         self.channels.push(channel)?;
@@ -168,9 +168,9 @@ impl<'a> Wiring<'a> {
         alloc: Global,
         programs: &NameTable<'a>,
         channels: &NameTable<'a>,
-        instance: &kpn_text_grammar::Instance<'a>,
+        instance: &kpn_text_grammar::InstanceNode<'a>,
     ) -> Result<(), NameFault>
-        ensures { Gives (λ _. wiring_seen self.new) result
+        ensures { ResolvingGives (λ _. wiring_seen self.new) result
             (spec.with_instance programs.now channels.now (wiring_seen self.old)
             (instance_seen instance.now)) }
     {

@@ -2,17 +2,17 @@
 
 ghost use Rattle.std.specs.Prelude.{◌≡◌, map};
 ghost use Rattle.kpn_text_grammar.specs.View.{process_seen};
-ghost use Rattle.kpn_text_names.specs.Fault.{Gives};
-ghost use Rattle.kpn_text_names.specs.Named.{program_of, programs_of, with_process};
+ghost use Rattle.kpn_text_names.specs.Fault.{ResolvingGives};
+ghost use Rattle.kpn_text_names.specs.Named.{named_program, programs_of, with_named_process};
 ghost use Rattle.kpn_text_names.specs.View.{program_seen, programs_seen};
 
 use crate::fault::NameFault;
 use crate::names::NameTable;
-use crate::scope::Scope;
-use crate::tables::Shared;
+use crate::scope::NameScope;
+use crate::tables::SharedTables;
 use crate::writer::Writer;
 use kpn_lang::Stmt;
-use kpn_text_grammar::Process;
+use kpn_text_grammar::ProcessNode;
 use std::alloc::Global;
 
 /// What a program is made of, as `kpn_lang::Program::with_cells` takes it, and the names in it. The values of its
@@ -20,7 +20,7 @@ use std::alloc::Global;
 #[derive(Drop)]
 pub struct ProgramParts<'a> {
     /// The names of the in ports, the out ports and the variables, each by number, and of the arrays and tables.
-    pub scope: Scope<'a>,
+    pub scope: NameScope<'a>,
     /// How many of the variables are parameters.
     pub pars: usize,
     /// How many of the variables are locals.
@@ -33,13 +33,13 @@ pub struct ProgramParts<'a> {
 #[tactic(auto, unfolding(kpn_text_tokens::specs::Results::and_then))]
 fn program_parts<'a>(
     alloc: Global,
-    shared: &Shared<'a>,
-    process: &Process<'a>,
+    shared: &SharedTables<'a>,
+    process: &ProcessNode<'a>,
 ) -> Result<ProgramParts<'a>, NameFault>
-    ensures { Gives (program_seen shared.now) result
-        (program_of shared.now (process_seen process.now)) }
+    ensures { ResolvingGives (program_seen shared.now) result
+        (named_program shared.now (process_seen process.now)) }
 {
-    let mut scope = Scope::of_head(alloc, &shared.names, process)?;
+    let mut scope = NameScope::of_head(alloc, &shared.names, process)?;
     scope.declare_rows(&shared.names, process.declarations.as_slice())?;
     let pars = scope.vars.len();
     scope.tables.add_all_uses(shared, process.body.as_slice())?;
@@ -69,10 +69,10 @@ impl<'a> Processes<'a> {
     /// The processes in the order of the text.
     pub(crate) fn read(
         alloc: Global,
-        shared: &Shared<'a>,
-        processes: &[Process<'a>],
+        shared: &SharedTables<'a>,
+        processes: &[ProcessNode<'a>],
     ) -> Result<Processes<'a>, NameFault>
-        ensures { Gives (programs_seen shared.now) result
+        ensures { ResolvingGives (programs_seen shared.now) result
             (programs_of shared.now (map process_seen processes.now)) }
     {
         let mut read = Processes {
@@ -90,11 +90,11 @@ impl<'a> Processes<'a> {
     fn add(
         &mut self,
         alloc: Global,
-        shared: &Shared<'a>,
-        process: &Process<'a>,
+        shared: &SharedTables<'a>,
+        process: &ProcessNode<'a>,
     ) -> Result<(), NameFault>
-        ensures { Gives (λ _. programs_seen shared.now self.new) result
-            (with_process shared.now (programs_seen shared.now self.old)
+        ensures { ResolvingGives (λ _. programs_seen shared.now self.new) result
+            (with_named_process shared.now (programs_seen shared.now self.old)
             (process_seen process.now)) }
     {
         self.names.declare(&process.name)?;

@@ -2,20 +2,20 @@
 
 ghost use Rattle.std.specs.Prelude.{◌≡◌, ◌≤◌, [], length, map, OnOk};
 ghost use Rattle.kpn_text_grammar.specs.View.{declaration_seen, names_seen, process_seen};
-ghost use Rattle.kpn_text_names.specs.Fault.{Gives, each};
+ghost use Rattle.kpn_text_names.specs.Fault.{ResolvingGives, each};
 ghost use Rattle.kpn_text_names.specs.Scope as spec;
 ghost use Rattle.kpn_text_names.specs.Writer.{declared_in};
 
 use crate::fault::NameFault;
 use crate::names::NameTable;
 use crate::rows::{Row, Rows};
-use crate::tables::Tables;
+use crate::tables::KnownTables;
 use kpn_limits::MAX_VARIABLES;
-use kpn_text_grammar::{Declaration, Identifier, Process};
+use kpn_text_grammar::{Declaration, Identifier, ProcessNode};
 use std::alloc::Global;
 
 /// The names of a process. No two of them are the same.
-pub struct Scope<'a> {
+pub struct NameScope<'a> {
     /// The in ports, in order.
     pub ins: NameTable<'a>,
     /// The out ports, in order.
@@ -25,13 +25,13 @@ pub struct Scope<'a> {
     /// The arrays, whose cells have numbers from 64 on.
     pub arrays: Rows<'a>,
     /// The tables, whose cells have numbers behind those.
-    pub tables: Tables<'a>,
+    pub tables: KnownTables<'a>,
 }
 
 /// It is written out, so that a call that may drop the names proves nothing about what is inside.
-impl<'a> Drop for Scope<'a> {
+impl<'a> Drop for NameScope<'a> {
     fn drop(self) {
-        let Scope {
+        let NameScope {
             ins,
             outs,
             vars,
@@ -48,23 +48,23 @@ impl<'a> Drop for Scope<'a> {
 
 /// A part of the head of a process.
 #[derive(Clone, Copy)]
-pub(crate) enum Part {
+pub(crate) enum HeadPart {
     In,
     Out,
     Parameter,
 }
 
-impl<'a> Scope<'a> {
+impl<'a> NameScope<'a> {
     /// No names yet.
-    fn new(alloc: Global) -> Scope<'a>
+    fn new(alloc: Global) -> NameScope<'a>
         ensures { result ≡ spec.scope_with [] [] [] }
     {
-        Scope {
+        NameScope {
             ins: NameTable::new(alloc),
             outs: NameTable::new(alloc),
             vars: NameTable::new(alloc),
             arrays: Rows::new(alloc, MAX_VARIABLES),
-            tables: Tables::new(alloc),
+            tables: KnownTables::new(alloc),
         }
     }
 
@@ -72,11 +72,11 @@ impl<'a> Scope<'a> {
     pub(crate) fn of_head(
         alloc: Global,
         shared: &NameTable<'a>,
-        process: &Process<'a>,
-    ) -> Result<Scope<'a>, NameFault>
-        ensures { Gives (λ s. s) result (spec.head shared.now (process_seen process.now)) }
+        process: &ProcessNode<'a>,
+    ) -> Result<NameScope<'a>, NameFault>
+        ensures { ResolvingGives (λ s. s) result (spec.head_scope shared.now (process_seen process.now)) }
     {
-        let mut scope = Scope::new(alloc);
+        let mut scope = NameScope::new(alloc);
         scope.declare_head(shared, process)?;
         Ok(scope)
     }
@@ -85,24 +85,24 @@ impl<'a> Scope<'a> {
     fn declare_head(
         &mut self,
         shared: &NameTable<'a>,
-        process: &Process<'a>,
+        process: &ProcessNode<'a>,
     ) -> Result<(), NameFault>
         requires { self.old ≡ spec.scope_with [] [] [] }
-        ensures { Gives (λ _. self.new) result (spec.head shared.now (process_seen process.now)) }
+        ensures { ResolvingGives (λ _. self.new) result (spec.head_scope shared.now (process_seen process.now)) }
     {
-        self.declare_all(shared, Part::In, process.parts.ins.as_slice())?;
-        self.declare_all(shared, Part::Out, process.parts.outs.as_slice())?;
-        self.declare_all(shared, Part::Parameter, process.parts.pars.as_slice())
+        self.declare_all(shared, HeadPart::In, process.parts.ins.as_slice())?;
+        self.declare_all(shared, HeadPart::Out, process.parts.outs.as_slice())?;
+        self.declare_all(shared, HeadPart::Parameter, process.parts.pars.as_slice())
     }
 
     /// Adds the names of a part of the head in order.
     fn declare_all(
         &mut self,
         shared: &NameTable<'a>,
-        part: Part,
+        part: HeadPart,
         names: &[Identifier<'a>],
     ) -> Result<(), NameFault>
-        ensures { Gives (λ _. self.new) result
+        ensures { ResolvingGives (λ _. self.new) result
             (each (declared_in shared.now part) self.old (names_seen names.now)) }
     {
         for name in names {
@@ -115,19 +115,19 @@ impl<'a> Scope<'a> {
     fn declare(
         &mut self,
         shared: &NameTable<'a>,
-        part: Part,
+        part: HeadPart,
         name: &Identifier<'a>,
     ) -> Result<(), NameFault>
-        ensures { Gives (λ _. self.new) result
+        ensures { ResolvingGives (λ _. self.new) result
             (declared_in shared.now part self.old name.now.bytes.now) }
     {
         if self.is_taken(shared, name.bytes) {
             return Err(NameFault::DoubleName(name.start));
         }
         match part {
-            Part::In => self.ins.declare(name),
-            Part::Out => self.outs.declare(name),
-            Part::Parameter => self.vars.declare(name),
+            HeadPart::In => self.ins.declare(name),
+            HeadPart::Out => self.outs.declare(name),
+            HeadPart::Parameter => self.vars.declare(name),
         }
     }
 
@@ -137,7 +137,7 @@ impl<'a> Scope<'a> {
         shared: &NameTable<'a>,
         declarations: &[Declaration<'a>],
     ) -> Result<(), NameFault>
-        ensures { Gives (λ _. self.new) result
+        ensures { ResolvingGives (λ _. self.new) result
             (each (spec.declare shared.now) self.old (map declaration_seen declarations.now)) }
     {
         for declaration in declarations {
@@ -152,7 +152,7 @@ impl<'a> Scope<'a> {
         shared: &NameTable<'a>,
         declaration: &Declaration<'a>,
     ) -> Result<(), NameFault>
-        ensures { Gives (λ _. self.new) result
+        ensures { ResolvingGives (λ _. self.new) result
             (spec.declare shared.now self.old (declaration_seen declaration.now)) }
     {
         match declaration {
@@ -197,7 +197,7 @@ impl<'a> Scope<'a> {
         shared: &NameTable<'a>,
         name: &Identifier<'a>,
     ) -> Result<usize, NameFault>
-        ensures number { Gives (λ k. (self.new, k)) result
+        ensures number { ResolvingGives (λ k. (self.new, k)) result
             (spec.target shared.now self.old name.now.bytes.now) }
         ensures vars { OnOk result (length self.old.vars ≤ length self.new.vars) }
     {
@@ -210,7 +210,7 @@ impl<'a> Scope<'a> {
     /// The cells of an array.
     #[tactic(auto, unfolding(kpn_text_tokens::specs::Results::and_then))]
     pub(crate) fn array_row(&self, name: &Identifier<'a>) -> Result<Row, NameFault>
-        ensures { Gives (λ row. row) result (spec.array_row self.now name.now.bytes.now) }
+        ensures { ResolvingGives (λ row. row) result (spec.array_row self.now name.now.bytes.now) }
     {
         let number = self.arrays.names.known(name)?;
         Ok(self.arrays.row(number))
@@ -219,7 +219,7 @@ impl<'a> Scope<'a> {
     /// The cells of a table.
     #[tactic(auto, unfolding(kpn_text_tokens::specs::Results::and_then))]
     fn table_row(&self, name: &Identifier<'a>) -> Result<Row, NameFault>
-        ensures { Gives (λ row. row) result (spec.table_row self.now name.now.bytes.now) }
+        ensures { ResolvingGives (λ row. row) result (spec.table_row self.now name.now.bytes.now) }
     {
         let number = self.tables.rows.names.known(name)?;
         let row = self.tables.rows.row(number);
@@ -231,7 +231,7 @@ impl<'a> Scope<'a> {
 
     /// The cells of an array or a table.
     pub(crate) fn row(&self, name: &Identifier<'a>) -> Result<Row, NameFault>
-        ensures { Gives (λ row. row) result (spec.row_of self.now name.now.bytes.now) }
+        ensures { ResolvingGives (λ row. row) result (spec.row_of self.now name.now.bytes.now) }
     {
         match self.arrays.names.find(name.bytes) {
             Some(number) => Ok(self.arrays.row(number)),

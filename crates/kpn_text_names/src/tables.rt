@@ -3,7 +3,7 @@
 ghost use Rattle.std.specs.Prelude.{◌≡◌, map, OnOk, IfErr, length};
 ghost use Rattle.std.specs.Global.{Vec as Vector};
 ghost use Rattle.kpn_text_grammar.specs.View.{table_seen, term, statement_seen, block_seen};
-ghost use Rattle.kpn_text_names.specs.Fault.{Gives};
+ghost use Rattle.kpn_text_names.specs.Fault.{ResolvingGives};
 ghost use Rattle.kpn_text_names.specs.Scope.{no_tables, with_table};
 ghost use Rattle.kpn_text_names.specs.Shared as spec;
 
@@ -12,23 +12,23 @@ use crate::names::NameTable;
 use crate::network::{value, values};
 use crate::rows::Rows;
 use kpn_lang::Sequence;
-use kpn_text_grammar::{Expression, Statement, Table};
+use kpn_text_grammar::{Expression, StatementNode, Table};
 use std::alloc::Global;
 
 /// The tables before the processes.
 #[derive(Drop)]
-pub struct Shared<'a> {
+pub struct SharedTables<'a> {
     pub names: NameTable<'a>,
     /// The values of each.
     pub values: Sequence<Sequence<i64>>,
 }
 
-impl<'a> Shared<'a> {
+impl<'a> SharedTables<'a> {
     /// The tables in the order of the text.
-    pub(crate) fn read(alloc: Global, tables: &[Table<'a>]) -> Result<Shared<'a>, NameFault>
-        ensures { Gives (λ s. s) result (spec.shared_of (map table_seen tables.now)) }
+    pub(crate) fn read(alloc: Global, tables: &[Table<'a>]) -> Result<SharedTables<'a>, NameFault>
+        ensures { ResolvingGives (λ s. s) result (spec.shared_of (map table_seen tables.now)) }
     {
-        let mut read = Shared {
+        let mut read = SharedTables {
             names: NameTable::new(alloc),
             values: Sequence::new(alloc),
         };
@@ -41,7 +41,7 @@ impl<'a> Shared<'a> {
     /// Adds a table, whose name must be new.
     #[tactic(auto, unfolding(kpn_text_tokens::specs::Results::and_then))]
     fn add(&mut self, alloc: Global, table: &Table<'a>) -> Result<(), NameFault>
-        ensures { Gives (λ _. self.new) result (spec.with_shared self.old (table_seen table.now)) }
+        ensures { ResolvingGives (λ _. self.new) result (spec.with_shared self.old (table_seen table.now)) }
     {
         self.names.declare(&table.name)?;
         let values = values(alloc, table.values.as_slice())?;
@@ -62,7 +62,7 @@ impl<'a> Shared<'a> {
 
 /// The tables that a process knows: its own, and behind them the shared ones that it names.
 #[derive(Drop)]
-pub struct Tables<'a> {
+pub struct KnownTables<'a> {
     /// Their rows, in places from 0 on.
     pub rows: Rows<'a>,
     /// The values of its own.
@@ -71,11 +71,11 @@ pub struct Tables<'a> {
     pub used: Sequence<usize>,
 }
 
-impl<'a> Tables<'a> {
-    pub(crate) fn new(alloc: Global) -> Tables<'a>
+impl<'a> KnownTables<'a> {
+    pub(crate) fn new(alloc: Global) -> KnownTables<'a>
         ensures { result ≡ no_tables }
     {
-        Tables {
+        KnownTables {
             rows: Rows::new(alloc, 0),
             values: Sequence::new(alloc),
             used: Sequence::new(alloc),
@@ -95,7 +95,7 @@ impl<'a> Tables<'a> {
     }
 
     /// Adds the shared table of this name, if there is one and it is not there yet.
-    fn add_use(&mut self, shared: &Shared<'a>, name: &'a [u8]) -> Result<(), NameFault>
+    fn add_use(&mut self, shared: &SharedTables<'a>, name: &'a [u8]) -> Result<(), NameFault>
         ensures tables { OnOk result
             (self.new ≡ spec.with_name_used shared.now self.old name.now) }
         ensures only { IfErr result (λ fault. fault ≡ NameFault.NoMemory) }
@@ -114,7 +114,7 @@ impl<'a> Tables<'a> {
     /// Adds the shared tables that an expression names.
     fn add_uses(
         &mut self,
-        shared: &Shared<'a>,
+        shared: &SharedTables<'a>,
         expression: &Expression<'a>,
     ) -> Result<(), NameFault>
         ensures tables { OnOk result
@@ -146,28 +146,28 @@ impl<'a> Tables<'a> {
     #[cycle(uses)]
     fn add_uses_of(
         &mut self,
-        shared: &Shared<'a>,
-        statement: &Statement<'a>,
+        shared: &SharedTables<'a>,
+        statement: &StatementNode<'a>,
     ) -> Result<(), NameFault>
         ensures tables { OnOk result (self.new
             ≡ spec.used_in_statement shared.now self.old (statement_seen statement.now)) }
         ensures only { IfErr result (λ fault. fault ≡ NameFault.NoMemory) }
     {
         match statement {
-            Statement::Read(_, _) => Ok(()),
-            Statement::Assign(_, value) | Statement::Write(_, value) => {
+            StatementNode::Read(_, _) => Ok(()),
+            StatementNode::Assign(_, value) | StatementNode::Write(_, value) => {
                 self.add_uses(shared, value)
             }
-            Statement::Store(_, index, value) => {
+            StatementNode::Store(_, index, value) => {
                 self.add_uses(shared, index)?;
                 self.add_uses(shared, value)
             }
-            Statement::If(test, first, second) => {
+            StatementNode::If(test, first, second) => {
                 self.add_uses(shared, test)?;
                 self.add_all_uses(shared, first.as_slice())?;
                 self.add_all_uses(shared, second.as_slice())
             }
-            Statement::While(test, body) => {
+            StatementNode::While(test, body) => {
                 self.add_uses(shared, test)?;
                 self.add_all_uses(shared, body.as_slice())
             }
@@ -178,8 +178,8 @@ impl<'a> Tables<'a> {
     #[cycle(uses)]
     pub(crate) fn add_all_uses(
         &mut self,
-        shared: &Shared<'a>,
-        statements: &[Statement<'a>],
+        shared: &SharedTables<'a>,
+        statements: &[StatementNode<'a>],
     ) -> Result<(), NameFault>
         ensures tables { OnOk result
             (self.new ≡ spec.used_in shared.now self.old (block_seen statements.now)) }

@@ -17,7 +17,7 @@ use Rattle.kpn_history.specs.declared.stored.Version.{Version}
 use Rattle.kpn_history.specs.declared.stored.Version.TheVariants.{One, Two}
 use Rattle.kpn_trace.specs.declared.kind.Kind.{Kind}
 use Rattle.kpn_trace.specs.declared.kind.Kind.TheVariants as kind
-use Rattle.kpn_trace.specs.EventLine.{kind_word, kinds, kind_named, how_word, kind_of, arguments_of, spaced, line_of, LacksByte, IsInRange, SpellsEvent}
+use Rattle.kpn_trace.specs.EventLine.{kind_word, every_kind, kind_named, how_word, event_kind, arguments_of, spaced, line_of, LacksByte, IsInRange, SpellsEvent}
 use Rattle.kpn_trace.proofs.Parting.{cut, LacksByte-append, decimal_lacks, item_lacks, front, same_number, same_item}
 
 -- ---- kinds and endings
@@ -52,7 +52,7 @@ find_passes {X} p (y ∷ ys) x found =
 word_of_kind : (word : List ℕ) (k : Kind) → kind_named word ≡ Some k → kind_word k ≡ word
 unfolding kind_named
 word_of_kind word k known =
-    (bytes_eq-Decides (kind_word k) word).0 (find_passes (λ j. bytes_eq (kind_word j) word) kinds k known)
+    (bytes_eq-Decides (kind_word k) word).0 (find_passes (λ j. bytes_eq (kind_word j) word) every_kind k known)
 
 -- no word of a kind has a space or a line feed
 kind_lacks : (k : Kind) → LacksByte 32 (kind_word k) × LacksByte 10 (kind_word k)
@@ -95,7 +95,7 @@ same_how a b e = absurd (cc)
 -- ---- a line is its kind, a space, and its parts
 
 line_is : (n : Version) (event : Event)
-    → line_of n event ≡ kind_word (kind_of event) ++ 32 ∷ spaced (arguments_of n event)
+    → line_of n event ≡ kind_word (event_kind event) ++ 32 ∷ spaced (arguments_of n event)
 line_is n (Get p c v) = refl
 line_is n (Put p c v) = refl
 line_is n (WaitEmpty p c) = refl
@@ -111,10 +111,10 @@ line_is Two (Grow p c m) = refl
 -- the kind and the parts of the event that a line spells, if the line has this first word
 pub kind_and_parts : (n : Version) (line word parts : List ℕ) (event : Event) → line ≡ word ++ 32 ∷ parts
     → LacksByte 32 word
-    → SpellsEvent n line event → (kind_word (kind_of event) ≡ word) × (parts ≡ spaced (arguments_of n event))
+    → SpellsEvent n line event → (kind_word (event_kind event) ≡ word) × (parts ≡ spaced (arguments_of n event))
 kind_and_parts n line word parts event split lacks spells =
     let both =
-    cut 32 (kind_word (kind_of event)) word (spaced (arguments_of n event)) parts (kind_lacks (kind_of event)).0 lacks
+    cut 32 (kind_word (event_kind event)) word (spaced (arguments_of n event)) parts (kind_lacks (event_kind event)).0 lacks
     (sym (line_is n event) ∙ sym spells.whole ∙ split) in
     (both.0, sym both.1)
 
@@ -123,27 +123,27 @@ pub no_kind : (n : Version) (line word parts : List ℕ) (event : Event) → lin
     → kind_named word ≡ None → SpellsEvent n line event → ⊥
 no_kind n line word parts event split lacks unknown spells =
     let found = kind_and_parts n line word parts event split lacks spells in
-    let clash : Some (kind_of event) ≡ None =
-    sym (kind_is_named (kind_of event)) ∙ ap kind_named found.0 ∙ unknown in
+    let clash : Some (event_kind event) ≡ None =
+    sym (kind_is_named (event_kind event)) ∙ ap kind_named found.0 ∙ unknown in
     cc
 
 -- a line spells an event of the kind that its first word names
 pub of_kind : (n : Version) (line word parts : List ℕ) (k : Kind) (event : Event) → line ≡ word ++ 32 ∷ parts
     → LacksByte 32 word
     → kind_named word ≡ Some k → SpellsEvent n line event
-    → (kind_of event ≡ k) × (parts ≡ spaced (arguments_of n event))
+    → (event_kind event ≡ k) × (parts ≡ spaced (arguments_of n event))
 of_kind n line word parts k event split lacks known spells =
     let found = kind_and_parts n line word parts event split lacks spells in
-    let same : Some (kind_of event) ≡ Some k =
-    sym (kind_is_named (kind_of event)) ∙ ap kind_named found.0 ∙ known in
+    let same : Some (event_kind event) ≡ Some k =
+    sym (kind_is_named (event_kind event)) ∙ ap kind_named found.0 ∙ known in
     (cc, found.1)
 
 -- what the parts spell as an event of the kind, the line spells
 pub read_of_kind : (n : Version) (line word parts : List ℕ) (k : Kind) (read : Option Event) → line ≡ word ++ 32 ∷ parts
     → LacksByte 32 word → kind_named word ≡ Some k
     → MatchOption read
-    ((event : Event) → IsInRange n event → kind_of event ≡ k → parts ≡ spaced (arguments_of n event) → ⊥)
-    (λ event. IsInRange n event × (kind_of event ≡ k) × (parts ≡ spaced (arguments_of n event)))
+    ((event : Event) → IsInRange n event → event_kind event ≡ k → parts ≡ spaced (arguments_of n event) → ⊥)
+    (λ event. IsInRange n event × (event_kind event ≡ k) × (parts ≡ spaced (arguments_of n event)))
     → MatchOption read ((event : Event) → SpellsEvent n line event → ⊥) (SpellsEvent n line)
 read_of_kind n line word parts k None split lacks known none =
     λ event spells.
@@ -152,7 +152,7 @@ read_of_kind n line word parts k None split lacks known none =
 read_of_kind n line word parts k (Some event) split lacks known is = record {
   whole = split ∙ ap (λ w. w ++ 32 ∷ parts) (sym (word_of_kind word k known))
       ∙ ap (λ j. kind_word j ++ 32 ∷ parts) (sym is.1)
-      ∙ ap (λ p. kind_word (kind_of event) ++ 32 ∷ p) is.2 ∙ sym (line_is n event);
+      ∙ ap (λ p. kind_word (event_kind event) ++ 32 ∷ p) is.2 ∙ sym (line_is n event);
   in_range = is.0;
 }
 
@@ -176,7 +176,7 @@ two_numbers_and_item p c q d v w fits also e =
     let first = front p q _ _ fits.0 also.0 e in
     let rest = number_and_item c d v w (fits.1, fits.2) (also.1, also.2) first.1 in (first.0, rest.0, rest.1)
 
-same_parts : (n : Version) (a b : Event) → kind_of a ≡ kind_of b → IsInRange n a → IsInRange n b
+same_parts : (n : Version) (a b : Event) → event_kind a ≡ event_kind b → IsInRange n a → IsInRange n b
     → spaced (arguments_of n a) ≡ spaced (arguments_of n b) → a ≡ b
 same_parts n (Get p c v) (Get q d w) k fits also e =
     let same = two_numbers_and_item p c q d v w fits also e in cc (same.0, same.1, same.2)
@@ -211,9 +211,9 @@ same_parts n a b k fits also e = absurd (cc)
 pub line_spells_one : (n : Version) (line : List ℕ) (a b : Event) → SpellsEvent n line a → SpellsEvent n line b → a ≡ b
 line_spells_one n line a b spells also =
     let found =
-    kind_and_parts n line (kind_word (kind_of b)) (spaced (arguments_of n b)) a (also.whole ∙ line_is n b)
-    (kind_lacks (kind_of b)).0 spells in
-    same_parts n a b (same_kind (kind_of a) (kind_of b) found.0) spells.in_range also.in_range (sym found.1)
+    kind_and_parts n line (kind_word (event_kind b)) (spaced (arguments_of n b)) a (also.whole ∙ line_is n b)
+    (kind_lacks (event_kind b)).0 spells in
+    same_parts n a b (same_kind (event_kind a) (event_kind b) found.0) spells.in_range also.in_range (sym found.1)
 
 -- ---- no line feed is in a line
 
@@ -249,4 +249,4 @@ parts_lack Two (Grow p c m) fits =
 pub line_lacks_feed : (n : Version) (event : Event) → IsInRange n event → LacksByte 10 (line_of n event)
 line_lacks_feed n event fits =
     subst (λ l. LacksByte 10 l) (sym (line_is n event))
-    (with_space (kind_word (kind_of event)) _ (kind_lacks (kind_of event)).1 (parts_lack n event fits))
+    (with_space (kind_word (event_kind event)) _ (kind_lacks (event_kind event)).1 (parts_lack n event fits))

@@ -31,14 +31,14 @@ kind_word kind.Leave = codes "leave"
 kind_word kind.Grow = codes "grow"
 
 -- every kind (scaffolding)
-abbrev pub kinds : List Kind
-kinds =
+abbrev pub every_kind : List Kind
+every_kind =
     kind.Get ∷ kind.Put ∷ kind.WaitEmpty ∷ kind.WaitFull ∷ kind.Ended ∷ kind.Feed ∷ kind.Close ∷ kind.Take
     ∷ kind.Leave ∷ kind.Grow ∷ []
 
 -- the kind with this word (scaffolding)
 unfoldable pub kind_named : (word : List ℕ) → Option Kind
-kind_named word = find (λ k. bytes_eq (kind_word k) word) kinds
+kind_named word = find (λ k. bytes_eq (kind_word k) word) every_kind
 
 -- the word for how a process ended
 abbrev pub how_word : How → List ℕ
@@ -51,17 +51,17 @@ how_word how.Shift = codes "shift"
 -- ---- the line
 
 -- the kind of an event
-abbrev pub kind_of : Event → Kind
-kind_of (Get p c v) = kind.Get
-kind_of (Put p c v) = kind.Put
-kind_of (WaitEmpty p c) = kind.WaitEmpty
-kind_of (WaitFull p c) = kind.WaitFull
-kind_of (Ended p how) = kind.Ended
-kind_of (Feed c v) = kind.Feed
-kind_of (Close c) = kind.Close
-kind_of (Take c v) = kind.Take
-kind_of (Leave c) = kind.Leave
-kind_of (Grow p c n) = kind.Grow
+abbrev pub event_kind : Event → Kind
+event_kind (Get p c v) = kind.Get
+event_kind (Put p c v) = kind.Put
+event_kind (WaitEmpty p c) = kind.WaitEmpty
+event_kind (WaitFull p c) = kind.WaitFull
+event_kind (Ended p how) = kind.Ended
+event_kind (Feed c v) = kind.Feed
+event_kind (Close c) = kind.Close
+event_kind (Take c v) = kind.Take
+event_kind (Leave c) = kind.Leave
+event_kind (Grow p c n) = kind.Grow
 
 -- the words of a growth: from version 2 on they include the new capacity
 abbrev pub growth_words : Version → (p c n : ℕ) → List (List ℕ)
@@ -89,7 +89,7 @@ spaced (word ∷ more ∷ words) = word ++ 32 ∷ spaced (more ∷ words)
 
 -- the line of an event
 abbrev pub line_of : Version → Event → List ℕ
-line_of version event = spaced (kind_word (kind_of event) ∷ arguments_of version event)
+line_of version event = spaced (kind_word (event_kind event) ∷ arguments_of version event)
 
 -- ---- what a line spells
 

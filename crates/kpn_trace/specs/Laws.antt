@@ -6,7 +6,7 @@ use Rattle.kpn_history.specs.declared.stored.Trace.{Trace}
 use Rattle.kpn_trace.specs.declared.fault.TraceFault.{TraceFault}
 use Rattle.kpn_trace.specs.declared.fault.TraceFault.TheVariants.{NoMemory}
 use Rattle.kpn_trace.specs.EventLine.{SpellsEvent}
-use Rattle.kpn_trace.specs.TraceText.{Spells, HasBadLine, Refuses}
+use Rattle.kpn_trace.specs.TraceText.{SpellsTrace, HasBadLine, RefusesTrace}
 
 -- a line spells at most one event in each version
 abbrev pub LineSpellsOne : Type 0
@@ -22,12 +22,12 @@ pub record AreSameTrace {A : Type 0} (x y : Trace A) : Type 0 where
 
 -- bytes spell at most one trace
 abbrev pub TraceSpellsOne : (A : Type 0) → Type 0
-TraceSpellsOne A = (bytes : List ℕ) (x y : Trace A) → Spells bytes x → Spells bytes y → AreSameTrace x y
+TraceSpellsOne A = (bytes : List ℕ) (x y : Trace A) → SpellsTrace bytes x → SpellsTrace bytes y → AreSameTrace x y
 
 -- bytes that spell a trace are refused only if memory runs out
 abbrev pub SpelledIsRead : (A : Type 0) → Type 0
-SpelledIsRead A = (bytes : List ℕ) (trace : Trace A) → Spells bytes trace → (fault : TraceFault)
-    → Refuses bytes fault → fault ≡ NoMemory
+SpelledIsRead A = (bytes : List ℕ) (trace : Trace A) → SpellsTrace bytes trace → (fault : TraceFault)
+    → RefusesTrace bytes fault → fault ≡ NoMemory
 
 -- bytes have at most one first bad line
 abbrev pub OneBadLine : Type 0

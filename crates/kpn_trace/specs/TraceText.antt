@@ -57,7 +57,7 @@ abbrev pub trace_text : Version → Policy → Growth → List Event → List �
 trace_text version p g events = head_text version p g ++ events_text version events
 
 -- the bytes spell a trace of events in range whose text they are
-pub record Spells {A : Type 0} (bytes : List ℕ) (trace : Trace A) : Type 0 where
+pub record SpellsTrace {A : Type 0} (bytes : List ℕ) (trace : Trace A) : Type 0 where
   pub head : IsHead trace.version trace.policy trace.growth
   pub whole : bytes ≡ trace_text trace.version trace.policy trace.growth trace.events
   pub in_range : All (IsInRange trace.version) trace.events
@@ -84,7 +84,7 @@ pub record HasBadLine (bytes : List ℕ) (line : ℕ) : Type 0 where
   pub counted : line ≡ length before + head_lines version + 1
 
 -- why bytes are refused as a trace
-abbrev pub Refuses : (bytes : List ℕ) → TraceFault → Type 0
-Refuses bytes BadHead = HasBadHead bytes
-Refuses bytes (BadEvent line) = HasBadLine bytes line
-Refuses bytes NoMemory = ⊤
+abbrev pub RefusesTrace : (bytes : List ℕ) → TraceFault → Type 0
+RefusesTrace bytes BadHead = HasBadHead bytes
+RefusesTrace bytes (BadEvent line) = HasBadLine bytes line
+RefusesTrace bytes NoMemory = ⊤

@@ -2,8 +2,8 @@
 ghost use Rattle.std.specs.Prelude.{◌≡◌, ◌≢◌, List, ℕ, ◌++◌, MatchOption, MatchResult, IfOk, IfErr};
 ghost use Rattle.kpn_history.specs.declared.event.Event.{Event};
 ghost use Rattle.kpn_trace.specs.declared.kind.Kind.TheVariants as kind;
-ghost use Rattle.kpn_trace.specs.EventLine.{SpellsEvent, IsInRange, kind_of, arguments_of, spaced};
-ghost use Rattle.kpn_trace.specs.TraceText.{Spells, Refuses, event_text};
+ghost use Rattle.kpn_trace.specs.EventLine.{SpellsEvent, IsInRange, event_kind, arguments_of, spaced};
+ghost use Rattle.kpn_trace.specs.TraceText.{SpellsTrace, RefusesTrace, event_text};
 
 use crate::fault::{BadEvent, TraceFault};
 use crate::head::{HeadRead, head_before};
@@ -30,8 +30,8 @@ pub fn read_event(line: &[u8], version: Version) -> Result<Event, BadEvent>
 /// `TraceFault::BadEvent` at the first line that spells no event or lacks its line feed. It fails with
 /// `TraceFault::NoMemory` if memory for the events ran out.
 pub fn read_trace<A: Allocator>(alloc: A, bytes: &[u8]) -> Result<Trace<A>, TraceFault>
-    ensures ok { IfOk result (Spells bytes.now) }
-    ensures refused { IfErr result (Refuses bytes.now) }
+    ensures ok { IfOk result (SpellsTrace bytes.now) }
+    ensures refused { IfErr result (RefusesTrace bytes.now) }
 {
     let Some((head, lines)) = head_before(bytes) else {
         return Err(TraceFault::BadHead);
@@ -83,9 +83,9 @@ fn event_of(version: Version, line: &[u8]) -> Option<Event>
 /// The event of a kind that the words behind it spell.
 fn event_of_kind(version: Version, kind: Kind, parts: &[u8]) -> Option<Event>
     ensures { MatchOption result
-        ((event : Event) → IsInRange version event → kind_of event ≡ kind
+        ((event : Event) → IsInRange version event → event_kind event ≡ kind
         → parts.now ≢ spaced (arguments_of version event))
-        (λ event. IsInRange version event × (kind_of event ≡ kind)
+        (λ event. IsInRange version event × (event_kind event ≡ kind)
         × (parts.now ≡ spaced (arguments_of version event))) }
 {
     match kind {
@@ -126,9 +126,9 @@ fn event_of_kind(version: Version, kind: Kind, parts: &[u8]) -> Option<Event>
 /// The growth that the words behind its kind spell.
 fn growth_of(version: Version, parts: &[u8]) -> Option<Event>
     ensures { MatchOption result
-        ((event : Event) → IsInRange version event → kind_of event ≡ kind.Grow
+        ((event : Event) → IsInRange version event → event_kind event ≡ kind.Grow
         → parts.now ≢ spaced (arguments_of version event))
-        (λ event. IsInRange version event × (kind_of event ≡ kind.Grow)
+        (λ event. IsInRange version event × (event_kind event ≡ kind.Grow)
         × (parts.now ≡ spaced (arguments_of version event))) }
 {
     match version {

@@ -1,6 +1,6 @@
 //! The calls that step processes: claim, commit and put back, and one call that does all for a single owner.
 ghost use Rattle.std.specs.Prelude.{◌≡◌, ◌↔◌, ◌+◌, ◌<◌, ◌^◌, true, false, IfOk, IfErr, OnErr, IsTrue, IfSome, IfNone};
-ghost use Rattle.kpn_net.specs.Tables.{program_of, has_cells};
+ghost use Rattle.kpn_net.specs.Tables.{program_of, any_has_cells};
 ghost use Rattle.kpn_step.specs.Frame.{fits};
 ghost use Rattle.kpn_step.specs.Stops.{IsAdvance, IsAtPort, advanced_of};
 ghost use Rattle.kpn_machine.specs.Machine.{frame_in};
@@ -24,7 +24,7 @@ impl<'n, A: Allocator> Book<'n, A> {
     /// ready, or if the commits and the held processes are as many as can be counted. No program has cells, so this
     /// takes no memory.
     pub fn claim(&mut self) -> Option<Claim<'n>>
-        requires plain { has_cells self.old.tables ≡ false }
+        requires plain { any_has_cells self.old.tables ≡ false }
         ensures claimed { IfSome result (λ claim. IsClaimed claim.process self.old self.new) }
         ensures program { IfSome result (λ claim.
             claim.program.now ≡ program_of self.old.tables claim.process) }

@@ -1,11 +1,11 @@
 //! Equality of the parts of networks by value, wherever they are in memory.
 ghost use Rattle.std.specs.Prelude.{◌≡◌, ◌↔◌, IsTrue};
 
-use crate::network::parts::Parts;
+use crate::network::parts::NetworkParts;
 use crate::tables::{ChannelSpec, Instance};
 use kpn_lang::{Program, same};
 
-pub fn same_processes(left: &Parts, right: &Parts) -> bool
+pub fn same_processes(left: &NetworkParts, right: &NetworkParts) -> bool
     ensures { IsTrue result
         ↔ ((left.now.programs.items ≡ right.now.programs.items)
         × (left.now.instances.items ≡ right.now.instances.items)) }

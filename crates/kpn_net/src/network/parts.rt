@@ -4,7 +4,7 @@ ghost use Rattle.std.specs.List.{list_any};
 ghost use Rattle.kpn_lang.specs.Parts.{IsProgram};
 ghost use Rattle.kpn_net.specs.declared.tables.End.TheVariants.{Source, Sink};
 ghost use Rattle.kpn_net.specs.Tables.{is_source, is_sink, channel_at, writers_of, readers_of};
-ghost use Rattle.kpn_net.specs.Faults.{matches_program, exceeds, has_no_such_capacity, is_too_large, lacks_its_program, differs_from_its_program, lacks_a_channel, wrong_capacity, instances_fault, channels_fault};
+ghost use Rattle.kpn_net.specs.Faults.{matches_program, exceeds, has_no_such_capacity, has_too_many, lacks_its_program, differs_from_its_program, lacks_a_channel, wrong_capacity, instances_fault, channels_fault};
 ghost use Rattle.kpn_net.specs.Sides.{Keeps};
 ghost use Rattle.kpn_net.specs.View.{tables_of};
 
@@ -16,7 +16,7 @@ use kpn_limits::{MAX_CAPACITY, MAX_CHANNELS, MAX_PROCESSES};
 
 /// The programs, the instances, the channels, the limit of each capacity, and how channels grow.
 #[derive(Drop)]
-pub struct Parts {
+pub struct NetworkParts {
     pub programs: Vec<Program>,
     pub instances: Vec<Instance>,
     pub channels: Vec<ChannelSpec>,
@@ -62,7 +62,7 @@ fn names_past(channels: usize, ports: &[usize]) -> bool
     ports.iter().any(|channel| *channel >= channels)
 }
 
-impl Parts {
+impl NetworkParts {
     /// The first rule that the instances break.
     pub fn instances_fault(&self) -> Option<NetFault>
         ensures { result ≡ instances_fault (tables_of self.now) }
@@ -109,7 +109,7 @@ impl Parts {
     }
 
     fn is_too_large(&self) -> bool
-        ensures { result ≡ is_too_large (tables_of self.now) }
+        ensures { result ≡ has_too_many (tables_of self.now) }
     {
         self.programs.len() > MAX_PROCESSES
             || self.instances.len() > MAX_PROCESSES

@@ -3,8 +3,8 @@
 ghost use Rattle.std.specs.Prelude.{◌≡◌, ℕ, ◌+◌, ◌<◌, ◌≤◌, List, ◌++◌, length, position, map, All, IfOk, take};
 ghost use Rattle.std.specs.List.{range_with_len};
 ghost use Rattle.kpn_net.specs.declared.tables.End.{End};
-ghost use Rattle.kpn_net.specs.Tables.{places, ends_from, is_source, is_sink};
-ghost use Rattle.kpn_net.specs.Sides.{side_of, joined, is_nobody, is_several, end_or, Keeps};
+ghost use Rattle.kpn_net.specs.Tables.{ends_among, ends_from, is_source, is_sink};
+ghost use Rattle.kpn_net.specs.Sides.{side_of, side_with, is_nobody, is_several, end_or, Keeps};
 
 use crate::tables::{ChannelSpec, End, Instance};
 use std::alloc::{AllocError, Global};
@@ -22,7 +22,7 @@ pub enum Side {
 
 impl Side {
     fn with(self, end: End) -> Side
-        ensures { result ≡ joined self end }
+        ensures { result ≡ side_with self end }
     {
         match self {
             Side::Nobody => Side::One(end),
@@ -44,7 +44,7 @@ impl Side {
 pub fn join(sides: &mut [Side], ports: &[usize], p: usize)
     requires { All (λ c. c < length sides.old) ports.now }
     ensures { (ends : ℕ → List End) → Keeps sides.old ends
-        → Keeps sides.new (λ c. ends c ++ places c p ports.now) }
+        → Keeps sides.new (λ c. ends c ++ ends_among c p ports.now) }
 {
     for channel in ports {
         sides[*channel] = sides[*channel].with(End::Process(p));

@@ -1,6 +1,6 @@
 -- The walk goes on by a code, or by a step of the frame, or stops there.
 use Rattle.std.proofs.Common.{arith, subst}
-use Rattle.kpn_step.specs.Standing.{GoesOn}
+use Rattle.kpn_step.specs.Standing.{WentOrStopped}
 use Rattle.kpn_step.proofs.Walking.{Walking-start, Walking-on, Walking-step, Walked-there, Walked-here, fits_here}
 use Rattle.kpn_step.proofs.walk.walk.Goals as goal
 
@@ -28,7 +28,7 @@ pub steps-preserved : goal.steps-preserved
 steps-preserved c =
     (Walking-on c.args.program.now c.known.ensures c.args.quota c.args.frame.now c.steps.at c.steps.left c.steps.frame
     c.follow.new.at c.follow.new.left c.follow.new.self c.steps.invariant
-    (subst (λ stop. GoesOn c.args.program.now.blocks stop c.steps.at c.steps.left c.steps.frame c.follow.new.at
+    (subst (λ stop. WentOrStopped c.args.program.now.blocks stop c.steps.at c.steps.left c.steps.frame c.follow.new.at
     c.follow.new.left c.follow.new.self) c.in_default.is c.follow.ensures)).0
 
 pub stand-requires : goal.stand-requires

@@ -4,15 +4,15 @@ use Rattle.std.proofs.lemmas.Result.{err_from_is_err_and}
 use Rattle.std.specs.Vec.Iter.{into_iter_items}
 use Rattle.kpn_lang.specs.Parts.{Parts, first_fault}
 use Rattle.kpn_text_names.specs.declared.process.ProgramParts.{ProgramParts}
-use Rattle.kpn_text_names.specs.declared.tables.Shared.{Shared}
+use Rattle.kpn_text_names.specs.declared.tables.SharedTables.{SharedTables}
 use Rattle.kpn_text_names.specs.View.{program_seen}
 use Rattle.kpn_text.proofs.Tables.{made_all, made_broken, made_next, made_start, program_keeps}
 use Rattle.kpn_text.proofs.network.programs.Goals as goal
 
-abbrev seen : Shared → List ProgramParts → List Parts
+abbrev seen : SharedTables → List ProgramParts → List Parts
 seen shared ps = map (λ p. p.parts) (map (program_seen shared) ps)
 
-none_left : (shared : Shared) (ps : List ProgramParts) → length ps ≡ 0 → seen shared ps ≡ []
+none_left : (shared : SharedTables) (ps : List ProgramParts) → length ps ≡ 0 → seen shared ps ≡ []
 none_left shared [] e = refl
 none_left shared (p ∷ ps) e = absurd (omega arith)
 

@@ -2,12 +2,12 @@
 use Rattle.std.proofs.Common.{◌≡◌, ◌++◌, List, ℕ, drop}
 use Rattle.kpn_text_names.specs.NetworkNames.{paired}
 use Rattle.kpn_text.specs.Named.{channel_named}
-use Rattle.kpn_text.specs.Text.{all_text, item_text}
+use Rattle.kpn_text.specs.Text.{all_text, network_item_text}
 use Rattle.kpn_text.proofs.networks.channels.Given as goal
 
 abbrev pub invariant-loop-c : goal.invariant-loop-c
 invariant-loop-c l =
     (more : List ℕ)
     → l.out.items
-    ++ all_text item_text (paired channel_named (drop l.c l.names) (drop l.c l.network.channels)) more
-    ≡ l.initial.out.items ++ all_text item_text (paired channel_named l.names l.network.channels) more
+    ++ all_text network_item_text (paired channel_named (drop l.c l.names) (drop l.c l.network.channels)) more
+    ≡ l.initial.out.items ++ all_text network_item_text (paired channel_named l.names l.network.channels) more

@@ -2,14 +2,14 @@
 use Rattle.std.proofs.Common.{◌≡◌, ◌++◌, List, ℕ, drop}
 use Rattle.kpn_text_names.specs.NetworkNames.{paired}
 use Rattle.kpn_text.specs.Named.{instance_named}
-use Rattle.kpn_text.specs.Text.{all_text, item_text}
+use Rattle.kpn_text.specs.Text.{all_text, network_item_text}
 use Rattle.kpn_text.proofs.networks.instances.Given as goal
 
 abbrev pub invariant-loop-p : goal.invariant-loop-p
 invariant-loop-p l =
     (more : List ℕ)
     → l.out.items
-    ++ all_text item_text
+    ++ all_text network_item_text
     (paired (instance_named l.names) (drop l.p l.names.instances) (drop l.p l.network.instances)) more
     ≡ l.initial.out.items
-    ++ all_text item_text (paired (instance_named l.names) l.names.instances l.network.instances) more
+    ++ all_text network_item_text (paired (instance_named l.names) l.names.instances l.network.instances) more

@@ -2,7 +2,7 @@
 use Rattle.std.proofs.Common.{◌++◌, codes, sym, ap}
 use Rattle.kpn_text_names.specs.NetworkNames.{paired}
 use Rattle.kpn_text.specs.Named.{channel_named, growth_named, instance_named, limit_named, policy_named}
-use Rattle.kpn_text.specs.Text.{all_text, growth_text, item_text, limit_text, policy_text}
+use Rattle.kpn_text.specs.Text.{all_text, growth_text, network_item_text, limit_text, policy_text}
 use Rattle.kpn_text.proofs.PrintingLemmas.{all_text-append, same_prints, then_five}
 use Rattle.kpn_text.proofs.networks.items.Goals as goal
 
@@ -18,19 +18,19 @@ returns c =
     ++ limit_text (limit_named t.limit)
     (policy_text (policy_named t.policy)
     (growth_text (growth_named t.growth)
-    (all_text item_text channels (all_text item_text instances (codes "}\n" ++ more)))))) _
+    (all_text network_item_text channels (all_text network_item_text instances (codes "}\n" ++ more)))))) _
     (λ more.
     ap (λ l.
     codes "network {\n"
     ++ limit_text (limit_named t.limit) (policy_text (policy_named t.policy) (growth_text (growth_named t.growth) l)))
-    (sym (all_text-append item_text channels instances (codes "}\n" ++ more))))
+    (sym (all_text-append network_item_text channels instances (codes "}\n" ++ more))))
     (then_five c.bytes-2.result c.args.out.now.items c.bytes.new.out.items c.settings.new.out.items
     c.channels.new.out.items c.instances.new.out.items c.bytes-2.new.out.items
     (λ more. codes "network {\n" ++ more)
     (λ more.
     limit_text (limit_named t.limit) (policy_text (policy_named t.policy) (growth_text (growth_named t.growth) more)))
-    (all_text item_text channels)
-    (all_text item_text instances) (λ more. codes "}\n" ++ more)
+    (all_text network_item_text channels)
+    (all_text network_item_text instances) (λ more. codes "}\n" ++ more)
     c.in_ok-bytes.ensures
     c.in_ok-settings.ensures
     (rw c.as_slice.ensures at c.in_ok-channels.ensures)

@@ -4,7 +4,7 @@ use Rattle.std.proofs.lemmas.Result.{err_from_is_err_and}
 use Rattle.kpn_text_grammar.specs.View as grammar
 use Rattle.kpn_text_names.specs.View.{named_seen}
 use Rattle.kpn_text.specs.Document.{Document}
-use Rattle.kpn_text.specs.Spells.{Spells}
+use Rattle.kpn_text.specs.Spells.{SpellsDocument}
 use Rattle.kpn_text.proofs.Refusals.{made_spelled, names_refused, network_refused, phases, tokens_refused, tree_refused}
 use Rattle.kpn_text.proofs.reading.read_text.Goals as goal
 
@@ -69,7 +69,7 @@ returns c =
     let told = c.language_of-language.ensures in
     let tree = grammar.document c.in_ok-tree.tree in
     let n = named_seen c.in_ok-named.named in
-    subst (λ (d : Document). Spells c.args.text.now d) (sym c.new.ensures)
+    subst (λ (d : Document). SpellsDocument c.args.text.now d) (sym c.new.ensures)
     (made_spelled c.args.text.now c.in_ok-tokens.tokens.items tree n c.language_of-language.result
     c.in_ok-network.network c.in_ok-names.names
     (phases c.args.text.now c.language_of-language.result told c.in_ok-tokens.tokens.items c.as_slice.result.now tree n

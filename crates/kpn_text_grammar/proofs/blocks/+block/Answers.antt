@@ -1,7 +1,7 @@
 -- A block is its statements, one level below, and its braces; one more round of the loop reads one statement more.
 use Rattle.std.proofs.Common.{◌≡◌, ◌<◌, true, false, length, sym, ◌∙◌, arith}
 use Rattle.std.proofs.lemmas.Result.{err_from_is_err_and}
-use Rattle.kpn_text_grammar.specs.Reading.{goes_on, is_branch, one_statement, block, second_block, statements_at}
+use Rattle.kpn_text_grammar.specs.Reading.{stands_in_block, is_branch, one_statement, block, second_block, statements_at}
 use Rattle.kpn_text_grammar.specs.View.{tokens_from, statement_seen, statements_seen}
 use Rattle.kpn_text_grammar.proofs.BlockSteps.{block_below, block_deep, block_unopened, second_below, second_deep, second_is_block, any_number, all_statements, fails_at_any}
 use Rattle.kpn_text_grammar.proofs.Rounds.{at_first, one_more, stops_here, fails_here, place_moves}
@@ -32,7 +32,7 @@ statements-statements-init t c =
     let inner = block s c.args.depth in
     let second = second_block s c.args.depth in
     rw (all_statements s inner second (tokens_from c.args.source c.args.at))
-    (at_first statement_seen goes_on (one_statement s inner second) c.new-found.result.items
+    (at_first statement_seen stands_in_block (one_statement s inner second) c.new-found.result.items
     (tokens_from c.args.source c.args.at) c.new-found.ensures.items)
 
 pub statements-returns-in_err-statement : goal.statements-returns-in_err-statement
@@ -42,7 +42,7 @@ statements-returns-in_err-statement t c =
     let second = second_block s c.args.depth in
     let p = err_from_is_err_and c.from_residual.result c.from_residual.ensures.1 in
     let ls = tokens_from c.args.source c.statements.place in
-    rw (p.1, p.2) (fails_here goes_on (one_statement s inner second) c.in_err-statement.field-0.0
+    rw (p.1, p.2) (fails_here stands_in_block (one_statement s inner second) c.in_err-statement.field-0.0
     (statements_seen c.statements.found.items) (length c.statements.found.items) ls
     (statements_at s inner second (tokens_from c.args.source c.args.at)) c.statements.invariant
     (sym c.goes_on.ensures ∙ c.statements-test.true)
@@ -61,7 +61,7 @@ statements-statements-preserved t c =
     let s = c.args.source.scope in
     let inner = block s c.args.depth in
     let second = second_block s c.args.depth in
-    one_more statement_seen goes_on (one_statement s inner second) c.statements.found.items c.push.new.self.items
+    one_more statement_seen stands_in_block (one_statement s inner second) c.statements.found.items c.push.new.self.items
     c.in_ok-statement.statement (tokens_from c.args.source c.statements.place)
     (tokens_from c.args.source c.in_ok-statement.after)
     (statements_at s inner second (tokens_from c.args.source c.args.at)) c.statements.invariant
@@ -76,7 +76,7 @@ statements-returns t c =
     let s = c.args.source.scope in
     let inner = block s c.args.depth in
     let second = second_block s c.args.depth in
-    stops_here goes_on (one_statement s inner second) (statements_seen c.statements.found.items)
+    stops_here stands_in_block (one_statement s inner second) (statements_seen c.statements.found.items)
     (length c.statements.found.items) (tokens_from c.args.source c.statements.place)
     (statements_at s inner second (tokens_from c.args.source c.args.at)) c.statements.invariant
     (sym c.goes_on.ensures ∙ c.statements-test.false)

@@ -5,8 +5,8 @@ use Rattle.kpn_text_grammar.specs.declared.tree.Expression.{fold-roll-Expression
 use Rattle.kpn_text_grammar.specs.declared.tree.Expression.TheOpen.{Expression-F}
 use Rattle.kpn_text_grammar.specs.declared.tree.Expression.TheVariants.{rolls-Binary}
 use Rattle.kpn_text_grammar.specs.Operators.{right_side, tightness}
-use Rattle.kpn_text_grammar.specs.Reading.{Fails, tight}
-use Rattle.kpn_text_grammar.specs.Syntax.{Term, binary}
+use Rattle.kpn_text_grammar.specs.Reading.{ReadingFails, tight}
+use Rattle.kpn_text_grammar.specs.Syntax.{ExpressionNode, binary}
 use Rattle.kpn_text_grammar.specs.View.{term, term_step, tokens_from}
 use Rattle.kpn_text_grammar.proofs.Rounds.{place_moves}
 use Rattle.kpn_text_grammar.proofs.Steps.{fails_with}
@@ -60,7 +60,7 @@ tight-returns-in_err-right-clause-read t c =
     rw (p.1, p.2) (side_fails _ _ _ _ _ _ _ _ _ c.sides.invariant c.in_err-right.field-0.0 c.in_ok-sign.sign
     (tokens_from c.args.source c.in_ok-sign.side)
     (sym c.goes_further.ensures ∙ c.sides-test.true) (omega arith) c.in_ok-sign.ensures
-    (subst (λ (k : ℕ). Fails c.in_err-right.field-0.0 (tight c.args.source.scope c.args.room.depth
+    (subst (λ (k : ℕ). ReadingFails c.in_err-right.field-0.0 (tight c.args.source.scope c.args.room.depth
     (c.args.room.levels - 1) k (tokens_from c.args.source c.in_ok-sign.side))) c.right_side.ensures
     c.in_err-right.ensures.read))
 
@@ -85,7 +85,7 @@ tight-sides-preserved t c =
     let made = ap term c.in_ok-root.ensures.ok in
     let root : term c.in_ok-root.root.value ≡ binary o left right =
     made ∙ ap term (sym (rolls-Binary o c.sides.root c.in_ok-right.right.root))
-    ∙ fold-roll-Expression Term term_step (Expression-F.Binary o c.sides.root c.in_ok-right.right.root) in
+    ∙ fold-roll-Expression ExpressionNode term_step (Expression-F.Binary o c.sides.root c.in_ok-right.right.root) in
     let side : tight s room.depth (room.levels - 1) (right_side o) (tokens_from c.args.source c.in_ok-sign.side)
     ≡ Ok (right, after) =
     subst (λ (k : ℕ). tight s room.depth (room.levels - 1) k (tokens_from c.args.source c.in_ok-sign.side)
@@ -98,7 +98,7 @@ tight-sides-preserved t c =
     (omega (arith, c.sides.invariant.counted, c.in_ok-right.ensures.levels.counted)) in
     subst (λ (k : ℕ). GoesOn s room.depth room.levels c.args.least k (c.max-levels.result + 1)
     (term c.in_ok-root.root.value) after total) (sym c.tightness-bound.ensures)
-    (subst (λ (e : Term). GoesOn s room.depth room.levels c.args.least (tightness o) (c.max-levels.result + 1) e after
+    (subst (λ (e : ExpressionNode). GoesOn s room.depth room.levels c.args.least (tightness o) (c.max-levels.result + 1) e after
     total) (sym root) next)
 
 pub tight-returns-clause-read : goal.tight-returns-clause-read

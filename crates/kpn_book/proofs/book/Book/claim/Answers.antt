@@ -1,5 +1,5 @@
 use Rattle.std.proofs.Common.{◌≡◌, ◌≤◌, false, length, sym, subst, arith}
-use Rattle.kpn_net.specs.Tables.{has_cells}
+use Rattle.kpn_net.specs.Tables.{any_has_cells}
 use Rattle.kpn_step.specs.Frame.{Frame}
 use Rattle.kpn_book.specs.Book.{Book}
 use Rattle.kpn_book.specs.Open.{book_of}
@@ -12,5 +12,5 @@ copy-frame-requires g c =
     let there = c.in-Some.ensures.holds.there in
     let long = c.self.invariant.in_step.processes in
     subst (λ (f : Frame). length f.variables ≤ 64) (sym c.frame.ensures)
-    (few_values b.tables c.known.ensures (subst (λ (x : Book). has_cells x.tables ≡ false) (sym c.self.view_is) c.requires.plain)
+    (few_values b.tables c.known.ensures (subst (λ (x : Book). any_has_cells x.tables ≡ false) (sym c.self.view_is) c.requires.plain)
     b.machine c.self.invariant.in_step.run.shape c.in-Some.process (omega (arith, there, long)))

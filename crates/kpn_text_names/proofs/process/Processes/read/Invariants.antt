@@ -2,11 +2,11 @@
 use Rattle.std.proofs.Common.{◌≡◌, drop, map}
 use Rattle.kpn_text_grammar.specs.View.{process_seen}
 use Rattle.kpn_text_names.specs.Fault.{each}
-use Rattle.kpn_text_names.specs.Named.{with_process, programs_of}
+use Rattle.kpn_text_names.specs.Named.{with_named_process, programs_of}
 use Rattle.kpn_text_names.specs.View.{programs_seen}
 use Rattle.kpn_text_names.proofs.process.Processes.read.Given as goal
 
 abbrev pub invariant-loop-process : goal.invariant-loop-process
 invariant-loop-process l =
-    each (with_process l.shared) (programs_seen l.shared l.read) (map process_seen (drop l.process-index l.processes))
+    each (with_named_process l.shared) (programs_seen l.shared l.read) (map process_seen (drop l.process-index l.processes))
     ≡ programs_of l.shared (map process_seen l.processes)

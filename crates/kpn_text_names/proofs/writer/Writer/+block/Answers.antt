@@ -4,7 +4,7 @@ use Rattle.std.proofs.lemmas.List.{map-append}
 use Rattle.std.proofs.lemmas.Result.{err_from_is_err_and}
 use Rattle.kpn_lang.specs.Syntax.{statement_of}
 use Rattle.kpn_lang.specs.View.{statements_of}
-use Rattle.kpn_text_names.specs.View.{written}
+use Rattle.kpn_text_names.specs.View.{body_written}
 use Rattle.kpn_text_names.proofs.StatementSteps.{goes, fails, ends, block_closed}
 use Rattle.kpn_text_names.proofs.writer.Writer.+block.Goals as goal
 
@@ -18,7 +18,7 @@ pub statements-returns-in_err-stmt-clause-written : goal.statements-returns-in_e
 statements-returns-in_err-stmt-clause-written t c =
     let p = err_from_is_err_and c.from_residual.result c.from_residual.ensures.1 in
     rw (p.1, p.2, ← c.loop-statement.invariant.remains)
-    (fails c.args.shared.now (written c.loop-statement.self) (statements_of c.loop-statement.own.items) c.args.statements.now
+    (fails c.args.shared.now (body_written c.loop-statement.self) (statements_of c.loop-statement.own.items) c.args.statements.now
     c.loop-statement.statement-index c.statement-item.result c.statement-item.result
     c.in_err-stmt.field-0.0 (omega arith) (sym c.statement-item.is) c.in_err-stmt.ensures.written)
 
@@ -31,9 +31,9 @@ statements-loop-statement-preserved t c = record {
       ∙ map-append statement_of c.loop-statement.own.items (c.in_ok-stmt.stmt ∷ []) in
       rw pushed
       (sym
-      (goes c.args.shared.now (written c.loop-statement.self) (statements_of c.loop-statement.own.items) c.args.statements.now
+      (goes c.args.shared.now (body_written c.loop-statement.self) (statements_of c.loop-statement.own.items) c.args.statements.now
       c.loop-statement.statement-index c.statement-item.result c.statement-item.result
-      (written c.statement.new.self) (statement_of c.in_ok-stmt.stmt) (omega arith) (sym c.statement-item.is)
+      (body_written c.statement.new.self) (statement_of c.in_ok-stmt.stmt) (omega arith) (sym c.statement-item.is)
       c.in_ok-stmt.ensures.written)
       ∙ c.loop-statement.invariant.remains);
   blocks = omega (arith, c.in_ok-stmt.ensures.blocks);
@@ -43,5 +43,5 @@ statements-loop-statement-preserved t c = record {
 pub statements-returns-clause-written : goal.statements-returns-clause-written
 statements-returns-clause-written t c =
     sym c.loop-statement.invariant.remains
-    ∙ ends c.args.shared.now (written c.loop-statement.self) (statements_of c.loop-statement.own.items) c.args.statements.now
+    ∙ ends c.args.shared.now (body_written c.loop-statement.self) (statements_of c.loop-statement.own.items) c.args.statements.now
     c.loop-statement.statement-index (omega arith)

@@ -1,0 +1,6 @@
+use Rattle.std.proofs.Common.{ℕ, ◌<◌, get_or}
+use Rattle.kpn_lang.specs.Parts.{Parts, IsProgram}
+use Rattle.kpn_net.proofs.network.parts.NetworkParts.known_programs.Given as goal
+
+abbrev pub invariant-loop-program : goal.invariant-loop-program
+invariant-loop-program l = (k : ℕ) (d : Parts) → k < l.program-index → IsProgram (get_or l.self.programs.items k d)

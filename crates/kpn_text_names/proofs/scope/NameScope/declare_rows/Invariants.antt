@@ -1,0 +1,11 @@
+-- The arrays and tables that remain, taken from here, lead to the same as all of them.
+use Rattle.std.proofs.Common.{◌≡◌, drop, map}
+use Rattle.kpn_text_grammar.specs.View.{declaration_seen}
+use Rattle.kpn_text_names.specs.Fault.{each}
+use Rattle.kpn_text_names.specs.Scope.{declare}
+use Rattle.kpn_text_names.proofs.scope.NameScope.declare_rows.Given as goal
+
+abbrev pub invariant-loop-declaration : goal.invariant-loop-declaration
+invariant-loop-declaration l =
+    each (declare l.shared) l.self (map declaration_seen (drop l.declaration-index l.declarations))
+    ≡ each (declare l.shared) l.fn.self (map declaration_seen l.declarations)
