@@ -15,7 +15,8 @@ TOP = pathlib.Path(__file__).resolve().parent.parent
 CODE = re.compile(r'^ *(?:pub(?:\([a-z]+\))? )?(?:struct|enum|trait|type|const|static) ([A-Z]\w+)', re.M)
 DEFINITION = re.compile(r'^(?:pub )?(?:abbrev |data |record |opaque )?(?:pub )?(?:abbrev |data |record |opaque )?'
                         r'(?:rec )?([A-Za-z_][\w\']*)(?= *[:({]| *$)', re.M)
-KEYWORDS = {'use', 'pub', 'mod', 'mutual', 'data', 'record', 'abbrev', 'where', 'let', 'in', 'case', 'open', 'module', 'private'}
+KEYWORDS = {'use', 'pub', 'mod', 'mutual', 'data', 'record', 'abbrev', 'where', 'let', 'in', 'case', 'open', 'module',
+            'private'}
 # Names that two crates share on purpose, each with the reason.
 SHARED = {
     'ALL': 'a constant of a type, with all its values',
