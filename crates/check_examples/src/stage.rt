@@ -4,7 +4,7 @@ use crate::devices::{Failure, Input, NONE, Output};
 use crate::files::bytes_of;
 use crate::shelf::{Call, Troubled};
 use anyhow::{Result, bail};
-use kpn_cli::{Known, Ports, command, words_for};
+use kpn_cli::{Ports, SeenBytes, command, words_for};
 use std::alloc::Global;
 use std::fs::File;
 use std::io::{ErrorKind, Write};
@@ -130,7 +130,7 @@ pub(crate) fn run<R: Threads + Wait + Clock + Sync + Files<File = File> + AllocG
         &mut errors,
         &mut unsaid,
     );
-    let known = Known {
+    let known = SeenBytes {
         written: &out.kept,
         told: &errors.kept,
         unsaid: &unsaid,

@@ -2,7 +2,7 @@
 //! command tells stand words for a person, if they are wanted.
 #![tactic(auto)]
 
-use kpn_cli::{Keeping, Known, Opening, WordsWanted, command, words_for};
+use kpn_cli::{BeginningKeeper, EndKeeper, SeenBytes, WordsWanted, command, words_for};
 use kpn_command_base::Refusal;
 use kpn_shelf::{FileShelf, Patient, fill_standard, standard_input};
 use std::env;
@@ -11,7 +11,7 @@ use std::process::ExitCode;
 use std::rt::Env;
 
 // The option that says when words follow. It stands in front of the command.
-const WORDS: &str = "--words";
+const WORDS_OPTION: &str = "--words";
 
 fn main(rt: HostRuntime) -> ExitCode {
     fill_standard(&rt);
@@ -25,9 +25,9 @@ fn main(rt: HostRuntime) -> ExitCode {
         return ExitCode::from(refuse(&mut Patient::new(&rt, rt.stderr())));
     };
     let has_words = wanted.holds(&rt);
-    let mut input = Opening::new(rt.alloc(), standard_input(&rt, rt.stdin()));
-    let mut out = Keeping::new(rt.alloc(), Patient::new(&rt, rt.stdout()), has_words);
-    let mut err = Keeping::new(rt.alloc(), Patient::new(&rt, rt.stderr()), has_words);
+    let mut input = BeginningKeeper::new(rt.alloc(), standard_input(&rt, rt.stdin()));
+    let mut out = EndKeeper::new(rt.alloc(), Patient::new(&rt, rt.stdout()), has_words);
+    let mut err = EndKeeper::new(rt.alloc(), Patient::new(&rt, rt.stderr()), has_words);
     let mut unsaid = Vec::new(rt.alloc());
     let status = command(
         &rt,
@@ -40,7 +40,7 @@ fn main(rt: HostRuntime) -> ExitCode {
         &mut unsaid,
     );
     if has_words {
-        let known = Known {
+        let known = SeenBytes {
             written: out.kept(),
             told: err.kept(),
             unsaid: &unsaid,
@@ -56,7 +56,7 @@ fn main(rt: HostRuntime) -> ExitCode {
 
 // When words are wanted. If the first two words behind the program's name say it, they are taken out.
 fn take_wanted(words: &mut Vec<String>) -> Option<WordsWanted> {
-    if words.len() < 2 || words[1].as_str() != WORDS {
+    if words.len() < 2 || words[1].as_str() != WORDS_OPTION {
         return Some(WordsWanted::Terminal);
     }
     if words.len() < 3 {

@@ -6,7 +6,7 @@ use Rattle.kpn_text_items.specs.declared.fault.WriteFault.TheVariants.{Write}
 use Rattle.kpn_command_base.specs.declared.refusal.Refusal.{Refusal}
 use Rattle.kpn_command_base.specs.declared.refusal.Refusal.TheVariants.{Output}
 use Rattle.kpn_command_base.specs.Refusal.{status_of, refusal_line}
-use Rattle.kpn_command_base.specs.Told.{IsTold}
+use Rattle.kpn_command_base.specs.Told.{IsLineTold}
 use Rattle.kpn_shelf.specs.Shelf.{Loads, KeepsOthers}
 use Rattle.kpn_command_base.specs.declared.conclusion.Conclusion.{Conclusion}
 use Rattle.kpn_command_base.specs.Conclusion.{StoredFile, files_in}
@@ -35,9 +35,9 @@ pub record IsCutShort {S : Type 0} (may_give : S → Loads) (files : List Stored
 
 -- a refusal is reported: the place for faults gets its line, as far as it takes it, and the status is that of the
 -- refusal
-abbrev pub IsReported : {E : Type 0} → (holds : E → Option (List ℕ)) → Refusal → (err told : E) (status : ℕ) → Type 0
-IsReported holds refusal err told status =
-    IsTold (holds err) (holds told) (refusal_line refusal ++ 10 ∷ []) × (status ≡ status_of refusal)
+abbrev pub IsRefusalReported : {E : Type 0} → (holds : E → Option (List ℕ)) → Refusal → (err told : E) (status : ℕ) → Type 0
+IsRefusalReported holds refusal err told status =
+    IsLineTold (holds err) (holds told) (refusal_line refusal ++ 10 ∷ []) × (status ≡ status_of refusal)
 
 -- A conclusion is carried out. Given are the shelf, the output and the place for faults, each as it was and as it is
 -- afterwards, and the status.
@@ -49,11 +49,11 @@ pub data IsCarriedOut {S O E : Type 0} (may_give : S → Loads) (contents : O �
       told ≡ err → status ≡ made.status →
       IsCarriedOut may_give contents holds made shelf kept out written err told status
   -- the files are stored, and the text can't be written whole
-  unwritten : AreStored may_give (files_in made) shelf kept → IsReported holds (Output Write) err told status →
+  unwritten : AreStored may_give (files_in made) shelf kept → IsRefusalReported holds (Output Write) err told status →
       IsCarriedOut may_give contents holds made shelf kept out written err told status
   -- a file can't be stored, and nothing goes out
   cut_short : (fault : WriteFault) → IsCutShort may_give (files_in made) shelf kept → written ≡ out →
-      IsReported holds (Output fault) err told status →
+      IsRefusalReported holds (Output fault) err told status →
       IsCarriedOut may_give contents holds made shelf kept out written err told status
 
 -- A conclusion is carried out. A refusal is reported, no file is stored, and nothing goes out.
@@ -63,4 +63,4 @@ abbrev pub Concludes : {S O E : Type 0} → (may_give : S → Loads) (contents :
 Concludes may_give contents holds (Ok made) shelf kept out written err told status =
     IsCarriedOut may_give contents holds made shelf kept out written err told status
 Concludes may_give contents holds (Err refusal) shelf kept out written err told status =
-    (kept ≡ shelf) × (written ≡ out) × IsReported holds refusal err told status
+    (kept ≡ shelf) × (written ≡ out) × IsRefusalReported holds refusal err told status

@@ -1,16 +1,14 @@
 //! What to do about an outcome: about a ring of processes or a fault, about a run that is clogged, jammed or stopped,
 //! and about a source without items.
 
-use crate::pieces::{
-    STANDARD, file_in, has_name, has_one, is_of, is_plain, push, push_name, text_of,
-};
+use crate::pieces::{file_in, has_name, has_one, is_of, is_plain, push, push_name, text_of};
 use crate::room::push_room;
 use crate::stopped::{push_looks, push_others};
 use crate::waits::{push_faults, waits_in};
-use crate::words::Known;
-use kpn_command_base::{Ends, RunRequest, StreamRequest, load_document};
+use crate::words::SeenBytes;
+use kpn_command_base::{EndKind, RunRequest, StreamRequest, load_document};
 use kpn_command_line::Request;
-use kpn_shelf::Shelf;
+use kpn_shelf::{STANDARD, Shelf};
 use kpn_text::Document;
 use std::alloc::{AllocError, Global};
 use std::rt::Files;
@@ -28,7 +26,7 @@ stopped: the run has made all commits that it may. Unless a process loops for ev
 `--max-commits N`, 1,000,000,000 at most, or say by `--take K` how many items are enough.
 ";
 
-const STEPS: &str = "\
+const MORE_STEPS: &str = "\
 The steps before an event were used up. Allow more by `--steps N`, 1,000,000,000 at most.
 ";
 
@@ -47,7 +45,7 @@ pub(crate) fn push_advice<R: Files + AllocGlobal, S: Shelf>(
     shelf: &S,
     rt: &R,
     status: u8,
-    known: &Known<'_>,
+    known: &SeenBytes<'_>,
 ) -> Result<(), AllocError> {
     let alloc = rt.alloc();
     match request {
@@ -67,7 +65,7 @@ pub(crate) fn push_advice<R: Files + AllocGlobal, S: Shelf>(
                 None => Ok(()),
             }
         }
-        _ if status == 5 => push(text, STEPS),
+        _ if status == 5 => push(text, MORE_STEPS),
         _ => Ok(()),
     }
 }
@@ -104,7 +102,7 @@ fn push_run<R: Files, S: Shelf>(
     shelf: &S,
     rt: &R,
     status: u8,
-    known: &Known<'_>,
+    known: &SeenBytes<'_>,
 ) -> Result<(), AllocError> {
     push_unfed(text, document, &run.sources)?;
     push_named_dash(text, run)?;
@@ -119,7 +117,7 @@ fn push_run<R: Files, S: Shelf>(
         return Ok(());
     }
     // Only the report of a run does not show what its sinks have given.
-    let has_sinks = has_one(document, Ends::Sinks);
+    let has_sinks = has_one(document, EndKind::Sinks);
     if has_sinks && waits.are_sinks_complete(document) {
         return push(text, COMPLETE);
     }
@@ -151,7 +149,7 @@ fn push_stream<S: Shelf>(
     document: &Document,
     shelf: &S,
     status: u8,
-    known: &Known<'_>,
+    known: &SeenBytes<'_>,
 ) -> Result<(), AllocError> {
     let summary = text_of(if stream.quiet {
         known.unsaid
@@ -172,7 +170,7 @@ fn push_stream<S: Shelf>(
 fn push_unfed(text: &mut Vec<u8>, document: &Document, options: &[&str]) -> Result<(), AllocError> {
     for channel in 0..document.network().channels() {
         let name = document.channel_name(channel);
-        if is_of(document, Ends::Sources, channel) && !has_name(options, name) {
+        if is_of(document, EndKind::Sources, channel) && !has_name(options, name) {
             push_name(
                 text,
                 "Source ",

@@ -1,19 +1,18 @@
 //! Why a file of a request was refused: its name and the reason, and the words of `kpn explain`.
 
 use crate::ends::{ErrorLine, NO_SOURCE, push_failed_end, push_given, push_unseen};
-use crate::named::Named;
+use crate::named::NamedFiles;
 use crate::pieces::{
-    STANDARD, file_in, has_name, is_end, is_plain, name_in, push, push_ends, push_name, text_of,
-    word_of,
+    file_in, has_name, is_end, is_plain, name_in, push, push_ends, push_name, text_of, word_of,
 };
-use crate::words::Known;
-use kpn_command_base::{Conclusion, Ends, Refusal, load_document};
+use crate::words::SeenBytes;
+use kpn_command_base::{Conclusion, EndKind, Refusal, load_document};
 use kpn_command_explain::{
     bad_line_text, explain_command, explain_items_command, explain_trace_command,
 };
 use kpn_command_line::Request;
 use kpn_limits::{MAX_INPUT_BYTES, USUAL_COUNT};
-use kpn_shelf::Shelf;
+use kpn_shelf::{STANDARD, Shelf};
 use kpn_text::Document;
 use kpn_text_items::{ItemFault, items_of};
 use std::alloc::{AllocError, Global};
@@ -26,15 +25,18 @@ pub(crate) fn push_causes<R: Files, S: Shelf>(
     text: &mut Vec<u8>,
     alloc: Global,
     request: &Request<'_>,
-    known: &Known<'_>,
+    known: &SeenBytes<'_>,
     shelf: &S,
     rt: &R,
 ) -> Result<(), AllocError> {
     let line = ErrorLine::in_text(text_of(known.told));
-    let Some(named) = Named::of(request) else {
+    let Some(named) = NamedFiles::of(request) else {
         return push_wrong_input(text, alloc, line, known);
     };
-    if push_unread(text, rt, named.file, MOST)? || !is_plain(rt, named.file) || named.is_items {
+    if push_unread(text, rt, named.file, MOST_FILE_BYTES)?
+        || !is_plain(rt, named.file)
+        || named.is_items
+    {
         return Ok(());
     }
     if push_marked(text, alloc, named.file, shelf)? {
@@ -46,8 +48,8 @@ pub(crate) fn push_causes<R: Files, S: Shelf>(
     let Ok(document) = load_document(alloc, shelf, named.file) else {
         return Ok(());
     };
-    if push_wrong_name(text, &document, Ends::Sources, named.sources)?
-        || push_wrong_name(text, &document, Ends::Sinks, named.sinks)?
+    if push_wrong_name(text, &document, EndKind::Sources, named.sources)?
+        || push_wrong_name(text, &document, EndKind::Sinks, named.sinks)?
         || push_wrong_end(text, alloc, &named, line, known, shelf, rt)?
         || push_wrong_items(text, alloc, &named, line, shelf, rt)?
         || push_wrong_trace(text, alloc, &named, shelf, rt)?
@@ -63,7 +65,7 @@ fn push_wrong_input(
     text: &mut Vec<u8>,
     alloc: Global,
     line: Option<ErrorLine<'_>>,
-    known: &Known<'_>,
+    known: &SeenBytes<'_>,
 ) -> Result<(), AllocError> {
     match line {
         Some(line) if line.number == "25" => push_given(text, alloc, NO_SOURCE, line.place, known),
@@ -98,9 +100,9 @@ const MARKED: &str =
 fn push_wrong_end<R: Files, S: Shelf>(
     text: &mut Vec<u8>,
     alloc: Global,
-    named: &Named<'_, '_>,
+    named: &NamedFiles<'_, '_>,
     line: Option<ErrorLine<'_>>,
-    known: &Known<'_>,
+    known: &SeenBytes<'_>,
     shelf: &S,
     rt: &R,
 ) -> Result<bool, AllocError> {
@@ -128,7 +130,7 @@ fn push_told(text: &mut Vec<u8>, answer: Result<Conclusion, Refusal>) -> Result<
 }
 
 // So many bytes a file that is read whole may have.
-const MOST: u64 = MAX_INPUT_BYTES as u64;
+const MOST_FILE_BYTES: u64 = MAX_INPUT_BYTES as u64;
 
 const OTHER_RULES: &str = "\
 The trace is of a network with another `policy` or `grow`. Give it the description that ran.
@@ -178,7 +180,7 @@ fn reason_of(kind: ErrorKind) -> &'static str {
 fn push_wrong_name(
     text: &mut Vec<u8>,
     document: &Document,
-    ends: Ends,
+    ends: EndKind,
     options: &[&str],
 ) -> Result<bool, AllocError> {
     for (at, option) in options.iter().enumerate() {
@@ -205,7 +207,7 @@ fn push_wrong_name(
 fn push_wrong_items<R: Files, S: Shelf>(
     text: &mut Vec<u8>,
     alloc: Global,
-    named: &Named<'_, '_>,
+    named: &NamedFiles<'_, '_>,
     line: Option<ErrorLine<'_>>,
     shelf: &S,
     rt: &R,
@@ -234,7 +236,7 @@ fn push_wrong_file<R: Files, S: Shelf>(
     shelf: &S,
     rt: &R,
 ) -> Result<bool, AllocError> {
-    if push_unread(text, rt, file, MOST)? {
+    if push_unread(text, rt, file, MOST_FILE_BYTES)? {
         if file == STANDARD {
             push(text, NO_STANDARD)?;
         }
@@ -281,14 +283,14 @@ fn push_bad_line<S: Shelf>(
 fn push_wrong_trace<R: Files, S: Shelf>(
     text: &mut Vec<u8>,
     alloc: Global,
-    named: &Named<'_, '_>,
+    named: &NamedFiles<'_, '_>,
     shelf: &S,
     rt: &R,
 ) -> Result<bool, AllocError> {
     let Some(trace) = named.read else {
         return Ok(false);
     };
-    if push_unread(text, rt, trace, MOST)? {
+    if push_unread(text, rt, trace, MOST_FILE_BYTES)? {
         return Ok(true);
     }
     if named.has_explained || !is_plain(rt, trace) {
@@ -305,7 +307,7 @@ fn push_wrong_trace<R: Files, S: Shelf>(
 fn push_unwritable<R: Files>(
     text: &mut Vec<u8>,
     rt: &R,
-    named: &Named<'_, '_>,
+    named: &NamedFiles<'_, '_>,
 ) -> Result<bool, AllocError> {
     for sink in named.sinks {
         if push_unwritten(text, rt, file_in(sink))? {
@@ -321,7 +323,7 @@ fn push_unwritable<R: Files>(
 // Adds which outputs there are, and what may be wrong with one, if nothing shows it.
 fn push_full(
     text: &mut Vec<u8>,
-    named: &Named<'_, '_>,
+    named: &NamedFiles<'_, '_>,
     line: Option<ErrorLine<'_>>,
 ) -> Result<(), AllocError> {
     match line {
@@ -340,10 +342,10 @@ fn push_full(
         "standard"
     };
     push(text, standard)?;
-    push(text, FULL)
+    push(text, OUTPUT_FULL)
 }
 
-const FULL: &str =
+const OUTPUT_FULL: &str =
     " output takes no more: is it closed, locked by another run, or its disk full?\n";
 
 // Adds the name of a file that can't be written, and the reason, as far as it shows.

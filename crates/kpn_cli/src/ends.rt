@@ -3,12 +3,12 @@
 
 use crate::causes::push_unread;
 use crate::keeping::MOST_GIVEN;
-use crate::pieces::{STANDARD, file_in, is_plain, name_in, push, push_made, push_name};
-use crate::words::Known;
-use kpn_command_base::{Ends, StreamRequest};
+use crate::pieces::{file_in, is_plain, name_in, push, push_made, push_name};
+use crate::words::SeenBytes;
+use kpn_command_base::{EndKind, StreamRequest};
 use kpn_command_explain::bad_line_text;
 use kpn_command_stream::word_for;
-use kpn_shelf::Shelf;
+use kpn_shelf::{STANDARD, Shelf};
 use kpn_stream_devices::ItemFormat;
 use std::alloc::{AllocError, Global};
 use std::fs;
@@ -31,7 +31,7 @@ pub(crate) struct ErrorLine<'t> {
 /// A source or a sink, and its file.
 #[derive(Clone, Copy)]
 pub(crate) struct FailedEnd<'t> {
-    ends: Ends,
+    ends: EndKind,
     name: &'t str,
     file: &'t str,
 }
@@ -59,8 +59,8 @@ impl<'t> FailedEnd<'t> {
     fn in_line(text: &'t str) -> Option<FailedEnd<'t>> {
         let (line, _) = text.split_once('\n')?;
         let (ends, option) = match line.strip_prefix("at --source ") {
-            Some(option) => (Ends::Sources, option),
-            None => (Ends::Sinks, line.strip_prefix("at --sink ")?),
+            Some(option) => (EndKind::Sources, option),
+            None => (EndKind::Sinks, line.strip_prefix("at --sink ")?),
         };
         Some(FailedEnd {
             ends,
@@ -76,7 +76,7 @@ pub(crate) fn push_failed_end<R: Files, S: Shelf>(
     alloc: Global,
     stream: &StreamRequest<'_>,
     line: ErrorLine<'_>,
-    known: &Known<'_>,
+    known: &SeenBytes<'_>,
     shelf: &S,
     rt: &R,
 ) -> Result<bool, AllocError> {
@@ -85,9 +85,9 @@ pub(crate) fn push_failed_end<R: Files, S: Shelf>(
     };
     let word = word_for(&stream.formats, end.name);
     match end.ends {
-        Ends::Sources => push_failed_source(text, alloc, word, end, line, known, shelf, rt)?,
-        Ends::Sinks if line.number == "54" => push_unfit(text, alloc, end, word, line.place)?,
-        Ends::Sinks => push_shown(text, end.file, "Standard output", TAKES_NO_MORE)?,
+        EndKind::Sources => push_failed_source(text, alloc, word, end, line, known, shelf, rt)?,
+        EndKind::Sinks if line.number == "54" => push_unfit(text, alloc, end, word, line.place)?,
+        EndKind::Sinks => push_shown(text, end.file, "Standard output", TAKES_NO_MORE)?,
     }
     Ok(true)
 }
@@ -103,7 +103,7 @@ fn push_failed_source<R: Files, S: Shelf>(
     word: &str,
     end: FailedEnd<'_>,
     line: ErrorLine<'_>,
-    known: &Known<'_>,
+    known: &SeenBytes<'_>,
     shelf: &S,
     rt: &R,
 ) -> Result<(), AllocError> {
@@ -137,7 +137,7 @@ fn push_bad_line<R: Files, S: Shelf>(
     alloc: Global,
     end: FailedEnd<'_>,
     place: &str,
-    known: &Known<'_>,
+    known: &SeenBytes<'_>,
     shelf: &S,
     rt: &R,
 ) -> Result<(), AllocError> {
@@ -160,7 +160,7 @@ pub(crate) fn push_given(
     alloc: Global,
     source: &str,
     place: &str,
-    known: &Known<'_>,
+    known: &SeenBytes<'_>,
 ) -> Result<(), AllocError> {
     let feeds = known.given.iter().filter(|byte| **byte == b'\n').count();
     match place.parse::<usize>() {
@@ -236,7 +236,7 @@ const OTHER_SOUNDS: &str = "\
 ";
 
 // How many bytes an input has, if it can be told.
-fn length_of<R: Files>(file: &str, known: &Known<'_>, rt: &R) -> Option<u64> {
+fn length_of<R: Files>(file: &str, known: &SeenBytes<'_>, rt: &R) -> Option<u64> {
     if file == STANDARD {
         return Some(known.count);
     }

@@ -1,6 +1,6 @@
 //! The answers that need no workers. Nothing here has a handle by which it might wait.
 ghost use Rattle.std.specs.Prelude.{option_map};
-ghost use Rattle.kpn_cli.specs.Command.{ComesTo, Explains};
+ghost use Rattle.kpn_cli.specs.Command.{RequestComesTo, ExplainsFile};
 
 use crate::usage::told;
 use kpn_command_base::{Conclusion, Refusal, RunRequest, StreamRequest};
@@ -39,7 +39,7 @@ pub fn answer_here<'a, S: Shelf, I: Read>(
     shelf: &S,
     input: &mut I,
 ) -> Progress<'a>
-    ensures { ComesTo (S.may_give shelf.now) (S.may_alias shelf.now) I.remaining request.entry
+    ensures { RequestComesTo (S.may_give shelf.now) (S.may_alias shelf.now) I.remaining request.entry
         input.old input.new result }
 {
     match request {
@@ -94,7 +94,7 @@ fn explain<S: Shelf>(
     steps: u64,
     shelf: &S,
 ) -> Result<Conclusion, Refusal>
-    ensures { Explains (S.may_give shelf.now) file.now (option_map (λ name. name.now) trace.entry)
+    ensures { ExplainsFile (S.may_give shelf.now) file.now (option_map (λ name. name.now) trace.entry)
         steps result }
 {
     match trace {

@@ -1,7 +1,7 @@
 //! A writer that keeps the end of what it has written, and a reader that keeps the beginning of what it has read.
 ghost use Rattle.std.specs.Prelude.{◌≡◌};
 
-use kpn_shelf::Look;
+use kpn_shelf::NonblockingRead;
 use std::alloc::Global;
 use std::io;
 use std::io::{Read, Write};
@@ -14,18 +14,18 @@ pub(crate) const MOST_GIVEN: usize = 4_096;
 
 /// A writer, and the end of what went through it, as far as there was memory for it.
 #[derive(Drop)]
-pub struct Keeping<W: Drop> {
+pub struct EndKeeper<W: Drop> {
     inner: W,
     keeps: bool,
     kept: Vec<u8>,
 }
 
-impl<W: Drop> Keeping<W> {
+impl<W: Drop> EndKeeper<W> {
     /// This writer, and whether it keeps what is written.
-    pub fn new(alloc: Global, inner: W, keeps: bool) -> Keeping<W>
+    pub fn new(alloc: Global, inner: W, keeps: bool) -> EndKeeper<W>
         ensures { result.inner ≡ inner }
     {
-        Keeping {
+        EndKeeper {
             inner,
             keeps,
             kept: Vec::new(alloc),
@@ -38,7 +38,7 @@ impl<W: Drop> Keeping<W> {
     }
 }
 
-impl<W: Write + Drop> Write for Keeping<W> {
+impl<W: Write + Drop> Write for EndKeeper<W> {
     ghost contents = { λ keeping. W.contents keeping.inner };
 
     fn write(&mut self, buf: &[u8]) -> io::Result<usize> {
@@ -70,16 +70,16 @@ fn keep(kept: &mut Vec<u8>, bytes: &[u8], count: usize) {
 
 /// A reader, the beginning of what came through it, as far as there was memory for it, and how many bytes came.
 #[derive(Drop)]
-pub struct Opening<I: Drop> {
+pub struct BeginningKeeper<I: Drop> {
     inner: I,
     given: Vec<u8>,
     count: u64,
 }
 
-impl<I: Drop> Opening<I> {
+impl<I: Drop> BeginningKeeper<I> {
     /// This reader.
-    pub fn new(alloc: Global, inner: I) -> Opening<I> {
-        Opening {
+    pub fn new(alloc: Global, inner: I) -> BeginningKeeper<I> {
+        BeginningKeeper {
             inner,
             given: Vec::new(alloc),
             count: 0,
@@ -97,7 +97,7 @@ impl<I: Drop> Opening<I> {
     }
 }
 
-impl<I: Read + Drop> Read for Opening<I> {
+impl<I: Read + Drop> Read for BeginningKeeper<I> {
     ghost remaining = { λ opening. I.remaining opening.inner };
 
     fn read(&mut self, buf: &mut [u8]) -> io::Result<usize> {
@@ -110,7 +110,7 @@ impl<I: Read + Drop> Read for Opening<I> {
     }
 }
 
-impl<I: Look + Drop> Look for Opening<I> {
+impl<I: NonblockingRead + Drop> NonblockingRead for BeginningKeeper<I> {
     fn look(&mut self, buf: &mut [u8]) -> io::Result<Option<usize>> {
         let answer = self.inner.look(buf);
         if let Ok(Some(count)) = &answer {

@@ -19,7 +19,7 @@ mod waits;
 mod words;
 
 pub use here::{Progress, answer_here};
-pub use keeping::{Keeping, Opening};
-pub use kpn_shelf::{FileShelf, Look, MemoryShelf, Ports, Shelf};
+pub use keeping::{BeginningKeeper, EndKeeper};
+pub use kpn_shelf::{FileShelf, MemoryShelf, NonblockingRead, Ports, Shelf};
 pub use program::command;
-pub use words::{Known, WordsWanted, words_for};
+pub use words::{SeenBytes, WordsWanted, words_for};

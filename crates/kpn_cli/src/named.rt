@@ -7,7 +7,7 @@ use kpn_limits::USUAL_COUNT;
 /// What a request names: files that are read and written. `is_items` says that the only one is an item file, and
 /// `has_explained` that the command itself says what is wrong in them. A stream may have samples.
 #[derive(Clone, Copy)]
-pub(crate) struct Named<'r, 'a> {
+pub(crate) struct NamedFiles<'r, 'a> {
     pub(crate) file: &'a str,
     pub(crate) sources: &'r [&'a str],
     pub(crate) sinks: &'r [&'a str],
@@ -19,42 +19,50 @@ pub(crate) struct Named<'r, 'a> {
     pub(crate) stream: Option<&'r StreamRequest<'a>>,
 }
 
-impl<'r, 'a> Named<'r, 'a> {
+impl<'r, 'a> NamedFiles<'r, 'a> {
     /// What a request names, or `None` if it names no file.
-    pub(crate) fn of(request: &'r Request<'a>) -> Option<Named<'r, 'a>> {
+    pub(crate) fn of(request: &'r Request<'a>) -> Option<NamedFiles<'r, 'a>> {
         match request {
             Request::Alone(_) => None,
             Request::Help(_) => None,
-            Request::Check(file) => Some(Named::bare(file)),
-            Request::Print(file) => Some(Named::bare(file)),
-            Request::ExplainItems(file) => Some(Named::of_items(file)),
-            Request::Explain { file, trace, .. } => Some(Named::explained(file, *trace)),
-            Request::Draw { file, trace, .. } => Some(Named::traced(file, *trace, USUAL_COUNT)),
-            Request::Audit { file, trace, steps } => Some(Named::traced(file, Some(trace), *steps)),
+            Request::Check(file) => Some(NamedFiles::bare(file)),
+            Request::Print(file) => Some(NamedFiles::bare(file)),
+            Request::ExplainItems(file) => Some(NamedFiles::of_items(file)),
+            Request::Explain { file, trace, .. } => Some(NamedFiles::explained(file, *trace)),
+            Request::Draw { file, trace, .. } => Some(NamedFiles::traced(
+                file,
+                *trace,
+                USUAL_COUNT,
+            )),
+            Request::Audit { file, trace, steps } => Some(NamedFiles::traced(
+                file,
+                Some(trace),
+                *steps,
+            )),
             Request::Timeline { file, trace, steps } => {
-                Some(Named::traced(file, Some(trace), *steps))
+                Some(NamedFiles::traced(file, Some(trace), *steps))
             }
             Request::Stats {
                 file,
                 trace,
                 steps,
                 ..
-            } => { Some(Named::traced(file, Some(trace), *steps)) }
+            } => { Some(NamedFiles::traced(file, Some(trace), *steps)) }
             Request::Picture {
                 file,
                 trace,
                 steps,
                 ..
-            } => { Some(Named::traced(file, Some(trace), *steps)) }
-            Request::Rounds { file, sources, .. } => Some(Named::fed(file, sources)),
-            Request::Run(run) => Some(Named::of_run(run)),
-            Request::Stream(stream) => Some(Named::of_stream(stream)),
+            } => { Some(NamedFiles::traced(file, Some(trace), *steps)) }
+            Request::Rounds { file, sources, .. } => Some(NamedFiles::fed(file, sources)),
+            Request::Run(run) => Some(NamedFiles::of_run(run)),
+            Request::Stream(stream) => Some(NamedFiles::of_stream(stream)),
         }
     }
 
     /// A description.
-    pub(crate) fn bare(file: &'a str) -> Named<'r, 'a> {
-        Named {
+    pub(crate) fn bare(file: &'a str) -> NamedFiles<'r, 'a> {
+        NamedFiles {
             file,
             sources: &[],
             sinks: &[],
@@ -68,57 +76,57 @@ impl<'r, 'a> Named<'r, 'a> {
     }
 
     /// An item file.
-    pub(crate) fn of_items(file: &'a str) -> Named<'r, 'a> {
-        Named {
+    pub(crate) fn of_items(file: &'a str) -> NamedFiles<'r, 'a> {
+        NamedFiles {
             is_items: true,
-            ..Named::bare(file)
+            ..NamedFiles::bare(file)
         }
     }
 
     /// A description, and a trace that is read with at most so many steps before an event.
-    pub(crate) fn traced(file: &'a str, trace: Option<&'a str>, steps: u64) -> Named<'r, 'a> {
-        Named {
+    pub(crate) fn traced(file: &'a str, trace: Option<&'a str>, steps: u64) -> NamedFiles<'r, 'a> {
+        NamedFiles {
             read: trace,
             steps,
-            ..Named::bare(file)
+            ..NamedFiles::bare(file)
         }
     }
 
     /// The same, for a command that says what is wrong there.
-    pub(crate) fn explained(file: &'a str, trace: Option<&'a str>) -> Named<'r, 'a> {
-        Named {
+    pub(crate) fn explained(file: &'a str, trace: Option<&'a str>) -> NamedFiles<'r, 'a> {
+        NamedFiles {
             read: trace,
             has_explained: true,
-            ..Named::bare(file)
+            ..NamedFiles::bare(file)
         }
     }
 
     /// A description, and what is given to sources.
-    pub(crate) fn fed(file: &'a str, sources: &'r [&'a str]) -> Named<'r, 'a> {
-        Named {
+    pub(crate) fn fed(file: &'a str, sources: &'r [&'a str]) -> NamedFiles<'r, 'a> {
+        NamedFiles {
             sources,
-            ..Named::bare(file)
+            ..NamedFiles::bare(file)
         }
     }
 
     /// What a run reads and stores.
-    pub(crate) fn of_run(run: &'r RunRequest<'a>) -> Named<'r, 'a> {
-        Named {
+    pub(crate) fn of_run(run: &'r RunRequest<'a>) -> NamedFiles<'r, 'a> {
+        NamedFiles {
             sources: &run.sources,
             sinks: &run.sinks,
             stored: run.trace,
-            ..Named::bare(run.file)
+            ..NamedFiles::bare(run.file)
         }
     }
 
     /// What a stream reads and stores.
-    pub(crate) fn of_stream(stream: &'r StreamRequest<'a>) -> Named<'r, 'a> {
-        Named {
+    pub(crate) fn of_stream(stream: &'r StreamRequest<'a>) -> NamedFiles<'r, 'a> {
+        NamedFiles {
             sources: &stream.sources,
             sinks: &stream.sinks,
             stored: stream.trace,
             stream: Some(stream),
-            ..Named::bare(stream.file)
+            ..NamedFiles::bare(stream.file)
         }
     }
 }

@@ -3,8 +3,8 @@
 use crate::pieces::{
     has_name, is_end, is_plain, name_in, push, push_ends, push_made, push_name, text_of,
 };
-use crate::words::Known;
-use kpn_command_base::{Ends, StreamRequest, load_document};
+use crate::words::SeenBytes;
+use kpn_command_base::{EndKind, StreamRequest, load_document};
 use kpn_shelf::Shelf;
 use kpn_stream_devices::ItemFormat;
 use kpn_text::Document;
@@ -29,7 +29,7 @@ pub(crate) fn push_unclear(
     text: &mut Vec<u8>,
     alloc: Global,
     words: &[String],
-    known: &Known<'_>,
+    known: &SeenBytes<'_>,
 ) -> Result<(), AllocError> {
     let Some((_, behind)) = text_of(known.told).split_once(UNEXPECTED) else {
         return Ok(());
@@ -90,16 +90,16 @@ fn push_wrong_end(
         let Some((name, _)) = word.split_once('=') else {
             continue;
         };
-        if !is_end(document, Ends::Sources, name) && !is_end(document, Ends::Sinks, name) {
+        if !is_end(document, EndKind::Sources, name) && !is_end(document, EndKind::Sinks, name) {
             push_name(
                 text,
                 "There is no source and no sink ",
                 name,
                 ". The network has ",
             )?;
-            push_ends(text, document, Ends::Sources)?;
+            push_ends(text, document, EndKind::Sources)?;
             push(text, " and ")?;
-            push_ends(text, document, Ends::Sinks)?;
+            push_ends(text, document, EndKind::Sinks)?;
             return push(text, ".\n");
         }
         if has_name(formats.get(..at).unwrap_or(&[]), name) {

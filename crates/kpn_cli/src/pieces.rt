@@ -1,13 +1,10 @@
 //! Pieces of words, and what options, files and networks say for them.
 
-use kpn_command_base::Ends;
+use kpn_command_base::EndKind;
 use kpn_text::Document;
 use std::alloc::AllocError;
 use std::rt::Files;
 use std::{fs, str};
-
-/// The name of standard input and of standard output.
-pub(crate) const STANDARD: &str = "-";
 
 /// Adds a piece to a text.
 pub(crate) fn push(text: &mut Vec<u8>, piece: &str) -> Result<(), AllocError> {
@@ -69,15 +66,15 @@ pub(crate) fn has_name(options: &[&str], name: &str) -> bool {
 }
 
 /// The word for an end of a network.
-pub(crate) fn word_of(ends: Ends) -> &'static str {
+pub(crate) fn word_of(ends: EndKind) -> &'static str {
     match ends {
-        Ends::Sources => "source",
-        Ends::Sinks => "sink",
+        EndKind::Sources => "source",
+        EndKind::Sinks => "sink",
     }
 }
 
 /// Whether a network has an end of this name.
-pub(crate) fn is_end(document: &Document, ends: Ends, name: &str) -> bool {
+pub(crate) fn is_end(document: &Document, ends: EndKind, name: &str) -> bool {
     match document.find_channel(name) {
         Some(channel) => is_of(document, ends, channel),
         None => false,
@@ -85,15 +82,15 @@ pub(crate) fn is_end(document: &Document, ends: Ends, name: &str) -> bool {
 }
 
 /// Whether a channel is one of these ends.
-pub(crate) fn is_of(document: &Document, ends: Ends, channel: usize) -> bool {
+pub(crate) fn is_of(document: &Document, ends: EndKind, channel: usize) -> bool {
     match ends {
-        Ends::Sources => document.network().is_source(channel),
-        Ends::Sinks => document.network().is_sink(channel),
+        EndKind::Sources => document.network().is_source(channel),
+        EndKind::Sinks => document.network().is_sink(channel),
     }
 }
 
 /// Whether a network has one of these ends.
-pub(crate) fn has_one(document: &Document, ends: Ends) -> bool {
+pub(crate) fn has_one(document: &Document, ends: EndKind) -> bool {
     (0..document.network().channels()).any(|channel| is_of(document, ends, channel))
 }
 
@@ -101,7 +98,7 @@ pub(crate) fn has_one(document: &Document, ends: Ends) -> bool {
 pub(crate) fn push_ends(
     text: &mut Vec<u8>,
     document: &Document,
-    ends: Ends,
+    ends: EndKind,
 ) -> Result<(), AllocError> {
     let mut before = "";
     for channel in 0..document.network().channels() {

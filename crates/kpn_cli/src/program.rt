@@ -2,7 +2,7 @@
 ghost use Rattle.std.specs.Prelude.{map};
 ghost use Rattle.std.specs.String.{string_bytes};
 ghost use Rattle.kpn_command_stream.specs.Command.{names_of};
-ghost use Rattle.kpn_cli.specs.Command.{Runs, TellsTimeline};
+ghost use Rattle.kpn_cli.specs.Command.{RunsProgram, TellsTimeline};
 
 use crate::concluding::conclude;
 use crate::here::{Progress, answer_here};
@@ -11,7 +11,7 @@ use kpn_command_line::read_words;
 use kpn_command_stream::stream_command;
 use kpn_command_views::timeline_command;
 use kpn_commands::run_command_by_workers;
-use kpn_shelf::{Look, Ports, Shelf};
+use kpn_shelf::{NonblockingRead, Ports, Shelf};
 use std::alloc::Global;
 use std::io::Write;
 use std::sync::Wait;
@@ -24,7 +24,13 @@ use std::time::Clock;
 /// clogged, 4 for one that has jammed, 5 for one that has stopped or an audit without steps left, 6 for want of memory,
 /// 7 for workers that came to no outcome, 8 for a stream of which a process has faulted. What a quiet stream does not
 /// tell is added to `unsaid`. Only a run by workers may wait.
-pub fn command<R: Threads + Wait + Clock + Sync, S: Shelf + Ports, I: Look, O: Write, E: Write>(
+pub fn command<
+    R: Threads + Wait + Clock + Sync,
+    S: Shelf + Ports,
+    I: NonblockingRead,
+    O: Write,
+    E: Write,
+>(
     rt: &R,
     alloc: Global,
     words: &[String],
@@ -34,7 +40,7 @@ pub fn command<R: Threads + Wait + Clock + Sync, S: Shelf + Ports, I: Look, O: W
     err: &mut E,
     unsaid: &mut Vec<u8>,
 ) -> u8
-    ensures { Runs S.may_give S.may_alias (names_of S.are_two_inputs S.comes_from S.goes_to)
+    ensures { RunsProgram S.may_give S.may_alias (names_of S.are_two_inputs S.comes_from S.goes_to)
         I.remaining S.Input.remaining O.contents S.Output.contents E.contents
         (map string_bytes words.now) shelf.old shelf.new input.old input.new out.old out.new
         err.old err.new result }

@@ -1,7 +1,7 @@
 //! What gives full channels more room, and where to write it.
 
 use crate::pieces::{push, push_made};
-use crate::waits::Waits;
+use crate::waits::NetworkWaits;
 use kpn_command_explain::{SettingLines, setting_lines};
 use kpn_limits::MAX_CAPACITY;
 use kpn_net::Policy;
@@ -20,7 +20,7 @@ pub(crate) fn push_room<S: Shelf>(
     alloc: Global,
     document: &Document,
     file: &str,
-    waits: &Waits,
+    waits: &NetworkWaits,
     status: u8,
     shelf: &S,
 ) -> Result<(), AllocError> {

@@ -3,9 +3,9 @@ ghost use Rattle.std.specs.Prelude.{◌≡◌, length};
 ghost use Rattle.kpn_net.specs.Iteration.{sources};
 
 use crate::pieces::{file_in, push, push_name};
-use crate::waits::{Waits, waits_among};
+use crate::waits::{NetworkWaits, waits_among};
 use kpn_book::{Limits, run_here};
-use kpn_command_base::{RunRequest, load_inputs};
+use kpn_command_base::{QUOTA, RunRequest, load_inputs};
 use kpn_history::State;
 use kpn_lang::Sequence;
 use kpn_net::Network;
@@ -18,14 +18,11 @@ use std::rt::Files;
 // How many commits the short run makes at most.
 const MOST_COMMITS: u64 = 20_000;
 
-// How many steps a process makes at most before it is the turn of the next.
-const QUOTA: u32 = 1_000;
-
 // So many turns without an event are a loop.
 const TURNS_OF_LOOP: u64 = 10;
 
 // So many bytes a source may have whose items are read once more.
-const MOST_BYTES: u64 = 16_777_216;
+const MOST_SOURCE_BYTES: u64 = 16_777_216;
 
 // What the processes of a run have come to, and how many events each has made.
 #[derive(Drop)]
@@ -87,7 +84,7 @@ const WENT_ON: &str = " went on to the end.\n";
 
 // Whether a file is plain and has few bytes.
 fn is_short<R: Files>(rt: &R, file: &str) -> bool {
-    fs::metadata(rt, file).is_ok_and(|found| found.is_file() && found.len() <= MOST_BYTES)
+    fs::metadata(rt, file).is_ok_and(|found| found.is_file() && found.len() <= MOST_SOURCE_BYTES)
 }
 
 // A run with so many commits at most.
@@ -155,7 +152,7 @@ fn push_ready(
 pub(crate) fn push_others(
     text: &mut Vec<u8>,
     document: &Document,
-    waits: &Waits,
+    waits: &NetworkWaits,
 ) -> Result<(), AllocError> {
     let mut before = "";
     for p in 0..document.network().instances() {

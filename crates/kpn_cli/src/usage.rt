@@ -2,7 +2,7 @@
 ghost use Rattle.std.specs.Prelude.{◌≡◌, IfOk, IfErr};
 ghost use Rattle.std.specs.Bool.{⊤};
 ghost use Rattle.kpn_command_base.specs.Conclusion.{Succeeds};
-ghost use Rattle.kpn_cli.specs.Command.{TellsFault};
+ghost use Rattle.kpn_cli.specs.Command.{TellsWordsFault};
 
 use clap::Error;
 use kpn_command_base::{Conclusion, Refusal};
@@ -13,7 +13,7 @@ use std::io::Write;
 
 /// Reports how to use the words, or that there is no memory to read them, and returns the status.
 pub(crate) fn refuse<E: Write>(fault: &WordsFault, err: &mut E) -> u8
-    ensures { TellsFault E.contents fault.now err.old err.new result }
+    ensures { TellsWordsFault E.contents fault.now err.old err.new result }
 {
     match fault {
         WordsFault::NoMemory => Refusal::NoMemory.report(err),

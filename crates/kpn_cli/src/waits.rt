@@ -15,7 +15,7 @@ struct Waiting {
 
 /// For each process of a network whether it waits, and on what.
 #[derive(Drop)]
-pub(crate) struct Waits {
+pub(crate) struct NetworkWaits {
     of: Vec<Option<Waiting>>,
 }
 
@@ -24,12 +24,12 @@ pub(crate) fn waits_in(
     alloc: Global,
     document: &Document,
     report: &str,
-) -> Result<Waits, AllocError> {
+) -> Result<NetworkWaits, AllocError> {
     let mut of = Vec::new(alloc);
     for p in 0..document.network().instances() {
         of.push(wait_of(document, document.instance_name(p), report))?;
     }
-    Ok(Waits { of })
+    Ok(NetworkWaits { of })
 }
 
 // The wait that a text tells of a process of this name.
@@ -57,7 +57,7 @@ fn wait_on(document: &Document, words: &str) -> Option<Waiting> {
 }
 
 /// The waits of these states.
-pub(crate) fn waits_among(alloc: Global, states: &[State]) -> Result<Waits, AllocError> {
+pub(crate) fn waits_among(alloc: Global, states: &[State]) -> Result<NetworkWaits, AllocError> {
     let mut of = Vec::new(alloc);
     for state in states {
         of.push(match *state {
@@ -72,10 +72,10 @@ pub(crate) fn waits_among(alloc: Global, states: &[State]) -> Result<Waits, Allo
             _ => None,
         })?;
     }
-    Ok(Waits { of })
+    Ok(NetworkWaits { of })
 }
 
-impl Waits {
+impl NetworkWaits {
     /// Adds a line for each ring: a cycle of processes that each wait for an item of the next one.
     pub(crate) fn push_rings(
         &self,

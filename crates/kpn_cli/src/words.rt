@@ -55,7 +55,7 @@ fn is_terminal<R: Files + AllocGlobal>(rt: &R) -> bool {
 
 /// What is known of what a command has read and written.
 #[derive(Clone, Copy)]
-pub struct Known<'k> {
+pub struct SeenBytes<'k> {
     /// The end of what it wrote.
     pub written: &'k [u8],
     /// The end of what it told where faults go.
@@ -73,7 +73,7 @@ pub fn words_for<R: Files<File = File> + AllocGlobal>(
     rt: &R,
     words: &[String],
     status: u8,
-    known: &Known<'_>,
+    known: &SeenBytes<'_>,
 ) -> Vec<u8> {
     let mut text = Vec::new(rt.alloc());
     match push_words(&mut text, rt, words, status, known) {
@@ -87,7 +87,7 @@ fn push_words<R: Files<File = File> + AllocGlobal>(
     rt: &R,
     words: &[String],
     status: u8,
-    known: &Known<'_>,
+    known: &SeenBytes<'_>,
 ) -> Result<(), AllocError> {
     let alloc = rt.alloc();
     let Ok(request) = read_words(alloc, words) else {

@@ -3,7 +3,7 @@ use Rattle.std.proofs.Common.{◌≡◌, ◌⊎◌, ℕ, List, [], map, All, Ok,
 use Rattle.kpn_text.specs.Document.{Document}
 use Rattle.kpn_command_base.specs.declared.refusal.Refusal.{Refusal}
 use Rattle.kpn_command_base.specs.declared.refusal.Refusal.TheVariants.{Input, Description, Names, NoMemory, SourceWord}
-use Rattle.kpn_command_base.specs.declared.sources.Ends.TheVariants.{Sources, Sinks}
+use Rattle.kpn_command_base.specs.declared.sources.EndKind.TheVariants.{Sources, Sinks}
 use Rattle.kpn_command_base.specs.declared.option_fault.OptionFault.{OptionFault}
 use Rattle.kpn_command_base.specs.Description.{IsDescribed, IsRefusalOfDescription}
 use Rattle.kpn_command_base.specs.Sources.{HasEquals, name_in, file_in, sources_named, sinks_named}

@@ -11,18 +11,18 @@ use Rattle.kpn_command_base.specs.declared.option_fault.OptionFault.TheVariants.
 use Rattle.kpn_command_base.specs.declared.refusal.Refusal.{Refusal}
 use Rattle.kpn_command_base.specs.declared.refusal.Refusal.TheVariants.{Input}
 use Rattle.kpn_command_base.specs.SourceRefusals.{IsRefusalOfFile, IsRefusalOfItems}
-use Rattle.kpn_command_base.specs.Sources.{with_end, placed, IsItemFile, AreGiven}
+use Rattle.kpn_command_base.specs.Sources.{with_named_end, placed_lists, IsItemFile, AreGiven}
 use Rattle.kpn_shelf.specs.Shelf.{Loads}
 
 -- one more list is put in the place of its source
-pub placed-more : (named : List ℕ) (lists given : List (List ℤ)) (source : ℕ) (items : List ℤ)
+pub placed_lists-more : (named : List ℕ) (lists given : List (List ℤ)) (source : ℕ) (items : List ℤ)
     → length named ≡ length lists
-    → placed (named ++ source ∷ []) (lists ++ items ∷ []) given ≡ set (placed named lists given) source items
-placed-more [] [] given source items e = refl
-placed-more [] (l ∷ lists) given source items e = absurd (omega arith)
-placed-more (n ∷ named) [] given source items e = absurd (omega arith)
-placed-more (n ∷ named) (l ∷ lists) given source items e =
-    placed-more named lists (set given n l) source items (omega (arith, e))
+    → placed_lists (named ++ source ∷ []) (lists ++ items ∷ []) given ≡ set (placed_lists named lists given) source items
+placed_lists-more [] [] given source items e = refl
+placed_lists-more [] (l ∷ lists) given source items e = absurd (omega arith)
+placed_lists-more (n ∷ named) [] given source items e = absurd (omega arith)
+placed_lists-more (n ∷ named) (l ∷ lists) given source items e =
+    placed_lists-more named lists (set given n l) source items (omega (arith, e))
 
 pub map-map : {A B C : Type 0} (f : B → C) (g : A → B) (xs : List A) → map f (map g xs) ≡ map (λ x. f (g x)) xs
 map-map f g [] = refl
@@ -35,21 +35,21 @@ list_any-map p f (x ∷ xs) = ap (λ b. p (f x) || b) (list_any-map p f xs)
 
 module _ {F : Type 0} (source : F → ℕ) (feeds : List F) (n : ℕ) (found : Option ℕ) (e : Some n ≡ found) where
   named_if : (before : Bool) → list_any (λ f. nat_eq (source f) n) feeds ≡ before
-      → with_end (map source feeds) found
+      → with_named_end (map source feeds) found
       ≡ cond before (Err (Double (length (map source feeds)))) (Ok (map source feeds ++ n ∷ []))
   named_if before any =
-      ap (with_end (map source feeds)) (sym e)
+      ap (with_named_end (map source feeds)) (sym e)
       ∙ ap (λ b. cond b (Err (Double (length (map source feeds)))) (Ok (map source feeds ++ n ∷ [])))
       (sym (list_any-map (λ m. nat_eq m n) source feeds) ∙ any)
 
   -- a source that was named before
   pub named_before : list_any (λ f. nat_eq (source f) n) feeds ≡ true
-      → with_end (map source feeds) found ≡ Err (Double (length feeds))
+      → with_named_end (map source feeds) found ≡ Err (Double (length feeds))
   named_before any = named_if true any ∙ ap (λ k. Err (Double k)) (length-map feeds source)
 
   -- a source that was not
   pub named_now : list_any (λ f. nat_eq (source f) n) feeds ≡ false
-      → with_end (map source feeds) found ≡ Ok (map source feeds ++ n ∷ [])
+      → with_named_end (map source feeds) found ≡ Ok (map source feeds ++ n ∷ [])
   named_now any = named_if false any
 
 module _ {F : Type 0} (source : F → ℕ) (file : F → List ℕ) (may_give : Loads) (count : ℕ)
@@ -73,9 +73,9 @@ module _ {F : Type 0} (source : F → ℕ) (file : F → List ℕ) (may_give : L
         each =
             ap (λ g. set g (source (get_or feeds i d)) items) before.each
             ∙ sym
-            (placed-more (map source (take i feeds)) before.lists (replicate count []) (source (get_or feeds i d))
+            (placed_lists-more (map source (take i feeds)) before.lists (replicate count []) (source (get_or feeds i d))
             items lengths)
-            ∙ ap (λ ns. placed ns (before.lists ++ items ∷ []) (replicate count []))
+            ∙ ap (λ ns. placed_lists ns (before.lists ++ items ∷ []) (replicate count []))
             (sym (map_more source feeds i d below));
       }
 

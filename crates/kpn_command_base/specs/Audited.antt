@@ -13,13 +13,13 @@ use Rattle.kpn_text.specs.Document.{Document}
 use Rattle.kpn_command_base.specs.declared.refusal.Refusal.{Refusal}
 use Rattle.kpn_command_base.specs.declared.refusal.Refusal.TheVariants as refusal
 use Rattle.kpn_shelf.specs.Shelf.{Loads, IsRefusalOfLoad, IsLoadedAs}
-use Rattle.kpn_command_base.specs.Description.{IsDescribed, IsRefused}
+use Rattle.kpn_command_base.specs.Description.{IsDescribed, IsRefusedDescription}
 use Rattle.kpn_command_base.specs.declared.flaw.Flaw.{Flaw}
 use Rattle.kpn_command_base.specs.declared.flaw.Flaw.TheVariants.{Illegal, Budget}
 use Rattle.kpn_command_base.specs.declared.auditing.Finding.{Finding}
 use Rattle.kpn_command_base.specs.declared.auditing.Finding.TheVariants.{Legal, NotLegal}
 use Rattle.kpn_command_base.specs.declared.auditing.Audited.{Audited}
-use Rattle.kpn_command_base.specs.Flaw.{IsTold}
+use Rattle.kpn_command_base.specs.Flaw.{IsFlawTold}
 
 -- ---- what is found
 
@@ -56,7 +56,7 @@ pub record IsAudited (may_give : Loads) (file trace : List ℕ) (steps : ℕ) (a
 abbrev pub IsTextFor : (IsRight : Audit Global → (text : List ℕ) → Type 0) → Finding
     → (text : List ℕ) (status : ℕ) → Type 0
 IsTextFor IsRight (Legal audit) text status = IsRight audit text × (status ≡ 0)
-IsTextFor IsRight (NotLegal flaw) text status = IsTold flaw text status
+IsTextFor IsRight (NotLegal flaw) text status = IsFlawTold flaw text status
 
 -- it is told of what an audit finds of these files. Which texts are right of a legal history is given
 pub record IsToldOf (IsRight : Document → Trace Global → Audit Global → (text : List ℕ) → Type 0)
@@ -92,7 +92,7 @@ abbrev pub IsRefusalOfAudit : (may_give : Loads) (file trace : List ℕ) → Ref
 IsRefusalOfAudit may_give file trace (refusal.Input fault) =
     IsRefusalOfLoad may_give file fault
     ⊎ (((document : Document) × IsDescribed may_give file document) × IsRefusalOfLoad may_give trace fault)
-IsRefusalOfAudit may_give file trace (refusal.Description fault) = IsRefused may_give file fault
+IsRefusalOfAudit may_give file trace (refusal.Description fault) = IsRefusedDescription may_give file fault
 IsRefusalOfAudit may_give file trace (refusal.Trace fault) =
     ((document : Document) × IsDescribed may_give file document) × IsRefusedTrace may_give trace fault
 IsRefusalOfAudit may_give file trace refusal.PolicyDiffers = IsOfOtherRules may_give file trace

@@ -17,8 +17,8 @@ abbrev pub files_in : Conclusion → List StoredFile
 files_in made = map stored_as made.files.items
 
 -- it has such a text under such a status, and stores no file
-abbrev pub Tells : (IsRight : (text : List ℕ) → (status : ℕ) → Type 0) → Conclusion → Type 0
-Tells IsRight made = IsRight made.text.items made.status × (made.files.items ≡ [])
+abbrev pub TellsOnly : (IsRight : (text : List ℕ) → (status : ℕ) → Type 0) → Conclusion → Type 0
+TellsOnly IsRight made = IsRight made.text.items made.status × (made.files.items ≡ [])
 
 -- the same, under status 0
 abbrev pub Succeeds : (IsRight : (text : List ℕ) → Type 0) → Conclusion → Type 0

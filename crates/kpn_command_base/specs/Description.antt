@@ -13,13 +13,13 @@ abbrev pub IsDescribed : (may_give : Loads) (file : List ℕ) → Document → T
 IsDescribed may_give file d = IsLoadedAs SpellsDocument may_give file d
 
 -- a file may give bytes that are refused as a description
-abbrev pub IsRefused : (may_give : Loads) (file : List ℕ) → TextFault → Type 0
-IsRefused may_give file fault = IsLoadedAs Refuses may_give file fault
+abbrev pub IsRefusedDescription : (may_give : Loads) (file : List ℕ) → TextFault → Type 0
+IsRefusedDescription may_give file fault = IsLoadedAs Refuses may_give file fault
 
 -- why a file gives no document: it is not loaded, or what it may give is refused
 abbrev pub IsRefusalOfDescription : (may_give : Loads) (file : List ℕ) → Refusal → Type 0
 IsRefusalOfDescription may_give file (Input fault) = IsRefusalOfLoad may_give file fault
-IsRefusalOfDescription may_give file (Description fault) = IsRefused may_give file fault
+IsRefusalOfDescription may_give file (Description fault) = IsRefusedDescription may_give file fault
 IsRefusalOfDescription may_give file other = ⊥
 
 -- why a command on a description gives no answer: the file gives no document, or there is no memory for the answer

@@ -85,5 +85,5 @@ name_fault_line (name_of.Double option) = fault_line 23 (codes "DoubleName") (So
 -- ---- scaffolding
 
 -- the text of a fault line that the code has made
-abbrev pub told : FaultLine → List ℕ
-told fault = fault_line fault.number fault.name.now fault.place
+abbrev pub told_line : FaultLine → List ℕ
+told_line fault = fault_line fault.number fault.name.now fault.place

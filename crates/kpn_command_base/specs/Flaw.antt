@@ -10,6 +10,6 @@ event_line word k = word ++ codes " at " ++ decimal k ++ codes "\n"
 
 -- the line that names the event, and the status: 1 for one that is not legal, 5 for one that its process did not come
 -- to
-abbrev pub IsTold : Flaw → (text : List ℕ) (status : ℕ) → Type 0
-IsTold (Illegal k) text status = (text ≡ event_line (codes "illegal") k) × (status ≡ 1)
-IsTold (Budget k) text status = (text ≡ event_line (codes "budget") k) × (status ≡ 5)
+abbrev pub IsFlawTold : Flaw → (text : List ℕ) (status : ℕ) → Type 0
+IsFlawTold (Illegal k) text status = (text ≡ event_line (codes "illegal") k) × (status ≡ 1)
+IsFlawTold (Budget k) text status = (text ≡ event_line (codes "budget") k) × (status ≡ 5)

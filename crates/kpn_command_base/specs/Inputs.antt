@@ -8,7 +8,7 @@ use Rattle.kpn_command_base.specs.declared.refusal.Refusal.{Refusal}
 use Rattle.kpn_command_base.specs.declared.refusal.Refusal.TheVariants.{SourceWord, Input, Description, Names, NoMemory}
 use Rattle.kpn_command_base.specs.declared.sources.NamedEnd.{NamedEnd}
 use Rattle.kpn_command_base.specs.declared.option_fault.OptionFault.{OptionFault}
-use Rattle.kpn_command_base.specs.Description.{IsDescribed, IsRefused}
+use Rattle.kpn_command_base.specs.Description.{IsDescribed, IsRefusedDescription}
 use Rattle.kpn_command_base.specs.Sources.{HasEquals, LacksEquals, name_in, file_in, sources_named, sinks_named, AreGiven, IsFaultOfItems}
 use Rattle.kpn_shelf.specs.Shelf.{Loads, IsRefusalOfLoad}
 
@@ -44,7 +44,7 @@ pub record AreRefusedItems (may_give : Loads) (file : List ℕ) (words names : L
 abbrev pub IsRefusalOfInputs : (may_give : Loads) (file : List ℕ) (words : List (List ℕ)) → Refusal
     → Type 0
 IsRefusalOfInputs may_give file words SourceWord = Any LacksEquals words
-IsRefusalOfInputs may_give file words (Description fault) = All HasEquals words × IsRefused may_give file fault
+IsRefusalOfInputs may_give file words (Description fault) = All HasEquals words × IsRefusedDescription may_give file fault
 IsRefusalOfInputs may_give file words (Names fault) =
     All HasEquals words × AreRefusedNames may_give file words fault
 IsRefusalOfInputs may_give file words (Input fault) =

@@ -9,12 +9,12 @@ abbrev pub spaced_item : ℤ → List ℕ
 spaced_item item = codes " " ++ signed_decimal item
 
 -- one space before each item
-abbrev pub spaced : List ℤ → List ℕ
-spaced items = flat_map spaced_item items
+abbrev pub spaced_items : List ℤ → List ℕ
+spaced_items items = flat_map spaced_item items
 
 -- `:`, the items, and a line feed
 abbrev pub items_text : List ℤ → List ℕ
-items_text items = codes ":" ++ spaced items ++ codes "\n"
+items_text items = codes ":" ++ spaced_items items ++ codes "\n"
 
 -- `NAME:`, the items, and a line feed
 abbrev pub list_line : (name : List ℕ) → List ℤ → List ℕ

@@ -36,7 +36,7 @@ abbrev pub IsApart : FileWords → (name : List ℕ) → Type 0
 IsApart asked name = (name ≢ asked.file) × All (λ word. HasEquals word → name ≢ file_in word) asked.sources
 
 -- none of these outputs has the name of an input, and no two have one name
-pub record AreApart (asked : FileWords) (outputs : List (List ℕ)) : Type 0 where
+pub record AreNamesApart (asked : FileWords) (outputs : List (List ℕ)) : Type 0 where
   pub no_inputs : All (IsApart asked) outputs
   pub each_other : AllPairs (λ (earlier later : List ℕ). later ≢ earlier) outputs
 
@@ -52,7 +52,7 @@ outputs_of asked = trace_name asked.trace ++ map file_in asked.sinks
 -- each word behind `--sink` has an `=`, and the outputs are apart
 pub record AreAllApart (asked : FileWords) : Type 0 where
   pub cut : All HasEquals asked.sinks
-  pub apart : AreApart asked (outputs_of asked)
+  pub apart : AreNamesApart asked (outputs_of asked)
 
 -- the same of a run
 abbrev pub AreOutputsApart : RunRequest → Type 0
@@ -101,13 +101,13 @@ IsRefusedTrace may_alias asked = OneMayMeet may_alias asked [] (trace_name asked
 -- then a word behind `--sink` that has no `=`, and then the files that these words name, in order
 abbrev pub IsRefusedSink : (may_alias : Aliases) → FileWords → Type 0
 IsRefusedSink may_alias asked =
-    AreApart asked (trace_name asked.trace)
+    AreNamesApart asked (trace_name asked.trace)
     × (Any LacksEquals asked.sinks
     ⊎ OneMayMeet may_alias asked (trace_name asked.trace) (map file_in asked.sinks))
 
 -- these are the sinks that the words behind `--sink` name, with their files
-abbrev pub AreSinks : RunRequest → Document → List NamedEnd → Type 0
-AreSinks request d sinks = AreNamedSinks d (map name_in request.sinks) (map file_in request.sinks) sinks
+abbrev pub AreSinksNamed : RunRequest → Document → List NamedEnd → Type 0
+AreSinksNamed request d sinks = AreNamedSinks d (map name_in request.sinks) (map file_in request.sinks) sinks
 
 -- the inputs are there
 pub record HasInputs (may_give : Loads) (request : RunRequest) : Type 0 where
@@ -115,7 +115,7 @@ pub record HasInputs (may_give : Loads) (request : RunRequest) : Type 0 where
   pub given : List (List ℤ)
   pub are_inputs : AreInputs may_give request.file request.sources document given
   pub named : List NamedEnd
-  pub are_sinks : AreSinks request document named
+  pub are_sinks : AreSinksNamed request document named
 
 -- Why a run is not begun. The words that name outputs are checked first, then the inputs are read, then the outputs, if
 -- there are any, are made ready.

@@ -11,7 +11,7 @@ use Rattle.kpn_command_base.specs.declared.refusal.Refusal.{Refusal}
 use Rattle.kpn_command_base.specs.declared.refusal.Refusal.TheVariants.{NotText, UnknownProcess, SourceWord, TraceWord, SinkWord, PictureWords, Input, Description, Names, Output, Trace, NoMemoryToAudit, PolicyDiffers, Threads, Abandoned, Foreign, NoMemory}
 use Rattle.kpn_command_base.specs.declared.refusal.Line.{Line}
 use Rattle.kpn_command_base.specs.declared.refusal.Line.TheVariants.{Usage, Fault}
-use Rattle.kpn_command_base.specs.FaultLine.{told, fault_line, input_fault_line, output_fault_line, text_fault_line, name_fault_line, trace_fault_line}
+use Rattle.kpn_command_base.specs.FaultLine.{told_line, fault_line, input_fault_line, output_fault_line, text_fault_line, name_fault_line, trace_fault_line}
 
 -- the line, without its line feed
 abbrev pub refusal_line : Refusal → List ℕ
@@ -66,4 +66,4 @@ status_of other = 1
 -- the text of a line that the code has made
 abbrev pub line_text : Line → List ℕ
 line_text (Usage text) = text.now
-line_text (Fault line) = told line
+line_text (Fault line) = told_line line

@@ -4,7 +4,7 @@ use Rattle.std.specs.List.{Any}
 use Rattle.kpn_text.specs.Document.{Document}
 use Rattle.kpn_command_base.specs.declared.refusal.Refusal.{Refusal}
 use Rattle.kpn_command_base.specs.declared.refusal.Refusal.TheVariants.{Input, Names, NoMemory}
-use Rattle.kpn_command_base.specs.declared.sources.Ends.{Ends}
+use Rattle.kpn_command_base.specs.declared.sources.EndKind.{EndKind}
 use Rattle.kpn_command_base.specs.Sources.{LacksEquals, ends_named, IsFaultOfFile, IsFaultOfItems}
 use Rattle.kpn_shelf.specs.Shelf.{Loads}
 
@@ -13,7 +13,7 @@ abbrev pub IsRefusalOfWords : (given : Refusal) (words : List (List ℕ)) → Re
 IsRefusalOfWords given words refusal = ((refusal ≡ given) × Any LacksEquals words) ⊎ (refusal ≡ NoMemory)
 
 -- a name is no such end, or was named before
-abbrev pub IsRefusalOfNames : Ends → Document → (names : List (List ℕ)) → Refusal → Type 0
+abbrev pub IsRefusalOfNames : EndKind → Document → (names : List (List ℕ)) → Refusal → Type 0
 IsRefusalOfNames ends d names (Names fault) = ends_named ends d names ≡ Err fault
 IsRefusalOfNames ends d names NoMemory = ⊤
 IsRefusalOfNames ends d names other = ⊥

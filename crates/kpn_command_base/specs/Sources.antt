@@ -9,8 +9,8 @@ use Rattle.kpn_text_items.specs.ItemFile.{Spells, TellsFirstBadLine}
 use Rattle.kpn_text_tokens.specs.Results.{and_then}
 use Rattle.kpn_text_names.specs.Names.{name_at}
 use Rattle.kpn_text.specs.Document.{Document}
-use Rattle.kpn_command_base.specs.declared.sources.Ends.{Ends}
-use Rattle.kpn_command_base.specs.declared.sources.Ends.TheVariants.{Sources, Sinks}
+use Rattle.kpn_command_base.specs.declared.sources.EndKind.{EndKind}
+use Rattle.kpn_command_base.specs.declared.sources.EndKind.TheVariants.{Sources, Sinks}
 use Rattle.kpn_command_base.specs.declared.sources.NamedEnd.{NamedEnd}
 use Rattle.kpn_command_base.specs.declared.option_fault.OptionFault.{OptionFault}
 use Rattle.kpn_command_base.specs.declared.option_fault.OptionFault.TheVariants.{Unknown, Double}
@@ -38,12 +38,12 @@ file_for (end ∷ ends) number = if nat_eq end.number number then Some end.file.
 -- ---- which end a name is
 
 -- the channels that are such ends
-abbrev pub is_end : Ends → ChannelSpec → Bool
+abbrev pub is_end : EndKind → ChannelSpec → Bool
 is_end Sources = is_source
 is_end Sinks = is_sink
 
 -- how many such ends a network has
-abbrev pub ends_of : Ends → Tables → ℕ
+abbrev pub ends_of : EndKind → Tables → ℕ
 ends_of ends t = count_by (is_end ends) t.channels
 
 -- the number of the first such end with this name among the channels from c on, before which k such ends stand
@@ -56,25 +56,25 @@ end_from is names name k c (s ∷ channels) =
     else end_from is names name k (suc c) channels
 
 -- the number of the end with this name: sources are numbered from 0 in order of their channels, and so are sinks
-abbrev pub end_number : Ends → Document → (name : List ℕ) → Option ℕ
+abbrev pub end_number : EndKind → Document → (name : List ℕ) → Option ℕ
 end_number ends d name = end_from (is_end ends) d.names.channels name 0 0 d.tables.channels
 
 -- ---- which ends the names of options are
 
 -- the ends that were named so far and one more, which has to be there and to be new
-abbrev pub with_end : (named : List ℕ) → Option ℕ → Result (List ℕ) OptionFault
-with_end named None = Err (Unknown (length named))
-with_end named (Some number) =
+abbrev pub with_named_end : (named : List ℕ) → Option ℕ → Result (List ℕ) OptionFault
+with_named_end named None = Err (Unknown (length named))
+with_named_end named (Some number) =
     if list_any (λ n. nat_eq n number) named then Err (Double (length named)) else Ok (named ++ number ∷ [])
 
 -- the same for several names in order
-abbrev pub with_ends : Ends → Document → (named : List ℕ) → (names : List (List ℕ)) → Result (List ℕ) OptionFault
+abbrev pub with_ends : EndKind → Document → (named : List ℕ) → (names : List (List ℕ)) → Result (List ℕ) OptionFault
 with_ends ends d named [] = Ok named
 with_ends ends d named (name ∷ names) =
-    and_then (with_end named (end_number ends d name)) (λ more. with_ends ends d more names)
+    and_then (with_named_end named (end_number ends d name)) (λ more. with_ends ends d more names)
 
 -- the numbers of the ends that options name, or the first option that names none, or one that was named before
-abbrev pub ends_named : Ends → Document → (names : List (List ℕ)) → Result (List ℕ) OptionFault
+abbrev pub ends_named : EndKind → Document → (names : List (List ℕ)) → Result (List ℕ) OptionFault
 ends_named ends d names = with_ends ends d [] names
 
 -- the same for `--source`
@@ -88,10 +88,10 @@ sinks_named d names = ends_named Sinks d names
 -- ---- the lists that sources are given
 
 -- each of these lists in the place of its source, and what was there for the others
-abbrev pub placed : (named : List ℕ) → List (List ℤ) → (given : List (List ℤ)) → List (List ℤ)
-placed [] lists given = given
-placed (source ∷ named) [] given = given
-placed (source ∷ named) (items ∷ lists) given = placed named lists (slice_set given source items)
+abbrev pub placed_lists : (named : List ℕ) → List (List ℤ) → (given : List (List ℤ)) → List (List ℤ)
+placed_lists [] lists given = given
+placed_lists (source ∷ named) [] given = given
+placed_lists (source ∷ named) (items ∷ lists) given = placed_lists named lists (slice_set given source items)
 
 -- a file may give bytes that spell these items
 abbrev pub IsItemFile : (may_give : Loads) (file : List ℕ) → List ℤ → Type 0
@@ -102,7 +102,7 @@ pub record AreGiven (may_give : Loads) (count : ℕ) (named : List ℕ) (files :
     (given : List (List ℤ)) : Type 0 where
   pub lists : List (List ℤ)
   pub read : AllZip (IsItemFile may_give) files lists
-  pub each : given ≡ placed named lists (replicate count [])
+  pub each : given ≡ placed_lists named lists (replicate count [])
 
 -- ---- files that give no items
 

@@ -11,8 +11,8 @@ pub record AreWritten (before after : Option (List ℕ)) (bytes : List ℕ) (who
   pub all : whole ≡ true → rest ≡ []
 
 -- the place got this line, or the first bytes of it if it takes no more
-abbrev pub IsTold : (before after : Option (List ℕ)) (line : List ℕ) → Type 0
-IsTold before after line = (whole : Bool) × AreWritten before after line whole
+abbrev pub IsLineTold : (before after : Option (List ℕ)) (line : List ℕ) → Type 0
+IsLineTold before after line = (whole : Bool) × AreWritten before after line whole
 
 -- ---- scaffolding: a line that is written piece by piece
 

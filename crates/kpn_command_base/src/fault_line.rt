@@ -1,7 +1,7 @@
 //! Fault lines: how the program reports a fault on standard error.
 ghost use Rattle.std.specs.Prelude.{◌≡◌, ◌++◌, [], ◌∷◌, Some, None};
 ghost use Rattle.kpn_command_base.specs.Told.{AreWritten};
-ghost use Rattle.kpn_command_base.specs.FaultLine.{told, input_fault_line, output_fault_line, program_fault_line, net_fault_line, text_fault_line, name_fault_line, trace_fault_line};
+ghost use Rattle.kpn_command_base.specs.FaultLine.{told_line, input_fault_line, output_fault_line, program_fault_line, net_fault_line, text_fault_line, name_fault_line, trace_fault_line};
 
 use crate::option_fault::OptionFault;
 use crate::telling::{put, put_more, put_number, put_place};
@@ -27,9 +27,9 @@ pub(crate) struct FaultLine {
 
 impl fmt::Display for FaultLine {
     ghost use Rattle.std.specs.Prelude.{Some};
-    ghost use Rattle.kpn_command_base.specs.FaultLine.{told};
+    ghost use Rattle.kpn_command_base.specs.FaultLine.{told_line};
 
-    ghost output = { λ fault. Some (told fault) };
+    ghost output = { λ fault. Some (told_line fault) };
 
     fn fmt<W: fmt::Write>(&self, f: &mut fmt::Formatter<W>) -> fmt::Result {
         write!(f, "kpn: {} {}", self.number, self.name)?;
@@ -44,7 +44,7 @@ impl FaultLine {
     /// Writes the line and a line feed, as far as they are taken. It returns whether all is.
     pub(crate) fn tell<E: Write>(&self, err: &mut E) -> bool
         ensures { AreWritten (E.contents err.old) (E.contents err.new)
-            (told self.now ++ 10 ∷ []) result }
+            (told_line self.now ++ 10 ∷ []) result }
     {
         let whole = put(err, b"kpn: ");
         let whole = put_number(whole, err, self.number as usize);
@@ -78,7 +78,7 @@ impl FaultLine {
 
     /// How the program reports a fault of an input.
     pub(crate) fn of_input(fault: &ItemFault) -> FaultLine
-        ensures { told result ≡ input_fault_line fault.now }
+        ensures { told_line result ≡ input_fault_line fault.now }
     {
         match fault {
             ItemFault::BadItem(line) => FaultLine::at(25, "BadItem", *line),
@@ -89,7 +89,7 @@ impl FaultLine {
 
     /// How the program reports a fault of an output.
     pub(crate) fn of_output(fault: &WriteFault) -> FaultLine
-        ensures { told result ≡ output_fault_line fault.now }
+        ensures { told_line result ≡ output_fault_line fault.now }
     {
         match fault {
             WriteFault::Write => FaultLine::new(27, "Write"),
@@ -99,7 +99,7 @@ impl FaultLine {
 
     /// How the program reports that the program of a process breaks a rule.
     pub(crate) fn of_program(process: usize, fault: ProgramFault) -> FaultLine
-        ensures { told result ≡ program_fault_line process fault }
+        ensures { told_line result ≡ program_fault_line process fault }
     {
         match fault {
             ProgramFault::TooMany => FaultLine::at(1, "TooMany", process),
@@ -114,7 +114,7 @@ impl FaultLine {
 
     /// How the program reports that tables break a rule of networks.
     pub(crate) fn of_net(fault: NetFault) -> FaultLine
-        ensures { told result ≡ net_fault_line fault }
+        ensures { told_line result ≡ net_fault_line fault }
     {
         match fault {
             NetFault::TooMany => FaultLine::new(10, "TooMany"),
@@ -132,7 +132,7 @@ impl FaultLine {
 
     /// How the program reports that a text is no description of a network.
     pub(crate) fn of_text(fault: TextFault) -> FaultLine
-        ensures { told result ≡ text_fault_line fault }
+        ensures { told_line result ≡ text_fault_line fault }
     {
         match fault {
             TextFault::TooLong(byte) => FaultLine::at(24, "TooLong", byte),
@@ -148,7 +148,7 @@ impl FaultLine {
 
     /// How the program reports that bytes are no trace.
     pub(crate) fn of_trace(fault: &TraceFault) -> FaultLine
-        ensures { told result ≡ trace_fault_line fault.now }
+        ensures { told_line result ≡ trace_fault_line fault.now }
     {
         match fault {
             TraceFault::BadEvent(line) => FaultLine::at(30, "BadEvent", *line),
@@ -159,7 +159,7 @@ impl FaultLine {
 
     /// How the program reports that an option names no end of a network, or one that an earlier option names.
     pub(crate) fn of_name(fault: OptionFault) -> FaultLine
-        ensures { told result ≡ name_fault_line fault }
+        ensures { told_line result ≡ name_fault_line fault }
     {
         match fault {
             OptionFault::Unknown(option) => FaultLine::at(22, "UnknownName", option),

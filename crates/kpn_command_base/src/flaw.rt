@@ -1,6 +1,6 @@
 //! Why the history of a trace is not found legal.
 ghost use Rattle.std.specs.Prelude.{◌≡◌, IfOk};
-ghost use Rattle.kpn_command_base.specs.Conclusion.{Tells};
+ghost use Rattle.kpn_command_base.specs.Conclusion.{TellsOnly};
 ghost use Rattle.kpn_command_base.specs.Flaw.{event_line};
 
 use crate::conclusion::Conclusion;
@@ -17,12 +17,12 @@ pub enum Flaw {
 
 impl Flaw {
     ghost use Rattle.std.specs.Prelude.{IfOk};
-    ghost use Rattle.kpn_command_base.specs.Conclusion.{Tells};
-    ghost use Rattle.kpn_command_base.specs.Flaw.{IsTold};
+    ghost use Rattle.kpn_command_base.specs.Conclusion.{TellsOnly};
+    ghost use Rattle.kpn_command_base.specs.Flaw.{IsFlawTold};
 
     /// The line that names the event, under the status of the flaw.
     pub fn conclusion(self, alloc: Global) -> Result<Conclusion, AllocError>
-        ensures { IfOk result (Tells (IsTold self)) }
+        ensures { IfOk result (TellsOnly (IsFlawTold self)) }
     {
         match self {
             Flaw::Illegal(k) => told(alloc, "illegal", k, 1),
@@ -34,7 +34,7 @@ impl Flaw {
 // The line `WORD at K`.
 fn told(alloc: Global, word: &str, k: usize, status: u8) -> Result<Conclusion, AllocError>
     ensures { IfOk result
-        (Tells (λ text ends. (text ≡ event_line word.now k) × (ends ≡ status))) }
+        (TellsOnly (λ text ends. (text ≡ event_line word.now k) × (ends ≡ status))) }
 {
     let line = format!(in alloc; "{word} at {k}\n")?;
     Ok(Conclusion {

@@ -5,7 +5,7 @@ ghost use Rattle.kpn_command_base.specs.Inputs.{AreInputs, AreNamedSinks, IsRefu
 
 use crate::description::load_document;
 use crate::refusal::Refusal;
-use crate::sources::{Ends, FileOption, NamedEnd, ends_of, lists_of, options_of};
+use crate::sources::{EndKind, FileOption, NamedEnd, ends_of, lists_of, options_of};
 use kpn_lang::Sequence;
 use kpn_shelf::Shelf;
 use kpn_text::Document;
@@ -71,8 +71,8 @@ pub fn load_run_inputs<'a, S: Shelf>(
 {
     let options = options_of(alloc, words, Refusal::SourceWord)?;
     let document = load_document(alloc, shelf, file)?;
-    let feeds = ends_of(alloc, &document, Ends::Sources, &options)?;
-    let named = match ends_of(alloc, &document, Ends::Sinks, sinks) {
+    let feeds = ends_of(alloc, &document, EndKind::Sources, &options)?;
+    let named = match ends_of(alloc, &document, EndKind::Sinks, sinks) {
         Ok(named) => named,
         Err(refusal) => return Err(refusal),
     };

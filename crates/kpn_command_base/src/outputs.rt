@@ -5,7 +5,7 @@ ghost use Rattle.kpn_net.specs.Iteration.{sources};
 ghost use Rattle.kpn_command_base.specs.Inputs.{AreInputs};
 ghost use Rattle.kpn_command_base.specs.Sources.{HasEquals, name_in, file_in};
 ghost use Rattle.kpn_command_base.specs.SourceRefusals.{IsRefusalOfWords};
-ghost use Rattle.kpn_command_base.specs.Outputs.{AreAllApart, AreApart, AreOutputsApart, AreSinks, IsApart, IsRefusalOfOutput, IsRefusalOfOutputs, IsRefusalOfSome, IsUnprepared, IsUnready, MayBeOne, MayBeStandard, MayGiveItems, MayOverwrite, outputs_of, trace_name, words_of};
+ghost use Rattle.kpn_command_base.specs.Outputs.{AreAllApart, AreNamesApart, AreOutputsApart, AreSinksNamed, IsApart, IsRefusalOfOutput, IsRefusalOfOutputs, IsRefusalOfSome, IsUnprepared, IsUnready, MayBeOne, MayBeStandard, MayGiveItems, MayOverwrite, outputs_of, trace_name, words_of};
 
 use crate::inputs::{RunInputs, load_run_inputs};
 use crate::refusal::Refusal;
@@ -27,7 +27,7 @@ pub fn prepare<'a, S: Shelf>(
     ensures length { IfOk result (λ loaded.
         length loaded.inputs.given.items ≡ sources loaded.inputs.document.tables) }
     ensures sinks { IfOk result (λ loaded.
-        AreSinks request.now loaded.inputs.document loaded.sinks.items) }
+        AreSinksNamed request.now loaded.inputs.document loaded.sinks.items) }
     ensures apart { OnOk result (AreOutputsApart request.now) }
     ensures refused { IfErr result
         (IsUnprepared (S.may_give shelf.now) (S.may_alias shelf.now) request.now) }
@@ -120,7 +120,7 @@ fn check_trace<'a, S: Shelf>(
 ) -> Result<Vec<&'a str>, Refusal>
     ensures names { IfOk result (λ names.
         map (λ name. name.now) names.items ≡ trace_name asked.now.trace) }
-    ensures apart { OnOk result (AreApart asked.now (trace_name asked.now.trace)) }
+    ensures apart { OnOk result (AreNamesApart asked.now (trace_name asked.now.trace)) }
     ensures refused { IfErr result (IsRefusalOfSome (S.may_alias shelf.now) asked.now
         [] (trace_name asked.now.trace) Refusal.TraceWord) }
 {
@@ -153,11 +153,11 @@ fn add_sinks<'a, S: Shelf>(
     outputs: &mut Vec<&'a str>,
     sinks: &[FileOption<'a>],
 ) -> Result<(), Refusal>
-    requires { AreApart asked.now (map (λ name. name.now) outputs.old.items) }
+    requires { AreNamesApart asked.now (map (λ name. name.now) outputs.old.items) }
     ensures added { OnOk result (map (λ name. name.now) outputs.new.items
         ≡ map (λ name. name.now) outputs.old.items ++ map (λ o. o.file.now) sinks.now) }
     ensures apart { OnOk result
-        (AreApart asked.now (map (λ name. name.now) outputs.new.items)) }
+        (AreNamesApart asked.now (map (λ name. name.now) outputs.new.items)) }
     ensures refused { IfErr result (IsRefusalOfSome (S.may_alias shelf.now) asked.now
         (map (λ name. name.now) outputs.old.items) (map (λ o. o.file.now) sinks.now)
         Refusal.SinkWord) }
@@ -176,11 +176,11 @@ fn add_output<'a, S: Shelf>(
     name: &'a str,
     given: Refusal,
 ) -> Result<(), Refusal>
-    requires { AreApart asked.now (map (λ name. name.now) outputs.old.items) }
+    requires { AreNamesApart asked.now (map (λ name. name.now) outputs.old.items) }
     ensures added { OnOk result (map (λ name. name.now) outputs.new.items
         ≡ map (λ name. name.now) outputs.old.items ++ name.now ∷ []) }
     ensures apart { OnOk result
-        (AreApart asked.now (map (λ name. name.now) outputs.new.items)) }
+        (AreNamesApart asked.now (map (λ name. name.now) outputs.new.items)) }
     ensures refused { IfErr result (IsRefusalOfOutput (S.may_alias shelf.now) asked.now
         (map (λ name. name.now) outputs.old.items) name.now given) }
 {

@@ -2,7 +2,7 @@
 //! ends with.
 ghost use Rattle.std.specs.Prelude.{◌≡◌, ◌++◌, [], ◌∷◌};
 ghost use Rattle.kpn_command_base.specs.Refusal.{line_text, wants_memory};
-ghost use Rattle.kpn_command_base.specs.Told.{AreWritten, IsTold};
+ghost use Rattle.kpn_command_base.specs.Told.{AreWritten, IsLineTold};
 
 use crate::fault_line::FaultLine;
 use crate::option_fault::OptionFault;
@@ -174,7 +174,7 @@ impl Refusal {
     /// it.
     pub fn report<E: Write>(&self, err: &mut E) -> u8
         ensures status { result ≡ status_of self.now }
-        ensures told { IsTold (E.contents err.old) (E.contents err.new)
+        ensures told { IsLineTold (E.contents err.old) (E.contents err.new)
             (refusal_line self.now ++ 10 ∷ []) }
     {
         let _whole = self.tell(err);

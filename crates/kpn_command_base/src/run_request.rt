@@ -2,6 +2,9 @@
 
 use std::marker::Model;
 
+/// How many steps a process makes at most before it is the turn of the next.
+pub const QUOTA: u32 = 1_000;
+
 /// What `kpn run` is asked for. Contracts see the bytes of its words.
 #[derive(Drop)]
 pub struct RunRequest<'a> {

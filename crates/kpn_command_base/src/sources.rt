@@ -3,7 +3,7 @@
 ghost use Rattle.std.specs.Prelude.{◌≡◌, ◌<◌, ◌++◌, ◌∷◌, [], nat_eq, Ok, map, length, replicate, option_map, IfOk, IfErr, OnOk, IfSome, MatchOption, MatchResult, All};
 ghost use Rattle.std.specs.List.{list_any};
 ghost use Rattle.kpn_net.specs.Tables.{channel_at};
-ghost use Rattle.kpn_command_base.specs.Sources.{HasEquals, LacksEquals, name_in, file_in, is_end, ends_of, end_number, file_for, with_end, ends_named, AreGiven, IsItemFile};
+ghost use Rattle.kpn_command_base.specs.Sources.{HasEquals, LacksEquals, name_in, file_in, is_end, ends_of, end_number, file_for, with_named_end, ends_named, AreGiven, IsItemFile};
 ghost use Rattle.kpn_command_base.specs.SourceRefusals.{IsRefusalOfWords, IsRefusalOfNames, IsRefusalOfFile, IsRefusalOfItems};
 
 use crate::option_fault::OptionFault;
@@ -17,7 +17,7 @@ use std::alloc::{AllocError, Global};
 
 /// The ends of a network that options name.
 #[derive(Clone, Copy)]
-pub enum Ends {
+pub enum EndKind {
     /// The sources, by `--source`.
     Sources,
     /// The sinks, by `--sink`.
@@ -77,7 +77,7 @@ fn option_of(word: &str) -> Option<FileOption<'_>>
 pub fn ends_of<'a>(
     alloc: Global,
     document: &Document,
-    ends: Ends,
+    ends: EndKind,
     options: &[FileOption<'a>],
 ) -> Result<Vec<NamedEnd<'a>>, Refusal>
     ensures named { IfOk result (λ named.
@@ -104,14 +104,14 @@ pub fn ends_of<'a>(
 // The end that an option names, if these were named before.
 fn end_of<'a>(
     document: &Document,
-    ends: Ends,
+    ends: EndKind,
     before: &[NamedEnd<'a>],
     option: &FileOption<'a>,
 ) -> Result<NamedEnd<'a>, OptionFault>
     ensures number { let named = map (λ e. e.number) before.now in MatchResult result
-        (λ end. with_end named (end_number ends document.now option.now.name.now)
+        (λ end. with_named_end named (end_number ends document.now option.now.name.now)
         ≡ Ok (named ++ end.number ∷ []))
-        (λ fault. with_end named (end_number ends document.now option.now.name.now) ≡ Err fault) }
+        (λ fault. with_named_end named (end_number ends document.now option.now.name.now) ≡ Err fault) }
     ensures file { IfOk result (λ end. end.file.now ≡ option.now.file.now) }
     ensures there { IfOk result (λ end. end.number < ends_of ends document.now.tables) }
 {
@@ -145,7 +145,7 @@ fn is_named(named: &[NamedEnd<'_>], number: usize) -> bool
 }
 
 // The number of the end with this name among these ends.
-fn number_of(document: &Document, ends: Ends, name: &str) -> Option<usize>
+fn number_of(document: &Document, ends: EndKind, name: &str) -> Option<usize>
     ensures number { result ≡ end_number ends document.now name.now }
     ensures there { IfSome result (λ number. number < ends_of ends document.now.tables) }
 {
@@ -163,12 +163,12 @@ fn number_of(document: &Document, ends: Ends, name: &str) -> Option<usize>
 }
 
 // Whether a channel is one of these ends.
-fn is_end(network: &Network, ends: Ends, channel: usize) -> bool
+fn is_end(network: &Network, ends: EndKind, channel: usize) -> bool
     ensures { result ≡ is_end ends (channel_at network.now channel) }
 {
     match ends {
-        Ends::Sources => network.is_source(channel),
-        Ends::Sinks => network.is_sink(channel),
+        EndKind::Sources => network.is_source(channel),
+        EndKind::Sinks => network.is_sink(channel),
     }
 }
 

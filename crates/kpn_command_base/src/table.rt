@@ -5,15 +5,15 @@ use std::alloc::{AllocError, Global};
 
 /// A row that is made cell by cell. The first cell is its name.
 #[derive(Drop)]
-pub struct Row {
+pub struct TableRow {
     alloc: Global,
     cells: Vec<String>,
 }
 
-impl Row {
+impl TableRow {
     /// The row of this name.
-    pub fn new(alloc: Global, name: &str) -> Result<Row, AllocError> {
-        let mut row = Row {
+    pub fn new(alloc: Global, name: &str) -> Result<TableRow, AllocError> {
+        let mut row = TableRow {
             alloc,
             cells: Vec::new(alloc),
         };
@@ -43,14 +43,14 @@ impl Row {
 
 /// Rows, of which the first has the headings.
 #[derive(Drop)]
-pub struct Table {
-    rows: Vec<Row>,
+pub struct TextTable {
+    rows: Vec<TableRow>,
 }
 
-impl Table {
+impl TextTable {
     /// A table with these headings.
-    pub fn new(alloc: Global, headings: &[&str]) -> Result<Table, AllocError> {
-        let mut row = Row {
+    pub fn new(alloc: Global, headings: &[&str]) -> Result<TextTable, AllocError> {
+        let mut row = TableRow {
             alloc,
             cells: Vec::new(alloc),
         };
@@ -59,11 +59,11 @@ impl Table {
         }
         let mut rows = Vec::new(alloc);
         rows.push(row)?;
-        Ok(Table { rows })
+        Ok(TextTable { rows })
     }
 
     /// One row more.
-    pub fn add(&mut self, row: Row) -> Pushed {
+    pub fn add(&mut self, row: TableRow) -> Pushed {
         self.rows.push(row)?;
         Ok(())
     }

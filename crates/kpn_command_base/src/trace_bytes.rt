@@ -12,7 +12,7 @@ use std::alloc::Global;
 
 // How many bytes are reserved for each line. The longest has 37 with its line feed: a `put` of the least item, if the
 // two numbers are 65535.
-const LINE: usize = 40;
+const LINE_BYTES: usize = 40;
 
 /// The text of a trace. There is room for each line before the first is made.
 pub fn trace_of(alloc: Global, network: &Network, history: &History) -> Result<Vec<u8>, Refusal>
@@ -21,7 +21,7 @@ pub fn trace_of(alloc: Global, network: &Network, history: &History) -> Result<V
     ensures refused { IfErr result (λ refusal. refusal ≡ Refusal.NoMemory) }
 {
     let lines = history.len().saturating_add(2);
-    let mut text = Vec::with_capacity(alloc, lines.saturating_mul(LINE))?;
+    let mut text = Vec::with_capacity(alloc, lines.saturating_mul(LINE_BYTES))?;
     match write_trace(&mut text, network.policy(), network.growth(), history) {
         Ok(()) => Ok(text),
         Err(_) => Err(Refusal::NoMemory),

@@ -10,7 +10,7 @@ use Rattle.kpn_command_base.specs.declared.refusal.Refusal.TheVariants.{Descript
 use Rattle.kpn_command_base.specs.Refusal.{status_of}
 use Rattle.kpn_shelf.specs.Shelf.{Loads}
 use Rattle.kpn_command_base.specs.Counts.{summary_text}
-use Rattle.kpn_command_explain.specs.Answers.{Explains, IsExplained, right, wrong, IsRefusalOfExplaining, items_line, ExplainsLine, AreItemsExplained, right_items, wrong_line, IsRefusalOfItems}
+use Rattle.kpn_command_explain.specs.Answers.{Explains, IsExplained, right, wrong, IsRefusalOfExplaining, items_line, ExplainsLine, AreItemsExplained, right_items, wrong_line, IsRefusalOfItemFile}
 
 module _ (may_give : Loads) (file bytes : List ℕ) (loaded : may_give file (Ok bytes)) where
   pub is_right : (d : Document) → SpellsDocument bytes d → (text : List ℕ) (status : ℕ)
@@ -46,5 +46,5 @@ pub no_memory : (may_give : Loads) (file : List ℕ) (refusal : Refusal) → ref
 no_memory may_give file refusal same = subst (IsRefusalOfExplaining may_give file) (sym same) tt
 
 pub no_memory_for_items : (may_give : Loads) (file : List ℕ) (refusal : Refusal) → refusal ≡ NoMemory
-    → IsRefusalOfItems may_give file refusal
-no_memory_for_items may_give file refusal same = subst (IsRefusalOfItems may_give file) (sym same) tt
+    → IsRefusalOfItemFile may_give file refusal
+no_memory_for_items may_give file refusal same = subst (IsRefusalOfItemFile may_give file) (sym same) tt

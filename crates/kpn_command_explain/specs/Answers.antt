@@ -15,7 +15,7 @@ use Rattle.kpn_command_base.specs.declared.refusal.Refusal.{Refusal}
 use Rattle.kpn_command_base.specs.declared.refusal.Refusal.TheVariants.{Input, Description, NoMemory}
 use Rattle.kpn_command_base.specs.Refusal.{status_of}
 use Rattle.kpn_shelf.specs.Shelf.{Loads, IsRefusalOfLoad, IsLoadedAs}
-use Rattle.kpn_command_base.specs.Description.{IsDescribed, IsRefused}
+use Rattle.kpn_command_base.specs.Description.{IsDescribed, IsRefusedDescription}
 use Rattle.kpn_command_base.specs.Counts.{summary_text}
 use Rattle.kpn_command_explain.specs.Concerned.{places_of}
 use Rattle.kpn_command_explain.specs.Excerpt.{where_text}
@@ -24,13 +24,13 @@ use Rattle.kpn_command_explain.specs.Lines.{line_start}
 -- ---- descriptions
 
 -- no tokens, if there is a fault among them
-abbrev pub tokens_in : Result (List Lexeme) LexFault → List Lexeme
-tokens_in (Ok ls) = ls
-tokens_in (Err other) = []
+abbrev pub tokens_or_none : Result (List Lexeme) LexFault → List Lexeme
+tokens_or_none (Ok ls) = ls
+tokens_or_none (Err other) = []
 
 -- the tokens of a text in its language
 abbrev pub text_tokens : List ℕ → List Lexeme
-text_tokens bytes = tokens_in (lexemes_of (language_of bytes) bytes)
+text_tokens bytes = tokens_or_none (lexemes_of (language_of bytes) bytes)
 
 -- an explanation of a fault of a text begins with the first place that the fault concerns
 abbrev pub Explains : (file bytes : List ℕ) → TextFault → (text : List ℕ) → Type 0
@@ -50,7 +50,7 @@ pub data IsExplained (may_give : Loads) (file : List ℕ) (text : List ℕ) (sta
 abbrev pub IsRefusalOfExplaining : (may_give : Loads) (file : List ℕ) → Refusal → Type 0
 IsRefusalOfExplaining may_give file (Input fault) = IsRefusalOfLoad may_give file fault
 IsRefusalOfExplaining may_give file (Description fault) =
-    IsRefused may_give file fault × (status_of (Description fault) ≡ 6)
+    IsRefusedDescription may_give file fault × (status_of (Description fault) ≡ 6)
 IsRefusalOfExplaining may_give file NoMemory = ⊤
 IsRefusalOfExplaining may_give file other = ⊥
 
@@ -70,7 +70,7 @@ pub data AreItemsExplained (may_give : Loads) (file : List ℕ) (text : List ℕ
   wrong_line : (bytes : List ℕ) (line : ℕ) → may_give file (Ok bytes) → IsFirstBad bytes line
       → ExplainsLine file bytes line text → status ≡ 1 → AreItemsExplained may_give file text status
 
-abbrev pub IsRefusalOfItems : (may_give : Loads) (file : List ℕ) → Refusal → Type 0
-IsRefusalOfItems may_give file (Input fault) = IsRefusalOfLoad may_give file fault ⊎ (fault ≡ item.NoMemory)
-IsRefusalOfItems may_give file NoMemory = ⊤
-IsRefusalOfItems may_give file other = ⊥
+abbrev pub IsRefusalOfItemFile : (may_give : Loads) (file : List ℕ) → Refusal → Type 0
+IsRefusalOfItemFile may_give file (Input fault) = IsRefusalOfLoad may_give file fault ⊎ (fault ≡ item.NoMemory)
+IsRefusalOfItemFile may_give file NoMemory = ⊤
+IsRefusalOfItemFile may_give file other = ⊥

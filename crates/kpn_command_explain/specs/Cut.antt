@@ -3,7 +3,7 @@ use Rattle.std.specs.Prelude.{ℕ, zero, suc, ◌-◌, ◌%◌, nat_le, nat_lt, 
 use Rattle.std.specs.Fmt.{decimal}
 use Rattle.kpn_text_names.specs.Names.{name_at}
 use Rattle.kpn_audit.specs.declared.findings.Audit.{Audit}
-use Rattle.kpn_command_base.specs.ListText.{spaced}
+use Rattle.kpn_command_base.specs.ListText.{spaced_items}
 use Rattle.kpn_command_base.specs.AuditText.{exact_line, cap_text}
 
 -- a digit and, if a multiple of three digits is left behind it, a comma
@@ -23,7 +23,7 @@ more_text count =
 
 -- `NAME cap N:`, or `NAME:` for a source, and the first 20 items
 abbrev pub cut_front : (name : List ℕ) → Option ℕ → List ℤ → List ℕ
-cut_front name cap items = (name ++ cap_text cap) ++ codes ":" ++ spaced (take 20 items)
+cut_front name cap items = (name ++ cap_text cap) ++ codes ":" ++ spaced_items (take 20 items)
 
 -- the same, and how many items more there are
 abbrev pub cut_line : (name : List ℕ) → Option ℕ → List ℤ → List ℕ

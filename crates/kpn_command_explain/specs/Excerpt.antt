@@ -9,9 +9,9 @@ abbrev pub plain : (byte : ℕ) → ℕ
 plain b = if nat_le 32 b && nat_le b 126 then b else 63
 
 -- `NAME:LINE:COLUMN: `
-abbrev pub place_text : (name : List ℕ) → Position → List ℕ
-place_text name p = map plain name ++ codes ":" ++ decimal p.line ++ codes ":" ++ decimal p.column ++ codes ": "
+abbrev pub position_text : (name : List ℕ) → Position → List ℕ
+position_text name p = map plain name ++ codes ":" ++ decimal p.line ++ codes ":" ++ decimal p.column ++ codes ": "
 
 -- the same of a byte of a text
 abbrev pub where_text : (name text : List ℕ) (at : ℕ) → List ℕ
-where_text name text at = place_text name (place_at text at)
+where_text name text at = position_text name (place_at text at)

@@ -6,13 +6,13 @@ abbrev pub first_place : Position
 first_place = record { line = 1; column = 1 }
 
 -- the place behind a byte: a line feed ends its line
-abbrev pub next_place : Position → (byte : ℕ) → Position
-next_place p b =
+abbrev pub place_after_byte : Position → (byte : ℕ) → Position
+place_after_byte p b =
     if b == 10 then record { line = p.line + 1; column = 1 } else record { line = p.line; column = p.column + 1 }
 
 -- the place behind a text
 abbrev pub place_behind : (text : List ℕ) → Position
-place_behind text = fold next_place first_place text
+place_behind text = fold place_after_byte first_place text
 
 -- the place of this byte of a text, or of its end
 abbrev pub place_at : (text : List ℕ) (at : ℕ) → Position

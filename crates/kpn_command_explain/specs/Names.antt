@@ -18,13 +18,13 @@ abbrev pub first_name : (text : List ℕ) → List ℕ
 first_name text = up_to (position (λ b. not (is_in_name b)) text) text
 
 -- the name that begins at a byte of a text
-abbrev pub name_at : (text : List ℕ) (at : ℕ) → List ℕ
-name_at text at = first_name (drop at text)
+abbrev pub name_beginning_at : (text : List ℕ) (at : ℕ) → List ℕ
+name_beginning_at text at = first_name (drop at text)
 
 -- the later of what was found and of this name, if it is the same name and before the bound
 abbrev pub later : (text name : List ℕ) (bound : ℕ) → (found : Option ℕ) → (start : ℕ) → Option ℕ
 later text name bound found start =
-    if nat_lt start bound && bytes_eq (name_at text start) name then Some start else found
+    if nat_lt start bound && bytes_eq (name_beginning_at text start) name then Some start else found
 
 -- the last of these names that is the same and before the bound
 abbrev pub last_before : (text name : List ℕ) (bound : ℕ) → (starts : List ℕ) → Option ℕ
@@ -33,7 +33,7 @@ last_before text name bound starts = fold (later text name bound) None starts
 -- the first of these names that is the same and between the bounds
 abbrev pub is_between : (text name : List ℕ) (from to : ℕ) → (start : ℕ) → Bool
 is_between text name from to start =
-    nat_lt from start && nat_lt start to && bytes_eq (name_at text start) name
+    nat_lt from start && nat_lt start to && bytes_eq (name_beginning_at text start) name
 
 abbrev pub first_between : (text name : List ℕ) (from to : ℕ) → (starts : List ℕ) → Option ℕ
 first_between text name from to starts = find (is_between text name from to) starts

@@ -9,17 +9,17 @@ use Rattle.kpn_text_tokens.specs.declared.tokens.Mark.{Mark}
 use Rattle.kpn_text_tokens.specs.declared.tokens.Mark.TheVariants as mark
 use Rattle.kpn_text_tokens.specs.declared.tokens.Token.{Token}
 use Rattle.kpn_text_tokens.specs.declared.tokens.Token.TheVariants as token
-use Rattle.kpn_command_explain.specs.declared.spots.Spot.{Spot}
-use Rattle.kpn_command_explain.specs.declared.spots.Spot.TheVariants as spot
-use Rattle.kpn_command_explain.specs.Names.{name_at}
+use Rattle.kpn_command_explain.specs.declared.spots.TokenSpot.{TokenSpot}
+use Rattle.kpn_command_explain.specs.declared.spots.TokenSpot.TheVariants as spot
+use Rattle.kpn_command_explain.specs.Names.{name_beginning_at}
 
 -- ---- from token to token
 
-abbrev pub behind_declared : Spot → Spot
+abbrev pub behind_declared : TokenSpot → TokenSpot
 behind_declared spot.Outside = spot.Shared
 behind_declared other = spot.Row
 
-abbrev pub behind_keyword : Spot → Keyword → Spot
+abbrev pub behind_keyword : TokenSpot → Keyword → TokenSpot
 behind_keyword s word.Process = spot.Process
 behind_keyword s word.Read = spot.InPort
 behind_keyword s word.Write = spot.OutPort
@@ -37,7 +37,7 @@ behind_keyword s word.Array = behind_declared s
 behind_keyword s word.Table = behind_declared s
 behind_keyword s other = s
 
-abbrev pub behind_name : Spot → Spot
+abbrev pub behind_name : TokenSpot → TokenSpot
 behind_name spot.Process = spot.Port
 behind_name spot.Target = spot.Variable
 behind_name spot.InPort = spot.Target
@@ -46,7 +46,7 @@ behind_name spot.Channel = spot.Rest
 behind_name spot.Instance = spot.Program
 behind_name other = other
 
-abbrev pub behind_semicolon : Spot → Spot
+abbrev pub behind_semicolon : TokenSpot → TokenSpot
 behind_semicolon spot.Variable = spot.Target
 behind_semicolon spot.Row = spot.Target
 behind_semicolon spot.Shared = spot.Outside
@@ -55,18 +55,18 @@ behind_semicolon spot.Reads = spot.Writes
 behind_semicolon spot.Writes = spot.Values
 behind_semicolon other = other
 
-abbrev pub behind_bracket : Spot → Spot
+abbrev pub behind_bracket : TokenSpot → TokenSpot
 behind_bracket spot.Writes = spot.Rest
 behind_bracket spot.Values = spot.Rest
 behind_bracket other = other
 
 -- a brace in a process: behind it a statement may begin
-abbrev pub behind_brace : Spot → Spot
+abbrev pub behind_brace : TokenSpot → TokenSpot
 behind_brace spot.Port = spot.Target
 behind_brace spot.Variable = spot.Target
 behind_brace other = other
 
-abbrev pub behind_mark : Spot → Mark → Spot
+abbrev pub behind_mark : TokenSpot → Mark → TokenSpot
 behind_mark s mark.LeftBrace = behind_brace s
 behind_mark spot.Program mark.LeftParen = spot.Reads
 behind_mark s mark.Semicolon = behind_semicolon s
@@ -74,15 +74,15 @@ behind_mark s mark.RightParen = behind_bracket s
 behind_mark s other = s
 
 -- where the token behind this one stands
-abbrev pub behind : Spot → Token → Spot
-behind s (token.Name name) = behind_name s
-behind s (token.Number n) = s
-behind s (token.Mark m) = behind_mark s m
-behind s (token.Keyword k) = behind_keyword s k
+abbrev pub next_spot : TokenSpot → Token → TokenSpot
+next_spot s (token.Name name) = behind_name s
+next_spot s (token.Number n) = s
+next_spot s (token.Mark m) = behind_mark s m
+next_spot s (token.Keyword k) = behind_keyword s k
 
 -- ---- tokens at a spot
 
-abbrev pub is_same : Spot → Spot → Bool
+abbrev pub is_same : TokenSpot → TokenSpot → Bool
 is_same spot.Outside spot.Outside = true
 is_same spot.Process spot.Process = true
 is_same spot.Port spot.Port = true
@@ -102,31 +102,31 @@ is_same spot.Shared spot.Shared = true
 is_same s other = false
 
 -- arrays and tables are among the names of a process, as its ports are
-abbrev pub known_as : Spot → Spot
+abbrev pub known_as : TokenSpot → TokenSpot
 known_as spot.Row = spot.Port
 known_as spot.Shared = spot.Port
 known_as other = other
 
 -- a name at a spot, or the word `network`, which counts as outside
-abbrev pub is_at : (wanted now : Spot) → Token → Bool
+abbrev pub is_at : (wanted now : TokenSpot) → Token → Bool
 is_at wanted now (token.Name name) = is_same wanted (known_as now)
 is_at wanted now (token.Keyword word.Network) = is_same wanted spot.Outside
 is_at wanted now other = false
 
 -- the first bytes of those tokens, in order, if the first token stands at this spot
-abbrev pub starts_from : (wanted now : Spot) → List Lexeme → List ℕ
+abbrev pub starts_from : (wanted now : TokenSpot) → List Lexeme → List ℕ
 starts_from wanted now [] = []
 starts_from wanted now (l ∷ ls) =
-    if is_at wanted now l.token then l.start ∷ starts_from wanted (behind now l.token) ls
-    else starts_from wanted (behind now l.token) ls
+    if is_at wanted now l.token then l.start ∷ starts_from wanted (next_spot now l.token) ls
+    else starts_from wanted (next_spot now l.token) ls
 
-abbrev pub starts_of : Spot → List Lexeme → List ℕ
+abbrev pub starts_of : TokenSpot → List Lexeme → List ℕ
 starts_of wanted ls = starts_from wanted spot.Outside ls
 
 -- where the token that begins at a byte stands; outside, if none begins there
-abbrev pub spot_from : (at : ℕ) (now : Spot) → List Lexeme → Spot
+abbrev pub spot_from : (at : ℕ) (now : TokenSpot) → List Lexeme → TokenSpot
 spot_from at now [] = spot.Outside
-spot_from at now (l ∷ ls) = if nat_eq l.start at then now else spot_from at (behind now l.token) ls
+spot_from at now (l ∷ ls) = if nat_eq l.start at then now else spot_from at (next_spot now l.token) ls
 
-abbrev pub spot_at : (at : ℕ) → List Lexeme → Spot
+abbrev pub spot_at : (at : ℕ) → List Lexeme → TokenSpot
 spot_at at ls = spot_from at spot.Outside ls

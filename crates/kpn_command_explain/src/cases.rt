@@ -1,12 +1,12 @@
 //! Which kind of fault a fault of a description is.
 
 use crate::choices::may_stand;
-use crate::concerned::Places;
+use crate::concerned::FaultPlaces;
 use crate::excess::{network_excess, process_excess};
 use crate::lines::{back, front};
 use crate::names::name_at;
 use crate::sentences::Case;
-use crate::spots::{Spot, is_indexed, is_port, row_of, spot_at, start_before};
+use crate::spots::{TokenSpot, is_indexed, is_port, row_of, spot_at, start_before};
 use crate::words::{assigns_next, begins_name};
 use kpn_lang::ProgramFault;
 use kpn_limits::MAX_TEXT_BYTES;
@@ -20,7 +20,7 @@ pub(crate) fn case_of<'a>(
     alloc: Global,
     text: &[u8],
     tokens: &'a [Lexeme<'a>],
-    places: Places,
+    places: FaultPlaces,
     fault: TextFault,
 ) -> Result<Case, AllocError> {
     match fault {
@@ -64,10 +64,10 @@ fn grammar_case(alloc: Global, text: &[u8], at: usize) -> Result<Case, AllocErro
 
 fn unknown_case(text: &[u8], tokens: &[Lexeme<'_>], at: usize, second: Option<usize>) -> Case {
     match spot_at(tokens, at) {
-        Spot::InPort => Case::UnknownInPort,
-        Spot::OutPort => Case::UnknownOutPort,
-        Spot::Program => Case::UnknownProcess,
-        Spot::Reads | Spot::Writes => Case::UnknownChannel,
+        TokenSpot::InPort => Case::UnknownInPort,
+        TokenSpot::OutPort => Case::UnknownOutPort,
+        TokenSpot::Program => Case::UnknownProcess,
+        TokenSpot::Reads | TokenSpot::Writes => Case::UnknownChannel,
         _ => variable_case(text, tokens, at, second),
     }
 }
@@ -93,10 +93,10 @@ fn is_table(text: &[u8], tokens: &[Lexeme<'_>], at: usize) -> bool {
 
 fn double_case(text: &[u8], tokens: &[Lexeme<'_>], at: usize) -> Case {
     match spot_at(tokens, at) {
-        Spot::Process => Case::DoubleProcess,
-        Spot::Instance => Case::DoubleInstance,
-        Spot::Channel => Case::DoubleChannel,
-        Spot::Port | Spot::Row | Spot::Shared => match row_of(text, tokens, at) {
+        TokenSpot::Process => Case::DoubleProcess,
+        TokenSpot::Instance => Case::DoubleInstance,
+        TokenSpot::Channel => Case::DoubleChannel,
+        TokenSpot::Port | TokenSpot::Row | TokenSpot::Shared => match row_of(text, tokens, at) {
             Some(_) => Case::DoubleRow,
             None => Case::DoublePort,
         },

@@ -4,7 +4,7 @@ ghost use Rattle.kpn_command_explain.specs.Concerned as spec;
 ghost use Rattle.kpn_command_explain.specs.Spots as spots;
 
 use crate::names::{first_behind, first_between, last_before, name_at};
-use crate::spots::{Spot, spot_at, starts};
+use crate::spots::{TokenSpot, spot_at, starts};
 use kpn_net::NetFault;
 use kpn_text::TextFault;
 use kpn_text_tokens::Lexeme;
@@ -12,7 +12,7 @@ use std::alloc::{AllocError, Global};
 
 /// The byte that a fault concerns, and the byte of the other of two that conflict.
 #[derive(Clone, Copy)]
-pub struct Places {
+pub struct FaultPlaces {
     pub first: usize,
     pub second: Option<usize>,
 }
@@ -23,7 +23,7 @@ pub fn concerned_places(
     text: &[u8],
     tokens: &[Lexeme<'_>],
     fault: TextFault,
-) -> Result<Places, AllocError>
+) -> Result<FaultPlaces, AllocError>
     ensures { IfOk result (λ found. found ≡ spec.places_of text.now tokens.now fault) }
 {
     match fault {
@@ -31,7 +31,7 @@ pub fn concerned_places(
         TextFault::Grammar(at) => Ok(one_place(at)),
         TextFault::UnknownName(at) => unknown_places(alloc, text, tokens, at),
         TextFault::DoubleName(at) => two_names(alloc, text, tokens, at),
-        TextFault::Program(process, _) => numbered(alloc, tokens, Spot::Process, process),
+        TextFault::Program(process, _) => numbered(alloc, tokens, TokenSpot::Process, process),
         TextFault::Net(broken) => net_places(alloc, text, tokens, broken),
         TextFault::NoMemory => Ok(one_place(0)),
     }
@@ -42,32 +42,44 @@ fn net_places(
     text: &[u8],
     tokens: &[Lexeme<'_>],
     fault: NetFault,
-) -> Result<Places, AllocError>
+) -> Result<FaultPlaces, AllocError>
     ensures { IfOk result (λ found. found ≡ spec.net_places text.now tokens.now fault) }
 {
     match fault {
         NetFault::TooMany | NetFault::NoMemory => network(alloc, tokens),
-        NetFault::NoSuchProgram(instance) => numbered(alloc, tokens, Spot::Instance, instance),
-        NetFault::PortCount(instance) => numbered(alloc, tokens, Spot::Instance, instance),
-        NetFault::NoSuchChannel(instance) => numbered(alloc, tokens, Spot::Instance, instance),
-        NetFault::NoWriter(channel) => numbered(alloc, tokens, Spot::Channel, channel),
-        NetFault::TwoWriters(channel) => channel_use(alloc, text, tokens, Spot::Writes, channel),
-        NetFault::NoReader(channel) => numbered(alloc, tokens, Spot::Channel, channel),
-        NetFault::TwoReaders(channel) => channel_use(alloc, text, tokens, Spot::Reads, channel),
-        NetFault::Capacity(channel) => numbered(alloc, tokens, Spot::Channel, channel),
+        NetFault::NoSuchProgram(instance) => numbered(alloc, tokens, TokenSpot::Instance, instance),
+        NetFault::PortCount(instance) => numbered(alloc, tokens, TokenSpot::Instance, instance),
+        NetFault::NoSuchChannel(instance) => numbered(alloc, tokens, TokenSpot::Instance, instance),
+        NetFault::NoWriter(channel) => numbered(alloc, tokens, TokenSpot::Channel, channel),
+        NetFault::TwoWriters(channel) => channel_use(
+            alloc,
+            text,
+            tokens,
+            TokenSpot::Writes,
+            channel,
+        ),
+        NetFault::NoReader(channel) => numbered(alloc, tokens, TokenSpot::Channel, channel),
+        NetFault::TwoReaders(channel) => channel_use(
+            alloc,
+            text,
+            tokens,
+            TokenSpot::Reads,
+            channel,
+        ),
+        NetFault::Capacity(channel) => numbered(alloc, tokens, TokenSpot::Channel, channel),
     }
 }
 
-fn one_place(at: usize) -> Places
+fn one_place(at: usize) -> FaultPlaces
     ensures { result ≡ spec.one_place at }
 {
-    Places {
+    FaultPlaces {
         first: at,
         second: None,
     }
 }
 
-fn network(alloc: Global, tokens: &[Lexeme<'_>]) -> Result<Places, AllocError>
+fn network(alloc: Global, tokens: &[Lexeme<'_>]) -> Result<FaultPlaces, AllocError>
     ensures { IfOk result (λ found. found ≡ spec.one_place (spec.network_place tokens.now)) }
 {
     let place = network_place(alloc, tokens)?;
@@ -77,9 +89,9 @@ fn network(alloc: Global, tokens: &[Lexeme<'_>]) -> Result<Places, AllocError>
 fn numbered(
     alloc: Global,
     tokens: &[Lexeme<'_>],
-    spot: Spot,
+    spot: TokenSpot,
     number: usize,
-) -> Result<Places, AllocError>
+) -> Result<FaultPlaces, AllocError>
     ensures { IfOk result (λ found.
         found ≡ spec.one_place (spec.numbered_place tokens.now spot number)) }
 {
@@ -91,7 +103,7 @@ fn numbered(
 fn network_place(alloc: Global, tokens: &[Lexeme<'_>]) -> Result<usize, AllocError>
     ensures { IfOk result (λ at. at ≡ spec.network_place tokens.now) }
 {
-    let found = starts(alloc, tokens, Spot::Outside)?;
+    let found = starts(alloc, tokens, TokenSpot::Outside)?;
     Ok(entry(&found, 0, 0))
 }
 
@@ -99,7 +111,7 @@ fn network_place(alloc: Global, tokens: &[Lexeme<'_>]) -> Result<usize, AllocErr
 fn numbered_place(
     alloc: Global,
     tokens: &[Lexeme<'_>],
-    spot: Spot,
+    spot: TokenSpot,
     number: usize,
 ) -> Result<usize, AllocError>
     ensures { IfOk result (λ at. at ≡ spec.numbered_place tokens.now spot number) }
@@ -119,11 +131,11 @@ fn entry(list: &[usize], number: usize, otherwise: usize) -> usize
     }
 }
 
-fn table_of(spot: Spot) -> Spot
+fn table_of(spot: TokenSpot) -> TokenSpot
     ensures { result ≡ spec.table_of spot }
 {
     match spot {
-        Spot::Target | Spot::Row | Spot::Shared => Spot::Port,
+        TokenSpot::Target | TokenSpot::Row | TokenSpot::Shared => TokenSpot::Port,
         other => other,
     }
 }
@@ -134,12 +146,12 @@ fn two_names(
     text: &[u8],
     tokens: &[Lexeme<'_>],
     at: usize,
-) -> Result<Places, AllocError>
+) -> Result<FaultPlaces, AllocError>
     ensures { IfOk result (λ found. found ≡ spec.two_names text.now tokens.now at) }
 {
     let found = starts(alloc, tokens, table_of(spot_at(tokens, at)))?;
     let second = last_before(text, name_at(text, at), at, &found);
-    Ok(Places { first: at, second })
+    Ok(FaultPlaces { first: at, second })
 }
 
 /// Where the process that has this byte ends.
@@ -151,7 +163,7 @@ pub(crate) fn process_end(
     ensures { IfOk result (λ end. end ≡ spec.process_end tokens.now at) }
 {
     let network = network_place(alloc, tokens)?;
-    let found = starts(alloc, tokens, Spot::Process)?;
+    let found = starts(alloc, tokens, TokenSpot::Process)?;
     Ok(first_behind(at, network, &found))
 }
 
@@ -161,13 +173,13 @@ fn value_behind(
     text: &[u8],
     tokens: &[Lexeme<'_>],
     at: usize,
-) -> Result<Places, AllocError>
+) -> Result<FaultPlaces, AllocError>
     ensures { IfOk result (λ found. found ≡ spec.value_behind text.now tokens.now at) }
 {
     let end = process_end(alloc, tokens, at)?;
-    let found = starts(alloc, tokens, Spot::Target)?;
+    let found = starts(alloc, tokens, TokenSpot::Target)?;
     let second = first_between(text, name_at(text, at), at, end, &found);
-    Ok(Places { first: at, second })
+    Ok(FaultPlaces { first: at, second })
 }
 
 fn unknown_places(
@@ -175,12 +187,12 @@ fn unknown_places(
     text: &[u8],
     tokens: &[Lexeme<'_>],
     at: usize,
-) -> Result<Places, AllocError>
+) -> Result<FaultPlaces, AllocError>
     ensures { IfOk result (λ found.
         found ≡ spec.unknown_places text.now tokens.now at (spots.spot_at at tokens.now)) }
 {
     match spot_at(tokens, at) {
-        Spot::Variable => value_behind(alloc, text, tokens, at),
+        TokenSpot::Variable => value_behind(alloc, text, tokens, at),
         _ => Ok(one_place(at)),
     }
 }
@@ -190,12 +202,12 @@ fn channel_use(
     alloc: Global,
     text: &[u8],
     tokens: &[Lexeme<'_>],
-    spot: Spot,
+    spot: TokenSpot,
     channel: usize,
-) -> Result<Places, AllocError>
+) -> Result<FaultPlaces, AllocError>
     ensures { IfOk result (λ found. found ≡ spec.channel_use text.now tokens.now spot channel) }
 {
-    let declared = numbered_place(alloc, tokens, Spot::Channel, channel)?;
+    let declared = numbered_place(alloc, tokens, TokenSpot::Channel, channel)?;
     last_use(alloc, text, tokens, spot, declared)
 }
 
@@ -203,14 +215,14 @@ fn last_use(
     alloc: Global,
     text: &[u8],
     tokens: &[Lexeme<'_>],
-    spot: Spot,
+    spot: TokenSpot,
     declared: usize,
-) -> Result<Places, AllocError>
+) -> Result<FaultPlaces, AllocError>
     ensures { IfOk result (λ found. found ≡ spec.last_use text.now tokens.now spot declared) }
 {
     let found = starts(alloc, tokens, spot)?;
     let second = last_before(text, name_at(text, declared), text.len(), &found);
-    Ok(Places {
+    Ok(FaultPlaces {
         first: declared,
         second,
     })

@@ -3,7 +3,7 @@ ghost use Rattle.std.specs.Prelude.{◌≡◌, ◌++◌, [], length, take, codes
 ghost use Rattle.std.specs.String.{string_bytes};
 ghost use Rattle.std.specs.Fmt.{decimal};
 ghost use Rattle.kpn_command_base.specs.Added.{Adds};
-ghost use Rattle.kpn_command_base.specs.ListText.{spaced};
+ghost use Rattle.kpn_command_base.specs.ListText.{spaced_items};
 ghost use Rattle.kpn_command_base.specs.AuditText.{exact_line, cap_text};
 ghost use Rattle.kpn_command_explain.specs.Cut.{digit_text, with_commas, more_text, cut_text};
 
@@ -14,7 +14,7 @@ use kpn_text::Document;
 use std::alloc::{AllocError, Global};
 
 /// The most items of a channel that are shown.
-const MOST: usize = 20;
+const MOST_ITEMS_SHOWN: usize = 20;
 
 /// `legal`, whether the journals are exact, and a line for each channel in order of number.
 pub(crate) fn cut_text(
@@ -62,7 +62,7 @@ fn first_items(alloc: Global, audit: &Audit, c: usize) -> Result<Vec<i64>, Alloc
     ensures { IfOk result (λ items. items.items ≡ take 20 (slice_index_or audit.now.journals c [])) }
 {
     match audit.journals.as_slice().get(c) {
-        Some(journal) => journal.copy_first(alloc, journal.len().min(MOST)),
+        Some(journal) => journal.copy_first(alloc, journal.len().min(MOST_ITEMS_SHOWN)),
         None => Ok(Vec::new(alloc)),
     }
 }
@@ -87,7 +87,7 @@ fn push_line(
     count: usize,
 ) -> Result<(), AllocError>
     ensures { OnOk result (text.new.items
-        ≡ text.old.items ++ (((name.now ++ cap_text cap) ++ codes ":" ++ spaced shown.now)
+        ≡ text.old.items ++ (((name.now ++ cap_text cap) ++ codes ":" ++ spaced_items shown.now)
         ++ more_text count)) }
 {
     let front = front_text(alloc, name, cap, shown)?;
@@ -103,7 +103,7 @@ fn front_text(
     shown: &[i64],
 ) -> Result<String, AllocError>
     ensures { IfOk result (λ text. string_bytes text
-        ≡ (name.now ++ cap_text cap) ++ codes ":" ++ spaced shown.now) }
+        ≡ (name.now ++ cap_text cap) ++ codes ":" ++ spaced_items shown.now) }
 {
     let mut text = named(alloc, name, cap)?;
     text.push_str(":")?;
@@ -123,7 +123,7 @@ fn named(alloc: Global, name: &str, cap: Option<u32>) -> Result<String, AllocErr
 }
 
 fn push_items(text: &mut String, items: &[i64]) -> Pushed
-    ensures { Adds result text.old text.new (spaced items.now) }
+    ensures { Adds result text.old text.new (spaced_items items.now) }
 {
     for item in items {
         write!(text, " {item}")?;
@@ -135,10 +135,10 @@ fn push_items(text: &mut String, items: &[i64]) -> Pushed
 fn more_text(alloc: Global, count: usize) -> Result<Vec<u8>, AllocError>
     ensures { IfOk result (λ text. text.items ≡ more_text count) }
 {
-    if count <= MOST {
+    if count <= MOST_ITEMS_SHOWN {
         text_of(alloc, "\n")
     } else {
-        left_text(alloc, count - MOST)
+        left_text(alloc, count - MOST_ITEMS_SHOWN)
     }
 }
 

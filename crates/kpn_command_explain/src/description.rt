@@ -1,6 +1,6 @@
 //! `kpn explain FILE` reads a description, and counts its parts or explains what is wrong with it.
 ghost use Rattle.std.specs.Prelude.{◌≡◌, ◌⊎◌, ◌≢◌, IfOk, IfErr};
-ghost use Rattle.kpn_command_base.specs.Conclusion.{Tells};
+ghost use Rattle.kpn_command_base.specs.Conclusion.{TellsOnly};
 ghost use Rattle.kpn_command_base.specs.declared.refusal.Refusal.TheVariants.{Description, NoMemory};
 ghost use Rattle.kpn_command_base.specs.Refusal.{status_of};
 ghost use Rattle.kpn_command_base.specs.Counts.{summary_text};
@@ -19,7 +19,7 @@ pub fn explain_command<S: Shelf>(
     file: &str,
     shelf: &S,
 ) -> Result<Conclusion, Refusal>
-    ensures ok { IfOk result (Tells (IsExplained (S.may_give shelf.now) file.now)) }
+    ensures ok { IfOk result (TellsOnly (IsExplained (S.may_give shelf.now) file.now)) }
     ensures refused { IfErr result (IsRefusalOfExplaining (S.may_give shelf.now) file.now) }
 {
     let bytes = load(alloc, shelf, file)?;
@@ -33,7 +33,7 @@ pub fn explain_command<S: Shelf>(
 // The line that counts the parts of a network.
 fn right(alloc: Global, document: &Document) -> Result<Conclusion, Refusal>
     ensures ok { IfOk result
-        (Tells (λ text status. (text ≡ summary_text document.now) × (status ≡ 0))) }
+        (TellsOnly (λ text status. (text ≡ summary_text document.now) × (status ≡ 0))) }
     ensures refused { IfErr result (λ refusal. refusal ≡ NoMemory) }
 {
     let text = summary(alloc, document)?;
@@ -47,7 +47,7 @@ fn right(alloc: Global, document: &Document) -> Result<Conclusion, Refusal>
 // The fault of a text, explained. A fault of memory is refused.
 fn wrong(alloc: Global, file: &str, bytes: &[u8], fault: TextFault) -> Result<Conclusion, Refusal>
     ensures ok { IfOk result
-        (Tells (λ text status. (status_of (Description fault) ≢ 6)
+        (TellsOnly (λ text status. (status_of (Description fault) ≢ 6)
         × Explains file.now bytes.now fault text × (status ≡ 1))) }
     ensures refused { IfErr result (λ refusal. (refusal ≡ NoMemory)
         ⊎ ((refusal ≡ Description fault) × (status_of (Description fault) ≡ 6))) }

@@ -1,8 +1,8 @@
 //! Which limit a program or a network passes, and by how much.
 
 use crate::counts::{count_of, nodes_of};
-use crate::sentences::{Excess, Part};
-use crate::spots::Spot;
+use crate::sentences::{Excess, LimitedPart};
+use crate::spots::TokenSpot;
 use kpn_command_base::push_number;
 use kpn_limits::{MAX_CELLS, MAX_CHANNELS, MAX_NODES, MAX_PORTS, MAX_PROCESSES, MAX_VARIABLES};
 use kpn_text_grammar::{GrammarFault, description};
@@ -37,20 +37,20 @@ pub(crate) fn process_excess<'a>(
 ) -> Result<Excess, AllocError> {
     let sizes = sizes_of(alloc, text, tokens, process)?;
     let excess = if sizes.vars > MAX_VARIABLES {
-        excess(Part::Variables, sizes.vars, MAX_VARIABLES)
+        excess(LimitedPart::Variables, sizes.vars, MAX_VARIABLES)
     } else if sizes.ins > MAX_PORTS {
-        excess(Part::InPorts, sizes.ins, MAX_PORTS)
+        excess(LimitedPart::InPorts, sizes.ins, MAX_PORTS)
     } else if sizes.outs > MAX_PORTS {
-        excess(Part::OutPorts, sizes.outs, MAX_PORTS)
+        excess(LimitedPart::OutPorts, sizes.outs, MAX_PORTS)
     } else if sizes.cells > MAX_CELLS {
-        excess(Part::Cells, sizes.cells, MAX_CELLS)
+        excess(LimitedPart::Cells, sizes.cells, MAX_CELLS)
     } else {
-        excess(Part::Nodes, nodes_of(alloc, tokens, at)?, MAX_NODES)
+        excess(LimitedPart::Nodes, nodes_of(alloc, tokens, at)?, MAX_NODES)
     };
     Ok(excess)
 }
 
-fn excess(part: Part, count: usize, limit: usize) -> Excess {
+fn excess(part: LimitedPart, count: usize, limit: usize) -> Excess {
     Excess { part, count, limit }
 }
 
@@ -91,29 +91,29 @@ fn cells_of(scope: &NameScope<'_>) -> usize {
 
 /// Which limit the network passes: that of processes, of instances, or else of channels.
 pub(crate) fn network_excess(alloc: Global, tokens: &[Lexeme<'_>]) -> Result<Excess, AllocError> {
-    let processes = count_of(alloc, tokens, Spot::Process)?;
-    let instances = count_of(alloc, tokens, Spot::Instance)?;
-    let channels = count_of(alloc, tokens, Spot::Channel)?;
+    let processes = count_of(alloc, tokens, TokenSpot::Process)?;
+    let instances = count_of(alloc, tokens, TokenSpot::Instance)?;
+    let channels = count_of(alloc, tokens, TokenSpot::Channel)?;
     if processes > MAX_PROCESSES {
-        Ok(excess(Part::Processes, processes, MAX_PROCESSES))
+        Ok(excess(LimitedPart::Processes, processes, MAX_PROCESSES))
     } else if instances > MAX_PROCESSES {
-        Ok(excess(Part::Instances, instances, MAX_PROCESSES))
+        Ok(excess(LimitedPart::Instances, instances, MAX_PROCESSES))
     } else {
-        Ok(excess(Part::Channels, channels, MAX_CHANNELS))
+        Ok(excess(LimitedPart::Channels, channels, MAX_CHANNELS))
     }
 }
 
 /// How many there are, and by how many the limit is passed.
 pub(crate) fn push_excess(told: &mut Vec<u8>, excess: Excess) -> Result<(), AllocError> {
     let part: &[u8] = match excess.part {
-        Part::Variables => b" variables, ",
-        Part::InPorts => b" in ports, ",
-        Part::OutPorts => b" out ports, ",
-        Part::Cells => b" cells, ",
-        Part::Nodes => b" statements and operands, ",
-        Part::Processes => b" processes, ",
-        Part::Instances => b" instances, ",
-        Part::Channels => b" channels, ",
+        LimitedPart::Variables => b" variables, ",
+        LimitedPart::InPorts => b" in ports, ",
+        LimitedPart::OutPorts => b" out ports, ",
+        LimitedPart::Cells => b" cells, ",
+        LimitedPart::Nodes => b" statements and operands, ",
+        LimitedPart::Processes => b" processes, ",
+        LimitedPart::Instances => b" instances, ",
+        LimitedPart::Channels => b" channels, ",
     };
     let above = excess.count.saturating_sub(excess.limit);
     push_number(told, b" has ", excess.count, part)?;

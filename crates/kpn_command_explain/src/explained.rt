@@ -4,7 +4,7 @@ ghost use Rattle.kpn_command_explain.specs.Answers.{Explains, text_tokens};
 
 use crate::cases::case_of;
 use crate::choices::{may_stand, push_choices};
-use crate::concerned::{Places, concerned_places};
+use crate::concerned::{FaultPlaces, concerned_places};
 use crate::excerpt::{push_excerpt, push_where};
 use crate::excess::push_excess;
 use crate::habits::habit_of;
@@ -54,7 +54,7 @@ fn rest_of<'a>(
     text: &[u8],
     tokens: &'a [Lexeme<'a>],
     fault: TextFault,
-    places: Places,
+    places: FaultPlaces,
 ) -> Result<Vec<u8>, AllocError> {
     let case = case_of(alloc, text, tokens, places, fault)?;
     let habit = habit_of(alloc, text, tokens, places.first, case)?;
@@ -78,7 +78,12 @@ fn rest_of<'a>(
 }
 
 // The second place that is shown: that of an array or a table is where it is declared.
-fn second_place(text: &[u8], tokens: &[Lexeme<'_>], places: Places, case: Case) -> Option<usize> {
+fn second_place(
+    text: &[u8],
+    tokens: &[Lexeme<'_>],
+    places: FaultPlaces,
+    case: Case,
+) -> Option<usize> {
     match case {
         Case::WholeArray | Case::WholeTable | Case::SetTable => row_of(text, tokens, places.first),
         Case::NoArray => None,

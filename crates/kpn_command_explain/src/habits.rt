@@ -5,7 +5,7 @@ use crate::lines::{back, front};
 use crate::names::name_at;
 use crate::second_habits::habit_of_two;
 use crate::sentences::Case;
-use crate::spots::{Spot, spot_at, start_before};
+use crate::spots::{TokenSpot, spot_at, start_before};
 use crate::stands::{Stand, stand_of};
 use crate::words::is_fraction;
 use kpn_text_tokens::{Language, LexFault, Lexeme, language_of, lexemes};
@@ -319,11 +319,11 @@ fn else_habit(here: &[u8]) -> Habit {
 
 // A word of the language, where a name is meant. Behind a comma `in`, `out` and `par` are meant to stand before each
 // port.
-fn reserved_habit(spot: Spot, last: &[u8], here: &[u8]) -> Option<Habit> {
+fn reserved_habit(spot: TokenSpot, last: &[u8], here: &[u8]) -> Option<Habit> {
     let begins_ports = is_word(here, b"in") || is_word(here, b"out") || is_word(here, b"par");
     match spot {
-        Spot::Port => habit_if(last.starts_with(b",") && begins_ports, Habit::Ports),
-        Spot::Variable => habit_if(is_word(here, b"read"), Habit::Reads),
+        TokenSpot::Port => habit_if(last.starts_with(b",") && begins_ports, Habit::Ports),
+        TokenSpot::Variable => habit_if(is_word(here, b"read"), Habit::Reads),
         _ => None,
     }
 }

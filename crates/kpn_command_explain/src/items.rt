@@ -1,8 +1,8 @@
 //! `kpn explain FILE --items` reads an item file, and counts its items or explains its first bad line.
 ghost use Rattle.std.specs.Prelude.{◌≡◌, length, IfOk, IfErr};
-ghost use Rattle.kpn_command_base.specs.Conclusion.{Tells};
+ghost use Rattle.kpn_command_base.specs.Conclusion.{TellsOnly};
 ghost use Rattle.kpn_command_base.specs.declared.refusal.Refusal.TheVariants.{NoMemory};
-ghost use Rattle.kpn_command_explain.specs.Answers.{AreItemsExplained, ExplainsLine, IsRefusalOfItems, items_line};
+ghost use Rattle.kpn_command_explain.specs.Answers.{AreItemsExplained, ExplainsLine, IsRefusalOfItemFile, items_line};
 
 use crate::excerpt::{push_excerpt, push_where};
 use crate::explained::push_bracket;
@@ -16,7 +16,7 @@ use kpn_text_items::{ItemFault, items_of};
 use std::alloc::{AllocError, Global};
 
 // What stands for the name of a source where none is known.
-const SOURCE: &str = "NAME";
+const UNNAMED_SOURCE: &str = "NAME";
 
 /// What `kpn explain FILE --items` comes to.
 pub fn explain_items_command<S: Shelf>(
@@ -24,8 +24,8 @@ pub fn explain_items_command<S: Shelf>(
     file: &str,
     shelf: &S,
 ) -> Result<Conclusion, Refusal>
-    ensures ok { IfOk result (Tells (AreItemsExplained (S.may_give shelf.now) file.now)) }
-    ensures refused { IfErr result (IsRefusalOfItems (S.may_give shelf.now) file.now) }
+    ensures ok { IfOk result (TellsOnly (AreItemsExplained (S.may_give shelf.now) file.now)) }
+    ensures refused { IfErr result (IsRefusalOfItemFile (S.may_give shelf.now) file.now) }
 {
     let bytes = load(alloc, shelf, file)?;
     let text = bytes.as_slice();
@@ -39,7 +39,7 @@ pub fn explain_items_command<S: Shelf>(
 // The line that counts the items.
 fn right(alloc: Global, items: &[i64]) -> Result<Conclusion, Refusal>
     ensures ok { IfOk result
-        (Tells (λ text status. (text ≡ items_line (length items.now)) × (status ≡ 0))) }
+        (TellsOnly (λ text status. (text ≡ items_line (length items.now)) × (status ≡ 0))) }
     ensures refused { IfErr result (λ refusal. refusal ≡ NoMemory) }
 {
     let mut text = Vec::new(alloc);
@@ -53,11 +53,11 @@ fn right(alloc: Global, items: &[i64]) -> Result<Conclusion, Refusal>
 
 // The first bad line, explained.
 fn wrong(alloc: Global, file: &str, bytes: &[u8], line: usize) -> Result<Conclusion, Refusal>
-    ensures ok { IfOk result (Tells (λ text status.
+    ensures ok { IfOk result (TellsOnly (λ text status.
         ExplainsLine file.now bytes.now line text × (status ≡ 1))) }
     ensures refused { IfErr result (λ refusal. refusal ≡ NoMemory) }
 {
-    let text = bad_line_text(alloc, file, bytes, line, SOURCE)?;
+    let text = bad_line_text(alloc, file, bytes, line, UNNAMED_SOURCE)?;
     Ok(Conclusion {
         text,
         status: 1,

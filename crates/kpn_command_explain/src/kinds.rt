@@ -6,7 +6,7 @@ use std::str;
 
 /// What the first bytes of a file show.
 #[derive(Clone, Copy)]
-pub(crate) enum Kind {
+pub(crate) enum FileKind {
     /// The head of a WAV file.
     Wav,
     /// A byte order mark.
@@ -23,18 +23,18 @@ pub(crate) enum Kind {
 const LOOKED_AT: usize = 4_096;
 
 /// What the first bytes of a file show.
-pub(crate) fn kind_of(bytes: &[u8]) -> Kind {
+pub(crate) fn kind_of(bytes: &[u8]) -> FileKind {
     let first = front(bytes, LOOKED_AT);
     if first.starts_with(b"RIFF") {
-        Kind::Wav
+        FileKind::Wav
     } else if begins_marked(first) {
-        Kind::Marked
+        FileKind::Marked
     } else if looks_like_samples(first) {
-        Kind::Samples
+        FileKind::Samples
     } else if first.first().is_some_and(|byte| byte.is_ascii_alphabetic()) {
-        Kind::Words
+        FileKind::Words
     } else {
-        Kind::Lines
+        FileKind::Lines
     }
 }
 
@@ -67,27 +67,27 @@ fn is_text(bytes: &[u8]) -> bool {
 /// Adds what helps with a file of this kind for the source of this name. It returns whether it did.
 pub(crate) fn push_remedy(
     told: &mut Vec<u8>,
-    kind: Kind,
+    kind: FileKind,
     source: &str,
 ) -> Result<bool, AllocError> {
     match kind {
-        Kind::Wav => {
+        FileKind::Wav => {
             told.extend_from_slice(b"This is a WAV file, which `kpn stream` reads by ")?;
             push_format(told, source, "wav")?;
         }
-        Kind::Marked => told.extend_from_slice(
+        FileKind::Marked => told.extend_from_slice(
             b"It begins with a byte order mark, which is no part of an item: store it without one.\n",
         )?,
-        Kind::Samples => {
+        FileKind::Samples => {
             told.extend_from_slice(
                 b"These bytes look like samples, which `kpn stream` reads: of 16 bits by ",
             )?;
             push_format(told, source, "s16le")?;
         }
-        Kind::Words => told.extend_from_slice(
+        FileKind::Words => told.extend_from_slice(
             b"This is text, and no list of items: a line has one whole number, and nothing else.\n",
         )?,
-        Kind::Lines => return Ok(false),
+        FileKind::Lines => return Ok(false),
     }
     Ok(true)
 }

@@ -75,7 +75,7 @@ const DECLARES: &[u8] = b"The first assignment makes a variable: `x = 0;`, with 
 const PLACE: &[u8] =
     b"There are no arrays: give each place a variable, as in `a0 = x;`, or begin the text with `language 2;`.";
 
-const TABLE: &[u8] =
+const NO_TABLES: &[u8] =
     b"There are no tables: choose a value by `if` and `else`, or begin the text with `language 2;`.";
 
 const INDEX: &[u8] =
@@ -84,7 +84,7 @@ const INDEX: &[u8] =
 const LATE_ROW: &[u8] =
     b"Move it to the front of the process: arrays and tables stand before all statements.";
 
-const OUTSIDE: &[u8] =
+const OUTSIDE_PROCESSES: &[u8] =
     b"Move it to the front of a process: an array belongs to one, and only tables are shared.";
 
 const VALUES: &[u8] =
@@ -130,13 +130,13 @@ fn usual(habit: Habit) -> &'static [u8] {
         Habit::Power => b"There is no `^`: a power is a product, as in `((x * x) * x)`.",
         Habit::Stars => b"There is no `**`: a power is a product, as in `(x * x)`.",
         Habit::Place => PLACE,
-        Habit::Table => TABLE,
+        Habit::Table => NO_TABLES,
         Habit::Index => INDEX,
         Habit::ReadCell => READ_CELL,
         Habit::LateRow => LATE_ROW,
         Habit::LateTable =>
             b"Move it to the front of the text: tables that are shared stand before all processes.",
-        Habit::Outside => OUTSIDE,
+        Habit::Outside => OUTSIDE_PROCESSES,
         Habit::Size => b"Write a number of at least 1 as the size, as in `array x[9];`.",
         Habit::Values => VALUES,
         Habit::Declaration => DECLARATION,

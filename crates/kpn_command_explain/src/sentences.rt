@@ -2,7 +2,7 @@
 
 /// What a limit counts.
 #[derive(Clone, Copy)]
-pub(crate) enum Part {
+pub(crate) enum LimitedPart {
     Variables,
     InPorts,
     OutPorts,
@@ -18,7 +18,7 @@ pub(crate) enum Part {
 /// A limit that is passed, and how many there are of what it counts.
 #[derive(Clone, Copy)]
 pub(crate) struct Excess {
-    pub part: Part,
+    pub part: LimitedPart,
     pub count: usize,
     pub limit: usize,
 }
@@ -201,7 +201,7 @@ pub(crate) fn advice(case: Case) -> &'static [u8] {
         Case::AssignedPort => b"Choose another name for the variable.",
         Case::DoubleInstance => b"Give one of the two another name.",
         Case::DoubleChannel => b"Give one of the two another name.",
-        Case::LargeProgram(excess) if matches!(excess.part, Part::Cells) =>
+        Case::LargeProgram(excess) if matches!(excess.part, LimitedPart::Cells) =>
             b"At most 4096 cells: those of its arrays and tables, and of each shared table that it names.",
         Case::LargeProgram(_) =>
             b"At most 16 in ports, 16 out ports, 64 variables, 4096 statements and operands.",

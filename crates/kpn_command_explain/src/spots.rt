@@ -8,7 +8,7 @@ use std::alloc::{AllocError, Global};
 
 /// Where a token stands, by what a name there is.
 #[derive(Clone, Copy)]
-pub enum Spot {
+pub enum TokenSpot {
     /// Before all processes. The word `network` counts as outside too.
     Outside,
     /// A process that is declared.
@@ -44,82 +44,82 @@ pub enum Spot {
 }
 
 // Behind `array` or `table`.
-fn behind_declared(now: Spot) -> Spot
+fn behind_declared(now: TokenSpot) -> TokenSpot
     ensures { result ≡ spec.behind_declared now }
 {
     match now {
-        Spot::Outside => Spot::Shared,
-        _ => Spot::Row,
+        TokenSpot::Outside => TokenSpot::Shared,
+        _ => TokenSpot::Row,
     }
 }
 
-fn behind_keyword(now: Spot, keyword: Keyword) -> Spot
+fn behind_keyword(now: TokenSpot, keyword: Keyword) -> TokenSpot
     ensures { result ≡ spec.behind_keyword now keyword }
 {
     match keyword {
-        Keyword::Process => Spot::Process,
-        Keyword::Read => Spot::InPort,
-        Keyword::Write => Spot::OutPort,
-        Keyword::Network => Spot::Instance,
-        Keyword::Channel | Keyword::Source | Keyword::Sink => Spot::Channel,
-        Keyword::Limit | Keyword::Policy | Keyword::Grow => Spot::Rest,
-        Keyword::If | Keyword::Else | Keyword::While => Spot::Variable,
+        Keyword::Process => TokenSpot::Process,
+        Keyword::Read => TokenSpot::InPort,
+        Keyword::Write => TokenSpot::OutPort,
+        Keyword::Network => TokenSpot::Instance,
+        Keyword::Channel | Keyword::Source | Keyword::Sink => TokenSpot::Channel,
+        Keyword::Limit | Keyword::Policy | Keyword::Grow => TokenSpot::Rest,
+        Keyword::If | Keyword::Else | Keyword::While => TokenSpot::Variable,
         Keyword::Array | Keyword::Table => behind_declared(now),
         _ => now,
     }
 }
 
-fn behind_name(now: Spot) -> Spot
+fn behind_name(now: TokenSpot) -> TokenSpot
     ensures { result ≡ spec.behind_name now }
 {
     match now {
-        Spot::Process => Spot::Port,
-        Spot::InPort => Spot::Target,
-        Spot::Target | Spot::OutPort => Spot::Variable,
-        Spot::Channel => Spot::Rest,
-        Spot::Instance => Spot::Program,
+        TokenSpot::Process => TokenSpot::Port,
+        TokenSpot::InPort => TokenSpot::Target,
+        TokenSpot::Target | TokenSpot::OutPort => TokenSpot::Variable,
+        TokenSpot::Channel => TokenSpot::Rest,
+        TokenSpot::Instance => TokenSpot::Program,
         other => other,
     }
 }
 
-fn behind_semicolon(now: Spot) -> Spot
+fn behind_semicolon(now: TokenSpot) -> TokenSpot
     ensures { result ≡ spec.behind_semicolon now }
 {
     match now {
-        Spot::Variable | Spot::Row => Spot::Target,
-        Spot::Shared => Spot::Outside,
-        Spot::Rest => Spot::Instance,
-        Spot::Reads => Spot::Writes,
-        Spot::Writes => Spot::Values,
+        TokenSpot::Variable | TokenSpot::Row => TokenSpot::Target,
+        TokenSpot::Shared => TokenSpot::Outside,
+        TokenSpot::Rest => TokenSpot::Instance,
+        TokenSpot::Reads => TokenSpot::Writes,
+        TokenSpot::Writes => TokenSpot::Values,
         other => other,
     }
 }
 
-fn behind_bracket(now: Spot) -> Spot
+fn behind_bracket(now: TokenSpot) -> TokenSpot
     ensures { result ≡ spec.behind_bracket now }
 {
     match now {
-        Spot::Writes | Spot::Values => Spot::Rest,
+        TokenSpot::Writes | TokenSpot::Values => TokenSpot::Rest,
         other => other,
     }
 }
 
 // Behind a brace in a process a statement may begin.
-fn behind_brace(now: Spot) -> Spot
+fn behind_brace(now: TokenSpot) -> TokenSpot
     ensures { result ≡ spec.behind_brace now }
 {
     match now {
-        Spot::Port | Spot::Variable => Spot::Target,
+        TokenSpot::Port | TokenSpot::Variable => TokenSpot::Target,
         other => other,
     }
 }
 
-fn behind_mark(now: Spot, mark: Mark) -> Spot
+fn behind_mark(now: TokenSpot, mark: Mark) -> TokenSpot
     ensures { result ≡ spec.behind_mark now mark }
 {
     match (now, mark) {
         (_, Mark::LeftBrace) => behind_brace(now),
-        (Spot::Program, Mark::LeftParen) => Spot::Reads,
+        (TokenSpot::Program, Mark::LeftParen) => TokenSpot::Reads,
         (_, Mark::Semicolon) => behind_semicolon(now),
         (_, Mark::RightParen) => behind_bracket(now),
         _ => now,
@@ -127,7 +127,7 @@ fn behind_mark(now: Spot, mark: Mark) -> Spot
 }
 
 /// Where the token behind this one stands.
-pub(crate) fn behind(now: Spot, token: &Token<'_>) -> Spot
+pub(crate) fn behind(now: TokenSpot, token: &Token<'_>) -> TokenSpot
     ensures { result ≡ spec.behind now token.now }
 {
     match token {
@@ -139,28 +139,28 @@ pub(crate) fn behind(now: Spot, token: &Token<'_>) -> Spot
 }
 
 // Arrays and tables are among the names of a process, as its ports are.
-fn known_as(spot: Spot) -> Spot
+fn known_as(spot: TokenSpot) -> TokenSpot
     ensures { result ≡ spec.known_as spot }
 {
     match spot {
-        Spot::Row | Spot::Shared => Spot::Port,
+        TokenSpot::Row | TokenSpot::Shared => TokenSpot::Port,
         other => other,
     }
 }
 
-fn is_same(left: Spot, right: Spot) -> bool
+fn is_same(left: TokenSpot, right: TokenSpot) -> bool
     ensures { result ≡ spec.is_same left right }
 {
     left == right
 }
 
 // A name at a spot, or the word `network`.
-fn is_at(wanted: Spot, now: Spot, token: &Token<'_>) -> bool
+fn is_at(wanted: TokenSpot, now: TokenSpot, token: &Token<'_>) -> bool
     ensures { result ≡ spec.is_at wanted now token.now }
 {
     match token {
         Token::Name(_) => is_same(wanted, known_as(now)),
-        Token::Keyword(Keyword::Network) => is_same(wanted, Spot::Outside),
+        Token::Keyword(Keyword::Network) => is_same(wanted, TokenSpot::Outside),
         _ => false,
     }
 }
@@ -169,12 +169,12 @@ fn is_at(wanted: Spot, now: Spot, token: &Token<'_>) -> bool
 pub(crate) fn starts(
     alloc: Global,
     tokens: &[Lexeme<'_>],
-    wanted: Spot,
+    wanted: TokenSpot,
 ) -> Result<Vec<usize>, AllocError>
     ensures { IfOk result (λ found. found.items ≡ spec.starts_of wanted tokens.now) }
 {
     let mut found = Vec::new(alloc);
-    let mut now = Spot::Outside;
+    let mut now = TokenSpot::Outside;
     for lexeme in tokens {
         if is_at(wanted, now, &lexeme.token) {
             found.push(lexeme.start)?;
@@ -185,17 +185,17 @@ pub(crate) fn starts(
 }
 
 /// Where the token that begins at this byte stands; `Outside`, if no token begins there.
-pub fn spot_at(tokens: &[Lexeme<'_>], at: usize) -> Spot
+pub fn spot_at(tokens: &[Lexeme<'_>], at: usize) -> TokenSpot
     ensures { result ≡ spec.spot_at at tokens.now }
 {
-    let mut now = Spot::Outside;
+    let mut now = TokenSpot::Outside;
     for lexeme in tokens {
         if lexeme.start == at {
             return now;
         }
         now = behind(now, &lexeme.token);
     }
-    Spot::Outside
+    TokenSpot::Outside
 }
 
 /// The first byte of the last token before a byte. If there is none, it is that byte.
@@ -213,7 +213,7 @@ pub fn start_before(tokens: &[Lexeme<'_>], at: usize) -> usize {
 /// is no variable, it is a port.
 pub fn is_port(text: &[u8], tokens: &[Lexeme<'_>], at: usize) -> bool {
     let name = name_at(text, at);
-    let mut now = Spot::Outside;
+    let mut now = TokenSpot::Outside;
     let mut found = false;
     for lexeme in tokens {
         if lexeme.start == at {
@@ -221,8 +221,8 @@ pub fn is_port(text: &[u8], tokens: &[Lexeme<'_>], at: usize) -> bool {
         }
         // A process has ports of its own.
         found = match now {
-            Spot::Process => false,
-            Spot::Port => found || name_at(text, lexeme.start) == name,
+            TokenSpot::Process => false,
+            TokenSpot::Port => found || name_at(text, lexeme.start) == name,
             _ => found,
         };
         now = behind(now, &lexeme.token);
@@ -233,7 +233,7 @@ pub fn is_port(text: &[u8], tokens: &[Lexeme<'_>], at: usize) -> bool {
 /// Where the name at this byte is declared before it as an array or a table that the process of the byte knows.
 pub fn row_of(text: &[u8], tokens: &[Lexeme<'_>], at: usize) -> Option<usize> {
     let name = name_at(text, at);
-    let mut now = Spot::Outside;
+    let mut now = TokenSpot::Outside;
     let mut shared = None;
     let mut found = None;
     for lexeme in tokens {
@@ -243,9 +243,9 @@ pub fn row_of(text: &[u8], tokens: &[Lexeme<'_>], at: usize) -> Option<usize> {
         let is_it = name_at(text, lexeme.start) == name;
         match now {
             // A process has arrays and tables of its own.
-            Spot::Process => found = shared,
-            Spot::Row if is_it => found = Some(lexeme.start),
-            Spot::Shared if is_it => {
+            TokenSpot::Process => found = shared,
+            TokenSpot::Row if is_it => found = Some(lexeme.start),
+            TokenSpot::Shared if is_it => {
                 shared = Some(lexeme.start);
                 found = shared;
             }

@@ -2,7 +2,7 @@
 
 use crate::choices::may_stand;
 use crate::lines::{back, front};
-use crate::spots::{Spot, spot_at, start_before};
+use crate::spots::{TokenSpot, spot_at, start_before};
 use kpn_text_tokens::Lexeme;
 use std::alloc::{AllocError, Global};
 
@@ -41,8 +41,8 @@ pub(crate) fn stand_of(
     let before = start_before(tokens, at);
     let front = front(text, at);
     match spot_at(tokens, at) {
-        Spot::Target | Spot::Variable => stand_in_block(alloc, text, before, front),
-        Spot::Row | Spot::Shared => Ok(Stand::Declaring),
+        TokenSpot::Target | TokenSpot::Variable => stand_in_block(alloc, text, before, front),
+        TokenSpot::Row | TokenSpot::Shared => Ok(Stand::Declaring),
         _ if may_stand(alloc, front, b"cap")? => Ok(Stand::BeforeCapacity),
         _ => Ok(Stand::Elsewhere),
     }

@@ -1,6 +1,6 @@
 //! The command reads a network and a trace, and explains what an audit of the trace finds.
 ghost use Rattle.std.specs.Prelude.{◌≡◌, ◌≢◌, ◌⊎◌, ◌<◌, ℕ, length, IfOk, IfErr};
-ghost use Rattle.kpn_command_base.specs.Conclusion.{Tells};
+ghost use Rattle.kpn_command_base.specs.Conclusion.{TellsOnly};
 ghost use Rattle.kpn_audit.specs.declared.findings.AuditFault.TheVariants.{Illegal};
 ghost use Rattle.kpn_audit.specs.Audit.{IsRefusal};
 ghost use Rattle.kpn_command_base.specs.Audited.{IsNoFinding};
@@ -29,7 +29,7 @@ pub fn explain_trace_command<S: Shelf>(
     shelf: &S,
 ) -> Result<Conclusion, Refusal>
     ensures ok { IfOk result
-        (Tells (IsExplained (S.may_give shelf.now) file.now trace.now steps)) }
+        (TellsOnly (IsExplained (S.may_give shelf.now) file.now trace.now steps)) }
     ensures refused { IfErr result
         (IsRefusalOfExplaining (S.may_give shelf.now) file.now trace.now) }
 {
@@ -49,7 +49,7 @@ fn explanation(
     steps: u64,
 ) -> Result<Conclusion, Refusal>
     ensures ok { IfOk result
-        (Tells (IsExplanation document.now name.now bytes.now steps)) }
+        (TellsOnly (IsExplanation document.now name.now bytes.now steps)) }
     ensures refused { IfErr result (IsNoExplanation document.now.tables bytes.now) }
 {
     match read_trace(alloc, bytes) {
@@ -60,7 +60,7 @@ fn explanation(
 
 // Why the bytes of a trace are refused, explained. A fault of memory is refused.
 fn wrong(alloc: Global, name: &str, bytes: &[u8], fault: TraceFault) -> Result<Conclusion, Refusal>
-    ensures ok { IfOk result (Tells (λ text status. (fault ≢ TraceFault.NoMemory)
+    ensures ok { IfOk result (TellsOnly (λ text status. (fault ≢ TraceFault.NoMemory)
         × ExplainsFault name.now bytes.now fault text × (status ≡ 1))) }
     ensures refused { IfErr result (λ refusal. (refusal ≡ Refusal.NoMemory)
         ⊎ ((refusal ≡ Refusal.Trace fault) × (status_of (Refusal.Trace fault) ≡ 6))) }
@@ -85,7 +85,7 @@ fn conclusion(
     steps: u64,
 ) -> Result<Conclusion, Refusal>
     ensures ok { IfOk result
-        (Tells (IsConclusion document.now name.now bytes.now trace.now steps)) }
+        (TellsOnly (IsConclusion document.now name.now bytes.now trace.now steps)) }
     ensures refused { IfErr result (IsNoFinding document.now.tables trace.now) }
 {
     let finding = audit_trace(alloc, document.network(), trace, steps)?;
@@ -114,7 +114,7 @@ fn illegal(
 ) -> Result<Conclusion, Refusal>
     requires { IsRefusal document.now.tables trace.now steps (Illegal k) }
     ensures ok { IfOk result
-        (Tells (IsConclusion document.now name.now bytes.now trace.now steps)) }
+        (TellsOnly (IsConclusion document.now name.now bytes.now trace.now steps)) }
     ensures refused { IfErr result (IsNoFinding document.now.tables trace.now) }
 {
     let Ok(scene) = scene_before(alloc, document.network(), trace, k, steps) else {

@@ -16,7 +16,7 @@ use Rattle.kpn_command_line.specs.declared.request.WordsFault.{WordsFault}
 use Rattle.kpn_command_line.specs.declared.request.WordsFault.TheVariants.{Usage, NoMemory}
 use Rattle.kpn_command_line.specs.CommandLine.{all_words, command_line}
 use Rattle.kpn_command_line.specs.Asked.{AnswersTo, AsksForHelp, IsAsked, IsNoneOf, IsNoTable, IsOf, IsRefused, IsUsageIf}
-use Rattle.kpn_command_line.specs.Asked.{Names, Gives, command_of, text_for, number_for, is_set}
+use Rattle.kpn_command_line.specs.Asked.{NamesCommand, GivesToCommand, command_of, text_for, number_for, is_set}
 
 differ : (a b : List ℕ) → bytes_eq a a ≡ true → bytes_eq a b ≡ false → b ≡ a → ⊥
 differ a b same other e = true≢false (sym same ∙ (ap (bytes_eq a) (sym e) ∙ other))
@@ -24,8 +24,8 @@ differ a b same other e = true≢false (sym same ∙ (ap (bytes_eq a) (sym e) �
 some_not_none : {X : Type 0} (o : Option X) (x : X) → o ≡ None → o ≡ Some x → ⊥
 some_not_none o x none some = true≢false (ap is_some (sym some ∙ none))
 
-same_names : (words : List (List ℕ)) (command other : List ℕ) (given more : List Row) → Names words command given
-    → Names words other more → (command ≡ other) × (given ≡ more)
+same_names : (words : List (List ℕ)) (command other : List ℕ) (given more : List Row) → NamesCommand words command given
+    → NamesCommand words other more → (command ≡ other) × (given ≡ more)
 same_names words command other given more is also =
     let same = sym is.1 ∙ also.1 in (
       ap (λ (o : Option (List ℕ × List Row)). (unwrap_or o (command, given)).0) same,
@@ -36,16 +36,16 @@ no_help : (words : List (List ℕ)) → fault_of command_line words ≡ [] → A
 no_help words none (inl help) = subst (IsAmong DisplayHelp) none help
 no_help words none (inr version) = subst (IsAmong DisplayVersion) none version
 
-module _ (words : List (List ℕ)) (command : List ℕ) (given : List Row) (names : Names words command given) where
+module _ (words : List (List ℕ)) (command : List ℕ) (given : List Row) (names : NamesCommand words command given) where
   is_asked : (request : Request) → IsOf command given request → IsAsked words request
   is_asked (Help text) is = absurd is.1
-  is_asked other is = (given, subst (λ (name : List ℕ). Names words name given) (sym is.0) names, is.1)
+  is_asked other is = (given, subst (λ (name : List ℕ). NamesCommand words name given) (sym is.0) names, is.1)
 
   is_of : (request : Request) → IsAsked words request → IsOf command given request
   is_of (Help text) asked = absurd (no_help words names.0 asked)
   is_of other asked =
       let is = same_names words command _ given _ names asked.1 in
-      (sym is.0, subst (λ (rows : List Row). Gives rows other) (sym is.1) asked.2)
+      (sym is.0, subst (λ (rows : List Row). GivesToCommand rows other) (sym is.1) asked.2)
 
   -- the answer to the command is the one to the words
   pub answer_to_words : (result : Result Request WordsFault) → AnswersTo command given result

@@ -36,8 +36,8 @@ AsksForHelp words =
 
 -- the words name this command, and `clap` finds no fault in them. They give `given` to the words and options of the
 -- command
-abbrev pub Names : (words : List (List ℕ)) (command : List ℕ) (given : List Row) → Type 0
-Names words command given =
+abbrev pub NamesCommand : (words : List (List ℕ)) (command : List ℕ) (given : List Row) → Type 0
+NamesCommand words command given =
     (fault_of command_line words ≡ []) × (subcommand_of command_line words ≡ Some (command, given))
 
 -- the text for the word or option of this name, if there is one
@@ -103,31 +103,31 @@ steps_for given = unwrap_or (number_for 64 (codes "STEPS") given) 10000000
 -- What the words give to its command is what the request has. A run has 10,000,000 commits without `--max-commits`, and
 -- statistics have the tables for people without `--tsv`. A picture begins with tick 1 without `--from`, and ends with
 -- tick 1,000,000,000 without `--to`; it does not begin behind its end.
-abbrev pub Gives : (given : List Row) → Request → Type 0
-Gives given (Alone name) = text_for (codes "NAME") given ≡ Some name.now
-Gives given (Check file) = text_for (codes "FILE") given ≡ Some file.now
-Gives given (Explain file trace steps) =
+abbrev pub GivesToCommand : (given : List Row) → Request → Type 0
+GivesToCommand given (Alone name) = text_for (codes "NAME") given ≡ Some name.now
+GivesToCommand given (Check file) = text_for (codes "FILE") given ≡ Some file.now
+GivesToCommand given (Explain file trace steps) =
     (text_for (codes "FILE") given ≡ Some file.now)
     × (text_for (codes "TRACE") given ≡ option_map (λ name. name.now) trace)
     × (steps_for given ≡ steps) × (is_set (codes "ITEMS") given ≡ false)
-Gives given (ExplainItems file) =
+GivesToCommand given (ExplainItems file) =
     (text_for (codes "FILE") given ≡ Some file.now) × (text_for (codes "TRACE") given ≡ None)
     × (is_set (codes "ITEMS") given ≡ true)
-Gives given (Print file) = text_for (codes "FILE") given ≡ Some file.now
-Gives given (Draw file trace direction) =
+GivesToCommand given (Print file) = text_for (codes "FILE") given ≡ Some file.now
+GivesToCommand given (Draw file trace direction) =
     (text_for (codes "FILE") given ≡ Some file.now)
     × (text_for (codes "TRACE") given ≡ option_map (λ name. name.now) trace)
     × (is_set (codes "ACROSS") given ≡ is_across direction)
-Gives given (Rounds file n sources) =
+GivesToCommand given (Rounds file n sources) =
     (text_for (codes "FILE") given ≡ Some file.now) × (number_for 32 (codes "N") given ≡ Some n)
     × (texts_for (codes "SOURCE") given ≡ map (λ source. source.now) sources.items)
-Gives given (Run run) =
+GivesToCommand given (Run run) =
     (text_for (codes "FILE") given ≡ Some run.file) × (texts_for (codes "SOURCE") given ≡ run.sources)
     × (texts_for (codes "SINK") given ≡ run.sinks)
     × (unwrap_or (number_for 64 (codes "MAX_COMMITS") given) 10000000 ≡ run.commits)
     × (number_for 64 (codes "K") given ≡ run.take) × (text_for (codes "TRACE") given ≡ run.trace)
     × (number_for 32 (codes "WORKERS") given ≡ run.workers)
-Gives given (Stream stream) =
+GivesToCommand given (Stream stream) =
     (text_for (codes "FILE") given ≡ Some stream.file) × (texts_for (codes "SOURCE") given ≡ stream.sources)
     × (texts_for (codes "SINK") given ≡ stream.sinks) × (texts_for (codes "FORMAT") given ≡ stream.formats)
     × (is_set (codes "CLIP") given ≡ stream.clips)
@@ -135,27 +135,27 @@ Gives given (Stream stream) =
     × (number_for 64 (codes "MAX_COMMITS") given ≡ stream.commits) × (number_for 64 (codes "K") given ≡ stream.take)
     × (text_for (codes "TRACE") given ≡ stream.trace) × (is_set (codes "QUIET") given ≡ stream.quiet)
     × (is_set (codes "STATS") given ≡ stream.stats)
-Gives given (Audit file trace steps) =
+GivesToCommand given (Audit file trace steps) =
     (text_for (codes "FILE") given ≡ Some file.now) × (text_for (codes "TRACE") given ≡ Some trace.now)
     × (steps_for given ≡ steps)
-Gives given (Stats file trace steps tables) =
+GivesToCommand given (Stats file trace steps tables) =
     (text_for (codes "FILE") given ≡ Some file.now) × (text_for (codes "TRACE") given ≡ Some trace.now)
     × (steps_for given ≡ steps) × (text_for (codes "TABLE") given ≡ table_name tables)
-Gives given (Timeline file trace steps) =
+GivesToCommand given (Timeline file trace steps) =
     (text_for (codes "FILE") given ≡ Some file.now) × (text_for (codes "TRACE") given ≡ Some trace.now)
     × (steps_for given ≡ steps) × (is_set (codes "SVG") given ≡ false)
     × (number_for 64 (codes "FROM") given ≡ None) × (number_for 64 (codes "TO") given ≡ None)
-Gives given (Picture file trace steps first last) =
+GivesToCommand given (Picture file trace steps first last) =
     (text_for (codes "FILE") given ≡ Some file.now) × (text_for (codes "TRACE") given ≡ Some trace.now)
     × (steps_for given ≡ steps) × (is_set (codes "SVG") given ≡ true)
     × (unwrap_or (number_for 64 (codes "FROM") given) 1 ≡ first)
     × (unwrap_or (number_for 64 (codes "TO") given) 1000000000 ≡ last) × (first ≤ last)
-Gives given (Help text) = ⊥
+GivesToCommand given (Help text) = ⊥
 
 -- the request is what the words ask for
 abbrev pub IsAsked : (words : List (List ℕ)) → Request → Type 0
 IsAsked words (Help text) = AsksForHelp words
-IsAsked words request = (given : List Row) × Names words (command_of request) given × Gives given request
+IsAsked words request = (given : List Row) × NamesCommand words (command_of request) given × GivesToCommand given request
 
 -- no request is what the words ask for
 abbrev pub AskForNothing : (words : List (List ℕ)) → Type 0
@@ -183,7 +183,7 @@ rows_in matches = rows_of (found_of matches)
 
 -- the request is for this command, which is given what the request has
 abbrev pub IsOf : (command : List ℕ) (given : List Row) → Request → Type 0
-IsOf command given request = (command_of request ≡ command) × Gives given request
+IsOf command given request = (command_of request ≡ command) × GivesToCommand given request
 
 -- a fault about the use of words comes only if this holds
 abbrev pub IsUsageIf : (cause : Type 0) → WordsFault → Type 0

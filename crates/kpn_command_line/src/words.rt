@@ -5,7 +5,7 @@ ghost use Rattle.clap.specs.Words.{kind_of, fault_of, found_of, rows_of, subcomm
 ghost use Rattle.clap.specs.Words.{subcommand_rows_of};
 ghost use Rattle.kpn_command_line.specs.CommandLine.{command_line};
 ghost use Rattle.kpn_command_line.specs.Asked.{IsAsked, IsRefused, IsHelpOfKind, IsRefusalOfKind};
-ghost use Rattle.kpn_command_line.specs.Asked.{AnswersTo, IsUsageIf, IsNoTable, Names, rows_in};
+ghost use Rattle.kpn_command_line.specs.Asked.{AnswersTo, IsUsageIf, IsNoTable, NamesCommand, rows_in};
 ghost use Rattle.kpn_command_line.specs.Asked.{text_for, texts_for, number_for, is_set, table_name};
 ghost use Rattle.kpn_command_line.specs.Asked.{is_across};
 

@@ -5,18 +5,18 @@ use Rattle.kpn_stream.specs.declared.faults.SourceFault.{SourceFault}
 use Rattle.kpn_stream.specs.declared.faults.SinkFault.{SinkFault}
 use Rattle.kpn_stream.specs.Devices.{Fed, Served, at_first, by_others, by_look, by_item, by_end, by_fault, by_no_memory}
 use Rattle.kpn_stream.specs.Devices.{none_yet, meanwhile, took, took_not, flushed, flushed_not, took_in_vain, left, left_not, had_enough, had_enough_not}
-use Rattle.kpn_stream_devices.specs.declared.inputs.Inputs.{Inputs}
-use Rattle.kpn_stream_devices.specs.declared.outputs.Outputs.{Outputs}
-use Rattle.kpn_stream_devices.specs.Inputs.{InputsGive, InputsLook, by_input, by_none, at_input, at_none}
-use Rattle.kpn_stream_devices.specs.Outputs as outputs
-use Rattle.kpn_stream_devices.specs.Outputs.{OutputRel, OutputsDo}
+use Rattle.kpn_stream_devices.specs.declared.inputs.SourceInputs.{SourceInputs}
+use Rattle.kpn_stream_devices.specs.declared.outputs.SinkOutputs.{SinkOutputs}
+use Rattle.kpn_stream_devices.specs.SourceInputs.{InputsGive, InputsLook, by_input, by_none, at_input, at_none}
+use Rattle.kpn_stream_devices.specs.SinkOutputs as outputs
+use Rattle.kpn_stream_devices.specs.SinkOutputs.{OutputRel, OutputsDo}
 use Rattle.kpn_command_stream.specs.Command as command
 use Rattle.kpn_net.specs.Tables.{Tables}
 use Rattle.kpn_book.specs.Book.{Book}
 use Rattle.kpn_book.specs.declared.outcome.Limits.{Limits}
 use Rattle.kpn_stream.specs.declared.ending.StreamEnding.{StreamEnding}
 use Rattle.kpn_command_stream.specs.declared.running.Lost.{Lost}
-use Rattle.kpn_command_stream.specs.Command.{HandedOn, Known, RanOver}
+use Rattle.kpn_command_stream.specs.Command.{HandedOn, KnownOfDevices, RanOver}
 
 module _ (t : Tables) {S N : Type 0} (gives : S → ℕ → Result (Option ℤ) SourceFault → S → Type 0)
     (looks : S → ℕ → S → Type 0) (name : S → N)
@@ -71,32 +71,32 @@ module _ {K N : Type 0} (takes : K → ℕ → ℤ → Result (Unit {0}) SinkFau
       same_by_flush before c answer n flushes ∙ handed_keeps before_it listed before handed
 
 -- each call keeps them
-pub inputs_same : {I F : Type 0} (remaining : I → Option (List ℕ)) (in_file : F → Option (List ℕ)) (before : Inputs I F)
-    (c : ℕ) (answer : Result (Option ℤ) SourceFault) (after : Inputs I F)
+pub inputs_same : {I F : Type 0} (remaining : I → Option (List ℕ)) (in_file : F → Option (List ℕ)) (before : SourceInputs I F)
+    (c : ℕ) (answer : Result (Option ℤ) SourceFault) (after : SourceInputs I F)
     → InputsGive remaining in_file before c answer after → after.standard.ghost_name ≡ before.standard.ghost_name
 inputs_same remaining in_file before c answer after (by_input i input read found at gives each ghost lent) =
     ghost
 inputs_same remaining in_file before c answer after (by_none found is same) =
-    ap (λ (x : Inputs _ _). x.standard.ghost_name) same
+    ap (λ (x : SourceInputs _ _). x.standard.ghost_name) same
 
-pub looks_same : {I F : Type 0} (remaining : I → Option (List ℕ)) (in_file : F → Option (List ℕ)) (before : Inputs I F)
-    (c : ℕ) (after : Inputs I F) → InputsLook remaining in_file before c after
+pub looks_same : {I F : Type 0} (remaining : I → Option (List ℕ)) (in_file : F → Option (List ℕ)) (before : SourceInputs I F)
+    (c : ℕ) (after : SourceInputs I F) → InputsLook remaining in_file before c after
     → after.standard.ghost_name ≡ before.standard.ghost_name
 looks_same remaining in_file before c after (at_input i input read found at looks each ghost lent) = ghost
-looks_same remaining in_file before c after (at_none found same) = ap (λ (x : Inputs _ _). x.standard.ghost_name) same
+looks_same remaining in_file before c after (at_none found same) = ap (λ (x : SourceInputs _ _). x.standard.ghost_name) same
 
-pub outputs_same : {O G : Type 0} (Does : OutputRel O G) (before : Outputs O G) (c : ℕ)
-    (answer : Result (Unit {0}) SinkFault) (after : Outputs O G) → OutputsDo Does before c answer after
+pub outputs_same : {O G : Type 0} (Does : OutputRel O G) (before : SinkOutputs O G) (c : ℕ)
+    (answer : Result (Unit {0}) SinkFault) (after : SinkOutputs O G) → OutputsDo Does before c answer after
     → after.standard.ghost_name ≡ before.standard.ghost_name
 outputs_same Does before c answer after
     (outputs.by_output i output written found at channel format only does each ghost lent) =
     ghost
 outputs_same Does before c answer after (outputs.by_none found is same) =
-    ap (λ (x : Outputs _ _). x.standard.ghost_name) same
+    ap (λ (x : SinkOutputs _ _). x.standard.ghost_name) same
 
 -- the same run, by other names of its limits and its network
-pub ran_by : {I F O G : Type 0} (known : Known I F O G) (limits others : Limits) (t tables : Tables) (sinks : List ℕ)
-    (inputs read : Inputs I F) (outputs written : Outputs O G) (ending : StreamEnding) (b : Book) (lost : List Lost)
+pub ran_by : {I F O G : Type 0} (known : KnownOfDevices I F O G) (limits others : Limits) (t tables : Tables) (sinks : List ℕ)
+    (inputs read : SourceInputs I F) (outputs written : SinkOutputs O G) (ending : StreamEnding) (b : Book) (lost : List Lost)
     → limits ≡ others → t ≡ tables → RanOver known limits t sinks inputs read outputs written ending b lost
     → RanOver known others tables sinks inputs read outputs written ending b lost
 ran_by known limits others t tables sinks inputs read outputs written ending b lost same same_tables ran =

@@ -7,7 +7,7 @@ use Rattle.std.proofs.lemmas.List.Elements.{All-push, All-same, filter_more}
 use Rattle.std.proofs.lemmas.List.Quantifiers.{all_pairs_push}
 use Rattle.std.proofs.Math.Seq.{get_or-append_seam}
 use Rattle.kpn_text.specs.Document.{Document}
-use Rattle.kpn_command_base.specs.declared.sources.Ends.{Ends}
+use Rattle.kpn_command_base.specs.declared.sources.EndKind.{EndKind}
 use Rattle.kpn_command_base.specs.declared.sources.NamedEnd.{NamedEnd}
 use Rattle.kpn_command_base.specs.Outputs.{FileWords}
 use Rattle.kpn_command_base.specs.Sources.{is_end, ends_named}
@@ -17,42 +17,42 @@ use Rattle.kpn_stream.specs.Ending.{end_numbers}
 use Rattle.kpn_text_items.proofs.FileLemmas.{AllZip-push}
 use Rattle.kpn_stream.specs.declared.faults.SinkFault.{SinkFault}
 use Rattle.kpn_stream.specs.declared.faults.SinkFault.TheVariants.{Gone, NoSample, Write, NoMemory}
-use Rattle.kpn_command_stream.specs.declared.places.Place.{Place}
+use Rattle.kpn_command_stream.specs.declared.places.EndPlace.{EndPlace}
 use Rattle.kpn_command_stream.specs.declared.running.Lost.{Lost}
-use Rattle.kpn_stream_devices.specs.declared.outputs.Output.{Output}
+use Rattle.kpn_stream_devices.specs.declared.outputs.SinkOutput.{SinkOutput}
 use Rattle.kpn_command_stream.specs.Command.{HandedOn, IsOutputFor, IsOutputOf, KeepsName, one_more, losses}
-use Rattle.kpn_command_stream.specs.Words.{names_standard, words_of}
-use Rattle.kpn_command_stream.specs.Places.{name_for, HasFormat, ArePlaced, AllPlaced, ArePlaces}
+use Rattle.kpn_command_stream.specs.Words.{names_standard, stream_words_of}
+use Rattle.kpn_command_stream.specs.EndPlaces.{name_for, HasFormat, ArePlaced, AllPlaced, ArePlacesOfEnds}
 
 -- one place more
 pub placed_more : (d : Document) (named : List NamedEnd) (words : List (List ℕ)) (ends : List ℕ) (number : ℕ)
-    (places : List Place) (place : Place) → ArePlaced d named words ends number places → number < length ends
+    (places : List EndPlace) (place : EndPlace) → ArePlaced d named words ends number places → number < length ends
     → place.channel ≡ get_or ends number place.channel → name_for named number (length ends) ≡ Some place.name.now
     → HasFormat d words place → ArePlaced d named words ends (number + 1) (places ++ place ∷ [])
 placed_more d named words ends number places place placed below at name format = record {
   channels =
-      map-append (λ (p : Place). p.channel) places (place ∷ [])
+      map-append (λ (p : EndPlace). p.channel) places (place ∷ [])
       ∙ ap (λ cs. cs ++ place.channel ∷ []) placed.channels
       ∙ ap (λ (c : ℕ). take number ends ++ c ∷ []) at ∙ sym (take_more ends number place.channel below);
   count = omega (arith, length-append places (place ∷ []), placed.count);
   each = λ k other inside. elim (cases_lt k (length places)) [
     | inl before ↦ placed.each k other before
-        ∙ ap (λ (p : Place). Some p.name.now) (sym (get_or_append_left places (place ∷ []) other k before))
+        ∙ ap (λ (p : EndPlace). Some p.name.now) (sym (get_or_append_left places (place ∷ []) other k before))
     | inr past ↦
         let last : k ≡ length places = omega (arith, length-append places (place ∷ []), inside, past) in
         let same : k ≡ number = omega (arith, last, placed.count) in
         ap (λ (n : ℕ). name_for named n (length ends)) same ∙ name
-        ∙ ap (λ (p : Place). Some p.name.now)
+        ∙ ap (λ (p : EndPlace). Some p.name.now)
         (sym (ap (λ (n : ℕ). get_or (places ++ place ∷ []) n other) last ∙ get_or-append_seam places place [] other))
   ];
   formats = All-push (HasFormat d words) places place placed.formats format;
 }
 
 -- all places go by what the options name
-pub all_placed : (ends : Ends) (d : Document) (names files words : List (List ℕ)) (named : List NamedEnd)
-    (places : List Place) → ends_named ends d names ≡ Ok (map (λ end. end.number) named)
+pub all_placed : (ends : EndKind) (d : Document) (names files words : List (List ℕ)) (named : List NamedEnd)
+    (places : List EndPlace) → ends_named ends d names ≡ Ok (map (λ end. end.number) named)
     → map (λ end. end.file.now) named ≡ files → AllPlaced d named words (end_numbers (is_end ends) d.tables) places
-    → ArePlaces ends d names files words places
+    → ArePlacesOfEnds ends d names files words places
 all_placed ends d names files words named places numbers given placed =
     let all = end_numbers (is_end ends) d.tables in
     record {
@@ -74,21 +74,21 @@ zipped_more R xs ys i x y so_far below at is =
     (AllZip-push R (take i xs) ys x y so_far is)
 
 -- places go by the names and the files of options
-pub placed_by : (ends : Ends) (d : Document) (names others files others_files words others_words : List (List ℕ))
-    (places : List Place) → names ≡ others → files ≡ others_files → words ≡ others_words
-    → ArePlaces ends d names files words places → ArePlaces ends d others others_files others_words places
+pub placed_by : (ends : EndKind) (d : Document) (names others files others_files words others_words : List (List ℕ))
+    (places : List EndPlace) → names ≡ others → files ≡ others_files → words ≡ others_words
+    → ArePlacesOfEnds ends d names files words places → ArePlacesOfEnds ends d others others_files others_words places
 placed_by ends d names others files others_files words others_words places same same_files same_words are =
-    subst (λ ns. ArePlaces ends d ns others_files others_words places) same
-    (subst (λ fs. ArePlaces ends d names fs others_words places) same_files
-    (subst (λ ws. ArePlaces ends d names files ws places) same_words are))
+    subst (λ ns. ArePlacesOfEnds ends d ns others_files others_words places) same
+    (subst (λ fs. ArePlacesOfEnds ends d names fs others_words places) same_files
+    (subst (λ ws. ArePlacesOfEnds ends d names files ws places) same_words are))
 
 -- what holds of the first places holds of one more
-pub all_next : (P : Place → Type 0) (places : List Place) (i : ℕ) (d : Place) → i < length places
+pub all_next : (P : EndPlace → Type 0) (places : List EndPlace) (i : ℕ) (d : EndPlace) → i < length places
     → All P (take i places) → P (get_or places i d) → All P (take (i + 1) places)
 all_next P places i d below before more =
     subst (All P) (sym (take_more places i d below)) (All-push P (take i places) (get_or places i d) before more)
 
-pub pairs_next : (R : Place → Place → Type 0) (places : List Place) (i : ℕ) (d : Place) → i < length places
+pub pairs_next : (R : EndPlace → EndPlace → Type 0) (places : List EndPlace) (i : ℕ) (d : EndPlace) → i < length places
     → AllPairs R (take i places) → All (λ earlier. R earlier (get_or places i d)) (take i places)
     → AllPairs R (take (i + 1) places)
 pairs_next R places i d below pairs all =
@@ -136,9 +136,9 @@ words_kept p sources asked handed files given words is same kept same_given are 
 -- the words that were asked are those of the request
 pub asked_are : (asked : FileWords) (request : StreamRequest) → asked.file ≡ request.file
     → asked.sources ≡ filter (λ word. not (names_standard word)) request.sources
-    → asked.sinks ≡ request.sinks → asked.trace ≡ request.trace → asked ≡ words_of request
+    → asked.sinks ≡ request.sinks → asked.trace ≡ request.trace → asked ≡ stream_words_of request
 asked_are asked request file sources sinks trace =
-    let own = words_of request in
+    let own = stream_words_of request in
     ap (λ (f : List ℕ). record asked { file = f }) file
     ∙ ap (λ (s : List (List ℕ)). record asked { file = own.file; sources = s }) sources
     ∙ ap (λ (s : List (List ℕ)). record asked { file = own.file; sources = own.sources; sinks = s }) sinks
@@ -155,7 +155,7 @@ zipped_set R (x ∷ xs) (z ∷ ys) (suc i) d y are below same =
     (are.0, zipped_set R xs ys i d y are.1 (omega arith) same)
 
 -- an output whose file keeps its name stays one for its place
-pub still_for : {G : Type 0} (goes_to : G → List ℕ) (request : StreamRequest) (place : Place) (old new : Output G)
+pub still_for : {G : Type 0} (goes_to : G → List ℕ) (request : StreamRequest) (place : EndPlace) (old new : SinkOutput G)
     → new.channel ≡ old.channel → new.format ≡ old.format → new.bytes ≡ old.bytes
     → KeepsName goes_to old.file new.file → IsOutputFor goes_to request place old → IsOutputFor goes_to request place new
 still_for {G} goes_to request place old new channel format bytes name is = record {
@@ -180,20 +180,20 @@ all_more P xs i y all below is =
 
 -- one output more hands on what it kept
 pub handed_more : {K : Type 0} (flushes : K → ℕ → Result (Unit {0}) SinkFault → K → Type 0) (first : K)
-    (places : List Place) (i : ℕ) (lost : List Lost) (answer : Result (Unit {0}) SinkFault) (before now : K)
-    (place : Place) (listed : List Lost)
-    → HandedOn flushes first (map (λ (p : Place). p.channel) (take i places)) lost before → i < length places
+    (places : List EndPlace) (i : ℕ) (lost : List Lost) (answer : Result (Unit {0}) SinkFault) (before now : K)
+    (place : EndPlace) (listed : List Lost)
+    → HandedOn flushes first (map (λ (p : EndPlace). p.channel) (take i places)) lost before → i < length places
     → place ≡ get_or places i place → flushes before place.channel answer now
     → listed ≡ lost ++ losses place.channel answer
-    → HandedOn flushes first (map (λ (p : Place). p.channel) (take (i + 1) places)) listed now
+    → HandedOn flushes first (map (λ (p : EndPlace). p.channel) (take (i + 1) places)) listed now
 handed_more flushes first places i lost answer before now place listed so_far below at does lists =
     subst (λ (cs : List ℕ). HandedOn flushes first cs listed now)
     (sym
-    (ap (map (λ (p : Place). p.channel)) (take_more places i place below ∙ ap (λ p. take i places ++ p ∷ []) (sym at))
-    ∙ map-append (λ (p : Place). p.channel) (take i places) (place ∷ [])))
+    (ap (map (λ (p : EndPlace). p.channel)) (take_more places i place below ∙ ap (λ p. take i places ++ p ∷ []) (sym at))
+    ∙ map-append (λ (p : EndPlace). p.channel) (take i places) (place ∷ [])))
     (subst
     (λ (ls : List Lost).
-    HandedOn flushes first (map (λ (p : Place). p.channel) (take i places) ++ place.channel ∷ []) ls now)
+    HandedOn flushes first (map (λ (p : EndPlace). p.channel) (take i places) ++ place.channel ∷ []) ls now)
     (sym lists) (one_more _ place.channel lost answer before now so_far does))
 
 -- it loses at most one thing

@@ -4,7 +4,7 @@ use Rattle.kpn_text.specs.Document.{Document}
 use Rattle.kpn_shelf.specs.Shelf.{Aliases}
 use Rattle.kpn_command_base.specs.declared.refusal.Refusal.{Refusal}
 use Rattle.kpn_command_base.specs.declared.refusal.Refusal.TheVariants as refusal
-use Rattle.kpn_command_base.specs.declared.sources.Ends.{Ends}
+use Rattle.kpn_command_base.specs.declared.sources.EndKind.{EndKind}
 use Rattle.kpn_command_base.specs.declared.sources.NamedEnd.{NamedEnd}
 use Rattle.kpn_command_base.specs.Outputs.{FileWords, IsRefusalOfOutputs}
 use Rattle.kpn_command_base.specs.Sources.{ends_named, is_end}
@@ -12,22 +12,22 @@ use Rattle.kpn_command_base.specs.StreamRequest.{StreamRequest}
 use Rattle.kpn_stream.specs.Ending.{end_numbers}
 use Rattle.kpn_command_stream.specs.declared.refusal.StreamRefusal.{StreamRefusal}
 use Rattle.kpn_command_stream.specs.declared.refusal.StreamRefusal.TheVariants.{Common, Unnamed, SharedInput, FormatWord}
-use Rattle.kpn_command_stream.specs.Words.{words_of}
+use Rattle.kpn_command_stream.specs.Words.{stream_words_of}
 use Rattle.kpn_command_stream.specs.Causes.{AreWordsRefused, IsUnplaced, IsUnplacedBy}
 
 module _ (may_alias : Aliases) (request : StreamRequest) where
   -- an output may be written over an input or into another output
-  pub output_word : (asked : FileWords) → asked ≡ words_of request → (r : Refusal)
+  pub output_word : (asked : FileWords) → asked ≡ stream_words_of request → (r : Refusal)
       → IsRefusalOfOutputs may_alias asked r → AreWordsRefused may_alias request r
   output_word asked same r cause = made (subst (λ a. IsRefusalOfOutputs may_alias a r) same cause)
     where
-      made : IsRefusalOfOutputs may_alias (words_of request) r → AreWordsRefused may_alias request r
+      made : IsRefusalOfOutputs may_alias (stream_words_of request) r → AreWordsRefused may_alias request r
       made (inl trace) = subst (AreWordsRefused may_alias request) (sym trace.0) (inr trace.1)
       made (inr (inl sink)) = subst (AreWordsRefused may_alias request) (sym sink.0) sink.1
       made (inr (inr none)) = subst (AreWordsRefused may_alias request) (sym none) tt
 
 -- by the ends that options name
-pub unplaced : (ends : Ends) (d : Document) (names : List (List ℕ)) (named : List NamedEnd)
+pub unplaced : (ends : EndKind) (d : Document) (names : List (List ℕ)) (named : List NamedEnd)
     → ends_named ends d names ≡ Ok (map (λ end. end.number) named) → (r : StreamRefusal)
     → IsUnplacedBy ends named (length (end_numbers (is_end ends) d.tables)) r → IsUnplaced ends d names r
 unplaced ends d names named numbers (Common refusal.NoMemory) cause = tt

@@ -7,9 +7,9 @@ use Rattle.std.proofs.lemmas.List.Elements.{All-map, All-push}
 use Rattle.std.proofs.lemmas.List.Quantifiers.{all_pairs_push}
 use Rattle.kpn_text.specs.Document.{Document}
 use Rattle.kpn_command_base.specs.declared.sources.NamedEnd.{NamedEnd}
-use Rattle.kpn_command_stream.specs.declared.places.Place.{Place}
-use Rattle.kpn_command_stream.specs.Places.{ArePlaced, HasFormat, name_for}
-use Rattle.kpn_command_stream.specs.Formats.{AreForEnds, IsForEnd, end_in}
+use Rattle.kpn_command_stream.specs.declared.places.EndPlace.{EndPlace}
+use Rattle.kpn_command_stream.specs.EndPlaces.{ArePlaced, HasFormat, name_for}
+use Rattle.kpn_command_stream.specs.Formats.{AreForEnds, IsForEnd, format_end}
 
 -- one more word is for other ends than those before it
 pub pair_more : (R : Bor (List ℕ) → Bor (List ℕ) → Type 0) (words : List (Bor (List ℕ))) (i : ℕ) (word : Bor (List ℕ))
@@ -36,20 +36,20 @@ All-unmap P f xs all k d below =
 
 -- the words of a request are for ends
 pub for_ends : (d : Document) (words : List (Bor (List ℕ))) → All (λ word. IsForEnd d word.now) words
-    → AllPairs (λ word later. end_in word.now ≢ end_in later.now) words → AreForEnds d (map (λ word. word.now) words)
+    → AllPairs (λ word later. format_end word.now ≢ format_end later.now) words → AreForEnds d (map (λ word. word.now) words)
 for_ends d words ends apart = record {
   ends = All-map (IsForEnd d) (λ word. word.now) words ends;
-  apart = pairs_map (λ word later. end_in word ≢ end_in later) (λ word. word.now) words apart;
+  apart = pairs_map (λ word later. format_end word ≢ format_end later) (λ word. word.now) words apart;
 }
 
 -- one more end has its place
 pub placed_more : (d : Document) (named : List NamedEnd) (words : List (List ℕ)) (ends : List ℕ) (number : ℕ)
-    (places : List Place) (place : Place) → ArePlaced d named words ends number places → number < length ends
+    (places : List EndPlace) (place : EndPlace) → ArePlaced d named words ends number places → number < length ends
     → place.channel ≡ get_or ends number 0 → name_for named number (length ends) ≡ Some place.name.now
     → HasFormat d words place → ArePlaced d named words ends (number + 1) (places ++ place ∷ [])
 placed_more d named words ends number places place before below channel name format = record {
   channels =
-      map-append (λ (p : Place). p.channel) places (place ∷ [])
+      map-append (λ (p : EndPlace). p.channel) places (place ∷ [])
       ∙ ap (λ (ns : List ℕ). ns ++ place.channel ∷ []) before.channels
       ∙ ap (λ (n : ℕ). take number ends ++ n ∷ []) channel ∙ sym (take_more ends number 0 below);
   count = omega (arith, length-append places (place ∷ []), before.count);
@@ -57,15 +57,15 @@ placed_more d named words ends number places place before below channel name for
   formats = All-push (HasFormat d words) places place before.formats format;
 }
   where
-    each : (k : ℕ) (any : Place) → k < length (places ++ place ∷ [])
+    each : (k : ℕ) (any : EndPlace) → k < length (places ++ place ∷ [])
         → name_for named k (length ends) ≡ Some (get_or (places ++ place ∷ []) k any).name.now
     each k any within = elim (cases_lt k (length places)) [
       | inl less ↦
           before.each k any less
-          ∙ ap (λ (p : Place). Some p.name.now) (sym (get_or_append_left places (place ∷ []) any k less))
+          ∙ ap (λ (p : EndPlace). Some p.name.now) (sym (get_or_append_left places (place ∷ []) any k less))
       | inr least ↦
           let last : k ≡ number = omega (arith, least, within, length-append places (place ∷ []), before.count) in
           ap (λ (n : ℕ). name_for named n (length ends)) last ∙ name
-          ∙ ap (λ (p : Place). Some p.name.now)
+          ∙ ap (λ (p : EndPlace). Some p.name.now)
           (sym (get_or_at places place [] any k (omega (arith, last, before.count))))
     ]

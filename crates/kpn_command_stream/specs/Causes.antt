@@ -5,10 +5,10 @@ use Rattle.kpn_text.specs.Document.{Document}
 use Rattle.kpn_shelf.specs.Shelf.{Loads, Aliases, IsRefusalOfLoad}
 use Rattle.kpn_command_base.specs.declared.refusal.Refusal.{Refusal}
 use Rattle.kpn_command_base.specs.declared.refusal.Refusal.TheVariants as refusal
-use Rattle.kpn_command_base.specs.declared.sources.Ends.{Ends}
-use Rattle.kpn_command_base.specs.declared.sources.Ends.TheVariants.{Sources, Sinks}
+use Rattle.kpn_command_base.specs.declared.sources.EndKind.{EndKind}
+use Rattle.kpn_command_base.specs.declared.sources.EndKind.TheVariants.{Sources, Sinks}
 use Rattle.kpn_command_base.specs.declared.sources.NamedEnd.{NamedEnd}
-use Rattle.kpn_command_base.specs.Description.{IsDescribed, IsRefused}
+use Rattle.kpn_command_base.specs.Description.{IsDescribed, IsRefusedDescription}
 use Rattle.kpn_command_base.specs.Outputs.{IsRefusedTrace, IsRefusedSink}
 use Rattle.kpn_command_base.specs.Sources.{LacksEquals, ends_named, is_end, name_in}
 use Rattle.kpn_command_base.specs.StreamRequest.{StreamRequest}
@@ -16,8 +16,8 @@ use Rattle.kpn_stream.specs.Ending.{end_numbers}
 use Rattle.kpn_command_stream.specs.declared.refusal.StreamRefusal.{StreamRefusal}
 use Rattle.kpn_command_stream.specs.declared.refusal.StreamRefusal.TheVariants.{Common, Unnamed, SharedInput, FormatWord}
 use Rattle.kpn_command_stream.specs.Formats.{SaysFormat}
-use Rattle.kpn_command_stream.specs.Places.{name_for, standard}
-use Rattle.kpn_command_stream.specs.Words.{words_of}
+use Rattle.kpn_command_stream.specs.EndPlaces.{name_for, standard}
+use Rattle.kpn_command_stream.specs.Words.{stream_words_of}
 
 -- ---- the words
 
@@ -25,23 +25,23 @@ use Rattle.kpn_command_stream.specs.Words.{words_of}
 -- be written over an input or into another output, or a word has no `=`, or memory ran out
 abbrev pub AreWordsRefused : (may_alias : Aliases) → StreamRequest → Refusal → Type 0
 AreWordsRefused may_alias request refusal.TraceWord =
-    (request.trace ≡ Some standard) ⊎ IsRefusedTrace may_alias (words_of request)
+    (request.trace ≡ Some standard) ⊎ IsRefusedTrace may_alias (stream_words_of request)
 AreWordsRefused may_alias request refusal.SourceWord = Any LacksEquals request.sources
-AreWordsRefused may_alias request refusal.SinkWord = IsRefusedSink may_alias (words_of request)
+AreWordsRefused may_alias request refusal.SinkWord = IsRefusedSink may_alias (stream_words_of request)
 AreWordsRefused may_alias request refusal.NoMemory = ⊤
 AreWordsRefused may_alias request other = ⊥
 
 -- ---- the places
 
 -- no option names an end, and it is not the only one
-pub record LacksName (ends : Ends) (d : Document) (names : List (List ℕ)) : Type 0 where
+pub record LacksName (ends : EndKind) (d : Document) (names : List (List ℕ)) : Type 0 where
   pub named : List NamedEnd
   pub numbers : ends_named ends d names ≡ Ok (map (λ end. end.number) named)
   pub number : ℕ
   pub none : name_for named number (length (end_numbers (is_end ends) d.tables)) ≡ None
 
 -- such ends have no places: a name is no such end, or was named before; or an end lacks one; or a format is none
-abbrev pub IsUnplaced : Ends → Document → (names : List (List ℕ)) → StreamRefusal → Type 0
+abbrev pub IsUnplaced : EndKind → Document → (names : List (List ℕ)) → StreamRefusal → Type 0
 IsUnplaced ends d names (Common (refusal.Names fault)) = ends_named ends d names ≡ Err fault
 IsUnplaced ends d names (Common refusal.NoMemory) = ⊤
 IsUnplaced ends d names (Common other) = ⊥
@@ -52,11 +52,11 @@ IsUnplaced ends d names SharedInput = ⊥
 -- ---- the network
 
 -- an input or an output can't be opened, made ready or emptied, or memory ran out: nothing is known of devices
-abbrev pub IsOfDevice : Refusal → Type 0
-IsOfDevice (refusal.Input fault) = ⊤
-IsOfDevice (refusal.Output fault) = ⊤
-IsOfDevice refusal.NoMemory = ⊤
-IsOfDevice other = ⊥
+abbrev pub IsDeviceRefusal : Refusal → Type 0
+IsDeviceRefusal (refusal.Input fault) = ⊤
+IsDeviceRefusal (refusal.Output fault) = ⊤
+IsDeviceRefusal refusal.NoMemory = ⊤
+IsDeviceRefusal other = ⊥
 
 -- A network is not streamed, by the names of its sources and sinks in the options: of either some have no places; or
 -- two sources have one input, or words behind `--format` are for no end or for the same, of which nothing is said; or a
@@ -64,7 +64,7 @@ IsOfDevice other = ⊥
 abbrev pub IsUnstreamed : Document → (sources sinks : List (List ℕ)) → StreamRefusal → Type 0
 IsUnstreamed d sources sinks (Common (refusal.Names fault)) =
     (ends_named Sources d sources ≡ Err fault) ⊎ (ends_named Sinks d sinks ≡ Err fault)
-IsUnstreamed d sources sinks (Common other) = IsOfDevice other
+IsUnstreamed d sources sinks (Common other) = IsDeviceRefusal other
 IsUnstreamed d sources sinks (Unnamed Sources name) = LacksName Sources d sources
 IsUnstreamed d sources sinks (Unnamed Sinks name) = LacksName Sinks d sinks
 IsUnstreamed d sources sinks SharedInput = ⊤
@@ -90,7 +90,7 @@ IsUnbegun may_give may_alias request (Common refusal.SourceWord) =
 IsUnbegun may_give may_alias request (Common refusal.SinkWord) =
     AreWordsRefused may_alias request refusal.SinkWord
 IsUnbegun may_give may_alias request (Common refusal.NoMemory) = ⊤
-IsUnbegun may_give may_alias request (Common (refusal.Description fault)) = IsRefused may_give request.file fault
+IsUnbegun may_give may_alias request (Common (refusal.Description fault)) = IsRefusedDescription may_give request.file fault
 IsUnbegun may_give may_alias request (Common (refusal.Input fault)) =
     IsRefusalOfLoad may_give request.file fault ⊎ IsOfNetwork may_give request (Common (refusal.Input fault))
 IsUnbegun may_give may_alias request cause = IsOfNetwork may_give request cause
@@ -98,7 +98,7 @@ IsUnbegun may_give may_alias request cause = IsOfNetwork may_give request cause
 -- ---- scaffolding
 
 -- such ends, so many of which these are named, have no places
-abbrev pub IsUnplacedBy : Ends → List NamedEnd → (count : ℕ) → StreamRefusal → Type 0
+abbrev pub IsUnplacedBy : EndKind → List NamedEnd → (count : ℕ) → StreamRefusal → Type 0
 IsUnplacedBy ends named count (Common refusal.NoMemory) = ⊤
 IsUnplacedBy ends named count (Common other) = ⊥
 IsUnplacedBy ends named count (Unnamed these name) =
@@ -107,7 +107,7 @@ IsUnplacedBy ends named count FormatWord = ⊤
 IsUnplacedBy ends named count SharedInput = ⊥
 
 -- the end lacks a name, or there is no memory to say so
-abbrev pub IsUnnamed : Ends → StreamRefusal → Type 0
+abbrev pub IsUnnamed : EndKind → StreamRefusal → Type 0
 IsUnnamed ends (Common refusal.NoMemory) = ⊤
 IsUnnamed ends (Common other) = ⊥
 IsUnnamed ends (Unnamed these name) = these ≡ ends

@@ -13,7 +13,7 @@ use Rattle.kpn_command_base.specs.StreamRequest.{StreamRequest}
 use Rattle.kpn_command_base.specs.declared.refusal.Refusal.{Refusal}
 use Rattle.kpn_command_base.specs.Stored.{Stores}
 use Rattle.kpn_shelf.specs.Shelf.{Loads, Aliases}
-use Rattle.kpn_command_base.specs.declared.sources.Ends.TheVariants.{Sources, Sinks}
+use Rattle.kpn_command_base.specs.declared.sources.EndKind.TheVariants.{Sources, Sinks}
 use Rattle.kpn_command_base.specs.Description.{IsDescribed}
 use Rattle.kpn_command_base.specs.Sources.{name_in, file_in}
 use Rattle.kpn_stream.specs.declared.faults.SinkFault.{SinkFault}
@@ -21,26 +21,26 @@ use Rattle.kpn_stream.specs.declared.faults.SinkFault.TheVariants.{Gone}
 use Rattle.kpn_stream.specs.declared.ending.StreamEnding.{StreamEnding}
 use Rattle.kpn_stream.specs.Devices.{Fed, Served, Called, EndsFlushed}
 use Rattle.kpn_stream.specs.Ending.{failed_source, failed_sink, IsEnding, LeavesNothing}
-use Rattle.kpn_stream_devices.specs.declared.inputs.Input.{Input}
-use Rattle.kpn_stream_devices.specs.declared.inputs.Inputs.{Inputs}
-use Rattle.kpn_stream_devices.specs.declared.outputs.Output.{Output}
-use Rattle.kpn_stream_devices.specs.declared.outputs.Outputs.{Outputs}
+use Rattle.kpn_stream_devices.specs.declared.inputs.SourceInput.{SourceInput}
+use Rattle.kpn_stream_devices.specs.declared.inputs.SourceInputs.{SourceInputs}
+use Rattle.kpn_stream_devices.specs.declared.outputs.SinkOutput.{SinkOutput}
+use Rattle.kpn_stream_devices.specs.declared.outputs.SinkOutputs.{SinkOutputs}
 use Rattle.kpn_stream_devices.specs.Formats.{head_bytes}
 use Rattle.kpn_stream_devices.specs.declared.formats.ItemFormat.{ItemFormat}
 use Rattle.kpn_stream_devices.specs.Window.{fresh}
-use Rattle.kpn_stream_devices.specs.Inputs.{InputsGive, InputsLook, IsAtHand}
-use Rattle.kpn_stream_devices.specs.Outputs.{OutputsTake, OutputsFlush}
-use Rattle.kpn_command_stream.specs.declared.places.Place.{Place}
-use Rattle.kpn_command_stream.specs.declared.places.Places.{Places}
+use Rattle.kpn_stream_devices.specs.SourceInputs.{InputsGive, InputsLook, IsAtHand}
+use Rattle.kpn_stream_devices.specs.SinkOutputs.{OutputsTake, OutputsFlush}
+use Rattle.kpn_command_stream.specs.declared.places.EndPlace.{EndPlace}
+use Rattle.kpn_command_stream.specs.declared.places.EndPlaces.{EndPlaces}
 use Rattle.kpn_command_stream.specs.declared.command.Words.{Words}
 use Rattle.kpn_command_stream.specs.declared.ending.Over.{Over}
 use Rattle.kpn_command_stream.specs.declared.running.Lost.{Lost}
 use Rattle.kpn_command_stream.specs.declared.refusal.StreamRefusal.{StreamRefusal}
 use Rattle.kpn_command_stream.specs.Refusal.{refusal_status, ending_fault, lost_fault, trace_fault}
-use Rattle.kpn_command_stream.specs.Refusal.{summary_fault, first_of}
+use Rattle.kpn_command_stream.specs.Refusal.{summary_fault, first_status}
 use Rattle.kpn_command_stream.specs.Formats.{AreForEnds, SaysFormat}
-use Rattle.kpn_command_stream.specs.Places.{standard, ArePlaces, HaveOwnInputs}
-use Rattle.kpn_command_stream.specs.Words.{AreOutputsApart}
+use Rattle.kpn_command_stream.specs.EndPlaces.{standard, ArePlacesOfEnds, HaveOwnInputs}
+use Rattle.kpn_command_stream.specs.Words.{AreStreamOutputsApart}
 use Rattle.kpn_command_stream.specs.Causes.{IsUnbegun}
 use Rattle.kpn_command_stream.specs.Summary.{stream_status}
 use Rattle.kpn_command_stream.specs.Ending.{IsOver}
@@ -48,24 +48,24 @@ use Rattle.kpn_command_stream.specs.Ending.{IsOver}
 -- ---- what is known of devices
 
 -- which two names are those of two inputs, and by which names files were opened
-pub record Names (S F G : Type 0) : Type 1 where
+pub record DeviceNames (S F G : Type 0) : Type 1 where
   pub are_two_inputs : S → List ℕ → List ℕ → Type 0
   pub comes_from : F → List ℕ
   pub goes_to : G → List ℕ
 
 -- what is known of the bytes of the devices: what those for input have left, and what those for output hold
-pub record Known (I F O G : Type 0) : Type 0 where
+pub record KnownOfDevices (I F O G : Type 0) : Type 0 where
   pub left : I → Option (List ℕ)
   pub left_in : F → Option (List ℕ)
   pub holds : O → Option (List ℕ)
   pub holds_in : G → Option (List ℕ)
 
-abbrev pub names_of : {S F G : Type 0} → (S → List ℕ → List ℕ → Type 0) → (F → List ℕ) → (G → List ℕ) → Names S F G
+abbrev pub names_of : {S F G : Type 0} → (S → List ℕ → List ℕ → Type 0) → (F → List ℕ) → (G → List ℕ) → DeviceNames S F G
 names_of are_two_inputs comes_from goes_to =
     record { are_two_inputs = are_two_inputs; comes_from = comes_from; goes_to = goes_to }
 
 abbrev pub known_of : {I F O G : Type 0} → (I → Option (List ℕ)) → (F → Option (List ℕ)) → (O → Option (List ℕ))
-    → (G → Option (List ℕ)) → Known I F O G
+    → (G → Option (List ℕ)) → KnownOfDevices I F O G
 known_of left left_in holds holds_in = record { left = left; left_in = left_in; holds = holds; holds_in = holds_in }
 
 -- ---- the devices at the beginning
@@ -84,7 +84,7 @@ IsOutputOf goes_to name (Some file) = (name ≢ standard) × (goes_to file ≡ n
 
 -- the input of a place: nothing was read
 pub record IsInputFor {F : Type 0} (may_give : Loads) (comes_from : F → List ℕ) (left_in : F → Option (List ℕ))
-    (place : Place) (input : Input F) : Type 0 where
+    (place : EndPlace) (input : SourceInput F) : Type 0 where
   pub channel : input.channel ≡ place.channel
   pub format : input.format ≡ place.format
   pub file : IsInputOf may_give comes_from left_in place.name.now input.file
@@ -96,7 +96,7 @@ abbrev pub first_bytes : ItemFormat → StreamRequest → List ℕ
 first_bytes format request = head_bytes format (unwrap_or request.rate 48000) (unwrap_or request.channels 1)
 
 -- the output of a place, as the request asks for: only what it begins with is kept
-pub record IsOutputFor {G : Type 0} (goes_to : G → List ℕ) (request : StreamRequest) (place : Place) (output : Output G)
+pub record IsOutputFor {G : Type 0} (goes_to : G → List ℕ) (request : StreamRequest) (place : EndPlace) (output : SinkOutput G)
     : Type 0 where
   pub channel : output.channel ≡ place.channel
   pub format : output.format ≡ record { items = place.format; clips = request.clips }
@@ -104,20 +104,20 @@ pub record IsOutputFor {G : Type 0} (goes_to : G → List ℕ) (request : Stream
   pub bytes : output.bytes.items ≡ first_bytes place.format request
 
 -- each output stays the one of its place
-abbrev pub StayOutputs : {G : Type 0} → (goes_to : G → List ℕ) → List Place → (before after : List (Output G)) → Type 0
+abbrev pub StayOutputs : {G : Type 0} → (goes_to : G → List ℕ) → List EndPlace → (before after : List (SinkOutput G)) → Type 0
 StayOutputs goes_to places before after =
     (request : StreamRequest) → AllZip (IsOutputFor goes_to request) places before
     → AllZip (IsOutputFor goes_to request) places after
 
 -- its file, if it has one, holds nothing
-abbrev pub IsEmptied : {G : Type 0} → (holds_in : G → Option (List ℕ)) → Output G → Type 0
+abbrev pub IsEmptied : {G : Type 0} → (holds_in : G → Option (List ℕ)) → SinkOutput G → Type 0
 IsEmptied holds_in output = IfSome output.file (λ file. IfSome (holds_in file) (λ bytes. bytes ≡ []))
 
 -- ---- the run
 
 -- a stream has the limits that are asked for, and no end of its own
-abbrev pub limits_of : StreamRequest → Limits
-limits_of request = record {
+abbrev pub stream_limits_of : StreamRequest → Limits
+stream_limits_of request = record {
   commits = unwrap_or request.commits (2 ^ 64 - 1);
   take = request.take;
   quota = 1000;
@@ -138,14 +138,14 @@ pub data HandedOn {K : Type 0} (flushes : K → ℕ → Result (Unit {0}) SinkFa
       HandedOn flushes first (sinks ++ c ∷ []) (lost ++ losses c answer) now
 
 -- what outputs do that hand on what they kept
-abbrev pub flushes_of : {O G : Type 0} → (O → Option (List ℕ)) → (G → Option (List ℕ)) → Outputs O G → ℕ
-    → Result (Unit {0}) SinkFault → Outputs O G → Type 0
+abbrev pub flushes_of : {O G : Type 0} → (O → Option (List ℕ)) → (G → Option (List ℕ)) → SinkOutputs O G → ℕ
+    → Result (Unit {0}) SinkFault → SinkOutputs O G → Type 0
 flushes_of holds holds_in = OutputsFlush holds holds_in
 
 -- The network ran over these devices, under these limits, from the beginning to this ending. Then the outputs of these
 -- sinks handed on what they kept, and this was lost.
-pub record RanOver {I F O G : Type 0} (known : Known I F O G) (limits : Limits) (t : Tables) (sinks : List ℕ)
-    (inputs : Inputs I F) (read : Inputs I F) (outputs : Outputs O G) (written : Outputs O G)
+pub record RanOver {I F O G : Type 0} (known : KnownOfDevices I F O G) (limits : Limits) (t : Tables) (sinks : List ℕ)
+    (inputs : SourceInputs I F) (read : SourceInputs I F) (outputs : SinkOutputs O G) (written : SinkOutputs O G)
     (ending : StreamEnding) (b : Book) (lost : List Lost) : Type 0 where
   pub same_input : read.standard.ghost_name ≡ inputs.standard.ghost_name
   pub same_output : written.standard.ghost_name ≡ outputs.standard.ghost_name
@@ -153,7 +153,7 @@ pub record RanOver {I F O G : Type 0} (known : Known I F O G) (limits : Limits) 
   pub book : IsBook b
   pub fed : Fed t (InputsGive known.left known.left_in) (InputsLook known.left known.left_in) inputs b.history
       (failed_source (Some ending)) read
-  pub served : Outputs O G
+  pub served : SinkOutputs O G
   pub is_served : Served (OutputsTake known.holds known.holds_in) (OutputsFlush known.holds known.holds_in)
       limits.take outputs b.history (failed_sink (Some ending)) served
   pub called : Called t (InputsGive known.left known.left_in) (InputsLook known.left known.left_in) IsAtHand
@@ -168,14 +168,14 @@ pub record RanOver {I F O G : Type 0} (known : Known I F O G) (limits : Limits) 
 
 -- The same, over standard input and output and these files. Standard input and output are given as they were, and as
 -- they are afterwards: they are those of the first and of the last devices.
-pub record Ran {I F O G : Type 0} (known : Known I F O G) (request : StreamRequest) (t : Tables) (sinks : List ℕ)
-    (inputs : List (Input F)) (outputs : List (Output G)) (input read : I) (out written : O) (ending : StreamEnding)
+pub record RanOverFiles {I F O G : Type 0} (known : KnownOfDevices I F O G) (request : StreamRequest) (t : Tables) (sinks : List ℕ)
+    (inputs : List (SourceInput F)) (outputs : List (SinkOutput G)) (input read : I) (out written : O) (ending : StreamEnding)
     (b : Book) (lost : List Lost) : Type 0 where
-  pub first_input : Inputs I F
-  pub last_input : Inputs I F
-  pub first_output : Outputs O G
-  pub last_output : Outputs O G
-  pub ran : RanOver known (limits_of request) t sinks first_input last_input first_output last_output ending b lost
+  pub first_input : SourceInputs I F
+  pub last_input : SourceInputs I F
+  pub first_output : SinkOutputs O G
+  pub last_output : SinkOutputs O G
+  pub ran : RanOver known (stream_limits_of request) t sinks first_input last_input first_output last_output ending b lost
   pub inputs_are : first_input.each.now.items ≡ inputs
   pub input_is : first_input.standard.now ≡ input
   pub input_read : last_input.standard.now ≡ read
@@ -184,19 +184,19 @@ pub record Ran {I F O G : Type 0} (known : Known I F O G) (request : StreamReque
   pub output_written : last_output.standard.now ≡ written
 
 -- the sinks of places, in order
-abbrev pub sinks_of : Places → List ℕ
+abbrev pub sinks_of : EndPlaces → List ℕ
 sinks_of places = map (λ place. place.channel) places.sinks.items
 
 -- the same, over standard input and output and the files of these places
-pub record RanAt {S I F O G : Type 0} (may_give : Loads) (names : Names S F G) (known : Known I F O G)
-    (request : StreamRequest) (t : Tables) (places : Places) (input read : I) (out written : O) (ending : StreamEnding)
+pub record RanAt {S I F O G : Type 0} (may_give : Loads) (names : DeviceNames S F G) (known : KnownOfDevices I F O G)
+    (request : StreamRequest) (t : Tables) (places : EndPlaces) (input read : I) (out written : O) (ending : StreamEnding)
     (b : Book) (lost : List Lost) : Type 0 where
-  pub inputs : List (Input F)
+  pub inputs : List (SourceInput F)
   pub are_inputs : AllZip (IsInputFor may_give names.comes_from known.left_in) places.sources.items inputs
-  pub outputs : List (Output G)
+  pub outputs : List (SinkOutput G)
   pub are_outputs : AllZip (IsOutputFor names.goes_to request) places.sinks.items outputs
   pub are_emptied : All (IsEmptied known.holds_in) outputs
-  pub ran : Ran known request t (sinks_of places) inputs outputs input read out written ending b lost
+  pub ran : RanOverFiles known request t (sinks_of places) inputs outputs input read out written ending b lost
 
 -- ---- the end
 
@@ -214,52 +214,52 @@ IsTraceKept may_give (Some name) t over shelf kept stored =
 abbrev pub end_status : StreamEnding → List Lost → (stored : Result (Unit {0}) Refusal) → (is_told : Bool) → Over → ℕ
 end_status ending lost stored is_told over =
     unwrap_or
-    (first_of (first_of (ending_fault ending) (lost_fault lost))
-    (first_of (trace_fault stored) (summary_fault is_told)))
+    (first_status (first_status (ending_fault ending) (lost_fault lost))
+    (first_status (trace_fault stored) (summary_fault is_told)))
     (stream_status over.sinks.items over.states over.rings over.outcome)
 
 -- A stream that has ended: what is told of it, its trace, and the status; or there was no memory for what is told, and
 -- no trace is stored.
-pub data IsConcluded {S : Type 0} (may_give : S → Loads) (request : StreamRequest) (t : Tables) (ending : StreamEnding)
+pub data IsStreamConcluded {S : Type 0} (may_give : S → Loads) (request : StreamRequest) (t : Tables) (ending : StreamEnding)
     (b : Book) (lost : List Lost) (shelf kept : S) (status : ℕ) : Type 0 where
-  told : (over : Over) → IsOver (limits_of request) request.stats ending b over → (stored : Result (Unit {0}) Refusal) →
+  told : (over : Over) → IsOver (stream_limits_of request) request.stats ending b over → (stored : Result (Unit {0}) Refusal) →
       IsTraceKept may_give request.trace t over shelf kept stored → (is_told : Bool) →
       status ≡ end_status ending lost stored is_told over →
-      IsConcluded may_give request t ending b lost shelf kept status
-  untold : kept ≡ shelf → status ≡ unwrap_or (first_of (ending_fault ending) (lost_fault lost)) 6 →
-      IsConcluded may_give request t ending b lost shelf kept status
+      IsStreamConcluded may_give request t ending b lost shelf kept status
+  untold : kept ≡ shelf → status ≡ unwrap_or (first_status (ending_fault ending) (lost_fault lost)) 6 →
+      IsStreamConcluded may_give request t ending b lost shelf kept status
 
 -- ---- the whole
 
 -- each source has the input that is asked for, and each sink the output, and their items are written so
-pub record AreAskedFor (request : StreamRequest) (d : Document) (places : Places) : Type 0 where
-  pub sources : ArePlaces Sources d (map name_in request.sources) (map file_in request.sources) request.formats
+pub record AreAskedFor (request : StreamRequest) (d : Document) (places : EndPlaces) : Type 0 where
+  pub sources : ArePlacesOfEnds Sources d (map name_in request.sources) (map file_in request.sources) request.formats
       places.sources.items
-  pub sinks : ArePlaces Sinks d (map name_in request.sinks) (map file_in request.sinks) request.formats
+  pub sinks : ArePlacesOfEnds Sinks d (map name_in request.sinks) (map file_in request.sinks) request.formats
       places.sinks.items
   pub formats : AreForEnds d request.formats
 
 -- A stream of this network. Given are the shelf, standard input and standard output, each as it was and as it is
 -- afterwards.
-pub record IsStreamedOf {S I F O G : Type 0} (may_give : S → Loads) (names : Names S F G) (known : Known I F O G)
+pub record IsStreamedOf {S I F O G : Type 0} (may_give : S → Loads) (names : DeviceNames S F G) (known : KnownOfDevices I F O G)
     (request : StreamRequest)
     (d : Document) (shelf kept : S) (input read : I) (out written : O) (status : ℕ) : Type 0 where
-  pub places : Places
+  pub places : EndPlaces
   pub asked_for : AreAskedFor request d places
   pub own_inputs : HaveOwnInputs (names.are_two_inputs shelf) places.sources.items
   pub ending : StreamEnding
   pub book : Book
   pub lost : List Lost
   pub ran : RanAt (may_give shelf) names known request d.tables places input read out written ending book lost
-  pub concluded : IsConcluded may_give request d.tables ending book lost shelf kept status
+  pub concluded : IsStreamConcluded may_give request d.tables ending book lost shelf kept status
 
 -- A stream of what is asked for.
-pub record IsStreamed {S I F O G : Type 0} (may_give : S → Loads) (names : Names S F G) (known : Known I F O G)
+pub record IsStreamed {S I F O G : Type 0} (may_give : S → Loads) (names : DeviceNames S F G) (known : KnownOfDevices I F O G)
     (request : StreamRequest)
     (shelf kept : S) (input read : I) (out written : O) (status : ℕ) : Type 0 where
   pub document : Document
   pub described : IsDescribed (may_give shelf) request.file document
-  pub apart : AreOutputsApart request
+  pub apart : AreStreamOutputsApart request
   pub trace : IfSome request.trace (λ name. name ≢ standard)
   pub formats : All SaysFormat request.formats
   pub streamed : IsStreamedOf may_give names known request document shelf kept input read out written status
@@ -271,8 +271,8 @@ pub record NothingBegun {S I O : Type 0} (shelf kept : S) (input read : I) (out 
   pub same_output : written ≡ out
 
 -- A stream; or nothing is begun for a cause that holds, and the refusal gives the status.
-pub data Streams {S I F O G : Type 0} (may_give : S → Loads) (may_alias : S → Aliases) (names : Names S F G)
-    (known : Known I F O G) (request : StreamRequest) (shelf kept : S) (input read : I) (out written : O) (status : ℕ)
+pub data Streams {S I F O G : Type 0} (may_give : S → Loads) (may_alias : S → Aliases) (names : DeviceNames S F G)
+    (known : KnownOfDevices I F O G) (request : StreamRequest) (shelf kept : S) (input read : I) (out written : O) (status : ℕ)
     : Type 0 where
   streamed : IsStreamed may_give names known request shelf kept input read out written status →
       Streams may_give may_alias names known request shelf kept input read out written status

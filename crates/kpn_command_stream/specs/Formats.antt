@@ -8,7 +8,7 @@ use Rattle.kpn_net.specs.Tables.{Tables, channel_at, is_source, is_sink}
 use Rattle.kpn_text_names.specs.Names.{number_of}
 use Rattle.kpn_text.specs.Document.{Document}
 use Rattle.kpn_command_base.specs.Sources.{name_in, file_in}
-use Rattle.kpn_stream_devices.specs.Formats.{Names}
+use Rattle.kpn_stream_devices.specs.Formats.{NamesFormat}
 use Rattle.kpn_stream_devices.specs.declared.formats.ItemFormat.{ItemFormat}
 
 -- a word has an `=` (byte 61)
@@ -41,12 +41,12 @@ abbrev pub format_in : (word : List ℕ) → List ℕ
 format_in word = if has_equals word then file_in word else word
 
 -- the end that it is for; nothing if it is for all
-abbrev pub end_in : (word : List ℕ) → List ℕ
-end_in word = if has_equals word then name_in word else []
+abbrev pub format_end : (word : List ℕ) → List ℕ
+format_end word = if has_equals word then name_in word else []
 
 -- it says a format that there is
 abbrev pub SaysFormat : (word : List ℕ) → Type 0
-SaysFormat word = (format : ItemFormat) × Names (format_in word) format
+SaysFormat word = (format : ItemFormat) × NamesFormat (format_in word) format
 
 -- this channel is a source or a sink
 abbrev pub is_end_at : Tables → Option ℕ → Bool
@@ -60,4 +60,4 @@ IsForEnd d word = has_equals word ≡ true → is_end_at d.tables (number_of d.n
 -- each word is, and no two are for the same ends
 pub record AreForEnds (d : Document) (words : List (List ℕ)) : Type 0 where
   pub ends : All (IsForEnd d) words
-  pub apart : AllPairs (λ word later. end_in word ≢ end_in later) words
+  pub apart : AllPairs (λ word later. format_end word ≢ format_end later) words

@@ -1,6 +1,6 @@
 pub mod Refusal
 pub mod Formats
-pub mod Places
+pub mod EndPlaces
 pub mod Summary
 pub mod Counters
 pub mod Ending

@@ -53,6 +53,6 @@ summary_fault true = None
 summary_fault false = Some 6
 
 -- the one that is told first
-abbrev pub first_of : Option ℕ → Option ℕ → Option ℕ
-first_of (Some status) later = Some status
-first_of None later = later
+abbrev pub first_status : Option ℕ → Option ℕ → Option ℕ
+first_status (Some status) later = Some status
+first_status None later = later

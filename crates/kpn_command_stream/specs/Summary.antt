@@ -35,13 +35,13 @@ AreSinkEnds b ends = AllZip (IsSinkEnd b) (end_numbers is_sink b.tables) ends
 -- ---- the status
 
 -- a process ended by a fault
-abbrev pub is_fault : State → Bool
-is_fault (state.Ended how.Done) = false
-is_fault (state.Ended end) = true
-is_fault other = false
+abbrev pub is_faulted : State → Bool
+is_faulted (state.Ended how.Done) = false
+is_faulted (state.Ended end) = true
+is_faulted other = false
 
 abbrev pub has_fault : List State → Bool
-has_fault states = list_any is_fault states
+has_fault states = list_any is_faulted states
 
 -- each sink is complete or was left
 abbrev pub are_done : List SinkEnd → Bool
@@ -66,8 +66,8 @@ sink_text name sink =
     codes "sink " ++ name ++ codes ": " ++ decimal sink.items
     ++ (if sink.is_complete then codes " items, complete\n" else codes " items, not complete\n")
 
-abbrev pub sinks_text : (names : List (List ℕ)) → List SinkEnd → List ℕ
-sinks_text names sinks = flat_map (λ sink. sink_text (name_at names sink.channel) sink) sinks
+abbrev pub sink_ends_text : (names : List (List ℕ)) → List SinkEnd → List ℕ
+sink_ends_text names sinks = flat_map (λ sink. sink_text (name_at names sink.channel) sink) sinks
 
 -- the names of processes, with a space before each
 abbrev pub members_text : (names : List (List ℕ)) → List ℕ → List ℕ
@@ -85,8 +85,8 @@ outcome_text (Some outcome) = outcome_word outcome ++ codes "\n"
 outcome_text None = []
 
 -- the sinks, the faults, the waits, the rings, and the outcome if there is one, each on a line
-abbrev pub summary_text : Document → List SinkEnd → List State → (rings : List (List ℕ)) → Option Outcome → List ℕ
-summary_text d sinks states rings outcome =
-    sinks_text d.names.channels sinks ++ state_lines fault_text d.names.instances 0 states
+abbrev pub stream_summary_text : Document → List SinkEnd → List State → (rings : List (List ℕ)) → Option Outcome → List ℕ
+stream_summary_text d sinks states rings outcome =
+    sink_ends_text d.names.channels sinks ++ state_lines fault_text d.names.instances 0 states
     ++ state_lines (wait_text d.names.channels) d.names.instances 0 states ++ rings_text d.names.instances rings
     ++ outcome_text outcome

@@ -6,15 +6,15 @@ use Rattle.kpn_command_base.specs.Outputs.{FileWords, AreAllApart}
 use Rattle.kpn_command_base.specs.Sources.{file_in}
 use Rattle.kpn_command_base.specs.StreamRequest.{StreamRequest}
 use Rattle.kpn_command_stream.specs.Formats.{has_equals}
-use Rattle.kpn_command_stream.specs.Places.{standard}
+use Rattle.kpn_command_stream.specs.EndPlaces.{standard}
 
 -- a word behind `--source` names standard input
 abbrev pub names_standard : (word : List ℕ) → Bool
 names_standard word = has_equals word && bytes_eq (file_in word) standard
 
 -- the words that name files; no output is one of these
-abbrev pub words_of : StreamRequest → FileWords
-words_of request = record {
+abbrev pub stream_words_of : StreamRequest → FileWords
+stream_words_of request = record {
   file = request.file;
   sources = filter (λ word. not (names_standard word)) request.sources;
   sinks = request.sinks;
@@ -22,5 +22,5 @@ words_of request = record {
 }
 
 -- no output has the name of an input, and no two have one name
-abbrev pub AreOutputsApart : StreamRequest → Type 0
-AreOutputsApart request = AreAllApart (words_of request)
+abbrev pub AreStreamOutputsApart : StreamRequest → Type 0
+AreStreamOutputsApart request = AreAllApart (stream_words_of request)

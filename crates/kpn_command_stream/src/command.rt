@@ -1,31 +1,32 @@
 //! The command: it opens the inputs and the outputs, runs the network over them, and concludes.
 ghost use Rattle.std.specs.Prelude.{◌≡◌, ◌≢◌, true, false, not, map, option_map, Some, IfOk, IfErr, IfSome, OnErr, OnOk};
 ghost use Rattle.std.specs.List.{filter};
-ghost use Rattle.kpn_command_base.specs.declared.sources.Ends.TheVariants as ends;
+ghost use Rattle.kpn_command_base.specs.declared.sources.EndKind.TheVariants as ends;
 ghost use Rattle.kpn_command_base.specs.Sources.{name_in, file_in};
 ghost use Rattle.kpn_command_base.specs.SourceRefusals.{IsRefusalOfWords};
 ghost use Rattle.kpn_command_stream.specs.Formats.{AreForEnds};
-ghost use Rattle.kpn_command_stream.specs.Places.{ArePlaces, HaveOwnInputs, standard};
-ghost use Rattle.kpn_command_stream.specs.Words.{AreOutputsApart, names_standard};
-ghost use Rattle.kpn_command_stream.specs.Causes.{AreWordsRefused, IsOfDevice, IsUnbegun, IsUnstreamed};
+ghost use Rattle.kpn_command_stream.specs.EndPlaces.{ArePlacesOfEnds, HaveOwnInputs, standard};
+ghost use Rattle.kpn_command_stream.specs.Words.{AreStreamOutputsApart, names_standard};
+ghost use Rattle.kpn_command_stream.specs.Causes.{AreWordsRefused, IsDeviceRefusal, IsUnbegun, IsUnstreamed};
 ghost use Rattle.kpn_command_stream.specs.Command.{AreWordsOf, IsStreamed, IsStreamedOf, NothingBegun, Streams, known_of, names_of};
 
 use crate::concluding::conclude;
 use crate::formats::{are_for_ends, are_formats};
-use crate::places::{Places, STANDARD, is_dash, places_of, share_an_input};
+use crate::places::{EndPlaces, is_dash, places_of, share_an_input};
 use crate::refusal::StreamRefusal;
 use crate::running::run;
 use kpn_command_base::{
-    Ends, FileOption, FileWords, Refusal, StreamRequest, check_outputs, load_document, options_of,
+    EndKind, FileOption, FileWords, Refusal, StreamRequest, check_outputs, load_document,
+    options_of,
 };
-use kpn_shelf::{Look, Ports, Shelf};
+use kpn_shelf::{NonblockingRead, Ports, STANDARD, Shelf};
 use kpn_text::Document;
 use std::alloc::{AllocError, Global};
 use std::io::Write;
 
 /// What `kpn stream FILE` does. It returns the status of the program. What it would tell of the end if it were not to be
 /// quiet is added to `unsaid`, as far as there is memory for it.
-pub fn stream_command<S: Shelf + Ports, I: Look, O: Write, E: Write>(
+pub fn stream_command<S: Shelf + Ports, I: NonblockingRead, O: Write, E: Write>(
     alloc: Global,
     request: &StreamRequest<'_>,
     shelf: &mut S,
@@ -45,7 +46,7 @@ pub fn stream_command<S: Shelf + Ports, I: Look, O: Write, E: Write>(
 }
 
 /// The same, with no report of a refusal.
-fn carry_out<S: Shelf + Ports, I: Look, O: Write, E: Write>(
+fn carry_out<S: Shelf + Ports, I: NonblockingRead, O: Write, E: Write>(
     alloc: Global,
     request: &StreamRequest<'_>,
     shelf: &mut S,
@@ -74,7 +75,7 @@ fn carry_out<S: Shelf + Ports, I: Look, O: Write, E: Write>(
 
 /// Streams a network between the inputs and outputs that these words name, and concludes.
 // It owns no document: a function that owns one and may fail behind it is dear to prove.
-fn stream_document<S: Shelf + Ports, I: Look, O: Write, E: Write>(
+fn stream_document<S: Shelf + Ports, I: NonblockingRead, O: Write, E: Write>(
     alloc: Global,
     request: &StreamRequest<'_>,
     words: &Words<'_>,
@@ -119,7 +120,7 @@ fn check_words<'a, S: Shelf>(
     shelf: &S,
 ) -> Result<Words<'a>, Refusal>
     ensures words { IfOk result (AreWordsOf request.now) }
-    ensures apart { OnOk result (AreOutputsApart request.now) }
+    ensures apart { OnOk result (AreStreamOutputsApart request.now) }
     ensures cause { IfErr result (AreWordsRefused (S.may_alias shelf.now) request.now) }
 {
     if is_dash_asked(request.trace) {
@@ -206,12 +207,12 @@ fn places_for<'a, S: Ports>(
     request: &StreamRequest<'a>,
     words: &Words<'a>,
     shelf: &S,
-) -> Result<Places<'a>, StreamRefusal>
-    ensures sources { IfOk result (λ places. ArePlaces ends.Sources document.now
+) -> Result<EndPlaces<'a>, StreamRefusal>
+    ensures sources { IfOk result (λ places. ArePlacesOfEnds ends.Sources document.now
         (map (λ o. o.name.now) words.now.sources.items)
         (map (λ o. o.file.now) words.now.sources.items) request.now.formats
         places.sources.items) }
-    ensures sinks { IfOk result (λ places. ArePlaces ends.Sinks document.now
+    ensures sinks { IfOk result (λ places. ArePlacesOfEnds ends.Sinks document.now
         (map (λ o. o.name.now) words.now.sinks.items)
         (map (λ o. o.file.now) words.now.sinks.items) request.now.formats places.sinks.items) }
     ensures own_inputs { IfOk result (λ places.
@@ -222,20 +223,20 @@ fn places_for<'a, S: Ports>(
         (map (λ o. o.name.now) words.now.sinks.items)) }
 {
     let formats = &request.formats;
-    let sources = places_of(alloc, document, Ends::Sources, &words.sources, formats)?;
+    let sources = places_of(alloc, document, EndKind::Sources, &words.sources, formats)?;
     if share_an_input(shelf, &sources) {
         return Err(StreamRefusal::SharedInput);
     }
-    let sinks = places_of(alloc, document, Ends::Sinks, &words.sinks, formats)?;
+    let sinks = places_of(alloc, document, EndKind::Sinks, &words.sinks, formats)?;
     if !are_for_ends(formats, document) {
         return Err(StreamRefusal::FormatWord);
     }
-    Ok(Places { sources, sinks })
+    Ok(EndPlaces { sources, sinks })
 }
 
 /// Makes ready for the trace, if there is to be one.
 fn make_ready<S: Shelf>(shelf: &S, trace: Option<&str>) -> Result<(), Refusal>
-    ensures { IfErr result IsOfDevice }
+    ensures { IfErr result IsDeviceRefusal }
 {
     match trace {
         Some(name) => shelf.make_ready(name).map_err(Refusal::Output),

@@ -1,12 +1,12 @@
 //! The end of a stream: what is told of it, its trace, and the status.
 ghost use Rattle.std.specs.Prelude.{◌≡◌, Bool, unwrap_or, Result as Answer};
 ghost use Rattle.kpn_command_base.specs.declared.refusal.Refusal.{Refusal as Cause};
-ghost use Rattle.kpn_command_stream.specs.Command.{IsConcluded, IsTraceKept, end_status};
+ghost use Rattle.kpn_command_stream.specs.Command.{IsStreamConcluded, IsTraceKept, end_status};
 ghost use Rattle.kpn_command_stream.specs.Summary.{stream_status};
-ghost use Rattle.kpn_command_stream.specs.Refusal.{ending_fault, first_of, lost_fault, summary_fault, trace_fault};
+ghost use Rattle.kpn_command_stream.specs.Refusal.{ending_fault, first_status, lost_fault, summary_fault, trace_fault};
 
 use crate::ending::{Over, over_of};
-use crate::places::{Places, place_of};
+use crate::places::{EndPlaces, place_of};
 use crate::refusal::{report_memory, report_sink, report_source};
 use crate::running::{Lost, limits_of};
 use crate::stats::tables_of;
@@ -26,12 +26,12 @@ pub(crate) fn conclude<S: Shelf, E: Write>(
     document: &Document,
     streamed: Streamed<'_>,
     lost: &[Lost],
-    places: &Places<'_>,
+    places: &EndPlaces<'_>,
     shelf: &mut S,
     err: &mut E,
     unsaid: &mut Vec<u8>,
 ) -> u8
-    ensures { IsConcluded S.may_give request.now document.now.tables
+    ensures { IsStreamConcluded S.may_give request.now document.now.tables
         streamed.entry.ending streamed.entry.book lost.now shelf.old shelf.new result }
 {
     let ending = streamed.ending;
@@ -51,7 +51,7 @@ fn conclude_over<S: Shelf, E: Write>(
     ending: StreamEnding,
     lost: &[Lost],
     over: &Over,
-    places: &Places<'_>,
+    places: &EndPlaces<'_>,
     shelf: &mut S,
     err: &mut E,
     unsaid: &mut Vec<u8>,
@@ -84,10 +84,10 @@ fn conclude_untold<E: Write>(
     document: &Document,
     ending: StreamEnding,
     lost: &[Lost],
-    places: &Places<'_>,
+    places: &EndPlaces<'_>,
     err: &mut E,
 ) -> u8
-    ensures { result ≡ unwrap_or (first_of (ending_fault ending) (lost_fault lost.now)) 6 }
+    ensures { result ≡ unwrap_or (first_status (ending_fault ending) (lost_fault lost.now)) 6 }
 {
     let failed = report_failed(ending, document, lost, places, err);
     let memory = report_memory(err);
@@ -160,7 +160,7 @@ fn keep_text(text: Result<String, AllocError>, unsaid: &mut Vec<u8>) {
 
 /// The first of two statuses.
 fn first_of(first: Option<u8>, later: Option<u8>) -> Option<u8>
-    ensures { result ≡ first_of first later }
+    ensures { result ≡ first_status first later }
 {
     match first {
         Some(status) => Some(status),
@@ -174,10 +174,10 @@ fn report_failed<E: Write>(
     ending: StreamEnding,
     document: &Document,
     lost: &[Lost],
-    places: &Places<'_>,
+    places: &EndPlaces<'_>,
     err: &mut E,
 ) -> Option<u8>
-    ensures { result ≡ first_of (ending_fault ending) (lost_fault lost.now) }
+    ensures { result ≡ first_status (ending_fault ending) (lost_fault lost.now) }
 {
     let first = report_ending(ending, document, places, err);
     let second = report_lost(document, lost, places, err);
@@ -188,7 +188,7 @@ fn report_failed<E: Write>(
 fn report_ending<E: Write>(
     ending: StreamEnding,
     document: &Document,
-    places: &Places<'_>,
+    places: &EndPlaces<'_>,
     err: &mut E,
 ) -> Option<u8>
     ensures { result ≡ ending_fault ending }
@@ -211,7 +211,7 @@ fn report_ending<E: Write>(
 fn report_lost<E: Write>(
     document: &Document,
     lost: &[Lost],
-    places: &Places<'_>,
+    places: &EndPlaces<'_>,
     err: &mut E,
 ) -> Option<u8>
     ensures { result ≡ lost_fault lost.now }

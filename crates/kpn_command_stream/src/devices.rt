@@ -1,13 +1,13 @@
 //! The devices of a stream, opened.
 ghost use Rattle.std.specs.Prelude.{◌≡◌, [], All, IfOk, IfErr, IfSome, OnOk};
 ghost use Rattle.std.specs.List.{AllZip};
-ghost use Rattle.kpn_command_stream.specs.Causes.{IsOfDevice};
+ghost use Rattle.kpn_command_stream.specs.Causes.{IsDeviceRefusal};
 ghost use Rattle.kpn_command_stream.specs.Command.{first_bytes, IsEmptied, IsInputFor, IsInputOf, IsOutputFor, IsOutputOf, KeepsName, StayOutputs};
 
-use crate::places::{Place, Places, is_dash};
+use crate::places::{EndPlace, EndPlaces, is_dash};
 use kpn_command_base::{Refusal, StreamRequest};
 use kpn_shelf::Ports;
-use kpn_stream_devices::{Input, ItemFormat, Output, OutputFormat, Window, head_bytes};
+use kpn_stream_devices::{ItemFormat, OutputFormat, SinkOutput, SourceInput, Window, head_bytes};
 use kpn_text_items::{ItemFault, WriteFault};
 use std::alloc::{AllocError, Global};
 
@@ -18,12 +18,12 @@ const USUAL_RATE: u32 = 48_000;
 pub(crate) fn open_inputs<S: Ports>(
     alloc: Global,
     shelf: &S,
-    places: &Places<'_>,
-) -> Result<Vec<Input<S::Input>>, Refusal>
+    places: &EndPlaces<'_>,
+) -> Result<Vec<SourceInput<S::Input>>, Refusal>
     ensures inputs { IfOk result (λ inputs.
         AllZip (IsInputFor (S.may_give shelf.now) S.comes_from S.Input.remaining)
         places.now.sources.items inputs.items) }
-    ensures cause { IfErr result IsOfDevice }
+    ensures cause { IfErr result IsDeviceRefusal }
 {
     let mut inputs = Vec::new(alloc);
     for i in 0..places.sources.len() {
@@ -37,14 +37,14 @@ pub(crate) fn open_inputs<S: Ports>(
 fn input_for<S: Ports>(
     alloc: Global,
     shelf: &S,
-    place: Place<'_>,
-) -> Result<Input<S::Input>, Refusal>
+    place: EndPlace<'_>,
+) -> Result<SourceInput<S::Input>, Refusal>
     ensures input { IfOk result
         (IsInputFor (S.may_give shelf.now) S.comes_from S.Input.remaining place.entry) }
-    ensures cause { IfErr result IsOfDevice }
+    ensures cause { IfErr result IsDeviceRefusal }
 {
     match open_input(shelf, place.name) {
-        Ok(file) => Ok(Input {
+        Ok(file) => Ok(SourceInput {
             channel: place.channel,
             format: place.format,
             file,
@@ -70,12 +70,12 @@ fn open_input<S: Ports>(shelf: &S, name: &str) -> Result<Option<S::Input>, ItemF
 pub(crate) fn open_outputs<S: Ports>(
     alloc: Global,
     shelf: &S,
-    places: &Places<'_>,
+    places: &EndPlaces<'_>,
     request: &StreamRequest<'_>,
-) -> Result<Vec<Output<S::Output>>, Refusal>
+) -> Result<Vec<SinkOutput<S::Output>>, Refusal>
     ensures outputs { IfOk result (λ outputs.
         AllZip (IsOutputFor S.goes_to request.now) places.now.sinks.items outputs.items) }
-    ensures cause { IfErr result IsOfDevice }
+    ensures cause { IfErr result IsDeviceRefusal }
 {
     let mut outputs = Vec::new(alloc);
     for i in 0..places.sinks.len() {
@@ -89,15 +89,15 @@ pub(crate) fn open_outputs<S: Ports>(
 fn output_for<S: Ports>(
     alloc: Global,
     shelf: &S,
-    place: Place<'_>,
+    place: EndPlace<'_>,
     request: &StreamRequest<'_>,
-) -> Result<Output<S::Output>, Refusal>
+) -> Result<SinkOutput<S::Output>, Refusal>
     ensures output { IfOk result (IsOutputFor S.goes_to request.now place.entry) }
-    ensures cause { IfErr result IsOfDevice }
+    ensures cause { IfErr result IsDeviceRefusal }
 {
     let bytes = first_bytes(alloc, place.format, request)?;
     match open_output(shelf, place.name) {
-        Ok(file) => Ok(Output {
+        Ok(file) => Ok(SinkOutput {
             channel: place.channel,
             format: OutputFormat {
                 items: place.format,
@@ -136,13 +136,13 @@ fn open_output<S: Ports>(shelf: &S, name: &str) -> Result<Option<S::Output>, Wri
 /// Removes what the plain files of the outputs held. All inputs and outputs are open.
 pub(crate) fn empty_outputs<S: Ports>(
     shelf: &S,
-    places: &Places<'_>,
-    outputs: &mut Vec<Output<S::Output>>,
+    places: &EndPlaces<'_>,
+    outputs: &mut Vec<SinkOutput<S::Output>>,
 ) -> Result<(), Refusal>
     ensures outputs { OnOk result
         (StayOutputs S.goes_to places.now.sinks.items outputs.old.items outputs.new.items) }
     ensures emptied { OnOk result (All (IsEmptied S.Output.contents) outputs.new.items) }
-    ensures cause { IfErr result IsOfDevice }
+    ensures cause { IfErr result IsDeviceRefusal }
 {
     for i in 0..outputs.len() {
         empty_output(shelf, &mut outputs[i])?;
@@ -150,13 +150,13 @@ pub(crate) fn empty_outputs<S: Ports>(
     Ok(())
 }
 
-fn empty_output<S: Ports>(shelf: &S, output: &mut Output<S::Output>) -> Result<(), Refusal>
+fn empty_output<S: Ports>(shelf: &S, output: &mut SinkOutput<S::Output>) -> Result<(), Refusal>
     ensures channel { output.new.channel ≡ output.old.channel }
     ensures format { output.new.format ≡ output.old.format }
     ensures bytes { output.new.bytes ≡ output.old.bytes }
     ensures name { KeepsName S.goes_to output.old.file output.new.file }
     ensures emptied { OnOk result (IsEmptied S.Output.contents output.new) }
-    ensures cause { IfErr result IsOfDevice }
+    ensures cause { IfErr result IsDeviceRefusal }
 {
     match &mut output.file {
         Some(file) => empty_file(shelf, file),
@@ -167,7 +167,7 @@ fn empty_output<S: Ports>(shelf: &S, output: &mut Output<S::Output>) -> Result<(
 fn empty_file<S: Ports>(shelf: &S, file: &mut S::Output) -> Result<(), Refusal>
     ensures named { S.goes_to file.new ≡ S.goes_to file.old }
     ensures empty { OnOk result (IfSome (S.Output.contents file.new) (λ bytes. bytes ≡ [])) }
-    ensures cause { IfErr result IsOfDevice }
+    ensures cause { IfErr result IsDeviceRefusal }
 {
     match shelf.empty(file) {
         Ok(()) => Ok(()),

@@ -1,8 +1,8 @@
 //! The words behind `--format`: each is a format for all ends, or `NAME=FORMAT` for one.
 ghost use Rattle.std.specs.Prelude.{◌≡◌, ◌≢◌, false, All, IsTrue, map, option_map, MatchOption};
 ghost use Rattle.std.specs.List.{AllPairs};
-ghost use Rattle.kpn_stream_devices.specs.Formats.{IsNoFormat, Names};
-ghost use Rattle.kpn_command_stream.specs.Formats.{common_format, end_in, first_that, format_in, format_word, is_end_at, IsForEnd, named_format, SaysFormat};
+ghost use Rattle.kpn_stream_devices.specs.Formats.{IsNoFormat, NamesFormat};
+ghost use Rattle.kpn_command_stream.specs.Formats.{common_format, format_end, first_that, format_in, format_word, is_end_at, IsForEnd, named_format, SaysFormat};
 ghost use Rattle.kpn_text_names.specs.Names.{number_of};
 
 use kpn_stream_devices::ItemFormat;
@@ -46,7 +46,7 @@ fn format_in(word: &str) -> &str
 pub(crate) fn are_for_ends(words: &[&str], document: &Document) -> bool
     ensures ends { IsTrue result → All (λ word. IsForEnd document.now word.now) words.now }
     ensures apart { IsTrue result
-        → AllPairs (λ word later. end_in word.now ≢ end_in later.now) words.now }
+        → AllPairs (λ word later. format_end word.now ≢ format_end later.now) words.now }
 {
     for i in 0..words.len() {
         if !is_for_end(words[i], document) {
@@ -85,7 +85,7 @@ fn is_end(document: &Document, name: &str) -> bool
 /// Whether one of these words is for the same ends.
 fn is_said(words: &[&str], word: &str) -> bool
     ensures { result ≡ false
-        → All (λ before. end_in before.now ≢ end_in word.now) words.now }
+        → All (λ before. format_end before.now ≢ format_end word.now) words.now }
 {
     for before in words {
         if are_for_same(before, word) {
@@ -97,14 +97,14 @@ fn is_said(words: &[&str], word: &str) -> bool
 
 /// Whether two words are for the same ends.
 fn are_for_same(word: &str, other: &str) -> bool
-    ensures { result ≡ false → end_in word.now ≢ end_in other.now }
+    ensures { result ≡ false → format_end word.now ≢ format_end other.now }
 {
     end_in(word) == end_in(other)
 }
 
 /// The name of the end that a word is for, or nothing if it is for all.
 fn end_in(word: &str) -> &str
-    ensures { result.now ≡ end_in word.now }
+    ensures { result.now ≡ format_end word.now }
 {
     match word.split_once('=') {
         Some((name, _)) => name,
@@ -120,7 +120,7 @@ pub fn has_lines(words: &[&str], name: &str) -> bool {
 /// The format of the end of this name.
 pub(crate) fn format_for(words: &[&str], name: &str) -> Option<ItemFormat>
     ensures { let word = format_word (map (λ word. word.now) words.now) name.now in
-        MatchOption result (IsNoFormat word) (Names word) }
+        MatchOption result (IsNoFormat word) (NamesFormat word) }
 {
     ItemFormat::of_word(word_for(words, name))
 }

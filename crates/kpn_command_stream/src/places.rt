@@ -3,19 +3,16 @@ ghost use Rattle.std.specs.Prelude.{◌≡◌, ◌↔◌, false, length, map, op
 ghost use Rattle.kpn_command_base.specs.Sources.{is_end};
 ghost use Rattle.kpn_stream.specs.Ending.{end_numbers};
 ghost use Rattle.kpn_command_stream.specs.Causes.{IsUnnamed, IsUnplaced, IsUnplacedBy};
-ghost use Rattle.kpn_command_stream.specs.Places.{AllPlaced, ArePlaces, HaveOwnInputs, name_for, standard};
+ghost use Rattle.kpn_command_stream.specs.EndPlaces.{AllPlaced, ArePlacesOfEnds, HaveOwnInputs, name_for, standard};
 
 use crate::formats::format_for;
 use crate::refusal::StreamRefusal;
-use kpn_command_base::{Ends, FileOption, NamedEnd, ends_of, file_for};
-use kpn_shelf::Ports;
+use kpn_command_base::{EndKind, FileOption, NamedEnd, ends_of, file_for};
+use kpn_shelf::{Ports, STANDARD};
 use kpn_stream::end_numbers_of;
 use kpn_stream_devices::ItemFormat;
 use kpn_text::Document;
 use std::alloc::Global;
-
-/// The name of standard input and of standard output.
-pub(crate) const STANDARD: &str = "-";
 
 /// Whether this is the name of standard input and of standard output.
 pub(crate) fn is_dash(name: &str) -> bool
@@ -26,7 +23,7 @@ pub(crate) fn is_dash(name: &str) -> bool
 
 /// An end of a network by the number of its channel, the name of its input or output, and how its items are written.
 #[derive(Clone, Copy)]
-pub(crate) struct Place<'a> {
+pub(crate) struct EndPlace<'a> {
     pub(crate) channel: usize,
     pub(crate) name: &'a str,
     pub(crate) format: ItemFormat,
@@ -34,9 +31,9 @@ pub(crate) struct Place<'a> {
 
 /// The places of all sources and of all sinks.
 #[derive(Drop)]
-pub(crate) struct Places<'a> {
-    pub(crate) sources: Vec<Place<'a>>,
-    pub(crate) sinks: Vec<Place<'a>>,
+pub(crate) struct EndPlaces<'a> {
+    pub(crate) sources: Vec<EndPlace<'a>>,
+    pub(crate) sinks: Vec<EndPlace<'a>>,
 }
 
 /// The place of each of these ends, in order of their channels. The only one may be left out by the options, and is
@@ -45,11 +42,11 @@ pub(crate) struct Places<'a> {
 pub(crate) fn places_of<'a>(
     alloc: Global,
     document: &Document,
-    ends: Ends,
+    ends: EndKind,
     options: &[FileOption<'a>],
     formats: &[&'a str],
-) -> Result<Vec<Place<'a>>, StreamRefusal>
-    ensures placed { IfOk result (λ places. ArePlaces ends document.now
+) -> Result<Vec<EndPlace<'a>>, StreamRefusal>
+    ensures placed { IfOk result (λ places. ArePlacesOfEnds ends document.now
         (map (λ o. o.name.now) options.now) (map (λ o. o.file.now) options.now)
         (map (λ word. word.now) formats.now) places.items) }
     ensures cause { IfErr result
@@ -63,10 +60,10 @@ pub(crate) fn places_of<'a>(
 fn places_by<'a>(
     alloc: Global,
     document: &Document,
-    ends: Ends,
+    ends: EndKind,
     named: &[NamedEnd<'a>],
     formats: &[&'a str],
-) -> Result<Vec<Place<'a>>, StreamRefusal>
+) -> Result<Vec<EndPlace<'a>>, StreamRefusal>
     ensures placed { IfOk result (λ places. AllPlaced document.now named.now
         (map (λ word. word.now) formats.now)
         (end_numbers (is_end ends) document.now.tables) places.items) }
@@ -75,8 +72,8 @@ fn places_by<'a>(
 {
     let numbers = end_numbers_of(alloc, document.network())?;
     match ends {
-        Ends::Sources => place_each(alloc, document, ends, named, formats, &numbers.sources),
-        Ends::Sinks => place_each(alloc, document, ends, named, formats, &numbers.sinks),
+        EndKind::Sources => place_each(alloc, document, ends, named, formats, &numbers.sources),
+        EndKind::Sinks => place_each(alloc, document, ends, named, formats, &numbers.sinks),
     }
 }
 
@@ -84,11 +81,11 @@ fn places_by<'a>(
 fn place_each<'a>(
     alloc: Global,
     document: &Document,
-    ends: Ends,
+    ends: EndKind,
     named: &[NamedEnd<'a>],
     formats: &[&'a str],
     channels: &[usize],
-) -> Result<Vec<Place<'a>>, StreamRefusal>
+) -> Result<Vec<EndPlace<'a>>, StreamRefusal>
     ensures placed { IfOk result (λ places. AllPlaced document.now named.now
         (map (λ word. word.now) formats.now) channels.now places.items) }
     ensures cause { IfErr result (IsUnplacedBy ends named.now (length channels.now)) }
@@ -102,7 +99,7 @@ fn place_each<'a>(
         let Some(format) = format_for(formats, document.channel_name(channel)) else {
             return Err(StreamRefusal::FormatWord);
         };
-        places.push(Place {
+        places.push(EndPlace {
             channel,
             name,
             format,
@@ -112,7 +109,7 @@ fn place_each<'a>(
 }
 
 /// The refusal of a stream one of whose ends has no option.
-fn unnamed(alloc: Global, ends: Ends, name: &str) -> StreamRefusal
+fn unnamed(alloc: Global, ends: EndKind, name: &str) -> StreamRefusal
     ensures { IsUnnamed ends result }
 {
     match String::from_str(alloc, name) {
@@ -133,13 +130,13 @@ fn name_for<'a>(named: &[NamedEnd<'a>], number: usize, count: usize) -> Option<&
 }
 
 /// The place of a channel; an end without one has standard input or output.
-pub(crate) fn place_of<'a>(places: &[Place<'a>], channel: usize) -> Place<'a> {
+pub(crate) fn place_of<'a>(places: &[EndPlace<'a>], channel: usize) -> EndPlace<'a> {
     for place in places {
         if place.channel == channel {
             return *place;
         }
     }
-    Place {
+    EndPlace {
         channel,
         name: STANDARD,
         format: ItemFormat::Lines,
@@ -147,7 +144,7 @@ pub(crate) fn place_of<'a>(places: &[Place<'a>], channel: usize) -> Place<'a> {
 }
 
 /// Whether two sources have one input that is no plain file.
-pub(crate) fn share_an_input<S: Ports>(shelf: &S, places: &[Place<'_>]) -> bool
+pub(crate) fn share_an_input<S: Ports>(shelf: &S, places: &[EndPlace<'_>]) -> bool
     ensures { result ≡ false → HaveOwnInputs (S.are_two_inputs shelf.now) places.now }
 {
     for i in 0..places.len() {
@@ -159,7 +156,7 @@ pub(crate) fn share_an_input<S: Ports>(shelf: &S, places: &[Place<'_>]) -> bool
 }
 
 /// Whether one of these has the input of this name, and that is no plain file.
-fn has_input<S: Ports>(shelf: &S, places: &[Place<'_>], name: &str) -> bool
+fn has_input<S: Ports>(shelf: &S, places: &[EndPlace<'_>], name: &str) -> bool
     ensures { result ≡ false
         → All (λ place. S.are_two_inputs shelf.now place.name.now name.now) places.now }
 {

@@ -2,8 +2,8 @@
 ghost use Rattle.std.specs.Prelude.{◌≡◌};
 ghost use Rattle.kpn_command_stream.specs.Refusal.{source_status, sink_status};
 
-use crate::places::Place;
-use kpn_command_base::{Ends, Refusal};
+use crate::places::EndPlace;
+use kpn_command_base::{EndKind, Refusal};
 use kpn_stream::{SinkFault, SourceFault};
 use kpn_text::Document;
 use kpn_text_items::{ItemFault, WriteFault};
@@ -21,7 +21,7 @@ pub(crate) enum StreamRefusal {
     /// For a cause that other commands have too.
     Common(Refusal),
     /// No option names this end, and it is not the only one.
-    Unnamed(Ends, String),
+    Unnamed(EndKind, String),
     /// Two sources have one input that is no plain file: the one would read what is meant for the other.
     SharedInput,
     /// A word behind `--format` names no format or no end, or says what an earlier one has said.
@@ -88,10 +88,10 @@ impl StreamRefusal {
     }
 }
 
-fn tell_unnamed<E: Write>(ends: Ends, name: &str, err: &mut E) -> io::Result<()> {
+fn tell_unnamed<E: Write>(ends: EndKind, name: &str, err: &mut E) -> io::Result<()> {
     match ends {
-        Ends::Sources => writeln!(err, "kpn: usage: --source {name}=IN"),
-        Ends::Sinks => writeln!(err, "kpn: usage: --sink {name}=OUT"),
+        EndKind::Sources => writeln!(err, "kpn: usage: --source {name}=IN"),
+        EndKind::Sinks => writeln!(err, "kpn: usage: --sink {name}=OUT"),
     }
 }
 
@@ -113,7 +113,7 @@ fn tell_formats<E: Write>(err: &mut E) -> io::Result<()> {
 pub(crate) fn report_source<E: Write>(
     document: &Document,
     fault: SourceFault,
-    place: Place<'_>,
+    place: EndPlace<'_>,
     err: &mut E,
 ) -> u8
     ensures { result ≡ source_status fault }
@@ -140,7 +140,7 @@ pub(crate) fn report_source<E: Write>(
 pub(crate) fn report_sink<E: Write>(
     document: &Document,
     fault: SinkFault,
-    place: Place<'_>,
+    place: EndPlace<'_>,
     err: &mut E,
 ) -> u8
     ensures { result ≡ sink_status fault }

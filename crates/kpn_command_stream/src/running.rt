@@ -1,25 +1,22 @@
 //! The run of a stream between its inputs and outputs.
 ghost use Rattle.std.specs.Prelude.{◌≡◌, ◌≤◌, ◌<◌, ◌++◌, [], length, vec_capacity, IfOk, IfErr, OnErr};
-ghost use Rattle.kpn_command_stream.specs.Causes.{IsOfDevice};
-ghost use Rattle.kpn_command_stream.specs.Command.{HandedOn, Ran, RanAt, RanOver, flushes_of, known_of, limits_of, losses, names_of, sinks_of};
+ghost use Rattle.kpn_command_stream.specs.Causes.{IsDeviceRefusal};
+ghost use Rattle.kpn_command_stream.specs.Command.{HandedOn, RanOverFiles, RanAt, RanOver, flushes_of, known_of, stream_limits_of, losses, names_of, sinks_of};
 
 use crate::devices::{empty_outputs, open_inputs, open_outputs};
-use crate::places::Places;
-use kpn_command_base::{Refusal, StreamRequest};
+use crate::places::EndPlaces;
+use kpn_command_base::{QUOTA, Refusal, StreamRequest};
 use kpn_net::Network;
-use kpn_shelf::{Look, Ports, Shelf};
+use kpn_shelf::{NonblockingRead, Ports, Shelf};
 use kpn_stream::{Keeping, Limits, SinkFault, Sinks, Streamed, stream};
-use kpn_stream_devices::{Input, Inputs, Output, Outputs};
+use kpn_stream_devices::{SinkOutput, SinkOutputs, SourceInput, SourceInputs};
 use kpn_text::Document;
 use std::alloc::{AllocError, Global};
 use std::io::Write;
 
-/// How many steps a process makes at most before it is the turn of the next.
-const QUOTA: u32 = 1_000;
-
 /// The limits of a stream. It has no end of its own.
 pub(crate) fn limits_of(request: &StreamRequest<'_>) -> Limits
-    ensures { result ≡ limits_of request.now }
+    ensures { result ≡ stream_limits_of request.now }
 {
     Limits {
         commits: request.commits.unwrap_or(u64::MAX),
@@ -44,11 +41,11 @@ pub(crate) struct Lost {
 }
 
 /// Opens the inputs and the outputs, and runs the network between them. It lists what is lost at the end.
-pub(crate) fn run<'n, S: Shelf + Ports, I: Look, O: Write>(
+pub(crate) fn run<'n, S: Shelf + Ports, I: NonblockingRead, O: Write>(
     alloc: Global,
     request: &StreamRequest<'_>,
     document: &'n Document,
-    places: &Places<'_>,
+    places: &EndPlaces<'_>,
     shelf: &S,
     input: &mut I,
     out: &mut O,
@@ -63,7 +60,7 @@ pub(crate) fn run<'n, S: Shelf + Ports, I: Look, O: Write>(
         streamed.ending streamed.book lost.new.items) }
     ensures input { OnErr result (input.new ≡ input.old) }
     ensures output { OnErr result (out.new ≡ out.old) }
-    ensures cause { IfErr result IsOfDevice }
+    ensures cause { IfErr result IsDeviceRefusal }
 {
     let mut inputs = open_inputs(alloc, shelf, places)?;
     let mut outputs = open_outputs(alloc, shelf, places, request)?;
@@ -82,33 +79,33 @@ pub(crate) fn run<'n, S: Shelf + Ports, I: Look, O: Write>(
 }
 
 /// Runs the network between these inputs and outputs.
-fn run_between<'n, I: Look, F: Look + Drop, O: Write, G: Write + Drop>(
+fn run_between<'n, I: NonblockingRead, F: NonblockingRead + Drop, O: Write, G: Write + Drop>(
     alloc: Global,
     request: &StreamRequest<'_>,
     document: &'n Document,
-    places: &Places<'_>,
-    inputs: &mut Vec<Input<F>>,
-    outputs: &mut Vec<Output<G>>,
+    places: &EndPlaces<'_>,
+    inputs: &mut Vec<SourceInput<F>>,
+    outputs: &mut Vec<SinkOutput<G>>,
     input: &mut I,
     out: &mut O,
     lost: &mut Vec<Lost>,
 ) -> Result<Streamed<'n>, Refusal>
     requires none { lost.old.items ≡ [] }
     requires room { length places.now.sinks.items ≤ vec_capacity lost.old }
-    ensures ran { IfOk result (λ streamed. Ran
+    ensures ran { IfOk result (λ streamed. RanOverFiles
         (known_of I.remaining F.remaining O.contents G.contents) request.now
         document.now.tables (sinks_of places.now)
         inputs.old.items outputs.old.items input.old input.new out.old out.new
         streamed.ending streamed.book lost.new.items) }
     ensures input { OnErr result (input.new ≡ input.old) }
     ensures output { OnErr result (out.new ≡ out.old) }
-    ensures cause { IfErr result IsOfDevice }
+    ensures cause { IfErr result IsDeviceRefusal }
 {
-    let mut sources = Inputs {
+    let mut sources = SourceInputs {
         standard: input,
         each: inputs,
     };
-    let mut sinks = Outputs {
+    let mut sinks = SinkOutputs {
         standard: out,
         each: outputs,
     };
@@ -128,14 +125,14 @@ fn run_between<'n, I: Look, F: Look + Drop, O: Write, G: Write + Drop>(
 }
 
 /// Runs the network over devices. At the end the outputs hand on what they kept.
-fn run_over<'n, I: Look, F: Look + Drop, O: Write, G: Write + Drop>(
+fn run_over<'n, I: NonblockingRead, F: NonblockingRead + Drop, O: Write, G: Write + Drop>(
     alloc: Global,
     network: &'n Network,
-    places: &Places<'_>,
+    places: &EndPlaces<'_>,
     limits: &Limits,
     keeping: Keeping,
-    sources: &mut Inputs<'_, I, F>,
-    sinks: &mut Outputs<'_, O, G>,
+    sources: &mut SourceInputs<'_, I, F>,
+    sinks: &mut SinkOutputs<'_, O, G>,
     lost: &mut Vec<Lost>,
 ) -> Result<Streamed<'n>, AllocError>
     requires none { lost.old.items ≡ [] }
@@ -156,8 +153,8 @@ fn run_over<'n, I: Look, F: Look + Drop, O: Write, G: Write + Drop>(
 /// Lets the outputs of all sinks hand on what they kept, and lists what is lost. If a device has failed, nobody else
 /// has told them to.
 fn flush_each<O: Write, G: Write + Drop>(
-    places: &Places<'_>,
-    sinks: &mut Outputs<'_, O, G>,
+    places: &EndPlaces<'_>,
+    sinks: &mut SinkOutputs<'_, O, G>,
     lost: &mut Vec<Lost>,
 )
     requires none { lost.old.items ≡ [] }

@@ -2,16 +2,16 @@
 //! counters in them are proved where they are read.
 
 use crate::counters::ChannelCounts;
-use kpn_command_base::{Row, Table};
+use kpn_command_base::{TableRow, TextTable};
 use kpn_history::State;
 use kpn_text::Document;
 use kpn_trace::how_word;
 use std::alloc::{AllocError, Global};
 
 /// The headings of the two tables.
-const CHANNEL_HEADINGS: [&str; 5] = ["channel", "put", "read", "unread", "most"];
+const STREAM_CHANNEL_HEADINGS: [&str; 5] = ["channel", "put", "read", "unread", "most"];
 
-const PROCESS_HEADINGS: [&str; 2] = ["process", "end"];
+const STREAM_PROCESS_HEADINGS: [&str; 2] = ["process", "end"];
 
 /// A row for each channel, and a row for each process, which says how it ended or what it waits for. The tables stand
 /// alone, or behind an empty line.
@@ -36,8 +36,8 @@ fn channel_table(
     alloc: Global,
     document: &Document,
     channels: &[ChannelCounts],
-) -> Result<Table, AllocError> {
-    let mut table = Table::new(alloc, &CHANNEL_HEADINGS)?;
+) -> Result<TextTable, AllocError> {
+    let mut table = TextTable::new(alloc, &STREAM_CHANNEL_HEADINGS)?;
     for (c, counts) in channels.iter().enumerate() {
         let row = channel_row(alloc, document.channel_name(c), *counts)?;
         table.add(row)?;
@@ -45,8 +45,8 @@ fn channel_table(
     Ok(table)
 }
 
-fn channel_row(alloc: Global, name: &str, counts: ChannelCounts) -> Result<Row, AllocError> {
-    let mut row = Row::new(alloc, name)?;
+fn channel_row(alloc: Global, name: &str, counts: ChannelCounts) -> Result<TableRow, AllocError> {
+    let mut row = TableRow::new(alloc, name)?;
     let put = format!(in alloc; "{}", counts.put)?;
     row.add(put.as_str())?;
     row.add_number(Some(counts.read))?;
@@ -59,10 +59,10 @@ fn process_table(
     alloc: Global,
     document: &Document,
     states: &[State],
-) -> Result<Table, AllocError> {
-    let mut table = Table::new(alloc, &PROCESS_HEADINGS)?;
+) -> Result<TextTable, AllocError> {
+    let mut table = TextTable::new(alloc, &STREAM_PROCESS_HEADINGS)?;
     for (p, state) in states.iter().enumerate() {
-        let mut row = Row::new(alloc, document.instance_name(p))?;
+        let mut row = TableRow::new(alloc, document.instance_name(p))?;
         let end = end_of(alloc, document, *state)?;
         row.add(end.as_str())?;
         table.add(row)?;

@@ -6,7 +6,7 @@ ghost use Rattle.kpn_net.specs.Tables.{is_sink};
 ghost use Rattle.kpn_command_base.specs.Added.{Adds};
 ghost use Rattle.kpn_deadlock.specs.Told.{are_some};
 ghost use Rattle.kpn_stream.specs.Ending.{end_numbers};
-ghost use Rattle.kpn_command_stream.specs.Summary.{IsSinkEnd, AreSinkEnds, are_done, has_fault, is_fault, members_text, outcome_text, ring_text, rings_text, sink_text, sinks_text, status_at, stream_status, summary_text};
+ghost use Rattle.kpn_command_stream.specs.Summary.{IsSinkEnd, AreSinkEnds, are_done, has_fault, is_faulted, members_text, outcome_text, ring_text, rings_text, sink_text, sink_ends_text, status_at, stream_status, stream_summary_text};
 
 use kpn_book::Book;
 use kpn_command_base::{Pushed, push_faults, push_waits, status_of, word_of};
@@ -88,7 +88,7 @@ fn has_fault(states: &[State]) -> bool
 }
 
 fn is_fault(state: State) -> bool
-    ensures { result ≡ is_fault state }
+    ensures { result ≡ is_faulted state }
 {
     match state {
         State::Ended(How::Done) => false,
@@ -121,7 +121,7 @@ pub(crate) fn summary_of(
     outcome: Option<Outcome>,
 ) -> Result<String, AllocError>
     ensures { IfOk result (λ text. string_bytes text
-        ≡ summary_text document.now sinks.now states.now rings.now outcome) }
+        ≡ stream_summary_text document.now sinks.now states.now rings.now outcome) }
 {
     let mut text = String::new(alloc);
     push_sinks(&mut text, document, sinks)?;
@@ -134,7 +134,7 @@ pub(crate) fn summary_of(
 
 /// The line of each sink.
 fn push_sinks(text: &mut String, document: &Document, sinks: &[SinkEnd]) -> Pushed
-    ensures { Adds result text.old text.new (sinks_text document.now.names.channels sinks.now) }
+    ensures { Adds result text.old text.new (sink_ends_text document.now.names.channels sinks.now) }
 {
     for sink in sinks {
         push_sink(text, document.channel_name(sink.channel), *sink)?;

@@ -8,7 +8,7 @@ use Rattle.kpn_history.specs.declared.event.Event.TheVariants.{Get, Put}
 use Rattle.kpn_text_names.specs.Names.{name_at}
 use Rattle.kpn_ticks.specs.Ticks.{Clocks, latest_of, get_tick, put_tick}
 use Rattle.kpn_command_views.specs.declared.scale.Scale.{Scale}
-use Rattle.kpn_command_views.specs.PictureText.{tick_width, longest_below, scale_for, ticks_in, place_of, row_of, whole_box, box, last_wait_box, move_boxes, event_boxes}
+use Rattle.kpn_command_views.specs.PictureText.{tick_width, longest_below, scale_for, ticks_in, edge_of, row_place, whole_box, box, last_wait_box, move_boxes, event_boxes}
 use Rattle.kpn_command_views.specs.Drawable.{IsDrawable}
 
 either : (b : Bool) (x y most : ℕ) → x ≤ most → y ≤ most → (if b then x else y) ≤ most
@@ -40,16 +40,16 @@ otherwise true xs ys none = absurd cc
 otherwise false xs ys none = refl
 
 pub boxed : (s : Scale) (kind : List ℕ) (p begin end x row wide far : ℕ) (title name : List ℕ)
-    → x ≡ place_of s begin → row ≡ row_of p → far ≡ place_of s end → wide ≡ far - x → (wide ≡ 0 → ⊥)
+    → x ≡ edge_of s begin → row ≡ row_place p → far ≡ edge_of s end → wide ≡ far - x → (wide ≡ 0 → ⊥)
     → whole_box kind x row wide title name ≡ box s kind p begin end title name
 boxed s kind p begin end x row wide far title name left top right is some =
-    let between : wide ≡ place_of s end - place_of s begin = is ∙ ap₂ (λ (m n : ℕ). m - n) right left in
+    let between : wide ≡ edge_of s end - edge_of s begin = is ∙ ap₂ (λ (m n : ℕ). m - n) right left in
     ap (λ n. whole_box kind n row wide title name) left
-    ∙ ap (λ n. whole_box kind (place_of s begin) n wide title name) top
-    ∙ ap (λ n. whole_box kind (place_of s begin) (row_of p) n title name) between
-    ∙ otherwise (nat_eq (place_of s end - place_of s begin) 0) []
-    (whole_box kind (place_of s begin) (row_of p) (place_of s end - place_of s begin) title name)
-    (ne_eqb (place_of s end - place_of s begin) 0 (subst (λ n. n ≡ 0 → ⊥) between some))
+    ∙ ap (λ n. whole_box kind (edge_of s begin) n wide title name) top
+    ∙ ap (λ n. whole_box kind (edge_of s begin) (row_place p) n title name) between
+    ∙ otherwise (nat_eq (edge_of s end - edge_of s begin) 0) []
+    (whole_box kind (edge_of s begin) (row_place p) (edge_of s end - edge_of s begin) title name)
+    (ne_eqb (edge_of s end - edge_of s begin) 0 (subst (λ n. n ≡ 0 → ⊥) between some))
 
 pub moved : (Added : List ℕ → Type 0) (s : Scale) (p latest l tick m : ℕ) (word kind what name n : List ℕ) (item v : ℤ)
     → latest ≡ l → tick ≡ m → name ≡ n → item ≡ v

@@ -12,7 +12,7 @@ use Rattle.kpn_audit.specs.Stored.{told, told_behind, history_of}
 use Rattle.kpn_ticks.specs.Ticks.{Clocks, clocks_with_event, start, clocks_after}
 use Rattle.kpn_ticks.proofs.Told.{same_after, history_clocks}
 use Rattle.kpn_command_views.specs.declared.scale.Scale.{Scale}
-use Rattle.kpn_command_views.specs.PictureText.{scale_for, ticks_in, event_boxes, all_event_boxes, last_boxes, box_count, all_box_count, last_counts, head_text, grid_text, legend, picture, picture_size}
+use Rattle.kpn_command_views.specs.PictureText.{scale_for, ticks_in, event_boxes, all_event_boxes, last_boxes, box_count, all_box_count, last_counts, picture_head_text, grid_text, legend, picture, picture_size}
 
 same_boxes : (names : List (List ℕ)) (t told_of : Tables) (s : Scale) (k : Clocks) (B : List Event) (event : Event)
     → event_boxes names t s k (told told_of B event) ≡ event_boxes names t s k event
@@ -60,7 +60,7 @@ module _ (d : Document) (t : Tables) (first last : ℕ) (waits : List Wait) wher
 
   abbrev text_after : Clocks → List ℕ → List ℕ
   text_after k boxes =
-      head_text (scale_after k) (length t.instances) k.last
+      picture_head_text (scale_after k) (length t.instances) k.last
       ++ grid_text d.names.instances (scale_after k) (length t.instances)
       ++ (boxes ++ last_boxes d.names.channels (scale_after k) (length t.instances) waits k)
       ++ legend (length t.instances)

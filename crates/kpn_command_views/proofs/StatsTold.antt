@@ -19,8 +19,8 @@ use Rattle.kpn_command_views.specs.declared.figures.Figures.{Figures}
 use Rattle.kpn_ticks.specs.Ticks.{Clocks, clocks_after}
 use Rattle.kpn_ticks.specs.Chain.{shares_of}
 use Rattle.kpn_ticks.specs.Shown.{shown}
-use Rattle.kpn_command_views.specs.declared.times.Times.{Times}
-use Rattle.kpn_command_views.specs.Times.{is_move, AreTimes}
+use Rattle.kpn_command_views.specs.declared.times.HistoryTimes.{HistoryTimes}
+use Rattle.kpn_command_views.specs.HistoryTimes.{is_move, AreTimes}
 use Rattle.kpn_command_views.specs.Figures.{waits_for_item, waits_for_room, is_get_of, is_put_of, is_wait_empty_of, is_wait_full_of, unread_behind, IsMostUnread, CountsChannel, CountsProcess, AreFigures}
 
 -- ---- events without the capacities of growths
@@ -146,7 +146,7 @@ of_history t trace figures are =
       processes = λ p below. process_alike trace.events (history_in t trace) p _ alike (are.processes p below);
     }
 
-pub times_of_history : (t : Tables) (trace : Trace Global) (times : Times) (bounded free : Clocks)
+pub times_of_history : (t : Tables) (trace : Trace Global) (times : HistoryTimes) (bounded free : Clocks)
     → shown times.bounded ≡ bounded → shown times.free ≡ free
     → bounded ≡ clocks_after (tables_for t trace) true (history_in t trace)
     → free ≡ clocks_after (tables_for t trace) false (history_in t trace)

@@ -14,7 +14,7 @@ use Rattle.kpn_text.specs.Document.{Document}
 use Rattle.kpn_audit.specs.Stored.{told, told_behind, history_of, tables_for, history_in}
 use Rattle.kpn_ticks.specs.Ticks.{Clocks, clocks_with_event, start}
 use Rattle.kpn_ticks.proofs.Told.{same_after, history_clocks}
-use Rattle.kpn_command_views.specs.TimelineText.{head, track_line, each_below, event_lines, all_event_lines, last_waits, channel_counters, timeline}
+use Rattle.kpn_command_views.specs.TimelineText.{timeline_head, track_line, each_below, event_lines, all_event_lines, last_waits, channel_counters, timeline}
 
 same_lines : (names : List (List ℕ)) (t told_of : Tables) (s : Clocks) (B : List Event) (event : Event)
     → event_lines names t s (told told_of B event) ≡ event_lines names t s event
@@ -43,7 +43,7 @@ pub of_history : (d : Document) (trace : Trace Global) (waits : List Wait)
 of_history d trace waits =
     let t = tables_for d.tables trace in
     sym (ap₂ (λ (lines : List ℕ) (s : Clocks).
-    head ++ each_below (length t.instances) (λ p. track_line p (name_at d.names.instances p)) ++ lines
+    timeline_head ++ each_below (length t.instances) (λ p. track_line p (name_at d.names.instances p)) ++ lines
     ++ last_waits d.names.channels (length t.instances) waits s
     ++ each_below (length t.channels) (channel_counters d.names.channels s) ++ codes "]}\n")
     (history_lines trace.version d.names.channels t trace.events) (history_clocks trace.version t true trace.events))

@@ -1,7 +1,7 @@
 pub mod Found
 pub mod DrawAnswers
 pub mod Figures
-pub mod Times
+pub mod HistoryTimes
 pub mod Measured
 pub mod TimelineText
 pub mod TimelineAnswers

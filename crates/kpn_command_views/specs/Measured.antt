@@ -5,7 +5,7 @@ use Rattle.kpn_text.specs.Document.{Document}
 use Rattle.kpn_audit.specs.Stored.{tables_for, history_in}
 use Rattle.kpn_command_views.specs.declared.measured.Measured.{Measured}
 use Rattle.kpn_command_views.specs.Figures.{AreFigures}
-use Rattle.kpn_command_views.specs.Times.{AreTimes}
+use Rattle.kpn_command_views.specs.HistoryTimes.{AreTimes}
 
 -- these are the figures and the times of the history of a trace
 pub record AreMeasured (d : Document) (trace : Trace Global) (measured : Measured) : Type 0 where

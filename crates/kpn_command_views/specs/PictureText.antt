@@ -52,16 +52,16 @@ abbrev pub ticks_in : Scale → ℕ
 ticks_in s = s.back - s.front
 
 -- where a tick ends. What is not shown stands at the edge
-abbrev pub place_of : Scale → (tick : ℕ) → ℕ
-place_of s tick = s.left + s.wide * (min tick s.edge - s.front)
+abbrev pub edge_of : Scale → (tick : ℕ) → ℕ
+edge_of s tick = s.left + s.wide * (min tick s.edge - s.front)
 
 -- where all that is shown ends
 abbrev pub right_of : Scale → ℕ
-right_of s = place_of s s.edge
+right_of s = edge_of s s.edge
 
 -- where the row of process p begins
-abbrev pub row_of : (p : ℕ) → ℕ
-row_of p = 40 + 32 * p
+abbrev pub row_place : (p : ℕ) → ℕ
+row_place p = 40 + 32 * p
 
 -- ---- boxes
 
@@ -87,8 +87,8 @@ wait_title what name first last =
     (codes "waits for " ∷ what ∷ codes " on " ∷ name ∷ codes ", ticks " ∷ decimal first ∷ codes " to " ∷ decimal last
     ∷ codes "</title></rect>\n" ∷ [])
 
-abbrev pub name_text : (kind : List ℕ) (middle y : ℕ) (name : List ℕ) → List ℕ
-name_text kind middle y name =
+abbrev pub picture_name_text : (kind : List ℕ) (middle y : ℕ) (name : List ℕ) → List ℕ
+picture_name_text kind middle y name =
     concat
     (codes "<text class=\"" ∷ kind ∷ codes "\" x=\"" ∷ decimal middle ∷ codes "\" y=\"" ∷ decimal y ∷ codes "\">"
     ∷ name ∷ codes "</text>\n" ∷ [])
@@ -96,7 +96,7 @@ name_text kind middle y name =
 -- the name of the channel in a box that is wide enough
 abbrev pub box_name : (kind : List ℕ) (x y wide : ℕ) (name : List ℕ) → List ℕ
 box_name kind x y wide name =
-    if nat_le (length name) ((wide - 4) / 5) then name_text kind (x + wide / 2) y name else []
+    if nat_le (length name) ((wide - 4) / 5) then picture_name_text kind (x + wide / 2) y name else []
 
 -- a box of this kind in a row that begins here, with a title and the name of its channel
 abbrev pub whole_box : (kind : List ℕ) (x row wide : ℕ) (title name : List ℕ) → List ℕ
@@ -106,8 +106,8 @@ whole_box kind x row wide title name =
 -- the same from the end of tick `begin` to that of tick `end`, if something of it is shown
 abbrev pub box : Scale → (kind : List ℕ) (p begin end : ℕ) (title name : List ℕ) → List ℕ
 box s kind p begin end title name =
-    let wide = place_of s end - place_of s begin in
-    if nat_eq wide 0 then [] else whole_box kind (place_of s begin) (row_of p) wide title name
+    let wide = edge_of s end - edge_of s begin in
+    if nat_eq wide 0 then [] else whole_box kind (edge_of s begin) (row_place p) wide title name
 
 -- a get or put of process p in this tick
 abbrev pub item_box : Scale → (p tick : ℕ) (word name : List ℕ) → ℤ → List ℕ
@@ -123,8 +123,8 @@ abbrev pub move_boxes : Scale → (p latest tick : ℕ) (word kind what name : L
 move_boxes s p latest tick word kind what name item =
     wait_box s p latest tick kind what name ++ item_box s p tick word name item
 
-abbrev pub growth_text : (x y : ℕ) (name : List ℕ) → List ℕ
-growth_text x y name =
+abbrev pub growth_mark_text : (x y : ℕ) (name : List ℕ) → List ℕ
+growth_mark_text x y name =
     concat
     (codes "<path class=\"grow\" d=\"M" ∷ decimal x ∷ codes " " ∷ decimal y ∷ codes "l5 8h-10z\"><title>" ∷ name
     ∷ codes " grows</title></path>\n" ∷ [])
@@ -132,7 +132,7 @@ growth_text x y name =
 -- the growth of a channel, for which process p waits, if it is shown
 abbrev pub growth_mark : Scale → (p latest : ℕ) (name : List ℕ) → List ℕ
 growth_mark s p latest name =
-    if nat_le s.front latest && nat_le latest s.back then growth_text (place_of s latest) (row_of p + 1) name else []
+    if nat_le s.front latest && nat_le latest s.back then growth_mark_text (edge_of s latest) (row_place p + 1) name else []
 
 -- what is drawn of an event
 abbrev pub event_boxes : (names : List (List ℕ)) → Tables → Scale → Clocks → Event → List ℕ
@@ -179,7 +179,7 @@ last_boxes names s processes waits clocks = each_below processes (λ p. last_box
 
 -- 1 if something is shown between the ends of these ticks, else 0
 abbrev pub shown_between : Scale → (begin end : ℕ) → ℕ
-shown_between s begin end = if nat_eq (place_of s end - place_of s begin) 0 then 0 else 1
+shown_between s begin end = if nat_eq (edge_of s end - edge_of s begin) 0 then 0 else 1
 
 abbrev pub move_count : Scale → (latest tick : ℕ) → ℕ
 move_count s latest tick = shown_between s latest (tick - 1) + shown_between s (tick - 1) tick
@@ -218,8 +218,8 @@ row_band x y wide =
     (codes "<rect class=\"row\" x=\"" ∷ decimal x ∷ codes "\" y=\"" ∷ decimal y ∷ codes "\" width=\"" ∷ decimal wide
     ∷ codes "\" height=\"28\"/>\n" ∷ [])
 
-abbrev pub row_name : (x y : ℕ) (name : List ℕ) → List ℕ
-row_name x y name =
+abbrev pub row_name_text : (x y : ℕ) (name : List ℕ) → List ℕ
+row_name_text x y name =
     concat
     (codes "<text class=\"name\" x=\"" ∷ decimal x ∷ codes "\" y=\"" ∷ decimal y ∷ codes "\">" ∷ name
     ∷ codes "</text>\n" ∷ [])
@@ -227,8 +227,8 @@ row_name x y name =
 -- the row of process p, with its name
 abbrev pub row : (names : List (List ℕ)) → Scale → (p : ℕ) → List ℕ
 row names s p =
-    row_band s.left (row_of p + 2) (right_of s - s.left)
-    ++ row_name (s.left - 8) (row_of p + 20) (name_at names p)
+    row_band s.left (row_place p + 2) (right_of s - s.left)
+    ++ row_name_text (s.left - 8) (row_place p + 20) (name_at names p)
 
 -- a line at the end of a tick, which stands here, down to the last row, with the number of the tick
 abbrev pub tick_line : (x bottom tick : ℕ) → List ℕ
@@ -241,7 +241,7 @@ tick_line x bottom tick =
 -- the same if the axis has the number of the tick
 abbrev pub axis_line : Scale → (processes tick : ℕ) → List ℕ
 axis_line s processes tick =
-    if nat_eq (tick % tick_step (ticks_in s)) 0 then tick_line (place_of s tick) (row_of processes) tick else []
+    if nat_eq (tick % tick_step (ticks_in s)) 0 then tick_line (edge_of s tick) (row_place processes) tick else []
 
 -- ---- what stands around them
 
@@ -266,9 +266,9 @@ caption_text first last length =
     (codes "<text x=\"12\" y=\"16\">ticks " ∷ decimal first ∷ codes " to " ∷ decimal last ∷ codes " of "
     ∷ decimal length ∷ codes "</text>\n" ∷ [])
 
-abbrev pub head_text : Scale → (processes length : ℕ) → List ℕ
-head_text s processes length =
-    size_text (max (right_of s + 24) 500) (row_of processes + 48) ++ style_text
+abbrev pub picture_head_text : Scale → (processes length : ℕ) → List ℕ
+picture_head_text s processes length =
+    size_text (max (right_of s + 24) 500) (row_place processes + 48) ++ style_text
     ++ caption_text (s.front + 1) s.back length
 
 abbrev pub legend_front : (y : ℕ) → List ℕ
@@ -281,7 +281,7 @@ legend_text =
 
 -- the same below the rows of the processes
 abbrev pub legend : (processes : ℕ) → List ℕ
-legend processes = legend_front (row_of processes + 20) ++ legend_text
+legend processes = legend_front (row_place processes + 20) ++ legend_text
 
 -- ---- the whole
 
@@ -304,7 +304,7 @@ boxes_text d t s processes waits ends events =
 -- the picture at a scale, with so many processes and these clocks at the end
 abbrev pub picture_with : Document → Tables → Scale → (processes : ℕ) → List Wait → Clocks → List Event → List ℕ
 picture_with d t s processes waits ends events =
-    head_text s processes ends.last ++ grid_text d.names.instances s processes
+    picture_head_text s processes ends.last ++ grid_text d.names.instances s processes
     ++ boxes_text d t s processes waits ends events ++ legend processes
 
 -- the picture of ticks `first` to `last` of these events of the network, behind which its processes wait so

@@ -6,7 +6,7 @@ use Rattle.kpn_command_base.specs.declared.refusal.Refusal.{Refusal}
 use Rattle.kpn_command_base.specs.declared.refusal.Refusal.TheVariants.{Output, NoMemory}
 
 -- what was sent between two moments, and the text that is kept, are the whole
-pub record AreSent (before after : Option (List ℕ)) (text whole : List ℕ) : Type 0 where
+pub record IsSentWhole (before after : Option (List ℕ)) (text whole : List ℕ) : Type 0 where
   pub sent : List ℕ
   pub grows : Appends before after sent
   pub kept : sent ++ text ≡ whole
@@ -15,7 +15,7 @@ pub record AreSent (before after : Option (List ℕ)) (text whole : List ℕ) : 
 abbrev pub Sends : {W T E Z : Type 0} → (contents : W → Option (List ℕ)) → Result T E → (out sent : W)
     (old new : String Z) → List ℕ → Type 0
 Sends contents result out sent old new bytes =
-    OnOk result (AreSent (contents out) (contents sent) (string_bytes new) (string_bytes old ++ bytes))
+    OnOk result (IsSentWhole (contents out) (contents sent) (string_bytes new) (string_bytes old ++ bytes))
 
 -- the text may have gone out in part: memory ran out, or the output takes no more
 abbrev pub IsUnsent : Refusal → Type 0

@@ -118,8 +118,8 @@ counter_lines label unread (tick ∷ written) reads =
 
 -- ---- the whole
 
-abbrev pub head : List ℕ
-head =
+abbrev pub timeline_head : List ℕ
+timeline_head =
     codes "{\"traceEvents\":[\n{\"ph\":\"M\",\"pid\":1,\"name\":\"process_name\",\"args\":{\"name\":\"kpn\"}}\n"
 
 -- what is written of each of the first n numbers, in order
@@ -137,7 +137,7 @@ last_waits names processes waits s = each_below processes (λ p. last_wait names
 -- the timeline of these events of the network, behind which its processes wait so
 abbrev pub timeline : Document → Tables → List Wait → List Event → List ℕ
 timeline d t waits events =
-    head ++ each_below (length t.instances) (λ p. track_line p (name_at d.names.instances p))
+    timeline_head ++ each_below (length t.instances) (λ p. track_line p (name_at d.names.instances p))
     ++ all_event_lines d.names.channels t (start t true) events
     ++ last_waits d.names.channels (length t.instances) waits (clocks_after t true events)
     ++ each_below (length t.channels) (channel_counters d.names.channels (clocks_after t true events))

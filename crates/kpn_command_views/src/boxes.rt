@@ -5,7 +5,7 @@ ghost use Rattle.kpn_net.specs.Tables.{Tables};
 ghost use Rattle.kpn_text_names.specs.Names.{name_at};
 ghost use Rattle.kpn_ticks.specs.Ticks.{latest_of, get_tick, put_tick};
 ghost use Rattle.kpn_ticks.specs.Shown.{shown, AreClocks};
-ghost use Rattle.kpn_command_views.specs.PictureText.{row_of, box_front, item_title, wait_title, name_text, box_name, whole_box, item_box, wait_box, move_boxes, growth_text, growth_mark, event_boxes, last_title, last_wait_box, last_box, shown_between, move_count, growth_count, box_count, last_count};
+ghost use Rattle.kpn_command_views.specs.PictureText.{row_place, box_front, item_title, wait_title, picture_name_text, box_name, whole_box, item_box, wait_box, move_boxes, growth_mark_text, growth_mark, event_boxes, last_title, last_wait_box, last_box, shown_between, move_count, growth_count, box_count, last_count};
 ghost use Rattle.kpn_command_views.specs.Drawable.{IsDrawable};
 
 use crate::scale::Scale;
@@ -427,7 +427,7 @@ fn push_name(text: &mut String, kind: &str, x: usize, y: usize, wide: usize, nam
 }
 
 fn push_name_text(text: &mut String, kind: &str, middle: usize, y: usize, name: &str) -> Pushed
-    ensures { Adds result text.old text.new (name_text kind.now middle y name.now) }
+    ensures { Adds result text.old text.new (picture_name_text kind.now middle y name.now) }
 {
     write!(
         text,
@@ -449,7 +449,7 @@ fn push_growth(text: &mut String, scale: Scale, p: usize, latest: usize, name: &
 }
 
 fn push_growth_text(text: &mut String, x: usize, y: usize, name: &str) -> Pushed
-    ensures { Adds result text.old text.new (growth_text x y name.now) }
+    ensures { Adds result text.old text.new (growth_mark_text x y name.now) }
 {
     write!(
         text,
@@ -460,7 +460,7 @@ fn push_growth_text(text: &mut String, x: usize, y: usize, name: &str) -> Pushed
 /// Where the row of process `p` begins.
 pub(crate) fn row_of(p: usize) -> usize
     requires { p < 2 ^ 16 }
-    ensures exact { result ≡ row_of p }
+    ensures exact { result ≡ row_place p }
     ensures below { result < 3000000 }
 {
     40 + 32 * p

@@ -1,6 +1,6 @@
 //! The command reads a network, and a trace if there is one, and draws the network.
 ghost use Rattle.std.specs.Prelude.{IfOk, IfErr, option_map};
-ghost use Rattle.kpn_command_base.specs.Conclusion.{Tells};
+ghost use Rattle.kpn_command_base.specs.Conclusion.{TellsOnly};
 ghost use Rattle.kpn_command_base.specs.Description.{IsRefusalOfCommand};
 ghost use Rattle.kpn_command_base.specs.Audited.{IsAnyTextFor, IsAnyToldOf, IsRefusalOfAudit};
 ghost use Rattle.kpn_command_views.specs.DrawAnswers.{IsDrawnAlone, IsDrawn, IsRefusalOfDrawing};
@@ -23,7 +23,7 @@ pub fn draw_command<S: Shelf>(
     steps: u64,
     shelf: &S,
 ) -> Result<Conclusion, Refusal>
-    ensures ok { IfOk result (Tells (IsDrawn (S.may_give shelf.now) file.now
+    ensures ok { IfOk result (TellsOnly (IsDrawn (S.may_give shelf.now) file.now
         (option_map (λ name. name.now) trace.entry) steps)) }
     ensures refused { IfErr result (IsRefusalOfDrawing (S.may_give shelf.now) file.now
         (option_map (λ name. name.now) trace.entry)) }
@@ -41,7 +41,7 @@ fn drawn_alone<S: Shelf>(
     direction: Direction,
     shelf: &S,
 ) -> Result<Conclusion, Refusal>
-    ensures ok { IfOk result (Tells (IsDrawnAlone (S.may_give shelf.now) file.now)) }
+    ensures ok { IfOk result (TellsOnly (IsDrawnAlone (S.may_give shelf.now) file.now)) }
     ensures refused { IfErr result (IsRefusalOfCommand (S.may_give shelf.now) file.now) }
 {
     let document = load_document(alloc, shelf, file)?;
@@ -63,7 +63,7 @@ fn drawn_after<S: Shelf>(
     shelf: &S,
 ) -> Result<Conclusion, Refusal>
     ensures ok { IfOk result
-        (Tells (IsAnyToldOf (S.may_give shelf.now) file.now trace.now steps)) }
+        (TellsOnly (IsAnyToldOf (S.may_give shelf.now) file.now trace.now steps)) }
     ensures refused { IfErr result (IsRefusalOfAudit (S.may_give shelf.now) file.now trace.now) }
 {
     let audited = load_audited(alloc, shelf, file, trace, steps)?;
@@ -77,7 +77,7 @@ fn conclusion_of(
     direction: Direction,
     audited: &Audited,
 ) -> Result<Conclusion, AllocError>
-    ensures { IfOk result (Tells (IsAnyTextFor audited.now.finding)) }
+    ensures { IfOk result (TellsOnly (IsAnyTextFor audited.now.finding)) }
 {
     match &audited.finding {
         Finding::Legal(audit) => Ok(Conclusion {

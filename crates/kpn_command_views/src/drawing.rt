@@ -2,7 +2,7 @@
 //! and channel. Rows show its words; what an audit shows of each part, `found` proves.
 ghost use Rattle.std.specs.Prelude.{◌<◌, length};
 
-use crate::found::{Flow, flow_of, state_of};
+use crate::found::{ChannelFlow, flow_of, state_of};
 use crate::knots::Knots;
 use kpn_audit::Audit;
 use kpn_command_base::{Direction, Pushed, parameters_of};
@@ -140,7 +140,7 @@ fn push_edge(
     text: &mut String,
     document: &Document,
     c: usize,
-    flow: Option<Flow>,
+    flow: Option<ChannelFlow>,
     is_knotted: bool,
 ) -> Pushed
     requires { c < length document.now.tables.channels }
@@ -170,7 +170,7 @@ fn push_edge(
 }
 
 // The colour of an edge.
-fn colour_of(flow: Flow, is_knotted: bool) -> &'static str {
+fn colour_of(flow: ChannelFlow, is_knotted: bool) -> &'static str {
     if is_knotted {
         ", color=orangered, penwidth=3"
     } else if flow.is_complete {

@@ -44,7 +44,7 @@ pub(crate) struct Figures {
     pub(crate) processes: Sequence<ProcessFigures>,
 }
 
-const NO_CHANNEL: ChannelFigures = ChannelFigures {
+const EMPTY_CHANNEL: ChannelFigures = ChannelFigures {
     put: 0,
     read: 0,
     most: 0,
@@ -53,7 +53,7 @@ const NO_CHANNEL: ChannelFigures = ChannelFigures {
     waits_full: 0,
 };
 
-const NO_PROCESS: ProcessFigures = ProcessFigures {
+const EMPTY_PROCESS: ProcessFigures = ProcessFigures {
     gets: 0,
     puts: 0,
     waits_empty: 0,
@@ -84,14 +84,14 @@ pub(crate) fn count(
 fn no_channels(alloc: Global, channels: usize) -> Result<Vec<ChannelFigures>, AllocError>
     ensures { IfOk result (λ figures. figures.items ≡ replicate channels no_channel) }
 {
-    Ok(vec![in alloc; NO_CHANNEL; channels]?)
+    Ok(vec![in alloc; EMPTY_CHANNEL; channels]?)
 }
 
 // Figures of so many processes before the first event.
 fn no_processes(alloc: Global, processes: usize) -> Result<Vec<ProcessFigures>, AllocError>
     ensures { IfOk result (λ figures. figures.items ≡ replicate processes no_process) }
 {
-    Ok(vec![in alloc; NO_PROCESS; processes]?)
+    Ok(vec![in alloc; EMPTY_PROCESS; processes]?)
 }
 
 fn count_on_channel(channels: &mut Vec<ChannelFigures>, event: Event)

@@ -1,7 +1,7 @@
 //! What an audit shows of a process and of a channel.
 ghost use Rattle.std.specs.Prelude.{◌≡◌, ◌<◌, [], length, slice_index_or, option_map};
 ghost use Rattle.kpn_net.specs.Tables.{capacity, channel_at};
-ghost use Rattle.kpn_command_views.specs.Found.{standing, state_in, state_of, grown_to, flow_in, flow_of};
+ghost use Rattle.kpn_command_views.specs.Found.{standing_state, state_in, state_of, capacity_grown_to, flow_in, flow_of};
 
 use kpn_audit::Audit;
 use kpn_history::{How, State};
@@ -9,7 +9,7 @@ use kpn_net::{Network, Wait};
 
 /// What went over a channel in a history.
 #[derive(Clone, Copy)]
-pub(crate) struct Flow {
+pub(crate) struct ChannelFlow {
     /// How many items were put on it.
     pub put: usize,
     /// How many of them are unread.
@@ -45,7 +45,7 @@ fn state_in(audit: &Audit, p: usize) -> State
 
 // The state of a process that has ended in this way or not, and waits for this.
 fn standing(end: Option<How>, wait: Wait) -> State
-    ensures { result ≡ standing end wait }
+    ensures { result ≡ standing_state end wait }
 {
     match (end, wait) {
         (Some(how), _) => State::Ended(how),
@@ -56,7 +56,7 @@ fn standing(end: Option<How>, wait: Wait) -> State
 }
 
 /// What went over channel `c` in the history that was audited; none if there is none.
-pub(crate) fn flow_of(network: &Network, audit: Option<&Audit>, c: usize) -> Option<Flow>
+pub(crate) fn flow_of(network: &Network, audit: Option<&Audit>, c: usize) -> Option<ChannelFlow>
     requires { c < length network.now.channels }
     ensures { result ≡ flow_of network.now (option_map (λ a. a.now) audit.entry) c }
 {
@@ -66,14 +66,14 @@ pub(crate) fn flow_of(network: &Network, audit: Option<&Audit>, c: usize) -> Opt
     }
 }
 
-fn flow_in(network: &Network, audit: &Audit, c: usize) -> Flow
+fn flow_in(network: &Network, audit: &Audit, c: usize) -> ChannelFlow
     requires { c < length network.now.channels }
     ensures { result ≡ flow_in network.now audit.now c }
 {
     let put = put_in(audit, c);
     let read = audit.reads.as_slice().get(c).copied().unwrap_or(0);
     let cap = audit.caps.as_slice().get(c).copied().unwrap_or(None);
-    Flow {
+    ChannelFlow {
         put,
         unread: put.saturating_sub(read),
         grown: grown_to(network.cap_of(c), cap),
@@ -93,7 +93,7 @@ fn put_in(audit: &Audit, c: usize) -> usize
 
 // The capacity that a channel has grown to from its first one; none if it has not grown.
 fn grown_to(first: Option<u32>, now: Option<u32>) -> Option<u32>
-    ensures { result ≡ grown_to first now }
+    ensures { result ≡ capacity_grown_to first now }
 {
     match (first, now) {
         (Some(first), Some(now)) if first < now => Some(now),

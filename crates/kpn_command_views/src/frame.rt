@@ -2,7 +2,7 @@
 ghost use Rattle.std.specs.Prelude.{◌≡◌, ◌+◌, ◌-◌, ◌<◌, ◌≤◌, ◌^◌, ◌++◌, codes, max};
 ghost use Rattle.kpn_command_base.specs.Added.{Adds};
 ghost use Rattle.kpn_command_views.specs.TimelineText.{each_below};
-ghost use Rattle.kpn_command_views.specs.PictureText.{row_of, place_of, row_band, row_name, row, tick_line, axis_line, size_text, style_text, caption_text, head_text, legend_front, legend_text, grid_text};
+ghost use Rattle.kpn_command_views.specs.PictureText.{row_place, edge_of, row_band, row_name_text, row, tick_line, axis_line, size_text, style_text, caption_text, picture_head_text, legend_front, legend_text, grid_text};
 ghost use Rattle.kpn_command_views.specs.PictureText as spec;
 ghost use Rattle.kpn_command_views.specs.Drawable.{IsDrawable};
 
@@ -16,7 +16,7 @@ pub(crate) fn push_head(text: &mut String, scale: Scale, processes: usize, lengt
     requires drawable { IsDrawable scale }
     requires rows { processes < 2 ^ 16 }
     requires fits { scale.front + 1 < 2 ^ 64 }
-    ensures { Adds result text.old text.new (head_text scale processes length) }
+    ensures { Adds result text.old text.new (picture_head_text scale processes length) }
 {
     let wide = (scale.right() + 24).max(500);
     push_size(text, wide, row_of(processes) + 48)?;
@@ -115,7 +115,7 @@ fn push_row_band(text: &mut String, x: usize, y: usize, wide: usize) -> Pushed
 }
 
 fn push_row_name(text: &mut String, x: usize, y: usize, name: &str) -> Pushed
-    ensures { Adds result text.old text.new (row_name x y name.now) }
+    ensures { Adds result text.old text.new (row_name_text x y name.now) }
 {
     write!(
         text,

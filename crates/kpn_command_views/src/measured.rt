@@ -4,7 +4,7 @@ ghost use Rattle.kpn_audit.specs.Stored.{tables_for, history_in};
 ghost use Rattle.kpn_command_views.specs.Measured.{AreMeasured};
 
 use crate::figures::{Figures, count};
-use crate::times::{Times, times_of};
+use crate::times::{HistoryTimes, times_of};
 use kpn_history::Trace;
 use kpn_text::Document;
 use std::alloc::{AllocError, Global};
@@ -13,7 +13,7 @@ use std::alloc::{AllocError, Global};
 #[derive(Drop)]
 pub(crate) struct Measured {
     pub(crate) figures: Figures,
-    pub(crate) times: Times,
+    pub(crate) times: HistoryTimes,
 }
 
 /// Measures the history of a trace of the document's network.

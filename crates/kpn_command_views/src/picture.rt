@@ -20,7 +20,7 @@ use kpn_ticks::{Clocks, clocks_after};
 use std::alloc::{AllocError, Global};
 
 /// The most ticks of a picture, and the most boxes and marks.
-const MOST: usize = 2_000;
+const MOST_DRAWN: usize = 2_000;
 
 /// The picture of ticks `first` to `last` of these events of the network, which has the names of the document, and of
 /// the waits behind them. It refuses one of more than 2,000 ticks, or boxes and marks.
@@ -43,11 +43,11 @@ pub(crate) fn picture_of(
     let ends = clocks_after(alloc, network, true, events)?;
     let processes = network.instances();
     let scale = Scale::new(document, processes, first, last, ends.last());
-    if scale.ticks() > MOST {
+    if scale.ticks() > MOST_DRAWN {
         return Err(Refusal::PictureWords);
     }
     let boxes = count_boxes(alloc, network, scale, events)?;
-    if boxes + count_last(scale, processes, waits, &ends) > MOST {
+    if boxes + count_last(scale, processes, waits, &ends) > MOST_DRAWN {
         return Err(Refusal::PictureWords);
     }
     let text = text_of(

@@ -1,6 +1,6 @@
 //! Which ticks a picture shows, and where they stand.
 ghost use Rattle.std.specs.Prelude.{◌≡◌, ◌+◌, ◌-◌, ◌*◌, ◌≤◌, ◌<◌, ◌^◌, min, length};
-ghost use Rattle.kpn_command_views.specs.PictureText.{tick_width, tick_step, longest_below, scale_for, ticks_in, place_of, right_of};
+ghost use Rattle.kpn_command_views.specs.PictureText.{tick_width, tick_step, longest_below, scale_for, ticks_in, edge_of, right_of};
 ghost use Rattle.kpn_command_views.specs.Drawable.{IsDrawable};
 
 use kpn_text::Document;
@@ -53,7 +53,7 @@ impl Scale {
     /// Where a tick ends. What is not shown stands at the edge.
     pub(crate) fn place_of(self, tick: usize) -> usize
         requires { IsDrawable self }
-        ensures exact { result ≡ place_of self tick }
+        ensures exact { result ≡ edge_of self tick }
         ensures below { result < 100000 }
     {
         self.left + self.wide * tick.min(self.edge).saturating_sub(self.front)

@@ -1,6 +1,6 @@
 //! The command reads a network and a trace, audits the trace, and writes the figures of its history.
 ghost use Rattle.std.specs.Prelude.{IfOk, IfErr};
-ghost use Rattle.kpn_command_base.specs.Conclusion.{Tells};
+ghost use Rattle.kpn_command_base.specs.Conclusion.{TellsOnly};
 ghost use Rattle.kpn_command_base.specs.Audited.{IsAnyToldOf, IsAnyTextFor, IsRefusalOfAudit};
 
 use crate::measured::measure;
@@ -20,7 +20,7 @@ pub fn stats_command<S: Shelf>(
     shelf: &S,
 ) -> Result<Conclusion, Refusal>
     ensures ok { IfOk result
-        (Tells (IsAnyToldOf (S.may_give shelf.now) file.now trace.now steps)) }
+        (TellsOnly (IsAnyToldOf (S.may_give shelf.now) file.now trace.now steps)) }
     ensures refused { IfErr result (IsRefusalOfAudit (S.may_give shelf.now) file.now trace.now) }
 {
     let audited = load_audited(alloc, shelf, file, trace, steps)?;
@@ -34,7 +34,7 @@ fn conclusion_of(
     tables: StatsTables,
     audited: &Audited,
 ) -> Result<Conclusion, AllocError>
-    ensures { IfOk result (Tells (IsAnyTextFor audited.now.finding)) }
+    ensures { IfOk result (TellsOnly (IsAnyTextFor audited.now.finding)) }
 {
     match &audited.finding {
         Finding::Legal(audit) => {

@@ -6,9 +6,9 @@ use crate::bound::{push_bound, ticks_word};
 use crate::figures::{ChannelFigures, ProcessFigures};
 use crate::knots::Knots;
 use crate::measured::Measured;
-use crate::times::Times;
+use crate::times::HistoryTimes;
 use kpn_audit::Audit;
-use kpn_command_base::{Pushed, Row, StatsTables, Table, parameters_of};
+use kpn_command_base::{Pushed, StatsTables, TableRow, TextTable, parameters_of};
 use kpn_deadlock::rings;
 use kpn_net::Wait;
 use kpn_text::Document;
@@ -84,7 +84,7 @@ pub(crate) fn text_of(
 }
 
 // The lengths of the run, and how much happens in it: gets and puts in a tick to hundredths.
-fn push_lengths(text: &mut String, times: &Times) -> Pushed {
+fn push_lengths(text: &mut String, times: &HistoryTimes) -> Pushed {
     let (length, shortest) = (times.bounded.last(), times.free.last());
     let word = ticks_word(length);
     write!(text, "length {length} {word}, ")?;
@@ -107,7 +107,7 @@ fn push_hundredths(text: &mut String, part: usize, whole: usize) -> Pushed
 }
 
 // A line for each sink: how many ticks an item takes in the second half of its items.
-fn push_rates(text: &mut String, document: &Document, times: &Times) -> Pushed {
+fn push_rates(text: &mut String, document: &Document, times: &HistoryTimes) -> Pushed {
     for c in 0..document.network().channels() {
         if document.network().is_sink(c) {
             push_rate(text, document.channel_name(c), times.bounded.written_of(c))?;
@@ -146,11 +146,11 @@ fn channel_table(
     document: &Document,
     audit: &Audit,
     figures: &[ChannelFigures],
-    times: &Times,
-) -> Result<Table, AllocError>
+    times: &HistoryTimes,
+) -> Result<TextTable, AllocError>
     requires { length figures.now ≡ length document.now.tables.channels }
 {
-    let mut table = Table::new(alloc, &CHANNEL_HEADINGS)?;
+    let mut table = TextTable::new(alloc, &CHANNEL_HEADINGS)?;
     for c in 0..figures.len() {
         let row = channel_row(alloc, document, audit, figures[c], times, c)?;
         table.add(row)?;
@@ -163,12 +163,12 @@ fn channel_row(
     document: &Document,
     audit: &Audit,
     figures: ChannelFigures,
-    times: &Times,
+    times: &HistoryTimes,
     c: usize,
-) -> Result<Row, AllocError>
+) -> Result<TableRow, AllocError>
     requires { c < length document.now.tables.channels }
 {
-    let mut row = Row::new(alloc, document.channel_name(c))?;
+    let mut row = TableRow::new(alloc, document.channel_name(c))?;
     let first = document.network().cap_of(c);
     row.add_number(Some(figures.put))?;
     row.add_number(Some(figures.read))?;
@@ -199,11 +199,11 @@ fn process_table(
     document: &Document,
     audit: &Audit,
     figures: &[ProcessFigures],
-    times: &Times,
-) -> Result<Table, AllocError>
+    times: &HistoryTimes,
+) -> Result<TextTable, AllocError>
     requires { length figures.now ≡ length document.now.tables.instances }
 {
-    let mut table = Table::new(alloc, &PROCESS_HEADINGS)?;
+    let mut table = TextTable::new(alloc, &PROCESS_HEADINGS)?;
     for p in 0..figures.len() {
         let row = process_row(alloc, document, audit, figures[p], times, p)?;
         table.add(row)?;
@@ -216,12 +216,12 @@ fn process_row(
     document: &Document,
     audit: &Audit,
     figures: ProcessFigures,
-    times: &Times,
+    times: &HistoryTimes,
     p: usize,
-) -> Result<Row, AllocError>
+) -> Result<TableRow, AllocError>
     requires { p < length document.now.tables.instances }
 {
-    let mut row = Row::new(alloc, document.instance_name(p))?;
+    let mut row = TableRow::new(alloc, document.instance_name(p))?;
     row.add_number(Some(figures.gets))?;
     row.add_number(Some(figures.puts))?;
     row.add_number(Some(figures.waits_empty))?;
@@ -257,7 +257,7 @@ fn push_advice(
     text: &mut String,
     document: &Document,
     audit: &Audit,
-    times: &Times,
+    times: &HistoryTimes,
 ) -> Pushed {
     let knots = Knots::of(alloc, document.network(), Some(audit))?;
     let is_shortest = times.bounded.last() == times.free.last();

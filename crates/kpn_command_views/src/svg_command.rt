@@ -1,6 +1,6 @@
 //! The command reads a network and a trace, audits the trace, and draws its history in time.
 ghost use Rattle.std.specs.Prelude.{◌≡◌, IfOk, IfErr};
-ghost use Rattle.kpn_command_base.specs.Conclusion.{Tells};
+ghost use Rattle.kpn_command_base.specs.Conclusion.{TellsOnly};
 ghost use Rattle.kpn_audit.specs.Stored.{audited_under};
 ghost use Rattle.kpn_command_base.specs.Audited.{IsTextFor};
 ghost use Rattle.kpn_command_views.specs.PictureText.{picture_size};
@@ -28,7 +28,7 @@ pub fn picture_command<S: Shelf>(
     shelf: &S,
 ) -> Result<Conclusion, Refusal>
     ensures ok { IfOk result
-        (Tells (IsPictured (S.may_give shelf.now) file.now trace.now steps first last)) }
+        (TellsOnly (IsPictured (S.may_give shelf.now) file.now trace.now steps first last)) }
     ensures refused { IfErr result
         (IsRefusalOfPicture (S.may_give shelf.now) file.now trace.now steps first last) }
 {
@@ -45,7 +45,7 @@ fn conclusion_of(
     first: usize,
     last: usize,
 ) -> Result<Conclusion, Refusal>
-    ensures ok { IfOk result (Tells (IsTextFor
+    ensures ok { IfOk result (TellsOnly (IsTextFor
         (IsPictureOf first last audited.now.document audited.now.trace) audited.now.finding)) }
     ensures refused { IfErr result
         (IsNoPicture (size_for first last audited.now)) }

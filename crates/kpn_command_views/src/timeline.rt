@@ -7,7 +7,7 @@ ghost use Rattle.kpn_command_base.specs.Added.{Adds};
 ghost use Rattle.kpn_ticks.specs.Ticks.{start, clocks_after};
 ghost use Rattle.kpn_ticks.specs.Shown.{shown, AreClocks};
 ghost use Rattle.kpn_command_views.specs.Sent.{Sends};
-ghost use Rattle.kpn_command_views.specs.TimelineText.{head, track_line, each_below, all_event_lines, last_waits, counter_label, channel_counters, timeline};
+ghost use Rattle.kpn_command_views.specs.TimelineText.{timeline_head, track_line, each_below, all_event_lines, last_waits, counter_label, channel_counters, timeline};
 
 use crate::counters::send_counters;
 use crate::sending::{SendFault, send_if_long, send_last};
@@ -51,7 +51,7 @@ fn push_end(text: &mut String) -> Pushed
 
 // The first lines, and a track for each of so many processes.
 fn first_lines(alloc: Global, document: &Document, processes: usize) -> Result<String, AllocError>
-    ensures { IfOk result (λ text. string_bytes text ≡ head
+    ensures { IfOk result (λ text. string_bytes text ≡ timeline_head
         ++ each_below processes (λ p. track_line p (name_at document.now.names.instances p))) }
 {
     let mut text = String::new(alloc);
@@ -61,7 +61,7 @@ fn first_lines(alloc: Global, document: &Document, processes: usize) -> Result<S
 }
 
 fn head() -> &'static str
-    ensures { result.now ≡ head }
+    ensures { result.now ≡ timeline_head }
 {
     "{\"traceEvents\":[\n{\"ph\":\"M\",\"pid\":1,\"name\":\"process_name\",\"args\":{\"name\":\"kpn\"}}\n"
 }

@@ -2,7 +2,7 @@
 ghost use Rattle.std.specs.Prelude.{IfOk, IfErr, OnOk};
 ghost use Rattle.std.specs.Io.KnownBytes.{Appends};
 ghost use Rattle.kpn_audit.specs.Stored.{audited_under};
-ghost use Rattle.kpn_command_base.specs.Flaw.{IsTold};
+ghost use Rattle.kpn_command_base.specs.Flaw.{IsFlawTold};
 ghost use Rattle.kpn_command_views.specs.TimelineText.{timeline};
 ghost use Rattle.kpn_command_views.specs.Sent.{IsUnsent};
 ghost use Rattle.kpn_command_views.specs.TimelineAnswers.{HasGoneOut, IsTimeline, IsToldTimeline, IsNoTimeline};
@@ -70,7 +70,7 @@ fn told<W: Write>(alloc: Global, audited: &Audited, out: &mut W) -> Result<u8, S
 // Sends what an audit tells.
 fn send_flaw<W: Write>(alloc: Global, flaw: Flaw, out: &mut W) -> Result<u8, SendFault>
     ensures { IfOk result
-        (HasGoneOut (IsTold flaw) (W.contents out.old) (W.contents out.new)) }
+        (HasGoneOut (IsFlawTold flaw) (W.contents out.old) (W.contents out.new)) }
 {
     let made = flaw.conclusion(alloc)?;
     send_last(out, &made.text)?;

@@ -1,7 +1,7 @@
 //! When the gets and puts of a history take place.
 ghost use Rattle.std.specs.Prelude.{◌≡◌, count_by, IfOk};
 ghost use Rattle.kpn_audit.specs.Stored.{tables_for, history_in};
-ghost use Rattle.kpn_command_views.specs.Times.{is_move, AreTimes};
+ghost use Rattle.kpn_command_views.specs.HistoryTimes.{is_move, AreTimes};
 
 use kpn_history::{Event, Trace};
 use kpn_net::Network;
@@ -10,7 +10,7 @@ use std::alloc::{AllocError, Global};
 
 /// The clocks after a history, and how much happens in it.
 #[derive(Drop)]
-pub(crate) struct Times {
+pub(crate) struct HistoryTimes {
     /// With the capacities of the network.
     pub(crate) bounded: Clocks,
     /// Without capacities.
@@ -24,7 +24,11 @@ pub(crate) struct Times {
 }
 
 /// The times of the history of a trace.
-pub(crate) fn times_of(alloc: Global, network: &Network, trace: &Trace) -> Result<Times, AllocError>
+pub(crate) fn times_of(
+    alloc: Global,
+    network: &Network,
+    trace: &Trace,
+) -> Result<HistoryTimes, AllocError>
     ensures { IfOk result
         (AreTimes (tables_for network.now trace.now) (history_in network.now trace.now)) }
 {
@@ -33,7 +37,7 @@ pub(crate) fn times_of(alloc: Global, network: &Network, trace: &Trace) -> Resul
     let free = clocks_of(alloc, network, trace, false)?;
     let events = trace.events.as_slice();
     let moves = moves_among(events);
-    Ok(Times {
+    Ok(HistoryTimes {
         bounded,
         free,
         shares,

@@ -14,7 +14,7 @@ use Rattle.kpn_step.specs.Step.{Stops, Goes, step_of, tested, written, Steps}
 use Rattle.kpn_step.specs.Walk.{Speaks, Walks}
 use Rattle.kpn_commands.specs.declared.built_in.BuiltIn.{BuiltIn}
 use Rattle.kpn_commands.specs.declared.built_in.BuiltIn.TheVariants.{Copy, Double, Sum}
-use Rattle.kpn_commands.specs.BuiltIn.{program_of}
+use Rattle.kpn_commands.specs.BuiltIn.{built_in_program}
 use Rattle.kpn_commands.specs.Laws.{IsNeverPaused}
 
 -- a frame in the body, before the loop's test
@@ -69,7 +69,7 @@ moves_to process f g steps e stands = let same : f ≡ g =
     cc in record { steps = steps; stands = rw same at stands; fewer = refl }
 
 step : (process : BuiltIn) (f g : Frame) (before : ℕ) → Stands process f before
-    → step_of (program_of process).blocks f ≡ Goes g → StandsAfter process g before
+    → step_of (built_in_program process).blocks f ≡ Goes g → StandsAfter process g before
 step process f g before (at_test Copy vs) e = moves_to Copy (inside 0 vs) g 0 e (at_read Copy vs)
 step process f g before (at_test Double vs) e = moves_to Double (inside 0 vs) g 0 e (at_read Double vs)
 step process f g before (at_test Sum vs) e = moves_to Sum (inside 0 vs) g 0 e (at_read Sum vs)
@@ -86,7 +86,7 @@ step process f g before (sum_adds vs) e =
 step process f g before (sum_writes vs) e = absurd (cc)
 step process f g before (sum_leaves vs) e = moves_to Sum (outside vs) g 1 e (at_test Sum vs)
 
-steps_to : (process : BuiltIn) (k : ℕ) (f g : Frame) (before : ℕ) → Steps (program_of process).blocks k f g
+steps_to : (process : BuiltIn) (k : ℕ) (f g : Frame) (before : ℕ) → Steps (built_in_program process).blocks k f g
     → Stands process f before → (after : ℕ) × Stands process g after × (before ≡ after + k)
 steps_to process zero f g before same stands = (before, rw (sym same) at stands, omega arith)
 steps_to process (suc k) f g before made stands =
@@ -139,7 +139,7 @@ reads process vs items v g rest port variable left steps stands few read found t
     (omega arith) to remains
 
 speaks : (process : BuiltIn) (f g : Frame) (items : List ℤ) (rest : Lists) (said : Said) (before : ℕ)
-    → Stands process f before → Speaks (program_of process).blocks f (items ∷ []) said g rest
+    → Stands process f before → Speaks (built_in_program process).blocks f (items ∷ []) said g rest
     → StandsOn process g rest (3 * length items + before)
 speaks process f g items rest (Got port v) before (at_test Copy vs) s = let e = s.2 in absurd (cc)
 speaks process f g items rest (Got port v) before (at_test Double vs) s = let e = s.2 in absurd (cc)
@@ -176,7 +176,7 @@ speaks process f g items rest (Put port v) before (sum_writes vs) s =
 speaks process f g items rest (Put port v) before (sum_leaves vs) s = let e = s.0 in absurd (cc)
 
 walks : (process : BuiltIn) (talk : List Said) (k : ℕ) (f g : Frame) (items : List ℤ) (rest : Lists) (before : ℕ)
-    → Stands process f before → Walks (program_of process).blocks k f (items ∷ []) talk g rest
+    → Stands process f before → Walks (built_in_program process).blocks k f (items ∷ []) talk g rest
     → k ≤ 3 * length items + before
 walks process [] k f g items rest before stands walk =
     let done = steps_to process k f g before walk.0 stands in omega (arith, done.2)
@@ -189,8 +189,8 @@ walks process (said ∷ talk) k f g items rest before stands walk =
 pub never_paused : IsNeverPaused
 never_paused process items quota talk Paused gives enough paused =
     let most =
-    walks process talk gives.steps (outside (start_of (program_of process) [])) gives.to items gives.rest 1
-    (at_test process (start_of (program_of process) [])) gives.walk in
+    walks process talk gives.steps (outside (start_of (built_in_program process) [])) gives.to items gives.rest 1
+    (at_test process (start_of (built_in_program process) [])) gives.walk in
     omega (arith, most, gives.outcome.2)
 never_paused process items quota talk Done gives enough paused = cc
 never_paused process items quota talk (Faulted fault) gives enough paused = cc

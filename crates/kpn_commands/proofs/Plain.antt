@@ -14,8 +14,8 @@ use Rattle.kpn_step.specs.declared.stop.AloneStop.{AloneStop}
 use Rattle.kpn_step.specs.declared.stop.AloneStop.TheVariants.{Done, Faulted, Starved, Paused}
 use Rattle.kpn_commands.specs.declared.built_in.BuiltIn.{BuiltIn}
 use Rattle.kpn_commands.specs.declared.built_in.BuiltIn.TheVariants.{Copy, Double, Sum}
-use Rattle.kpn_commands.specs.BuiltIn.{program_of}
-use Rattle.kpn_commands.specs.Plain.{either, values, stop_of, TalksPlainly}
+use Rattle.kpn_commands.specs.BuiltIn.{built_in_program}
+use Rattle.kpn_commands.specs.Plain.{either, values, alone_stop_of, TalksPlainly}
 use Rattle.kpn_commands.specs.Laws.{PutsPlainly}
 
 -- the end of a run that a stop stands for
@@ -28,12 +28,12 @@ ending_of Paused = ending.Cut
 -- the loop of a process with so many turns left
 abbrev loop : BuiltIn → (n left : ℕ) → List ℤ → Lists → Ran
 loop process n left =
-    turns left (Num (pos 1)) (λ after. run (tree_to (program_of process).blocks 1 1) n after) (ends ending.Done)
+    turns left (Num (pos 1)) (λ after. run (tree_to (built_in_program process).blocks 1 1) n after) (ends ending.Done)
 
 -- the run puts the plain values and comes to the plain stop
 record IsPlain (process : BuiltIn) (last : ℤ) (items : List ℤ) (ran : Ran) : Type 0 where
   put : put_at ran.talk 0 ≡ values process last items
-  stop : ran.ending ≡ ending_of (stop_of process last items)
+  stop : ran.ending ≡ ending_of (alone_stop_of process last items)
 
 loop_copy : (n left : ℕ) (x last : ℤ) (items : List ℤ) → (loop Copy n left (x ∷ []) (items ∷ [])).ending ≢ ending.Cut
     → IsPlain Copy last items (loop Copy n left (x ∷ []) (items ∷ []))
@@ -49,7 +49,7 @@ turn_double : (item : ℤ) (items : List ℤ) (next : Ran) (twice : Result ℤ F
     → ran ≡ says (Got 0 item) (with_value twice (item ∷ []) (items ∷ []) (λ v. says (Put 0 v) next))
     → ran.ending ≢ ending.Cut
     → (put_at ran.talk 0 ≡ either twice (λ v. v ∷ values Double v items) (λ _. []))
-    × (ran.ending ≡ ending_of (either twice (λ v. stop_of Double v items) Faulted))
+    × (ran.ending ≡ ending_of (either twice (λ v. alone_stop_of Double v items) Faulted))
 turn_double item items next (Ok v) rest ran is whole =
     let plain = rest v (λ cut. whole (ap (λ r. r.ending) is ∙ cut)) in
     (ap (λ r. put_at r.talk 0) is ∙ ap (λ vs. v ∷ vs) plain.put, ap (λ r. r.ending) is ∙ plain.stop)
@@ -74,7 +74,7 @@ turn_sum : (item last : ℤ) (items : List ℤ) (next : ℤ → Ran) (total : Re
     → ran ≡ says (Got 0 item) (with_value total (item ∷ last ∷ []) (items ∷ []) (λ v. says (Put 0 v) (next v)))
     → ran.ending ≢ ending.Cut
     → (put_at ran.talk 0 ≡ either total (λ v. v ∷ values Sum v items) (λ _. []))
-    × (ran.ending ≡ ending_of (either total (λ v. stop_of Sum v items) Faulted))
+    × (ran.ending ≡ ending_of (either total (λ v. alone_stop_of Sum v items) Faulted))
 turn_sum item last items next (Ok v) rest ran is whole =
     let plain = rest v (λ cut. whole (ap (λ r. r.ending) is ∙ cut)) in
     (ap (λ r. put_at r.talk 0) is ∙ ap (λ vs. v ∷ vs) plain.put, ap (λ r. r.ending) is ∙ plain.stop)
@@ -95,7 +95,7 @@ loop_sum n (suc left) x last (item ∷ items) whole =
 
 -- each process from its start
 plain_run : (process : BuiltIn) (n : ℕ) (items : List ℤ) (ran : Ran)
-    → ran ≡ alone (program_of process) [] n (items ∷ []) → ran.ending ≢ ending.Cut → IsPlain process (pos 0) items ran
+    → ran ≡ alone (built_in_program process) [] n (items ∷ []) → ran.ending ≢ ending.Cut → IsPlain process (pos 0) items ran
 plain_run Copy n items ran is whole =
     rw is (loop_copy n n (pos 0) (pos 0) items (λ cut. whole (ap (λ r. r.ending) is ∙ cut)))
 plain_run Double n items ran is whole =
@@ -124,15 +124,15 @@ stop_at Paused Paused e = refl
 
 -- what a process that comes to an end has said and comes to
 came_to : (process : BuiltIn) (items : List ℤ) (stop : AloneStop) (talk : List Said)
-    → ComesTo (alone (program_of process) []) (items ∷ []) (ending_of stop) talk
+    → ComesTo (alone (built_in_program process) []) (items ∷ []) (ending_of stop) talk
     → TalksPlainly process items talk stop
 came_to process items stop talk came =
     let plain =
-    plain_run process came.turns items (alone (program_of process) [] came.turns (items ∷ [])) refl
+    plain_run process came.turns items (alone (built_in_program process) [] came.turns (items ∷ [])) refl
     (λ cut. came.whole (sym came.ended ∙ cut)) in
     record {
       put = ap (λ t. put_at t 0) (sym came.said) ∙ plain.put;
-      stopped = stop_at stop (stop_of process (pos 0) items) (sym came.ended ∙ plain.stop);
+      stopped = stop_at stop (alone_stop_of process (pos 0) items) (sym came.ended ∙ plain.stop);
     }
 
 pub puts_plainly : PutsPlainly

@@ -11,7 +11,7 @@ use Rattle.kpn_command_base.specs.declared.refusal.Refusal.TheVariants.{UnknownP
 use Rattle.kpn_command_base.specs.declared.conclusion.Conclusion.{Conclusion}
 use Rattle.kpn_command_base.specs.Conclusion.{Succeeds}
 use Rattle.kpn_commands.specs.declared.built_in.BuiltIn.{BuiltIn}
-use Rattle.kpn_commands.specs.BuiltIn.{name_of, program_of}
+use Rattle.kpn_commands.specs.BuiltIn.{name_of, built_in_program}
 use Rattle.kpn_commands.specs.AloneText.{alone_text}
 use Rattle.kpn_commands.specs.Refused.{WantsMemory}
 use Rattle.kpn_commands.specs.Plain.{plain_text}
@@ -29,7 +29,7 @@ pub record IsAloneText (name : List ℕ) (came_in : Option (List ℕ)) (text : L
   pub spelled : IfSome came_in (λ bytes. Spells bytes items)
   pub talk : List Said
   pub stop : AloneStop
-  pub ran : AloneGives (program_of process) [] (items ∷ []) (2 ^ 64 - 1) talk stop
+  pub ran : AloneGives (built_in_program process) [] (items ∷ []) (2 ^ 64 - 1) talk stop
   pub made : text ≡ alone_text name talk stop
   -- which is plainly this
   pub plain : text ≡ plain_text process items

@@ -24,8 +24,8 @@ variables_of Double = 1
 variables_of Sum = 2
 
 -- one in port, one out port, no parameters, and `while 1 { TURN }` as the body
-abbrev pub program_of : BuiltIn → Parts
-program_of process =
+abbrev pub built_in_program : BuiltIn → Parts
+built_in_program process =
     record {
       ins = 1;
       outs = 1;

@@ -10,7 +10,7 @@ use Rattle.kpn_text_items.specs.ItemFile.{item_text}
 use Rattle.kpn_commands.specs.declared.built_in.BuiltIn.{BuiltIn}
 use Rattle.kpn_commands.specs.declared.built_in.BuiltIn.TheVariants.{Copy, Double, Sum}
 use Rattle.kpn_commands.specs.BuiltIn.{name_of}
-use Rattle.kpn_commands.specs.AloneText.{fault_text}
+use Rattle.kpn_commands.specs.AloneText.{alone_fault_text}
 
 -- what the process puts for an item, if it put this last (0 at first); out of range it is an overflow
 abbrev pub next_value : BuiltIn → (last item : ℤ) → Result ℤ Fault
@@ -29,17 +29,17 @@ values process last [] = []
 values process last (item ∷ items) = either (next_value process last item) (λ v. v ∷ values process v items) (λ _. [])
 
 -- the first fault, or starved of items
-abbrev pub stop_of : BuiltIn → (last : ℤ) → List ℤ → AloneStop
-stop_of process last [] = Starved 0
-stop_of process last (item ∷ items) = either (next_value process last item) (λ v. stop_of process v items) Faulted
+abbrev pub alone_stop_of : BuiltIn → (last : ℤ) → List ℤ → AloneStop
+alone_stop_of process last [] = Starved 0
+alone_stop_of process last (item ∷ items) = either (next_value process last item) (λ v. alone_stop_of process v items) Faulted
 
 -- copy: the items; double: twice each; sum: the sums of the items so far; each on a line of its own, and then the
 -- fault
 abbrev pub plain_text : BuiltIn → List ℤ → List ℕ
 plain_text process items =
-    item_text (values process (pos 0) items) ++ fault_text (name_of process) (stop_of process (pos 0) items)
+    item_text (values process (pos 0) items) ++ alone_fault_text (name_of process) (alone_stop_of process (pos 0) items)
 
 -- a talk and a stop that are plainly those
 pub record TalksPlainly (process : BuiltIn) (items : List ℤ) (talk : List Said) (stop : AloneStop) : Type 0 where
   pub put : put_at talk 0 ≡ values process (pos 0) items
-  pub stopped : stop ≡ stop_of process (pos 0) items
+  pub stopped : stop ≡ alone_stop_of process (pos 0) items

@@ -11,8 +11,8 @@ use Rattle.kpn_command_base.specs.declared.refusal.Refusal.TheVariants.{Threads,
 use Rattle.kpn_command_base.specs.Inputs.{AreInputs}
 use Rattle.kpn_shelf.specs.Shelf.{Loads}
 use Rattle.kpn_commands.specs.declared.reporting.Reported.{Reported}
-use Rattle.kpn_commands.specs.Limits.{limits_of}
-use Rattle.kpn_command_base.specs.Outputs.{AreSinks}
+use Rattle.kpn_commands.specs.Limits.{run_limits_of}
+use Rattle.kpn_command_base.specs.Outputs.{AreSinksNamed}
 
 -- a run on one thread: it made turns of the front of the queue, each source was fed its whole list, and there are no
 -- more commits than the limit
@@ -23,14 +23,14 @@ pub record RanHere (t : Tables) (lists : List (List ℤ)) (limits : Limits) (rep
 
 -- the inputs and the sinks that are asked for, and a report of a run of them under the limits; without workers it was
 -- made on one thread
-pub record IsReported (may_give : Loads) (request : RunRequest) (reported : Reported) : Type 0 where
+pub record IsRunReported (may_give : Loads) (request : RunRequest) (reported : Reported) : Type 0 where
   pub are_inputs :
       AreInputs may_give request.file request.sources reported.inputs.document reported.inputs.given.items
-  pub are_sinks : AreSinks request reported.inputs.document reported.sinks.items
+  pub are_sinks : AreSinksNamed request reported.inputs.document reported.sinks.items
   pub is_report :
-      IsReport reported.inputs.document.tables reported.inputs.given.items (limits_of request) reported.report
+      IsReport reported.inputs.document.tables reported.inputs.given.items (run_limits_of request) reported.report
   pub here : request.workers ≡ None
-      → RanHere reported.inputs.document.tables reported.inputs.given.items (limits_of request) reported.report
+      → RanHere reported.inputs.document.tables reported.inputs.given.items (run_limits_of request) reported.report
 
 -- why a run gives no report: there is no memory, or something befell the workers, if there are any
 abbrev pub IsRefusalOfReport : (workers : Option ℕ) → Refusal → Type 0

@@ -4,7 +4,7 @@ ghost use Rattle.std.specs.Io.KnownBytes.{IsAtEnd};
 ghost use Rattle.kpn_command_base.specs.Conclusion.{Succeeds};
 ghost use Rattle.kpn_text_items.specs.Input.{LosesItsFront};
 ghost use Rattle.kpn_step.specs.Walk.{AloneGives};
-ghost use Rattle.kpn_commands.specs.BuiltIn.{program_of};
+ghost use Rattle.kpn_commands.specs.BuiltIn.{built_in_program};
 ghost use Rattle.kpn_commands.specs.Plain.{TalksPlainly};
 ghost use Rattle.kpn_commands.specs.Refused.{WantsMemory};
 ghost use Rattle.kpn_commands.specs.Alone.{IsAloneText, IsRefusalOfAlone, IsUnknown};
@@ -49,7 +49,7 @@ pub fn alone_command<I: Read>(
 fn run_on(alloc: Global, process: BuiltIn, items: Vec<i64>) -> Result<AloneRun, Refusal>
     requires { vec_len items ≤ MAX_INPUT_BYTES }
     ensures alone { IfOk result (λ run.
-        AloneGives (program_of process) [] (items.items ∷ []) (2 ^ 64 - 1) run.talk run.stop) }
+        AloneGives (built_in_program process) [] (items.items ∷ []) (2 ^ 64 - 1) run.talk run.stop) }
     ensures plain { IfOk result (λ run. TalksPlainly process items.items run.talk run.stop) }
     ensures refused { IfErr result WantsMemory }
 {

@@ -1,7 +1,7 @@
 //! The text that `kpn alone` writes of a run.
 ghost use Rattle.std.specs.Prelude.{◌≡◌, IfOk};
 ghost use Rattle.kpn_command_base.specs.Added.{Adds};
-ghost use Rattle.kpn_commands.specs.AloneText.{alone_text, fault_text};
+ghost use Rattle.kpn_commands.specs.AloneText.{alone_text, alone_fault_text};
 
 use kpn_command_base::{Pushed, push_faulted};
 use kpn_history::How;
@@ -33,7 +33,7 @@ pub fn text_of(
 
 // How the process faulted, if it did.
 fn push_fault(text: &mut String, name: &str, stop: AloneStop) -> Pushed
-    ensures { Adds result text.old text.new (fault_text name.now stop) }
+    ensures { Adds result text.old text.new (alone_fault_text name.now stop) }
 {
     match stop {
         AloneStop::Faulted(fault) => push_faulted(text, name, How::from(fault)),

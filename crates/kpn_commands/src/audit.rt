@@ -1,6 +1,6 @@
 //! The command reads a network and a trace, and tells what an audit finds.
 ghost use Rattle.std.specs.Prelude.{IfOk, IfErr};
-ghost use Rattle.kpn_command_base.specs.Conclusion.{Tells};
+ghost use Rattle.kpn_command_base.specs.Conclusion.{TellsOnly};
 ghost use Rattle.kpn_command_base.specs.Audited.{IsRefusalOfAudit, IsTextFor};
 ghost use Rattle.kpn_commands.specs.Answers.{AnswersAudit, IsAuditText};
 
@@ -18,7 +18,7 @@ pub fn audit_command<S: Shelf>(
     shelf: &S,
 ) -> Result<Conclusion, Refusal>
     ensures ok { IfOk result
-        (Tells (AnswersAudit (S.may_give shelf.now) file.now trace.now steps)) }
+        (TellsOnly (AnswersAudit (S.may_give shelf.now) file.now trace.now steps)) }
     ensures refused { IfErr result (IsRefusalOfAudit (S.may_give shelf.now) file.now trace.now) }
 {
     let audited = load_audited(alloc, shelf, file, trace, steps)?;
@@ -28,7 +28,7 @@ pub fn audit_command<S: Shelf>(
 
 // The text for a finding, and its status.
 fn conclusion_of(alloc: Global, audited: &Audited) -> Result<Conclusion, AllocError>
-    ensures { IfOk result (Tells (IsTextFor (IsAuditText audited.now.document audited.now.trace)
+    ensures { IfOk result (TellsOnly (IsTextFor (IsAuditText audited.now.document audited.now.trace)
         audited.now.finding)) }
 {
     match &audited.finding {

@@ -26,7 +26,7 @@ const X: usize = 0;
 const T: usize = 1;
 
 impl BuiltIn {
-    ghost use Rattle.kpn_commands.specs.BuiltIn.{name_of, turn_of, variables_of, program_of};
+    ghost use Rattle.kpn_commands.specs.BuiltIn.{name_of, turn_of, variables_of, built_in_program};
     ghost use Rattle.kpn_commands.specs.Refused.{WantsMemory};
 
     /// The process of this name.
@@ -59,7 +59,7 @@ impl BuiltIn {
     /// If memory runs out, the refusal is 42 while the code makes the parts. In the program that is made of them it is
     /// 28, as in a program of a description.
     pub fn program(self, alloc: Global) -> Result<Program, Refusal>
-        ensures program { IfOk result (λ program. program ≡ program_of self) }
+        ensures program { IfOk result (λ program. program ≡ built_in_program self) }
         ensures refused { IfErr result WantsMemory }
     {
         let body = vec![in alloc; Stmt::While(Expr::Num(1), 1)]?;

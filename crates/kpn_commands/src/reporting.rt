@@ -2,11 +2,11 @@
 ghost use Rattle.std.specs.Prelude.{◌≡◌, length, Some, IfOk, IfErr};
 ghost use Rattle.kpn_net.specs.Iteration.{sources};
 ghost use Rattle.kpn_book.specs.Reports.{IsReport};
-ghost use Rattle.kpn_commands.specs.Limits.{limits_of};
+ghost use Rattle.kpn_commands.specs.Limits.{run_limits_of};
 ghost use Rattle.kpn_commands.specs.Reported.{IsRefusalOfReport};
 
 use kpn_book::{Keeping, Limits, Report};
-use kpn_command_base::{Inputs, NamedEnd, Refusal, RunRequest};
+use kpn_command_base::{Inputs, NamedEnd, QUOTA, Refusal, RunRequest};
 use kpn_lang::Sequence;
 use kpn_limits::MAX_WORKERS;
 use kpn_net::Network;
@@ -16,9 +16,6 @@ use std::alloc::Global;
 use std::sync::Wait;
 use std::thread::Threads;
 use std::time::Clock;
-
-// How many steps a process makes at most before it is the turn of the next.
-const QUOTA: u32 = 1_000;
 
 /// What was run, the sinks that options name, and the report.
 #[derive(Drop)]
@@ -30,7 +27,7 @@ pub(crate) struct Reported<'a> {
 
 /// The limits of a run that is asked for.
 pub(crate) fn limits_of(request: &RunRequest<'_>) -> Limits
-    ensures { result ≡ limits_of request.now }
+    ensures { result ≡ run_limits_of request.now }
 {
     Limits {
         commits: request.commits,

@@ -1,7 +1,7 @@
 //! The command: it reads a network and the lists of its sources, runs the network, and concludes with the files to
 //! store and a report.
 ghost use Rattle.std.specs.Prelude.{◌≡◌, IfOk, IfErr};
-ghost use Rattle.kpn_commands.specs.Run.{IsConcluded, IsRun, IsNoRun};
+ghost use Rattle.kpn_commands.specs.Run.{IsRunConcluded, IsRunAnswer, IsNoRun};
 
 use crate::files::files_of;
 use crate::reporting::{Reported, keeping_of, limits_of, run_by_workers};
@@ -23,7 +23,7 @@ pub fn run_command<S: Shelf>(
     request: &RunRequest<'_>,
     shelf: &S,
 ) -> Result<Conclusion, Refusal>
-    ensures ok { IfOk result (IsRun (S.may_give shelf.now) request.now) }
+    ensures ok { IfOk result (IsRunAnswer (S.may_give shelf.now) request.now) }
     ensures refused { IfErr result
         (IsNoRun (S.may_give shelf.now) (S.may_alias shelf.now) request.now) }
 {
@@ -54,7 +54,7 @@ pub fn run_command_by_workers<R: Threads + Wait + Clock + Sync, S: Shelf>(
     request: &RunRequest<'_>,
     shelf: &S,
 ) -> Result<Conclusion, Refusal>
-    ensures ok { IfOk result (IsRun (S.may_give shelf.now) request.now) }
+    ensures ok { IfOk result (IsRunAnswer (S.may_give shelf.now) request.now) }
     ensures refused { IfErr result
         (IsNoRun (S.may_give shelf.now) (S.may_alias shelf.now) request.now) }
 {
@@ -94,7 +94,7 @@ fn conclusion_of(
     request: &RunRequest<'_>,
     reported: &Reported<'_>,
 ) -> Result<Conclusion, Refusal>
-    ensures ok { IfOk result (IsConcluded request.now reported.now) }
+    ensures ok { IfOk result (IsRunConcluded request.now reported.now) }
     ensures refused { IfErr result (λ refusal. refusal ≡ Refusal.NoMemory) }
 {
     let files = files_of(alloc, request.trace, request.take, reported)?;

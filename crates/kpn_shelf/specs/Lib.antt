@@ -1,3 +1,3 @@
 pub mod Shelf
-pub mod Look
+pub mod NonblockingRead
 pub mod MemoryShelf

@@ -3,10 +3,10 @@ ghost use Rattle.std.specs.Prelude.{◌≡◌, IfOk};
 ghost use Rattle.std.specs.String.{string_bytes};
 
 use crate::job::System;
-use crate::look::Look;
+use crate::look::NonblockingRead;
 use crate::opening::Opening;
 use crate::place::is_pipe;
-use crate::source::{Device, Source};
+use crate::source::{Device, ThreadedInput};
 use std::fs::{File, OpenOptions};
 use std::io::{ErrorKind, Read};
 use std::rt::Files;
@@ -19,7 +19,7 @@ pub struct FileInput<'a, R: Files<File = File> + Threads> {
     rt: &'a R,
     pub(crate) name: String,
     // Until a FIFO is open it has no source, and none if it can't be opened.
-    source: Option<Source<'a, R>>,
+    source: Option<ThreadedInput<'a, R>>,
     opening: Option<Opening>,
 }
 
@@ -52,9 +52,9 @@ impl<'a, R: System + Clock + AllocGlobal + Threads> FileInput<'a, R> {
 }
 
 // A read of a plain file never waits.
-fn source_of<R: Clock + AllocGlobal>(rt: &R, file: File) -> io::Result<Source<'_, R>> {
+fn source_of<R: Clock + AllocGlobal>(rt: &R, file: File) -> io::Result<ThreadedInput<'_, R>> {
     let is_plain = file.metadata()?.is_file();
-    Ok(Source::new(rt, Device::File(file), is_plain))
+    Ok(ThreadedInput::new(rt, Device::File(file), is_plain))
 }
 
 // Begins to open a FIFO.
@@ -77,7 +77,7 @@ impl<R: System + Clock + AllocGlobal + Threads> Read for FileInput<'_, R> {
     }
 }
 
-impl<R: System + Clock + AllocGlobal + Threads> Look for FileInput<'_, R> {
+impl<R: System + Clock + AllocGlobal + Threads> NonblockingRead for FileInput<'_, R> {
     fn look(&mut self, buf: &mut [u8]) -> io::Result<Option<usize>> {
         if let Some(opening) = &self.opening {
             if !opening.is_done() {

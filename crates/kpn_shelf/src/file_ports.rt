@@ -15,9 +15,10 @@ use std::rt::Files;
 use std::thread::Threads;
 use std::time::Clock;
 
-// The name of standard input, and a path of it.
-const STANDARD: &str = "-";
+/// The name of standard input and of standard output.
+pub const STANDARD: &str = "-";
 
+// A path of standard input.
 const STANDARD_PATH: &str = "/dev/stdin";
 
 impl<'a, R: System + Clock + AllocGlobal + Threads> Ports for FileShelf<'a, R> {

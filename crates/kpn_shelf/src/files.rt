@@ -3,7 +3,7 @@ ghost use Rattle.std.specs.Prelude.{⊤};
 
 use crate::Shelf;
 use crate::target::Target;
-use crate::written::Written;
+use crate::written::WrittenPaths;
 use kpn_limits::MAX_INPUT_BYTES;
 use kpn_text_items::{ItemFault, WriteFault, read_up_to};
 use std::alloc::{AllocError, Global};
@@ -15,7 +15,7 @@ use std::rt::Files;
 use std::{fs, io};
 
 // What is written for names.
-type Looks = BTreeMap<String, Written>;
+type Looks = BTreeMap<String, WrittenPaths>;
 
 /// The files that a runtime reaches, by their paths. Nothing is known of what they hold.
 pub struct FileShelf<'a, R: Files<File = File> + AllocGlobal> {
@@ -89,7 +89,7 @@ fn look_at<R: Files + AllocGlobal>(
 ) -> Result<(), AllocError> {
     if looks.get(name).is_none() {
         let word = String::from_str(rt.alloc(), name)?;
-        looks.insert(word, Written::new(rt, name)?)?;
+        looks.insert(word, WrittenPaths::new(rt, name)?)?;
     }
     Ok(())
 }

@@ -24,17 +24,17 @@ impl System for LibcRuntime {
 
 /// A call that a thread makes. If it is dropped, the thread is left to the end of the program.
 #[derive(Drop)]
-pub(crate) struct Job<T: Drop> {
+pub(crate) struct ThreadCall<T: Drop> {
     thread: JoinHandle<T>,
     is_done: Arc<AtomicBool>,
 }
 
-impl<T: Send + Drop + 'static> Job<T> {
+impl<T: Send + Drop + 'static> ThreadCall<T> {
     /// Lets a thread make this call.
     pub(crate) fn start<R: AllocGlobal + Threads, F: FnOnce() -> T + Send + Drop + 'static>(
         rt: &R,
         call: F,
-    ) -> io::Result<Job<T>>
+    ) -> io::Result<ThreadCall<T>>
         requires { F.pre call }
     {
         let is_done = Arc::new(rt.alloc(), AtomicBool::new(false))?;
@@ -47,7 +47,7 @@ impl<T: Send + Drop + 'static> Job<T> {
             result
         };
         let thread = Builder::new().stack_size(STACK).spawn(rt, job)?;
-        Ok(Job { thread, is_done })
+        Ok(ThreadCall { thread, is_done })
     }
 
     /// Whether the call has returned.
@@ -57,7 +57,7 @@ impl<T: Send + Drop + 'static> Job<T> {
 
     /// Waits until the call has returned, and hands over what it returned.
     pub(crate) fn finish<R: Threads>(self, rt: &R) -> T {
-        let Job { thread, is_done: _ } = self;
+        let ThreadCall { thread, is_done: _ } = self;
         thread.join(rt)
     }
 }

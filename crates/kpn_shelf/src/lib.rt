@@ -28,14 +28,15 @@ mod written;
 
 pub use file_input::FileInput;
 pub use file_output::FileOutput;
+pub use file_ports::STANDARD;
 pub use files::FileShelf;
 pub use job::System;
-pub use look::Look;
+pub use look::NonblockingRead;
 pub use memory::MemoryShelf;
 pub use memory_ports::MemoryInput;
 pub use patient::Patient;
 pub use ports::Ports;
-pub use source::Source;
+pub use source::ThreadedInput;
 pub use standard::{fill_standard, standard_input};
 
 /// Files by name.

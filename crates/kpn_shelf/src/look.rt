@@ -1,11 +1,11 @@
 //! Inputs that tell what has come, without waiting for more.
-ghost use Rattle.kpn_shelf.specs.Look.{LookConsumes, LooksAtMost};
+ghost use Rattle.kpn_shelf.specs.NonblockingRead.{LookConsumes, LooksAtMost};
 
 use std::io;
 use std::io::{Cursor, Read};
 
 /// An input that can be looked at.
-pub trait Look: Read {
+pub trait NonblockingRead: Read {
     /// Hands over what has come, as a read does, and waits for nothing. None says that nothing has come yet, or that
     /// this can't be told without waiting.
     fn look(&mut self, buf: &mut [u8]) -> io::Result<Option<usize>>
@@ -21,7 +21,7 @@ pub trait Look: Read {
 }
 
 /// All has come.
-impl Look for &[u8] {
+impl NonblockingRead for &[u8] {
     fn look(&mut self, buf: &mut [u8]) -> io::Result<Option<usize>> {
         Ok(Some(self.read(buf)?))
     }
@@ -32,7 +32,7 @@ impl Look for &[u8] {
 }
 
 /// All has come.
-impl Look for Cursor<Vec<u8>> {
+impl NonblockingRead for Cursor<Vec<u8>> {
     fn look(&mut self, buf: &mut [u8]) -> io::Result<Option<usize>> {
         Ok(Some(self.read(buf)?))
     }

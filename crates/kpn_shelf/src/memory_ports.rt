@@ -4,7 +4,7 @@ ghost use Rattle.std.specs.Io.Cursor.{cursor_remaining};
 ghost use Rattle.std.specs.String.{string_bytes};
 
 use crate::Shelf;
-use crate::look::Look;
+use crate::look::NonblockingRead;
 use crate::memory::MemoryShelf;
 use crate::ports::Ports;
 use kpn_text_items::{ItemFault, WriteFault};
@@ -26,7 +26,7 @@ impl Read for MemoryInput {
     }
 }
 
-impl Look for MemoryInput {
+impl NonblockingRead for MemoryInput {
     fn look(&mut self, buf: &mut [u8]) -> io::Result<Option<usize>> {
         self.bytes.look(buf)
     }

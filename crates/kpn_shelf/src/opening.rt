@@ -1,7 +1,7 @@
 //! FIFOs that are being opened. To open one waits for somebody who opens its other end, and that one may wait for what
 //! this program does with another file. So each is opened by a thread of its own, and no order of opening can hang.
 
-use crate::job::{Job, System};
+use crate::job::{System, ThreadCall};
 use std::fs::{File, OpenOptions};
 use std::io;
 use std::io::ErrorKind;
@@ -11,7 +11,7 @@ use std::thread::Threads;
 /// A FIFO that a thread opens.
 #[derive(Drop)]
 pub(crate) struct Opening {
-    job: Job<Option<File>>,
+    job: ThreadCall<Option<File>>,
 }
 
 impl Opening {
@@ -25,7 +25,7 @@ impl Opening {
         let path = String::from_str(rt.alloc(), name)?;
         let open = move || -> Option<File> { options.open(&files, path.as_str()).ok() };
         Ok(Opening {
-            job: Job::start(rt, open)?,
+            job: ThreadCall::start(rt, open)?,
         })
     }
 

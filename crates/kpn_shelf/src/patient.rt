@@ -6,7 +6,7 @@ use std::time::{Clock, Duration};
 use std::{io, thread};
 
 // How many milliseconds lie between two tries at most.
-const LONGEST: u64 = 20;
+const LONGEST_PAUSE: u64 = 20;
 
 /// A reader or a writer that tries again, a little later each time, as long as it would have to wait.
 #[derive(Drop)]
@@ -27,10 +27,10 @@ impl<'r, R: Clock, T: Drop> Patient<'r, R, T> {
 // Waits so many milliseconds, and returns how many to wait the next time.
 fn wait<R: Clock>(rt: &R, milliseconds: u64) -> u64 {
     thread::sleep(rt, Duration::from_millis(milliseconds));
-    if milliseconds < LONGEST / 2 {
+    if milliseconds < LONGEST_PAUSE / 2 {
         return milliseconds * 2;
     }
-    LONGEST
+    LONGEST_PAUSE
 }
 
 // Whether a try would have had to wait.

@@ -94,7 +94,7 @@ fn is_of_a_process(rt: &impl Files, link: &Metadata) -> bool {
 
 /// What a path leads to.
 #[derive(Drop)]
-pub(super) enum Place {
+pub(super) enum PathTarget {
     /// A plain file.
     Plain(Node),
     /// Nothing yet, but a name in a folder.
@@ -104,38 +104,41 @@ pub(super) enum Place {
     Other,
 }
 
-impl Place {
+impl PathTarget {
     /// The place of a path. It fails only for want of memory.
-    pub(super) fn new<R: Files + AllocGlobal>(rt: &R, path: &str) -> Result<Place, AllocError> {
+    pub(super) fn new<R: Files + AllocGlobal>(
+        rt: &R,
+        path: &str,
+    ) -> Result<PathTarget, AllocError> {
         match fs::metadata(rt, path) {
-            Ok(found) if found.is_file() => Ok(Place::Plain(Node::new(&found))),
-            Ok(_) => Ok(Place::Other),
+            Ok(found) if found.is_file() => Ok(PathTarget::Plain(Node::new(&found))),
+            Ok(_) => Ok(PathTarget::Other),
             Err(_) => match behind_links(rt, path) {
-                Ok(Some(path)) => Place::free(rt, path.as_str()),
-                Ok(None) => Ok(Place::Other),
+                Ok(Some(path)) => PathTarget::free(rt, path.as_str()),
+                Ok(None) => Ok(PathTarget::Other),
                 Err(error) if error.kind() == ErrorKind::OutOfMemory => Err(AllocError),
-                Err(_) => Ok(Place::Other),
+                Err(_) => Ok(PathTarget::Other),
             },
         }
     }
 
     // The place of a path where nothing is.
-    fn free<R: Files + AllocGlobal>(rt: &R, path: &str) -> Result<Place, AllocError> {
+    fn free<R: Files + AllocGlobal>(rt: &R, path: &str) -> Result<PathTarget, AllocError> {
         let (folder, last) = split(path);
         match fs::metadata(rt, folder) {
             Ok(found) => {
                 let last = String::from_str(rt.alloc(), last)?;
-                Ok(Place::Free(Node::new(&found), last))
+                Ok(PathTarget::Free(Node::new(&found), last))
             }
-            Err(_) => Ok(Place::Other),
+            Err(_) => Ok(PathTarget::Other),
         }
     }
 
     /// Whether both are one plain file, or would be once it is made.
-    pub(super) fn is_same(&self, other: &Place) -> bool {
+    pub(super) fn is_same(&self, other: &PathTarget) -> bool {
         match (self, other) {
-            (Place::Plain(a), Place::Plain(b)) => *a == *b,
-            (Place::Free(a, name), Place::Free(b, other)) => {
+            (PathTarget::Plain(a), PathTarget::Plain(b)) => *a == *b,
+            (PathTarget::Free(a, name), PathTarget::Free(b, other)) => {
                 *a == *b && name.as_str() == other.as_str()
             }
             _ => false,

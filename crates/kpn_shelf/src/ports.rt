@@ -2,13 +2,13 @@
 ghost use Rattle.std.specs.Prelude.{◌≡◌, false, ℕ, List, [], IfOk, IfSome, OnOk, Ok};
 
 use crate::Shelf;
-use crate::look::Look;
+use crate::look::NonblockingRead;
 use kpn_text_items::{ItemFault, WriteFault};
 use std::io::Write;
 
 /// Files by name that are also read and written piece by piece.
 pub trait Ports: Shelf {
-    type Input: Look + Drop;
+    type Input: NonblockingRead + Drop;
 
     type Output: Write + Drop;
 

@@ -1,9 +1,9 @@
 //! An input that is read, or looked at without waiting.
 ghost use Rattle.std.specs.Io.{ReadsAtMost};
-ghost use Rattle.kpn_shelf.specs.Look.{LooksAtMost};
+ghost use Rattle.kpn_shelf.specs.NonblockingRead.{LooksAtMost};
 
-use crate::job::{Job, System};
-use crate::look::Look;
+use crate::job::{System, ThreadCall};
+use crate::look::NonblockingRead;
 use crate::patient::Patient;
 use std::fs::File;
 use std::io::{Cursor, ErrorKind, Read};
@@ -13,7 +13,7 @@ use std::time::{Clock, Duration};
 use std::{io, thread};
 
 // How many bytes the read of a thread asks for.
-const CHUNK: usize = 65_536;
+const THREAD_READ_BYTES: usize = 65_536;
 
 /// What a source reads.
 #[derive(Drop)]
@@ -46,21 +46,21 @@ type Brought = Result<Vec<u8>, ErrorKind>;
 
 /// An input that can be looked at. A look lets a thread read, and a later look or read gets what it brought.
 #[derive(Drop)]
-pub struct Source<'r, R> {
+pub struct ThreadedInput<'r, R> {
     rt: &'r R,
     reader: Patient<'r, R, Device>,
     never_waits: bool,
-    reading: Option<Job<Brought>>,
+    reading: Option<ThreadCall<Brought>>,
     // What a thread has brought.
     brought: Cursor<Vec<u8>>,
     // Whether a thread could be made for the last look that wanted one.
     can_look: bool,
 }
 
-impl<'r, R: Clock + AllocGlobal> Source<'r, R> {
+impl<'r, R: Clock + AllocGlobal> ThreadedInput<'r, R> {
     /// A source that reads this device, and whether a read never waits.
-    pub(crate) fn new(rt: &'r R, device: Device, never_waits: bool) -> Source<'r, R> {
-        Source {
+    pub(crate) fn new(rt: &'r R, device: Device, never_waits: bool) -> ThreadedInput<'r, R> {
+        ThreadedInput {
             rt,
             reader: Patient::new(rt, device),
             never_waits,
@@ -71,21 +71,21 @@ impl<'r, R: Clock + AllocGlobal> Source<'r, R> {
     }
 }
 
-impl<R: Clock + System + AllocGlobal + Threads> Source<'_, R> {
+impl<R: Clock + System + AllocGlobal + Threads> ThreadedInput<'_, R> {
     fn is_used_up(&self) -> bool {
         self.brought.position() >= self.brought.get_ref().len() as u64
     }
 
     // Lets a thread read.
-    fn start(&self) -> io::Result<Job<Brought>> {
+    fn start(&self) -> io::Result<ThreadCall<Brought>> {
         let system = self.rt.system();
         let twin = self.reader.inner.twin()?;
-        let chunk = vec![in self.rt.alloc(); 0; CHUNK]?;
-        Job::start(self.rt, move || -> Brought { bring(system, twin, chunk) })
+        let chunk = vec![in self.rt.alloc(); 0; THREAD_READ_BYTES]?;
+        ThreadCall::start(self.rt, move || -> Brought { bring(system, twin, chunk) })
     }
 
     // Waits for a thread's read, and reads what it brought.
-    fn hand_over(&mut self, reading: Job<Brought>, buf: &mut [u8]) -> io::Result<usize>
+    fn hand_over(&mut self, reading: ThreadCall<Brought>, buf: &mut [u8]) -> io::Result<usize>
         ensures { ReadsAtMost result buf.new }
     {
         let bytes = reading.finish(self.rt).map_err(io::Error::from)?;
@@ -105,7 +105,7 @@ fn bring(system: LibcRuntime, device: Device, mut bytes: Vec<u8>) -> Brought {
     }
 }
 
-impl<R: Clock + System + AllocGlobal + Threads> Read for Source<'_, R> {
+impl<R: Clock + System + AllocGlobal + Threads> Read for ThreadedInput<'_, R> {
     fn read(&mut self, buf: &mut [u8]) -> io::Result<usize> {
         match self.reading.take() {
             Some(reading) => self.hand_over(reading, buf),
@@ -115,7 +115,7 @@ impl<R: Clock + System + AllocGlobal + Threads> Read for Source<'_, R> {
     }
 }
 
-impl<R: Clock + System + AllocGlobal + Threads> Look for Source<'_, R> {
+impl<R: Clock + System + AllocGlobal + Threads> NonblockingRead for ThreadedInput<'_, R> {
     fn look(&mut self, buf: &mut [u8]) -> io::Result<Option<usize>> {
         match self.reading.take() {
             Some(reading) if reading.is_done() => Ok(Some(self.hand_over(reading, buf)?)),

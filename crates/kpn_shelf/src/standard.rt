@@ -1,7 +1,7 @@
 //! The program's standard input, and its standard descriptors where they are closed.
 
 use crate::place::Node;
-use crate::source::{Device, Source};
+use crate::source::{Device, ThreadedInput};
 use std::fs;
 use std::fs::{File, OpenOptions};
 use std::os::fd::{AsRawFd, IntoRawFd};
@@ -16,8 +16,8 @@ const NOTHING: &str = "/dev/null";
 pub fn standard_input<R: Files<File = File> + Clock + AllocGlobal>(
     rt: &R,
     input: Stdin,
-) -> Source<'_, R> {
-    Source::new(rt, Device::Standard(input), never_waits(rt))
+) -> ThreadedInput<'_, R> {
+    ThreadedInput::new(rt, Device::Standard(input), never_waits(rt))
 }
 
 // Whether a read of standard input never waits: of a plain file, and of what stands for no input.

@@ -21,12 +21,12 @@ const RIGHTS: u32 = 0o666;
 pub(super) struct Target {
     name: String,
     file: File,
-    part: Option<Part>,
+    part: Option<PartFile>,
 }
 
 // The path of a part file, and of the file whose place it takes.
 #[derive(Drop)]
-struct Part {
+struct PartFile {
     path: String,
     place: String,
 }
@@ -51,7 +51,7 @@ impl Target {
                 Ok(Target {
                     name: word,
                     file,
-                    part: Some(Part { path: part, place }),
+                    part: Some(PartFile { path: part, place }),
                 })
             }
             None => Ok(Target {
@@ -92,7 +92,7 @@ impl Target {
 }
 
 // Writes a part file, and lets it take the place of its file. It stays open, and so locked, until then.
-fn take_place<R: Files>(rt: &R, mut file: File, part: &Part, bytes: &[u8]) -> io::Result<()> {
+fn take_place<R: Files>(rt: &R, mut file: File, part: &PartFile, bytes: &[u8]) -> io::Result<()> {
     let (path, place) = (part.path.as_str(), part.place.as_str());
     let written = write_synced(&mut file, bytes);
     let placed = written.and_then(|()| fs::rename(rt, path, place));

@@ -15,70 +15,70 @@ use Rattle.kpn_history.proofs.Ownership.{IsOwn-last}
 use Rattle.kpn_stream.specs.declared.faults.SourceFault.{SourceFault}
 use Rattle.kpn_stream.specs.declared.faults.SourceFault.TheVariants.{Read, BadItem, CutSample, BadHead, NoMemory}
 use Rattle.kpn_stream.specs.Devices.{is_of_source, Fed, at_first, by_others, by_look, by_item, by_end, by_fault, by_no_memory}
-use Rattle.kpn_stream_devices.specs.declared.inputs.Input.{Input}
-use Rattle.kpn_stream_devices.specs.declared.inputs.Inputs.{Inputs}
-use Rattle.kpn_stream_devices.specs.Window.{Window, Counts, fresh, one_after, used_after}
-use Rattle.kpn_stream_devices.specs.Inputs.{InputsGive, InputsLook, by_input, by_none, at_input, at_none, input_of}
+use Rattle.kpn_stream_devices.specs.declared.inputs.SourceInput.{SourceInput}
+use Rattle.kpn_stream_devices.specs.declared.inputs.SourceInputs.{SourceInputs}
+use Rattle.kpn_stream_devices.specs.Window.{Window, CountsUsed, fresh, one_after, used_after}
+use Rattle.kpn_stream_devices.specs.SourceInputs.{InputsGive, InputsLook, by_input, by_none, at_input, at_none, input_of}
 use Rattle.kpn_stream_devices.proofs.Firsts.{IsFirst, first_found, first_stays, found_mine, found_other, found_none}
 use Rattle.kpn_stream_devices.proofs.Firsts.{found_within, was_here, stays_here}
 
-abbrev channel_of : {F : Type 0} → Input F → ℕ
+abbrev channel_of : {F : Type 0} → SourceInput F → ℕ
 channel_of input = input.channel
 
 module _ {I F : Type 0} (left : I → Option (List ℕ)) (left_in : F → Option (List ℕ)) (c i : ℕ) where
   -- input i is that of source c
-  abbrev IsMine : List (Input F) → Type 0
+  abbrev IsMine : List (SourceInput F) → Type 0
   IsMine inputs = IsFirst channel_of c i inputs
 
-  module _ (d : Input F) where
+  module _ (d : SourceInput F) where
     -- how many of the input were used
-    abbrev used_of : Inputs I F → ℕ
+    abbrev used_of : SourceInputs I F → ℕ
     used_of x = (get_or x.each.now.items i d).window.used
 
     -- a call or a look leaves it the input of its source
-    gives_keeps : (before : Inputs I F) (s : ℕ) (answer : Result (Option ℤ) SourceFault) (after : Inputs I F)
+    gives_keeps : (before : SourceInputs I F) (s : ℕ) (answer : Result (Option ℤ) SourceFault) (after : SourceInputs I F)
         → IsMine before.each.now.items → InputsGive left left_in before s answer after → IsMine after.each.now.items
     gives_keeps before s answer after m (by_input j x y found at given each ghost lent) =
         subst IsMine (sym each)
         (first_stays channel_of c i before.each.now.items j x y
         (found_within channel_of before.each.now.items s j x found) at given.channel m)
     gives_keeps before s answer after m (by_none found is same) =
-        subst (λ (x : Inputs I F). IsMine x.each.now.items) (sym same) m
+        subst (λ (x : SourceInputs I F). IsMine x.each.now.items) (sym same) m
 
-    looks_keeps : (before : Inputs I F) (s : ℕ) (after : Inputs I F) → IsMine before.each.now.items
+    looks_keeps : (before : SourceInputs I F) (s : ℕ) (after : SourceInputs I F) → IsMine before.each.now.items
         → InputsLook left left_in before s after → IsMine after.each.now.items
     looks_keeps before s after m (at_input j x y found at looks each ghost lent) =
         subst IsMine (sym each)
         (first_stays channel_of c i before.each.now.items j x y
         (found_within channel_of before.each.now.items s j x found) at looks.channel m)
     looks_keeps before s after m (at_none found same) =
-        subst (λ (x : Inputs I F). IsMine x.each.now.items) (sym same) m
+        subst (λ (x : SourceInputs I F). IsMine x.each.now.items) (sym same) m
 
     -- a call for source c counts
-    gives_mine : (before : Inputs I F) (answer : Result (Option ℤ) SourceFault) (after : Inputs I F)
+    gives_mine : (before : SourceInputs I F) (answer : Result (Option ℤ) SourceFault) (after : SourceInputs I F)
         → IsMine before.each.now.items → InputsGive left left_in before c answer after
-        → Counts answer (used_of before) (used_of after)
+        → CountsUsed answer (used_of before) (used_of after)
     gives_mine before answer after m (by_input j x y found at given each ghost lent) =
         let xs = before.each.now.items in
         let here = was_here xs after.each.now.items i j x y d (found_mine channel_of c i xs j x m found)
         (found_within channel_of xs c j x found) at each in
-        subst (λ (z : Input F). Counts answer z.window.used (used_of after)) (sym here.0)
-        (subst (λ (z : Input F). Counts answer x.window.used z.window.used) (sym here.1) given.counted)
+        subst (λ (z : SourceInput F). CountsUsed answer z.window.used (used_of after)) (sym here.0)
+        (subst (λ (z : SourceInput F). CountsUsed answer x.window.used z.window.used) (sym here.1) given.counted)
     gives_mine before answer after m (by_none found is same) =
         absurd (found_none channel_of c i before.each.now.items d m found)
 
     -- one for another source counts nothing here
-    gives_other : (before : Inputs I F) (s : ℕ) (answer : Result (Option ℤ) SourceFault) (after : Inputs I F)
+    gives_other : (before : SourceInputs I F) (s : ℕ) (answer : Result (Option ℤ) SourceFault) (after : SourceInputs I F)
         → IsMine before.each.now.items → s ≢ c → InputsGive left left_in before s answer after
         → used_of after ≡ used_of before
     gives_other before s answer after m other (by_input j x y found at given each ghost lent) =
-        ap (λ (z : Input F). z.window.used)
+        ap (λ (z : SourceInput F). z.window.used)
         (stays_here before.each.now.items after.each.now.items i j y d
         (found_other channel_of c i before.each.now.items s j x m other found) each)
     gives_other before s answer after m other (by_none found is same) = ap used_of same
 
     -- and no look counts
-    looks_any : (before : Inputs I F) (s : ℕ) (after : Inputs I F) → IsMine before.each.now.items
+    looks_any : (before : SourceInputs I F) (s : ℕ) (after : SourceInputs I F) → IsMine before.each.now.items
         → InputsLook left left_in before s after → used_of after ≡ used_of before
     looks_any before s after m (at_none found same) = ap used_of same
     looks_any before s after m (at_input j x y found at looks each ghost lent) =
@@ -88,17 +88,17 @@ module _ {I F : Type 0} (left : I → Option (List ℕ)) (left_in : F → Option
               let there = subst (λ (n : ℕ). input_of xs n ≡ Some j) same found in
               let here = was_here xs after.each.now.items i j x y d (found_mine channel_of c i xs j x m there)
               (found_within channel_of xs s j x found) at each in
-              ap (λ (z : Input F). z.window.used) here.1 ∙ looks.used
-              ∙ sym (ap (λ (z : Input F). z.window.used) here.0)
+              ap (λ (z : SourceInput F). z.window.used) here.1 ∙ looks.used
+              ∙ sym (ap (λ (z : SourceInput F). z.window.used) here.0)
           | inr other ↦
-              ap (λ (z : Input F). z.window.used)
+              ap (λ (z : SourceInput F). z.window.used)
               (stays_here xs after.each.now.items i j y d (found_other channel_of c i xs s j x m other found) each)
         ]
 
-    module _ (t : Tables) (network : IsNetwork t) (first : Inputs I F) (source : is_source (channel_at t c) ≡ true)
+    module _ (t : Tables) (network : IsNetwork t) (first : SourceInputs I F) (source : is_source (channel_at t c) ≡ true)
         (is_first : IsMine first.each.now.items) (new : used_of first ≡ 0) where
       -- as many were used as items were fed
-      abbrev HasCounted : List Event → Inputs I F → Type 0
+      abbrev HasCounted : List Event → SourceInputs I F → Type 0
       HasCounted H now =
           IsMine now.each.now.items × (used_of now ≡ used_after (length (written_on H c)))
 
@@ -115,7 +115,7 @@ module _ {I F : Type 0} (left : I → Option (List ℕ)) (left_in : F → Option
           nothing e legal other = refl
 
       -- the count stays, and so do the items
-      counted_same : (later H : List Event) (before now : Inputs I F) → written_on later c ≡ written_on H c
+      counted_same : (later H : List Event) (before now : SourceInputs I F) → written_on later c ≡ written_on H c
           → used_of now ≡ used_of before → IsMine now.each.now.items → HasCounted H before → HasCounted later now
       counted_same later H before now same stays kept counted = (
         kept,
@@ -123,7 +123,7 @@ module _ {I F : Type 0} (left : I → Option (List ℕ)) (left_in : F → Option
       )
 
       -- an answer that is no item counts nothing
-      counts_none : (H : List Event) (s : ℕ) (before now : Inputs I F) → HasCounted H before
+      counts_none : (H : List Event) (s : ℕ) (before now : SourceInputs I F) → HasCounted H before
           → InputsGive left left_in before s (Ok None) now → used_of now ≡ used_of before
       counts_none H s before now counted gave =
           elim (cases_eq s c) [
@@ -134,7 +134,7 @@ module _ {I F : Type 0} (left : I → Option (List ℕ)) (left_in : F → Option
           ]
 
       -- an item is one more
-      counts_one : (H : List Event) (v : ℤ) (before now : Inputs I F) → HasCounted H before
+      counts_one : (H : List Event) (v : ℤ) (before now : SourceInputs I F) → HasCounted H before
           → InputsGive left left_in before c (Ok (Some v)) now → HasCounted (H ++ event.Feed c v ∷ []) now
       counts_one H v before now counted gave =
           let kept = gives_keeps before c (Ok (Some v)) now counted.0 gave in
@@ -146,7 +146,7 @@ module _ {I F : Type 0} (left : I → Option (List ℕ)) (left_in : F → Option
           omega (arith, ap length items, length-append (written_on H c) (v ∷ [])) in
           (kept, one ∙ ap one_after counted.1 ∙ sym (ap used_after count))
 
-      counted_so_far : {H : List Event} {failed : Option (ℕ × SourceFault)} {now : Inputs I F}
+      counted_so_far : {H : List Event} {failed : Option (ℕ × SourceFault)} {now : SourceInputs I F}
           → Fed t (InputsGive left left_in) (InputsLook left left_in) first H failed now → Legal t H → failed ≡ None
           → HasCounted H now
       counted_so_far at_first legal none = (is_first, new)
@@ -198,7 +198,7 @@ module _ {I F : Type 0} (left : I → Option (List ℕ)) (left_in : F → Option
       by_bad s line (BadHead at) is = cc
       by_bad s line NoMemory is = cc
 
-      bad_so_far : {H : List Event} {failed : Option (ℕ × SourceFault)} {now : Inputs I F} (line : ℕ)
+      bad_so_far : {H : List Event} {failed : Option (ℕ × SourceFault)} {now : SourceInputs I F} (line : ℕ)
           → Fed t (InputsGive left left_in) (InputsLook left left_in) first H failed now → Legal t H
           → told failed ≡ Some (c, line) → line ≡ used_after (length (written_on H c) + 1)
       bad_so_far line at_first legal is = cc
@@ -221,9 +221,9 @@ module _ {I F : Type 0} (left : I → Option (List ℕ)) (left_in : F → Option
       bad_so_far line (by_no_memory H s given before now fed may gave) legal is = cc
 
 pub bad_line : {I F : Type 0} (left : I → Option (List ℕ)) (left_in : F → Option (List ℕ)) (t : Tables)
-    (network : IsNetwork t) (c i : ℕ) (first : Inputs I F) (d : Input F) → is_source (channel_at t c) ≡ true
+    (network : IsNetwork t) (c i : ℕ) (first : SourceInputs I F) (d : SourceInput F) → is_source (channel_at t c) ≡ true
     → input_of first.each.now.items c ≡ Some i
-    → (get_or first.each.now.items i d).window ≡ fresh → {H : List Event} → {line : ℕ} → {now : Inputs I F}
+    → (get_or first.each.now.items i d).window ≡ fresh → {H : List Event} → {line : ℕ} → {now : SourceInputs I F}
     → Fed t (InputsGive left left_in) (InputsLook left left_in) first H (Some (c, BadItem line)) now → Legal t H
     → line ≡ used_after (length (written_on H c) + 1)
 bad_line left left_in t network c i first d source found new {line = line} fed legal =

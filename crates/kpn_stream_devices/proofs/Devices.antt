@@ -13,16 +13,16 @@ use Rattle.kpn_stream.specs.declared.faults.SinkFault.{SinkFault}
 use Rattle.kpn_stream.specs.declared.faults.SinkFault.TheVariants.{Gone, NoSample, Write}
 use Rattle.kpn_stream.specs.declared.faults.SinkFault.TheVariants as sink_fault
 use Rattle.kpn_stream_devices.specs.Formats.{HasText, item_bytes, text_of, written_item}
-use Rattle.kpn_stream_devices.specs.Window.{Window, FormatGives, WavGives, Counts, IfKnown, Gives, IsEndKnown, NeedsMore, Tells, left_of}
+use Rattle.kpn_stream_devices.specs.Window.{Window, FormatGives, WavGives, CountsUsed, IfKnown, WindowGives, IsEndKnown, NeedsMore, WindowTells, left_of}
 use Rattle.kpn_stream_devices.specs.declared.head.Wav.{Wav as Left}
 use Rattle.kpn_stream_devices.specs.declared.head.Head.{Head}
 use Rattle.kpn_stream_devices.specs.declared.head.Head.TheVariants.{Open, Bad, Whole}
 use Rattle.kpn_stream_devices.specs.Head.{head_at}
-use Rattle.kpn_stream_devices.specs.declared.inputs.Input.{Input}
-use Rattle.kpn_stream_devices.specs.Inputs.{device_left, InputGives, IsAsked, HaveMoved, FailsToRead, ReadsOnly, Waits, kept_fault}
+use Rattle.kpn_stream_devices.specs.declared.inputs.SourceInput.{SourceInput}
+use Rattle.kpn_stream_devices.specs.SourceInputs.{device_left, InputGives, IsInputAsked, HaveMoved, FailsToRead, ReadsOnly, WaitsForDevice, kept_fault}
 use Rattle.kpn_stream_devices.specs.declared.inputs.Failed.{Failed}
 use Rattle.kpn_stream_devices.specs.declared.inputs.Failed.TheVariants as look_fault
-use Rattle.kpn_stream_devices.specs.Outputs.{HandsOn, TakesItem}
+use Rattle.kpn_stream_devices.specs.SinkOutputs.{HandsOn, TakesItem}
 
 -- ---- inputs
 
@@ -60,7 +60,7 @@ if_after P (Some xs) (Some ys) (Some zs) kept known = subst (λ bs. P bs zs) kep
 -- the answer is right for the input as it was before some bytes moved
 pub gives_after : (format : ItemFormat) (first w after : Window) (device between read : Option (List ℕ))
     (answer : Result (Option ℤ) SourceFault) → w.wav ≡ first.wav → Keeps (left_of first device) (left_of w between)
-    → Gives format w between answer after read → Gives format first device answer after read
+    → WindowGives format w between answer after read → WindowGives format first device answer after read
 gives_after format first w after device between read answer same kept given =
     if_after (λ left rest. FormatGives format first.wav left after.wav rest answer) (left_of first device)
     (left_of w between) (left_of after read) kept
@@ -68,9 +68,9 @@ gives_after format first w after device between read answer same kept given =
     (λ left rest. FormatGives format wav left after.wav rest answer)) same given)
 
 -- the count goes on from those that were used before some bytes moved
-counts_after : (answer : Result (Option ℤ) SourceFault) (first used now : ℕ) → used ≡ first → Counts answer used now
-    → Counts answer first now
-counts_after answer first used now same counts = subst (λ (n : ℕ). Counts answer n now) same counts
+counts_after : (answer : Result (Option ℤ) SourceFault) (first used now : ℕ) → used ≡ first → CountsUsed answer used now
+    → CountsUsed answer first now
+counts_after answer first used now same counts = subst (λ (n : ℕ). CountsUsed answer n now) same counts
 
 if_kept : (P : List ℕ → List ℕ → Type 0) → ((xs ys : List ℕ) → P xs ys) → (a b : Option (List ℕ)) → Keeps a b
     → IfKnown a b P
@@ -102,14 +102,14 @@ kept_of None = Read
 kept_of (Some failed) = kept_fault failed
 
 -- it uses nothing
-pub fault_counts : (failed : Failed) (used now : ℕ) → now ≡ used → Counts (Err (kept_fault failed)) used now
+pub fault_counts : (failed : Failed) (used now : ℕ) → now ≡ used → CountsUsed (Err (kept_fault failed)) used now
 fault_counts look_fault.Read used now same = same
 fault_counts look_fault.NoMemory used now same = same
 
 -- a device that fails may do so at any time
 pub device_fails : (format : ItemFormat) (failed : Failed) (first after : Window) (device read : Option (List ℕ))
     → Keeps (left_of first device) (left_of after read)
-    → Gives format first device (Err (kept_fault failed)) after read
+    → WindowGives format first device (Err (kept_fault failed)) after read
 device_fails format failed first after device read kept =
     if_kept (λ left rest. FormatGives format first.wav left after.wav rest (Err (kept_fault failed)))
     (fault_any format failed first.wav after.wav) (left_of first device) (left_of after read) kept
@@ -126,7 +126,7 @@ if_some P all us vs ws bytes (Some ds) (Some es) (Some fs) kept took = all (us +
 pub none_is_some : (failed : Failed) → ◌≡◌ {A = Option Failed} None (Some failed) → ⊥
 none_is_some failed same = absurd cc
 
-not_waiting : {F : Type 0} (input : Input F) (failed : Failed) → input.failed ≡ Some failed → Waits input → ⊥
+not_waiting : {F : Type 0} (input : SourceInput F) (failed : Failed) → input.failed ≡ Some failed → WaitsForDevice input → ⊥
 not_waiting input failed is waits = none_is_some failed (sym waits.1 ∙ is)
 
 module _ {I F : Type 0} (left : I → Option (List ℕ)) (left_in : F → Option (List ℕ)) where
@@ -145,7 +145,7 @@ module _ {I F : Type 0} (left : I → Option (List ℕ)) (left_in : F → Option
   reads_more first between read (Some file) (Some then) (Some after) one two = two ∙ one
 
   -- a look has failed before, and no device is asked
-  pub failed_before : (standard : I) (input : Input F) (failed : Failed) → input.window.is_over ≡ false
+  pub failed_before : (standard : I) (input : SourceInput F) (failed : Failed) → input.window.is_over ≡ false
       → input.failed ≡ Some failed → FailsToRead left left_in standard input standard input (kept_fault failed)
   failed_before standard input failed is_open is = record {
     channel = refl;
@@ -159,9 +159,9 @@ module _ {I F : Type 0} (left : I → Option (List ℕ)) (left_in : F → Option
     told = λ other also. ap kept_of (sym is ∙ also);
   }
 
-  module _ (first : I) (input : Input F) where
+  module _ (first : I) (input : SourceInput F) where
     -- So far bytes have moved from the device to the window, and none if the answer was at hand.
-    pub at_start : IsAsked left left_in first input first input
+    pub at_start : IsInputAsked left left_in first input first input
     at_start = record {
       moved = record {
         channel = refl;
@@ -176,9 +176,9 @@ module _ {I F : Type 0} (left : I → Option (List ℕ)) (left_in : F → Option
       at_hand = λ at_hand. (refl, refl);
     }
 
-    module _ (between : I) (moved : Input F) (so_far : IsAsked left left_in first input between moved) where
+    module _ (between : I) (moved : SourceInput F) (so_far : IsInputAsked left left_in first input between moved) where
       -- the bytes tell the answer
-      pub told_after : (answer : Result (Option ℤ) SourceFault) (w : Window) → Tells moved.format moved.window answer w
+      pub told_after : (answer : Result (Option ℤ) SourceFault) (w : Window) → WindowTells moved.format moved.window answer w
           → w.is_over ≡ moved.window.is_over
           → InputGives left left_in first input answer between (record moved { window = w })
       told_after answer w tells same = record {
@@ -190,15 +190,15 @@ module _ {I F : Type 0} (left : I → Option (List ℕ)) (left_in : F → Option
         given = λ known. gives_after input.format input.window moved.window w _ _ _ answer so_far.moved.wav
             so_far.moved.kept
             (subst
-            (λ (f : ItemFormat). Gives f moved.window (device_left left left_in between moved.file) answer w
+            (λ (f : ItemFormat). WindowGives f moved.window (device_left left left_in between moved.file) answer w
             (device_left left left_in between moved.file)) so_far.moved.format
             (tells.given _ (so_far.moved.known known)));
         at_hand = λ at_hand.
-            let is = so_far.at_hand at_hand in (is.0, ap (λ (i : Input F). i.file) is.1);
+            let is = so_far.at_hand at_hand in (is.0, ap (λ (i : SourceInput F). i.file) is.1);
         failed = so_far.moved.failed;
         told = λ failed is.
             let same = (so_far.at_hand (not_waiting input failed is)).1 in
-            inr (subst (λ (i : Input F). Tells i.format i.window answer w) same tells);
+            inr (subst (λ (i : SourceInput F). WindowTells i.format i.window answer w) same tells);
       }
 
       -- after too many reads
@@ -211,22 +211,22 @@ module _ {I F : Type 0} (left : I → Option (List ℕ)) (left_in : F → Option
         known = so_far.moved.known;
         given = λ known. device_fails input.format look_fault.Read input.window moved.window _ _ so_far.moved.kept;
         at_hand = λ at_hand.
-            let is = so_far.at_hand at_hand in (is.0, ap (λ (i : Input F). i.file) is.1);
+            let is = so_far.at_hand at_hand in (is.0, ap (λ (i : SourceInput F). i.file) is.1);
         failed = so_far.moved.failed;
         told = λ failed is. absurd (none_is_some failed (sym unfailed ∙ is));
       }
 
       -- the bytes tell nothing yet
       module _ (w : Window) (same : w ≡ moved.window) (needs : NeedsMore moved.format moved.window) (read : I)
-          (after : Input F) where
+          (after : SourceInput F) where
         -- so the first ones told nothing, and the answer was at hand only if a look had failed
-        needed : (Waits input → ⊥) → input.failed ≡ None → ⊥
+        needed : (WaitsForDevice input → ⊥) → input.failed ≡ None → ⊥
         needed at_hand none =
-            at_hand (subst (λ (i : Input F). NeedsMore i.format i.window) (so_far.at_hand at_hand).1 needs, none)
+            at_hand (subst (λ (i : SourceInput F). NeedsMore i.format i.window) (so_far.at_hand at_hand).1 needs, none)
 
         -- some more move
         pub more_after : HaveMoved left left_in between (record moved { window = w }) read after
-            → moved.failed ≡ None → IsAsked left left_in first input read after
+            → moved.failed ≡ None → IsInputAsked left left_in first input read after
         more_after more none =
             let next = subst (λ (x : Window). HaveMoved left left_in between (record moved { window = x }) read after) same more in
             record {
@@ -241,7 +241,7 @@ module _ {I F : Type 0} (left : I → Option (List ℕ)) (left_in : F → Option
                 failed = next.failed ∙ so_far.moved.failed;
               };
               at_hand = λ at_hand.
-                  absurd (needed at_hand (subst (λ (i : Input F). i.failed ≡ None) (so_far.at_hand at_hand).1 none));
+                  absurd (needed at_hand (subst (λ (i : SourceInput F). i.failed ≡ None) (so_far.at_hand at_hand).1 none));
             }
 
         -- the next read fails, or a look has failed
@@ -261,8 +261,8 @@ module _ {I F : Type 0} (left : I → Option (List ℕ)) (left_in : F → Option
               at_hand = λ at_hand.
                   let is = so_far.at_hand at_hand in
                   let none = last.at_hand
-                  (λ none. needed at_hand (subst (λ (i : Input F). i.failed ≡ None) is.1 none)) in
-                  (none.0 ∙ is.0, ap (λ (i : Input F). i.file) (none.1 ∙ is.1));
+                  (λ none. needed at_hand (subst (λ (i : SourceInput F). i.failed ≡ None) is.1 none)) in
+                  (none.0 ∙ is.0, ap (λ (i : SourceInput F). i.file) (none.1 ∙ is.1));
               failed = last.failed ∙ so_far.moved.failed;
               told = λ failed is. inl (ap (λ (f : SourceFault). Err f) (last.told failed (so_far.moved.failed ∙ is)));
             }
@@ -270,7 +270,7 @@ module _ {I F : Type 0} (left : I → Option (List ℕ)) (left_in : F → Option
 -- and so may memory
 pub memory_fails : (format : ItemFormat) (first w after : Window) (device between read : Option (List ℕ))
     (bytes : List ℕ) → Keeps (left_of first device) (left_of w between) → Consumes between read bytes
-    → Gives format first device (Err NoMemory) after read
+    → WindowGives format first device (Err NoMemory) after read
 memory_fails format first w after device between read bytes kept took =
     if_some (λ left rest. FormatGives format first.wav left after.wav rest (Err NoMemory))
     (fault_any format look_fault.NoMemory first.wav after.wav) first.unused w.unused after.unused bytes device between read kept took

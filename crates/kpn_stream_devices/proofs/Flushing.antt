@@ -15,11 +15,11 @@ use Rattle.kpn_stream.specs.declared.faults.SinkFault.TheVariants as sink_fault
 use Rattle.kpn_stream.specs.Devices.{is_no_growth, NoneIs, IsFlushed, AreFlushed, AreFlushedLast}
 use Rattle.kpn_stream.specs.Ending.{end_numbers}
 use Rattle.kpn_history.specs.Legal.{Legal}
-use Rattle.kpn_stream_devices.specs.declared.outputs.Output.{Output}
-use Rattle.kpn_stream_devices.specs.declared.outputs.Outputs.{Outputs}
+use Rattle.kpn_stream_devices.specs.declared.outputs.SinkOutput.{SinkOutput}
+use Rattle.kpn_stream_devices.specs.declared.outputs.SinkOutputs.{SinkOutputs}
 use Rattle.kpn_stream_devices.specs.Out.{HasOwnDevice, IsServed, text_of_all}
-use Rattle.kpn_stream_devices.specs.Outputs.{OutputsTake, OutputsFlush, Flushes, by_output, by_none}
-use Rattle.kpn_stream_devices.specs.Outputs.{device_holds, output_of, was_put}
+use Rattle.kpn_stream_devices.specs.SinkOutputs.{OutputsTake, OutputsFlush, Flushes, by_output, by_none}
+use Rattle.kpn_stream_devices.specs.SinkOutputs.{device_holds, output_of, was_put}
 use Rattle.kpn_stream_devices.proofs.Firsts.{found_mine, found_other, found_none, found_within, was_here, stays_here}
 use Rattle.kpn_stream_devices.proofs.Putting.{channel_of, IsMine, IsPut, by_flush, by_other, all_put}
 
@@ -86,20 +86,20 @@ open_all flushes c (s ∷ sinks) H later k now flushed stays =
     (open_all flushes c sinks flushed.0 later flushed.1 now flushed.3 stays)
 
 module _ {O G : Type 0} (holds : O → Option (List ℕ)) (holds_in : G → Option (List ℕ)) (t : Tables)
-    (network : IsNetwork t) (first : Outputs O G) (c i : ℕ) (d : Output G)
+    (network : IsNetwork t) (first : SinkOutputs O G) (c i : ℕ) (d : SinkOutput G)
     (sink : is_sink (channel_at t c) ≡ true) where
-  abbrev Flush : Outputs O G → ℕ → Result (Unit {0}) SinkFault → Outputs O G → Type 0
+  abbrev Flush : SinkOutputs O G → ℕ → Result (Unit {0}) SinkFault → SinkOutputs O G → Type 0
   Flush = OutputsFlush holds holds_in
 
-  abbrev Put : List Event → Outputs O G → Type 0
+  abbrev Put : List Event → SinkOutputs O G → Type 0
   Put H x = IsPut holds holds_in c i t network first d sink H x
 
   -- what the output keeps
-  abbrev kept : Outputs O G → List ℕ
+  abbrev kept : SinkOutputs O G → List ℕ
   kept x = (get_or x.each.now.items i d).bytes.items
 
   -- a flush of sink c leaves nothing there, and one of another sink what there was
-  own_keeps : (before : Outputs O G) (answer : Result (Unit {0}) SinkFault) (after : Outputs O G)
+  own_keeps : (before : SinkOutputs O G) (answer : Result (Unit {0}) SinkFault) (after : SinkOutputs O G)
       → IsMine holds holds_in c i before.each.now.items → Flush before c answer after → kept after ≡ []
   own_keeps before answer after m (by_none found is same) =
       absurd (found_none channel_of c i before.each.now.items d m.first found)
@@ -107,26 +107,26 @@ module _ {O G : Type 0} (holds : O → Option (List ℕ)) (holds_in : G → Opti
       let os = before.each.now.items in
       let here = was_here os after.each.now.items i j o w d (found_mine channel_of c i os j o m.first found)
       (found_within channel_of os c j o found) at each in
-      ap (λ (x : Output G). x.bytes.items) here.1 ∙ nothing answer does
+      ap (λ (x : SinkOutput G). x.bytes.items) here.1 ∙ nothing answer does
     where
       nothing : (answer : Result (Unit {0}) SinkFault)
           → Flushes holds holds_in answer before.standard.now o after.standard.now w → w.bytes.items ≡ []
       nothing (Ok done) does = does.0
       nothing (Err fault) does = does.0
 
-  other_keeps : (before : Outputs O G) (s : ℕ) (answer : Result (Unit {0}) SinkFault) (after : Outputs O G)
+  other_keeps : (before : SinkOutputs O G) (s : ℕ) (answer : Result (Unit {0}) SinkFault) (after : SinkOutputs O G)
       → IsMine holds holds_in c i before.each.now.items → s ≢ c → Flush before s answer after → kept after ≡ kept before
   other_keeps before s answer after m other (by_none found is same) = ap kept same
   other_keeps before s answer after m other (by_output j o w found at channel format only does each ghost lent) =
       let os = before.each.now.items in
-      ap (λ (x : Output G). x.bytes.items)
+      ap (λ (x : SinkOutput G). x.bytes.items)
       (stays_here os after.each.now.items i j w d (found_other channel_of c i os s j o m.first other found) each)
 
   -- one flush
-  put_then : (s : ℕ) (H later : List Event) (k now : Outputs O G) → IsFlushed Flush s H k later now
+  put_then : (s : ℕ) (H later : List Event) (k now : SinkOutputs O G) → IsFlushed Flush s H k later now
       → is_left later c ≡ false → Put H k → Put later now
   put_then s H later k now (inl (left, same, is)) stays put =
-      subst (λ (x : Outputs O G). Put later x) (sym is) (subst (λ E. Put E k) (sym same) put)
+      subst (λ (x : SinkOutputs O G). Put later x) (sym is) (subst (λ E. Put E k) (sym same) put)
   put_then s H later k now (inr (inl (done, same))) stays put =
       subst (λ E. Put E now) (sym same)
       (elim (cases_eq s c) [
@@ -147,7 +147,7 @@ module _ {O G : Type 0} (holds : O → Option (List ℕ)) (holds_in : G → Opti
       (H ++ event.Leave s ∷ growth) H s (Err sink_fault.Gone) k now other (read_same c s H growth none) gone put)
 
   -- what the output keeps after one flush, if it kept nothing before, or if it is the one that is flushed
-  empty_then : (s : ℕ) (H later : List Event) (k now : Outputs O G) → IsFlushed Flush s H k later now
+  empty_then : (s : ℕ) (H later : List Event) (k now : SinkOutputs O G) → IsFlushed Flush s H k later now
       → is_left later c ≡ false → Put H k → (s ≡ c) ⊎ (kept k ≡ []) → kept now ≡ []
   empty_then s H later k now (inl (left, same, is)) stays put which =
       ap kept is ∙ elim which [
@@ -179,10 +179,10 @@ module _ {O G : Type 0} (holds : O → Option (List ℕ)) (holds_in : G → Opti
   ]
 
   -- all flushes
-  all_flushed : (sinks : List ℕ) (H later : List Event) (k now : Outputs O G) → AreFlushed Flush sinks H k later now
+  all_flushed : (sinks : List ℕ) (H later : List Event) (k now : SinkOutputs O G) → AreFlushed Flush sinks H k later now
       → is_left later c ≡ false → Put H k → Contains sinks c ⊎ (kept k ≡ []) → Put later now × (kept now ≡ [])
   all_flushed [] H later k now flushed stays put which = (
-    subst (λ (x : Outputs O G). Put later x) (sym flushed.1) (subst (λ E. Put E k) (sym flushed.0) put),
+    subst (λ (x : SinkOutputs O G). Put later x) (sym flushed.1) (subst (λ E. Put E k) (sym flushed.0) put),
     ap kept flushed.1 ∙ elim which [
       | inl (n, below, at) ↦ absurd (omega (arith, below))
       | inr none ↦ none
@@ -205,7 +205,7 @@ module _ {O G : Type 0} (holds : O → Option (List ℕ)) (holds_in : G → Opti
       first_or_rest s sinks (suc n, below, at) = inr (n, omega (arith, below), at)
 
   -- what was put is in the device
-  held : (H : List Event) (now : Outputs O G) → Put H now → kept now ≡ []
+  held : (H : List Event) (now : SinkOutputs O G) → Put H now → kept now ≡ []
       → Appends (was_put holds holds_in first.standard.now (get_or first.each.now.items i d))
       (device_holds holds holds_in now.standard.now (get_or now.each.now.items i d).file)
       (text_of_all (get_or first.each.now.items i d).format (read_on H c))
@@ -222,7 +222,7 @@ module _ {O G : Type 0} (holds : O → Option (List ℕ)) (holds_in : G → Opti
       none_more (Some xs) = ap Some (append-nil xs)
 
 pub all_out : {O G : Type 0} (holds : O → Option (List ℕ)) (holds_in : G → Option (List ℕ)) (t : Tables)
-    (network : IsNetwork t) (first now : Outputs O G) (c i : ℕ) (d : Output G)
+    (network : IsNetwork t) (first now : SinkOutputs O G) (c i : ℕ) (d : SinkOutput G)
     (sink : is_sink (channel_at t c) ≡ true) → output_of first.each.now.items c ≡ Some i
     → HasOwnDevice first.each.now.items i → (wanted : Option ℕ) (H : List Event)
     → (last : AreFlushedLast (OutputsTake holds holds_in) (OutputsFlush holds holds_in) wanted t [] first H now)

@@ -11,7 +11,7 @@ use Rattle.kpn_stream_devices.specs.declared.head.Head.{Head}
 use Rattle.kpn_stream_devices.specs.declared.head.Head.TheVariants.{Open, Bad, Whole}
 use Rattle.kpn_stream_devices.specs.declared.head.Chunk.{Chunk}
 use Rattle.kpn_stream_devices.specs.declared.head.Chunk.TheVariants.{Told, Next}
-use Rattle.kpn_stream_devices.specs.Head.{most_bytes, most_chunks, named, number_at, is_kind, is_extended, is_whole_by, is_whole, sample_of, framed, of_frame, described, behind, told_by, format_of, data_of, chunk_of, chunk_at, chunks_from, chunks_after, head_of, head_at}
+use Rattle.kpn_stream_devices.specs.Head.{most_bytes, most_chunks, chunk_name, number_at, is_kind, is_extended, is_whole_by, is_whole, sample_of, framed, of_frame, described, next_chunk, told_by, format_of, data_of, chunk_of, chunk_at, chunks_from, chunks_after, head_of, head_at}
 
 -- a number within the first bytes
 number_again : (width at : ℕ) (us ds : List ℕ) → at + width ≤ length us
@@ -103,9 +103,9 @@ format_again : (us ds : List ℕ) (at size : ℕ) → (format_of us at size ≡ 
     → format_of (us ++ ds) at size ≡ format_of us at size
 format_again us ds at size told =
     within_if (nat_lt size 16) (Told (Bad (at + 4))) _ _ told
-    (λ some told. same_of us ds (behind at size) (told_by (described us (at + 8) size) (behind at size))
-    (told_by (described (us ++ ds) (at + 8) size) (behind at size)) told
-    (λ least. ap (λ r. told_by r (behind at size))
+    (λ some told. same_of us ds (next_chunk at size) (told_by (described us (at + 8) size) (next_chunk at size))
+    (told_by (described (us ++ ds) (at + 8) size) (next_chunk at size)) told
+    (λ least. ap (λ r. told_by r (next_chunk at size))
     (described_again us ds (at + 8) size (enough size 16 some) (omega (arith, least)))))
 
 else_if : (is : Bool) (before after other : Chunk) → ((if is then before else other) ≡ Told Open → ⊥)
@@ -117,10 +117,10 @@ chunk_of_again : (us ds : List ℕ) (at : ℕ) (sample : Option SampleFormat) (n
     → (chunk_of us at sample name size ≡ Told Open → ⊥)
     → chunk_of (us ++ ds) at sample name size ≡ chunk_of us at sample name size
 chunk_of_again us ds at sample name size told =
-    within_if (nat_eq name (named (codes "data"))) (Told (data_of at size sample)) _ _ told
-    (λ other told. within_if (nat_lt most_bytes (behind at size)) (Told (Bad (at + 4))) _ _ told
-    (λ within told. else_if (nat_eq name (named (codes "fmt "))) (format_of us at size) (format_of (us ++ ds) at size)
-    (Next (behind at size) sample) told (format_again us ds at size)))
+    within_if (nat_eq name (chunk_name (codes "data"))) (Told (data_of at size sample)) _ _ told
+    (λ other told. within_if (nat_lt most_bytes (next_chunk at size)) (Told (Bad (at + 4))) _ _ told
+    (λ within told. else_if (nat_eq name (chunk_name (codes "fmt "))) (format_of us at size) (format_of (us ++ ds) at size)
+    (Next (next_chunk at size) sample) told (format_again us ds at size)))
 
 chunk_again : (us ds : List ℕ) (at : ℕ) (sample : Option SampleFormat) → (chunk_at us at sample ≡ Told Open → ⊥)
     → chunk_at (us ++ ds) at sample ≡ chunk_at us at sample
@@ -134,11 +134,11 @@ chunk_again us ds at sample told =
     (λ early. told (ap (λ b. if b then Told Open else chunk_of us at sample (number_at 4 at us) (number_at 4 (at + 4) us))
     (le-ltb (length us) (at + 8) least) ∙ early)))
 
-after_again : (behind again : (at : ℕ) → Option SampleFormat → Head) (chunk : Chunk)
-    → ((at : ℕ) (sample : Option SampleFormat) → (behind at sample ≡ Open → ⊥) → again at sample ≡ behind at sample)
-    → (chunks_after behind chunk ≡ Open → ⊥) → chunks_after again chunk ≡ chunks_after behind chunk
-after_again behind again (Told head) same told = refl
-after_again behind again (Next next sample) same told = same next sample told
+after_again : (next_chunk again : (at : ℕ) → Option SampleFormat → Head) (chunk : Chunk)
+    → ((at : ℕ) (sample : Option SampleFormat) → (next_chunk at sample ≡ Open → ⊥) → again at sample ≡ next_chunk at sample)
+    → (chunks_after next_chunk chunk ≡ Open → ⊥) → chunks_after again chunk ≡ chunks_after next_chunk chunk
+after_again next_chunk again (Told head) same told = refl
+after_again next_chunk again (Next next sample) same told = same next sample told
 
 chunks_again : (count : ℕ) (us ds : List ℕ) (at : ℕ) (sample : Option SampleFormat)
     → (chunks_from count us at sample ≡ Open → ⊥) → chunks_from count (us ++ ds) at sample ≡ chunks_from count us at sample
@@ -161,7 +161,7 @@ step_is (suc n) bytes at sample chunk some is =
 
 abbrev head_by : (riff wave : ℕ) → Head → Head
 head_by riff wave head =
-    if nat_eq riff (named (codes "RIFF")) then (if nat_eq wave (named (codes "WAVE")) then head else Bad 8) else Bad 0
+    if nat_eq riff (chunk_name (codes "RIFF")) then (if nat_eq wave (chunk_name (codes "WAVE")) then head else Bad 8) else Bad 0
 
 head_if : (few : Bool) (head : Head) → ((if few then Open else head) ≡ Open → ⊥) → few ≡ false
 head_if true head told = absurd (told refl)
@@ -183,7 +183,7 @@ head_again us ds told =
     (le-ltb (length (us ++ ds)) 12 (omega (arith, least, length-append us ds)))
     ∙ ap (λ (n : ℕ). head_by n (number_at 4 8 (us ++ ds)) (chunks_from most_chunks (us ++ ds) 12 None)) (number_again 4 0 us ds (omega (arith, least)))
     ∙ ap (λ (n : ℕ). head_by (number_at 4 0 us) n (chunks_from most_chunks (us ++ ds) 12 None)) (number_again 4 8 us ds (omega (arith, least)))
-    ∙ by_again (nat_eq (number_at 4 0 us) (named (codes "RIFF"))) (nat_eq (number_at 4 8 us) (named (codes "WAVE")))
+    ∙ by_again (nat_eq (number_at 4 0 us) (chunk_name (codes "RIFF"))) (nat_eq (number_at 4 8 us) (chunk_name (codes "WAVE")))
     (chunks_from most_chunks us 12 None) (chunks_from most_chunks (us ++ ds) 12 None)
     (λ early. told (short ∙ early)) (chunks_again most_chunks us ds 12 None)
     ∙ sym short

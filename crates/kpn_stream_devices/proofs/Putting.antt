@@ -23,19 +23,19 @@ use Rattle.kpn_stream.specs.Devices.{took_in_vain, left, left_not, had_enough, h
 use Rattle.kpn_stream_devices.proofs.Firsts.{IsFirst, holds_still, first_found, first_stays, found_mine, found_other}
 use Rattle.kpn_stream_devices.proofs.Firsts.{found_none, found_within, was_here, stays_here}
 use Rattle.kpn_stream_devices.specs.declared.formats.OutputFormat.{OutputFormat}
-use Rattle.kpn_stream_devices.specs.declared.outputs.Output.{Output}
-use Rattle.kpn_stream_devices.specs.declared.outputs.Outputs.{Outputs}
+use Rattle.kpn_stream_devices.specs.declared.outputs.SinkOutput.{SinkOutput}
+use Rattle.kpn_stream_devices.specs.declared.outputs.SinkOutputs.{SinkOutputs}
 use Rattle.kpn_stream_devices.specs.Formats.{text_of}
 use Rattle.kpn_stream_devices.specs.Out.{HasOwnDevice, IsServed, text_of_all}
-use Rattle.kpn_stream_devices.specs.Outputs.{OutputRel, OutputsDo, OutputsTake, OutputsFlush, Takes, Flushes}
-use Rattle.kpn_stream_devices.specs.Outputs.{WritesOnly, by_output, by_none, device_holds, output_of, was_put}
+use Rattle.kpn_stream_devices.specs.SinkOutputs.{OutputRel, OutputsDo, OutputsTake, OutputsFlush, Takes, Flushes}
+use Rattle.kpn_stream_devices.specs.SinkOutputs.{WritesOnly, by_output, by_none, device_holds, output_of, was_put}
 
-abbrev pub channel_of : {G : Type 0} → Output G → ℕ
+abbrev pub channel_of : {G : Type 0} → SinkOutput G → ℕ
 channel_of output = output.channel
 
 module _ {O G : Type 0} (holds : O → Option (List ℕ)) (holds_in : G → Option (List ℕ)) (c i : ℕ) where
   -- output i is that of sink c, and has its own device
-  pub record IsMine (outputs : List (Output G)) : Type 0 where
+  pub record IsMine (outputs : List (SinkOutput G)) : Type 0 where
     pub first : IsFirst channel_of c i outputs
     pub own : HasOwnDevice outputs i
 
@@ -47,7 +47,7 @@ module _ {O G : Type 0} (holds : O → Option (List ℕ)) (holds_in : G → Opti
   file_stays standard written (Some file) (Some after) only some = refl
 
   -- what an output with a file was put does not depend on standard output
-  apart : (standard written : O) (o : Output G) → IsSome o.file
+  apart : (standard written : O) (o : SinkOutput G) → IsSome o.file
       → was_put holds holds_in written o ≡ was_put holds holds_in standard o
   apart standard written o some =
       ap (λ held. append_known held o.bytes.items) (same o.file some)
@@ -58,27 +58,27 @@ module _ {O G : Type 0} (holds : O → Option (List ℕ)) (holds_in : G → Opti
       same (Some file) some = refl
 
   -- a call that changes an output leaves it the output of its sink
-  changed : (os : List (Output G)) (j : ℕ) (o w : Output G) → j < length os → get_or os j o ≡ o
+  changed : (os : List (SinkOutput G)) (j : ℕ) (o w : SinkOutput G) → j < length os → get_or os j o ≡ o
       → w.channel ≡ o.channel → (IsSome o.file → IsSome w.file) → IsMine os → IsMine (slice_set os j w)
   changed os j o w below at channel file m = record {
     first = first_stays channel_of c i os j o w below at channel m.first;
     own = elim m.own [
       | inl some ↦
-          inl (λ d. holds_still (λ (x : Output G). IsSome x.file) os j o w below at file i d m.first.within (some d))
+          inl (λ d. holds_still (λ (x : SinkOutput G). IsSome x.file) os j o w below at file i d m.first.within (some d))
       | inr others ↦
           inr (λ k d inside other.
           let there : k < length os = omega (arith, length-set os j w, inside) in
-          holds_still (λ (x : Output G). IsSome x.file) os j o w below at file k d there (others k d there other))
+          holds_still (λ (x : SinkOutput G). IsSome x.file) os j o w below at file k d there (others k d there other))
     ];
   }
 
   -- how output i writes items
-  abbrev pub format_at : Output G → Outputs O G → OutputFormat
+  abbrev pub format_at : SinkOutput G → SinkOutputs O G → OutputFormat
   format_at d x = (get_or x.each.now.items i d).format
 
-  module _ (Does : OutputRel O G) (before : Outputs O G) (answer : Result (Unit {0}) SinkFault)
-      (after : Outputs O G) (m : IsMine before.each.now.items) where
-    stays_mine : (d : Output G) (s : ℕ) → OutputsDo Does before s answer after
+  module _ (Does : OutputRel O G) (before : SinkOutputs O G) (answer : Result (Unit {0}) SinkFault)
+      (after : SinkOutputs O G) (m : IsMine before.each.now.items) where
+    stays_mine : (d : SinkOutput G) (s : ℕ) → OutputsDo Does before s answer after
         → IsMine after.each.now.items × (format_at d after ≡ format_at d before)
     stays_mine d s (by_output j o w found at channel format only does each ghost lent) =
         let os = before.each.now.items in
@@ -86,15 +86,15 @@ module _ {O G : Type 0} (holds : O → Option (List ℕ)) (holds_in : G → Opti
           subst IsMine (sym each)
               (changed os j o w below at channel
               (file_stays before.standard.now after.standard.now o.file w.file only) m),
-          ap (λ (xs : List (Output G)). (get_or xs i d).format) each
-              ∙ holds_still (λ (x : Output G). x.format ≡ format_at d before) os j o w below at (λ is. format ∙ is) i d
+          ap (λ (xs : List (SinkOutput G)). (get_or xs i d).format) each
+              ∙ holds_still (λ (x : SinkOutput G). x.format ≡ format_at d before) os j o w below at (λ is. format ∙ is) i d
               m.first.within refl,
         )
     stays_mine d s (by_none found is same) =
-        subst (λ (x : Outputs O G). IsMine x.each.now.items × (format_at d x ≡ format_at d before)) (sym same) (m, refl)
+        subst (λ (x : SinkOutputs O G). IsMine x.each.now.items × (format_at d x ≡ format_at d before)) (sym same) (m, refl)
 
     -- a call for sink c is one for output i
-    own_call : (d : Output G) → OutputsDo Does before c answer after → (o : Output G) × (w : Output G)
+    own_call : (d : SinkOutput G) → OutputsDo Does before c answer after → (o : SinkOutput G) × (w : SinkOutput G)
         × (get_or before.each.now.items i d ≡ o) × (get_or after.each.now.items i d ≡ w)
         × Does before.standard.now o after.standard.now w
     own_call d (by_output j o w found at channel format only does each ghost lent) =
@@ -105,7 +105,7 @@ module _ {O G : Type 0} (holds : O → Option (List ℕ)) (holds_in : G → Opti
     own_call d (by_none found is same) = absurd (found_none channel_of c i before.each.now.items d m.first found)
 
     -- a call for another sink changes nothing of it
-    other_call : (s : ℕ) → s ≢ c → (d : Output G) → OutputsDo Does before s answer after
+    other_call : (s : ℕ) → s ≢ c → (d : SinkOutput G) → OutputsDo Does before s answer after
         → was_put holds holds_in after.standard.now (get_or after.each.now.items i d)
         ≡ was_put holds holds_in before.standard.now (get_or before.each.now.items i d)
     other_call s other d (by_output j o w found at channel format only does each ghost lent) =
@@ -117,14 +117,14 @@ module _ {O G : Type 0} (holds : O → Option (List ℕ)) (holds_in : G → Opti
               absurd
               (false≢true
               (subst IsSome none
-              (subst (λ (x : Output G). IsSome x.file) at
+              (subst (λ (x : SinkOutput G). IsSome x.file) at
               (others j o (found_within channel_of os s j o found) (λ same. away (sym same))))))
         ] in
-        ap (λ (x : Output G). was_put holds holds_in after.standard.now x)
+        ap (λ (x : SinkOutput G). was_put holds holds_in after.standard.now x)
         (stays_here os after.each.now.items i j w d away each)
         ∙ standing o.file w.file only (get_or os i d) file
       where
-        standing : (file late : Option G) → WritesOnly before.standard.now after.standard.now file late → (x : Output G)
+        standing : (file late : Option G) → WritesOnly before.standard.now after.standard.now file late → (x : SinkOutput G)
             → (file ≡ None → IsSome x.file)
             → was_put holds holds_in after.standard.now x ≡ was_put holds holds_in before.standard.now x
         standing None None only x some = apart before.standard.now after.standard.now x (some refl)
@@ -132,24 +132,24 @@ module _ {O G : Type 0} (holds : O → Option (List ℕ)) (holds_in : G → Opti
         standing (Some file) None only x some = absurd only
         standing (Some file) (Some late) only x some = ap (λ st. was_put holds holds_in st x) only
     other_call s other d (by_none found is same) =
-        ap (λ (x : Outputs O G). was_put holds holds_in x.standard.now (get_or x.each.now.items i d)) same
+        ap (λ (x : SinkOutputs O G). was_put holds holds_in x.standard.now (get_or x.each.now.items i d)) same
 
   -- ---- all calls
 
-  module _ (t : Tables) (network : IsNetwork t) (first : Outputs O G) (d : Output G)
+  module _ (t : Tables) (network : IsNetwork t) (first : SinkOutputs O G) (d : SinkOutput G)
       (sink : is_sink (channel_at t c) ≡ true) where
     -- what the output was put
-    abbrev put_then : Outputs O G → Option (List ℕ)
+    abbrev put_then : SinkOutputs O G → Option (List ℕ)
     put_then x = was_put holds holds_in x.standard.now (get_or x.each.now.items i d)
 
     -- it is the text of what was taken, and the output is still that of the sink
-    abbrev pub IsPut : List Event → Outputs O G → Type 0
+    abbrev pub IsPut : List Event → SinkOutputs O G → Type 0
     IsPut H now =
         (IsMine now.each.now.items × (format_at d now ≡ format_at d first))
         × Appends (put_then first) (put_then now) (text_of_all (format_at d first) (read_on H c))
 
     -- the same items, and the same bytes
-    by_same : (later H : List Event) (before now : Outputs O G) → read_on later c ≡ read_on H c
+    by_same : (later H : List Event) (before now : SinkOutputs O G) → read_on later c ≡ read_on H c
         → put_then now ≡ put_then before → IsMine now.each.now.items × (format_at d now ≡ format_at d before)
         → IsPut H before
         → IsPut later now
@@ -160,7 +160,7 @@ module _ {O G : Type 0} (holds : O → Option (List ℕ)) (holds_in : G → Opti
     )
 
     -- an item more
-    by_item : (H : List Event) (v : ℤ) (before now : Outputs O G) → OutputsTake holds holds_in before c v (Ok tt) now
+    by_item : (H : List Event) (v : ℤ) (before now : SinkOutputs O G) → OutputsTake holds holds_in before c v (Ok tt) now
         → IsPut H before → IsPut (H ++ event.Take c v ∷ []) now
     by_item H v before now answer put =
         let Does = Takes holds holds_in v (Ok tt) in
@@ -169,10 +169,10 @@ module _ {O G : Type 0} (holds : O → Option (List ℕ)) (holds_in : G → Opti
         let more : Appends (put_then before) (put_then now) (text_of (format_at d first) v) =
         subst (λ (f : OutputFormat). Appends (put_then before) (put_then now) (text_of f v)) put.0.1
         (subst
-        (λ (x : Output G). Appends (was_put holds holds_in before.standard.now x) (put_then now) (text_of x.format v))
+        (λ (x : SinkOutput G). Appends (was_put holds holds_in before.standard.now x) (put_then now) (text_of x.format v))
         (sym r.2)
         (subst
-        (λ (x : Output G).
+        (λ (x : SinkOutput G).
         Appends (was_put holds holds_in before.standard.now r.0) (was_put holds holds_in now.standard.now x)
         (text_of r.0.format v)) (sym r.3) r.4.1)) in (
           (kept.0, kept.1 ∙ put.0.1),
@@ -185,16 +185,16 @@ module _ {O G : Type 0} (holds : O → Option (List ℕ)) (holds_in : G → Opti
         )
 
     -- what was kept is handed on
-    pub by_flush : (H : List Event) (before now : Outputs O G) → OutputsFlush holds holds_in before c (Ok tt) now
+    pub by_flush : (H : List Event) (before now : SinkOutputs O G) → OutputsFlush holds holds_in before c (Ok tt) now
         → IsPut H before → IsPut H now
     by_flush H before now answer put =
         let Does = Flushes holds holds_in (Ok tt) in
         let kept = stays_mine Does before (Ok tt) now put.0.0 d c answer in
         let r = own_call Does before (Ok tt) now put.0.0 d answer in
         let same : Keeps (put_then before) (put_then now) =
-        subst (λ (x : Output G). Keeps (was_put holds holds_in before.standard.now x) (put_then now)) (sym r.2)
+        subst (λ (x : SinkOutput G). Keeps (was_put holds holds_in before.standard.now x) (put_then now)) (sym r.2)
         (subst
-        (λ (x : Output G).
+        (λ (x : SinkOutput G).
         Keeps (was_put holds holds_in before.standard.now r.0) (was_put holds holds_in now.standard.now x)) (sym r.3)
         r.4.1) in (
           (kept.0, kept.1 ∙ put.0.1),
@@ -203,7 +203,7 @@ module _ {O G : Type 0} (holds : O → Option (List ℕ)) (holds_in : G → Opti
 
     -- a call for another sink
     pub by_other : (Does : OutputRel O G) (later H : List Event) (s : ℕ)
-        (answer : Result (Unit {0}) SinkFault) (before now : Outputs O G) → s ≢ c → read_on later c ≡ read_on H c
+        (answer : Result (Unit {0}) SinkFault) (before now : SinkOutputs O G) → s ≢ c → read_on later c ≡ read_on H c
         → OutputsDo Does before s answer now → IsPut H before → IsPut later now
     by_other Does later H s answer before now other reads does put =
         by_same later H before now reads (other_call Does before answer now put.0.0 s other d does)
@@ -256,7 +256,7 @@ module _ {O G : Type 0} (holds : O → Option (List ℕ)) (holds_in : G → Opti
         false≢true
         (sym (not_left _ _ (sym (is_left-next H (event.Leave s) c) ∙ served.stays)).1 ∙ eq-eqb s c same)
 
-    pub put_so_far : {wanted : Option ℕ} {H : List Event} {failed : Option (ℕ × SinkFault)} {now : Outputs O G}
+    pub put_so_far : {wanted : Option ℕ} {H : List Event} {failed : Option (ℕ × SinkFault)} {now : SinkOutputs O G}
         → Served (OutputsTake holds holds_in) (OutputsFlush holds holds_in) wanted first H failed now
         → IsMine first.each.now.items → Legal t H → IsServed H failed c → IsPut H now
     put_so_far none_yet m legal served = ((m, refl), Appends-nil (put_then first))
@@ -317,10 +317,10 @@ module _ {O G : Type 0} (holds : O → Option (List ℕ)) (holds_in : G → Opti
         answer (put_so_far so_far m legal (record { stays = served.stays; works = unfailed }))
 
 pub all_put : {O G : Type 0} (holds : O → Option (List ℕ)) (holds_in : G → Option (List ℕ)) (t : Tables)
-    → (network : IsNetwork t) → (first : Outputs O G) (c i : ℕ) (d : Output G)
+    → (network : IsNetwork t) → (first : SinkOutputs O G) (c i : ℕ) (d : SinkOutput G)
     → (sink : is_sink (channel_at t c) ≡ true)
     → output_of first.each.now.items c ≡ Some i → HasOwnDevice first.each.now.items i → {wanted : Option ℕ}
-    → {H : List Event} → {failed : Option (ℕ × SinkFault)} → {now : Outputs O G}
+    → {H : List Event} → {failed : Option (ℕ × SinkFault)} → {now : SinkOutputs O G}
     → Served (OutputsTake holds holds_in) (OutputsFlush holds holds_in) wanted first H failed now → Legal t H
     → IsServed H failed c → IsPut holds holds_in c i t network first d sink H now
 all_put holds holds_in t network first c i d sink found own served legal stays =

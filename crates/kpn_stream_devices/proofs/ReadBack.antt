@@ -7,7 +7,7 @@ use Rattle.std.proofs.lemmas.Bool.{cases_lt, cases_eq, lt-ltb, eq-eqb}
 use Rattle.std.proofs.lemmas.Nat.{pow-add, le-div, pow_pos}
 use Rattle.std.proofs.Math.Nat.{pow-le-pow_right, mul-le-mul, div-le_self}
 use Rattle.kpn_stream_devices.specs.Floats.{rounded, significand_of, size_of, with_sign, float_item, size_bits, float_bits}
-use Rattle.kpn_stream_devices.specs.Formats.{HasItem}
+use Rattle.kpn_stream_devices.specs.Formats.{FormatHolds}
 use Rattle.kpn_stream_devices.specs.declared.formats.SampleFormat.TheVariants.{F32}
 use Rattle.kpn_stream_devices.specs.declared.formats.ItemFormat.TheVariants.{Samples}
 use Rattle.kpn_stream_devices.proofs.Rounding.{small_is, adds_few, adds_none, scaled, scaled_up, scaled_down, size_is, highest_is, significand_fits}
@@ -251,7 +251,7 @@ reads_negative power size all =
     le_true : (a b : ℕ) → a ≤ b → nat_le a b ≡ true
     le_true a b less = grind arith
 
-pub float_reads : (power : ℕ) (item : ℤ) → HasItem (Samples (F32 power)) item
+pub float_reads : (power : ℕ) (item : ℤ) → FormatHolds (Samples (F32 power)) item
     → IsSome (float_item power (float_bits power item))
 float_reads power (pos n) has =
     subst (λ (b : ℕ). IsSome (float_item power b)) (sym (positive n))

@@ -14,7 +14,7 @@ use Rattle.kpn_stream_devices.specs.Formats.{sample_width, sample_value, signed_
 use Rattle.kpn_stream_devices.specs.declared.formats.SampleFormat.{SampleFormat}
 use Rattle.kpn_stream_devices.specs.declared.formats.SampleFormat.TheVariants.{U8, S8, S16, S24, S32, S64, F32}
 use Rattle.kpn_stream_devices.specs.declared.formats.ItemFormat.TheVariants.{Lines, Samples}
-use Rattle.kpn_stream_devices.specs.Window.{Window, SpellsNone, one_after, with_one, left_of, IfKnown, IsEndKnown, LineGives, SampleGives, Counts, Tells}
+use Rattle.kpn_stream_devices.specs.Window.{Window, SpellsNone, one_after, with_one, left_of, IfKnown, IsEndKnown, LineGives, SampleGives, CountsUsed, WindowTells}
 use Rattle.kpn_stream_devices.proofs.Lines.{is_feed, begins, first_line, only_line, long_line}
 
 -- what is told of a line that is the first of what is left
@@ -30,9 +30,9 @@ module _ (left rest line : List ℕ) (first : lines left ≡ line ∷ lines rest
 -- one more was used
 pub counts : (used : ℕ) (item : Option ℤ) (answer : Result (Option ℤ) SourceFault)
     → IfSome item (λ v. answer ≡ Ok (Some v)) → (item ≡ None → answer ≡ Err (BadItem (one_after used)))
-    → Counts answer used (one_after used)
-counts used (Some v) answer given none = subst (λ a. Counts a used (one_after used)) (sym given) refl
-counts used None answer given none = subst (λ a. Counts a used (one_after used)) (sym (none refl)) refl
+    → CountsUsed answer used (one_after used)
+counts used (Some v) answer given none = subst (λ a. CountsUsed a used (one_after used)) (sym given) refl
+counts used None answer given none = subst (λ a. CountsUsed a used (one_after used)) (sym (none refl)) refl
 
 -- a line with a line feed behind it
 pub line_tells : (w : Window) (end : ℕ) (item : Option ℤ) (answer : Result (Option ℤ) SourceFault)
@@ -40,7 +40,7 @@ pub line_tells : (w : Window) (end : ℕ) (item : Option ℤ) (answer : Result (
     → MatchOption item (SpellsNone (strip_carriage_return (take end w.unused)))
     (SpellsItem (strip_carriage_return (take end w.unused)))
     → IfSome item (λ v. answer ≡ Ok (Some v)) → (item ≡ None → answer ≡ Err (BadItem (one_after w.used)))
-    → Tells Lines w answer (with_one (drop (end + 1) w.unused) w)
+    → WindowTells Lines w answer (with_one (drop (end + 1) w.unused) w)
 line_tells w end item answer found match given none = record {
   counted = counts w.used item answer given none;
   given = told;
@@ -58,7 +58,7 @@ line_tells w end item answer found match given none = record {
 pub whole_tells : (w : Window) (item : Option ℤ) (answer : Result (Option ℤ) SourceFault) → 0 < length w.unused
     → w.is_over ≡ true → position is_feed w.unused ≡ None → MatchOption item (SpellsNone w.unused) (SpellsItem w.unused)
     → IfSome item (λ v. answer ≡ Ok (Some v)) → (item ≡ None → answer ≡ Err (BadItem (one_after w.used)))
-    → Tells Lines w answer (with_one (drop (length w.unused) w.unused) w)
+    → WindowTells Lines w answer (with_one (drop (length w.unused) w.unused) w)
 whole_tells w item answer some over line match given none = record {
   counted = counts w.used item answer given none;
   given = told;
@@ -76,7 +76,7 @@ whole_tells w item answer some over line match given none = record {
 
 -- a line that is too long
 long : (w : Window) (count : ℕ) → 22 ≤ length w.unused → position is_feed w.unused ≡ None
-    → Tells Lines w (Err (BadItem (one_after w.used))) (with_one (drop count w.unused) w)
+    → WindowTells Lines w (Err (BadItem (one_after w.used))) (with_one (drop count w.unused) w)
 long w count many line = record { counted = refl; given = told }
   where
     told : (device : Option (List ℕ)) → IsEndKnown w device
@@ -89,10 +89,10 @@ long w count many line = record { counted = refl; given = told }
 
 pub long_tells : (w after : Window) (count line : ℕ) → after ≡ with_one (drop count w.unused) w
     → line ≡ one_after w.used → 22 ≤ length w.unused → position is_feed w.unused ≡ None
-    → Tells Lines w (Err (BadItem line)) after
+    → WindowTells Lines w (Err (BadItem line)) after
 long_tells w after count line is counted many none =
-    subst (λ (x : Window). Tells Lines w (Err (BadItem line)) x) (sym is)
-    (subst (λ (n : ℕ). Tells Lines w (Err (BadItem n)) (with_one (drop count w.unused) w)) (sym counted)
+    subst (λ (x : Window). WindowTells Lines w (Err (BadItem line)) x) (sym is)
+    (subst (λ (n : ℕ). WindowTells Lines w (Err (BadItem n)) (with_one (drop count w.unused) w)) (sym counted)
     (long w count many none))
 
 -- ---- samples
@@ -129,7 +129,7 @@ sample_told : (w : Window) (sample : SampleFormat) (answer : Result (Option ℤ)
     → sample_width sample ≤ length w.unused
     → IfSome (sample_value sample w.unused) (λ v. answer ≡ Ok (Some v))
     → (sample_value sample w.unused ≡ None → answer ≡ Err (BadItem (one_after w.used)))
-    → Tells (Samples sample) w answer (with_one (drop (sample_width sample) w.unused) w)
+    → WindowTells (Samples sample) w answer (with_one (drop (sample_width sample) w.unused) w)
 sample_told w sample answer within given none = record {
   counted = counts w.used (sample_value sample w.unused) answer given none;
   given = told;
@@ -148,9 +148,9 @@ pub sample_tells : (w after : Window) (sample : SampleFormat) (item : Option ℤ
     (answer : Result (Option ℤ) SourceFault) (width number : ℕ) → width ≡ sample_width sample
     → after ≡ with_one (drop width w.unused) w → width ≤ length w.unused → item ≡ sample_value sample w.unused
     → number ≡ one_after w.used → IfSome item (λ v. answer ≡ Ok (Some v))
-    → (item ≡ None → answer ≡ Err (BadItem number)) → Tells (Samples sample) w answer after
+    → (item ≡ None → answer ≡ Err (BadItem number)) → WindowTells (Samples sample) w answer after
 sample_tells w after sample item answer width number wide is within value counted given none =
-    subst (λ (x : Window). Tells (Samples sample) w answer x)
+    subst (λ (x : Window). WindowTells (Samples sample) w answer x)
     (sym (is ∙ ap (λ (n : ℕ). with_one (drop n w.unused) w) wide))
     (sample_told w sample answer (omega (arith, wide, within))
     (subst (λ (i : Option ℤ). IfSome i (λ v. answer ≡ Ok (Some v))) value given)

@@ -14,7 +14,7 @@ use Rattle.kpn_stream_devices.specs.declared.head.Head.{Head}
 use Rattle.kpn_stream_devices.specs.declared.head.Head.TheVariants.{Open, Bad, Whole}
 use Rattle.kpn_stream_devices.specs.Formats.{sample_width, sample_value}
 use Rattle.kpn_stream_devices.specs.Head.{head_at}
-use Rattle.kpn_stream_devices.specs.Window.{Window, one_after, with_one, left_of, IfKnown, IsEndKnown, SampleGives, GoesOn, WavGives, WavTells, Tells, data_of, end_told}
+use Rattle.kpn_stream_devices.specs.Window.{Window, one_after, with_one, left_of, IfKnown, IsEndKnown, SampleGives, SamplesGoOn, WavGives, WavTells, WindowTells, data_of, end_told}
 use Rattle.kpn_stream_devices.proofs.Heads.{head_at_again}
 use Rattle.kpn_stream_devices.proofs.Telling.{value_again, counts, sample_gives}
 
@@ -83,7 +83,7 @@ module _ (w : Window) (count : ℕ) (wav : Wav) (head : head_at w.wav w.unused �
 
   gives : (ds : List ℕ) (after : Option Wav) (rest : List ℕ) (answer : Result (Option ℤ) SourceFault)
       → SampleGives wav.sample (take wav.left (us ++ ds)) (data_of (head_at after rest) rest) answer
-      → GoesOn wav.sample answer after → WavGives (head_at w.wav (w.unused ++ ds)) (w.unused ++ ds) after rest answer
+      → SamplesGoOn wav.sample answer after → WavGives (head_at w.wav (w.unused ++ ds)) (w.unused ++ ds) after rest answer
   gives ds after rest answer given goes_on =
       subst (λ (h : Head). WavGives h (w.unused ++ ds) after rest answer) (sym (head_stays ds)) (
         subst (λ (samples : List ℕ). SampleGives wav.sample samples (data_of (head_at after rest) rest) answer)
@@ -113,11 +113,11 @@ module _ (w : Window) (count : ℕ) (wav : Wav) (head : head_at w.wav w.unused �
 
   goes_on : (wide : ℕ) (item : Option ℤ) (number : ℕ) (answer : Result (Option ℤ) SourceFault)
       → IfSome item (λ v. answer ≡ Ok (Some v)) → (item ≡ None → answer ≡ Err (BadItem number))
-      → GoesOn wav.sample answer (Some (shorter wav wide))
+      → SamplesGoOn wav.sample answer (Some (shorter wav wide))
   goes_on wide (Some v) number answer given none =
-      subst (λ a. GoesOn wav.sample a (Some (shorter wav wide))) (sym given) refl
+      subst (λ a. SamplesGoOn wav.sample a (Some (shorter wav wide))) (sym given) refl
   goes_on wide None number answer given none =
-      subst (λ a. GoesOn wav.sample a (Some (shorter wav wide))) (sym (none refl)) tt
+      subst (λ a. SamplesGoOn wav.sample a (Some (shorter wav wide))) (sym (none refl)) tt
 
   -- a sample whose bytes were read
   sample_told : (answer : Result (Option ℤ) SourceFault) → sample_width wav.sample ≤ length us
@@ -166,7 +166,7 @@ module _ (w : Window) (count : ℕ) (wav : Wav) (head : head_at w.wav w.unused �
 
   few_tells : (answer : Result (Option ℤ) SourceFault) → AllRead
       → ((rest : List ℕ) → SampleGives wav.sample (take wav.left us) rest answer)
-      → ((after : Option Wav) → GoesOn wav.sample answer after)
+      → ((after : Option Wav) → SamplesGoOn wav.sample answer after)
       → (device : Option (List ℕ)) → IsEndKnown w device → IfKnown (left_of w device) (left_of w device)
       (λ l r. WavGives (head_at w.wav l) l w.wav r answer)
   few_tells answer all given on None known = tt
@@ -223,7 +223,7 @@ module _ (w : Window) (count : ℕ) (wav : Wav) (head : head_at w.wav w.unused �
 -- the answer of any WAV file
 pub any_tells : (result : Option (Result (Option ℤ) SourceFault)) (format : ItemFormat) (written : WavFormat)
     (before after : Window) → format ≡ item_format.Wav written → IfSome result (λ a. WavTells before a after)
-    → IfSome result (λ a. Tells format before a after)
+    → IfSome result (λ a. WindowTells format before a after)
 any_tells None format written before after is told = tt
 any_tells (Some answer) format written before after is told =
-    subst (λ (f : ItemFormat). Tells f before answer after) (sym is) (told written)
+    subst (λ (f : ItemFormat). WindowTells f before answer after) (sym is) (told written)

@@ -91,8 +91,8 @@ greatest_item (Samples sample) = greatest_sample sample
 greatest_item (Wav wav) = greatest_sample (wav_sample wav)
 
 -- a format has a text for an item
-abbrev pub HasItem : ItemFormat → ℤ → Type 0
-HasItem format item = (least_item format ≤ℤ item) × (item ≤ℤ greatest_item format)
+abbrev pub FormatHolds : ItemFormat → ℤ → Type 0
+FormatHolds format item = (least_item format ≤ℤ item) × (item ≤ℤ greatest_item format)
 
 -- the text of an item
 abbrev pub item_bytes : ItemFormat → ℤ → List ℕ
@@ -112,7 +112,7 @@ written_item format item = if format.clips then nearest_item format.items item e
 
 -- an output has a text for an item
 abbrev pub HasText : OutputFormat → ℤ → Type 0
-HasText format item = HasItem format.items (written_item format item)
+HasText format item = FormatHolds format.items (written_item format item)
 
 -- the text that it writes for the item
 abbrev pub text_of : OutputFormat → ℤ → List ℕ
@@ -162,11 +162,11 @@ pub record NamesPower (word : List ℕ) (power : ℕ) : Type 0 where
   pub within : power ≤ 62
 
 -- a word names a format
-abbrev pub Names : (word : List ℕ) → ItemFormat → Type 0
-Names word format =
+abbrev pub NamesFormat : (word : List ℕ) → ItemFormat → Type 0
+NamesFormat word format =
     (format_name format ≡ Some word)
     ⊎ ((power : ℕ) × NamesPower word power × (format ≡ Samples (F32 power)))
 
 -- this word names no format
 abbrev pub IsNoFormat : (name : List ℕ) → Type 0
-IsNoFormat name = (format : ItemFormat) → Names name format → ⊥
+IsNoFormat name = (format : ItemFormat) → NamesFormat name format → ⊥

@@ -23,8 +23,8 @@ abbrev pub number_at : (width at : ℕ) → List ℕ → ℕ
 number_at width at bytes = little_number width (drop at bytes)
 
 -- the name of a chunk, as a number
-abbrev pub named : List ℕ → ℕ
-named name = little_number 4 name
+abbrev pub chunk_name : List ℕ → ℕ
+chunk_name name = little_number 4 name
 
 -- ---- what the samples are
 
@@ -65,8 +65,8 @@ described bytes at size =
 -- ---- chunks
 
 -- where the chunk behind one of so many bytes begins: at an even place
-abbrev pub behind : (at size : ℕ) → ℕ
-behind at size = at + 8 + size + size % 2
+abbrev pub next_chunk : (at size : ℕ) → ℕ
+next_chunk at size = at + 8 + size + size % 2
 
 -- a description, and the chunk behind it
 abbrev pub told_by : Result SampleFormat ℕ → (next : ℕ) → Chunk
@@ -77,8 +77,8 @@ told_by (Err place) next = Told (Bad place)
 abbrev pub format_of : (bytes : List ℕ) (at size : ℕ) → Chunk
 format_of bytes at size =
     if nat_lt size 16 then Told (Bad (at + 4))
-    else if nat_lt (length bytes) (behind at size) then Told Open
-    else told_by (described bytes (at + 8) size) (behind at size)
+    else if nat_lt (length bytes) (next_chunk at size) then Told Open
+    else told_by (described bytes (at + 8) size) (next_chunk at size)
 
 -- the chunk `data`: so many bytes follow, or any number, as behind a pipe
 abbrev pub data_of : (at size : ℕ) → Option SampleFormat → Head
@@ -89,10 +89,10 @@ data_of at size (Some sample) =
 -- a chunk of this name and this size
 abbrev pub chunk_of : (bytes : List ℕ) (at : ℕ) → Option SampleFormat → (name size : ℕ) → Chunk
 chunk_of bytes at sample name size =
-    if nat_eq name (named (codes "data")) then Told (data_of at size sample)
-    else if nat_lt most_bytes (behind at size) then Told (Bad (at + 4))
-    else if nat_eq name (named (codes "fmt ")) then format_of bytes at size
-    else Next (behind at size) sample
+    if nat_eq name (chunk_name (codes "data")) then Told (data_of at size sample)
+    else if nat_lt most_bytes (next_chunk at size) then Told (Bad (at + 4))
+    else if nat_eq name (chunk_name (codes "fmt ")) then format_of bytes at size
+    else Next (next_chunk at size) sample
 
 -- what the chunk at a place tells
 abbrev pub chunk_at : (bytes : List ℕ) (at : ℕ) → Option SampleFormat → Chunk
@@ -101,9 +101,9 @@ chunk_at bytes at sample =
     else chunk_of bytes at sample (number_at 4 at bytes) (number_at 4 (at + 4) bytes)
 
 -- what a chunk and those behind it tell
-abbrev pub chunks_after : (behind : (at : ℕ) → Option SampleFormat → Head) → Chunk → Head
-chunks_after behind (Told head) = head
-chunks_after behind (Next next sample) = behind next sample
+abbrev pub chunks_after : (next_chunk : (at : ℕ) → Option SampleFormat → Head) → Chunk → Head
+chunks_after next_chunk (Told head) = head
+chunks_after next_chunk (Next next sample) = next_chunk next sample
 
 -- what so many chunks tell, from a place on
 abbrev pub chunks_from : (count : ℕ) (bytes : List ℕ) (at : ℕ) → Option SampleFormat → Head
@@ -114,8 +114,8 @@ chunks_from (suc count) bytes at sample = chunks_after (chunks_from count bytes)
 abbrev pub head_of : List ℕ → Head
 head_of bytes =
     if nat_lt (length bytes) 12 then Open
-    else if nat_eq (number_at 4 0 bytes) (named (codes "RIFF")) then
-    (if nat_eq (number_at 4 8 bytes) (named (codes "WAVE")) then chunks_from most_chunks bytes 12 None else Bad 8)
+    else if nat_eq (number_at 4 0 bytes) (chunk_name (codes "RIFF")) then
+    (if nat_eq (number_at 4 8 bytes) (chunk_name (codes "WAVE")) then chunks_from most_chunks bytes 12 None else Bad 8)
     else Bad 0
 
 -- ---- what is left of the file
@@ -134,6 +134,6 @@ HasHead (Bad at) count = ⊤
 HasHead (Whole length wav) count = length ≤ count
 
 -- the next chunk begins within the longest head
-abbrev pub IsWithin : Chunk → (count : ℕ) → Type 0
-IsWithin (Told head) count = HasHead head count
-IsWithin (Next next sample) count = next ≤ most_bytes
+abbrev pub IsHeadWithin : Chunk → (count : ℕ) → Type 0
+IsHeadWithin (Told head) count = HasHead head count
+IsHeadWithin (Next next sample) count = next ≤ most_bytes

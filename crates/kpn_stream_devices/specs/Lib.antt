@@ -2,6 +2,6 @@ pub mod Floats
 pub mod Formats
 pub mod Head
 pub mod Window
-pub mod Inputs
-pub mod Outputs
+pub mod SourceInputs
+pub mod SinkOutputs
 pub mod Out

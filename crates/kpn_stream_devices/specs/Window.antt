@@ -88,10 +88,10 @@ HasSample sample (Some wav) = wav.sample ≡ sample
 HasSample sample None = ⊥
 
 -- they go on behind an item
-abbrev pub GoesOn : SampleFormat → Result (Option ℤ) SourceFault → (after : Option Wav) → Type 0
-GoesOn sample (Ok (Some item)) after = HasSample sample after
-GoesOn sample (Ok None) after = ⊤
-GoesOn sample (Err fault) after = ⊤
+abbrev pub SamplesGoOn : SampleFormat → Result (Option ℤ) SourceFault → (after : Option Wav) → Type 0
+SamplesGoOn sample (Ok (Some item)) after = HasSample sample after
+SamplesGoOn sample (Ok None) after = ⊤
+SamplesGoOn sample (Err fault) after = ⊤
 
 -- the head is wrong from this byte on, and that is told, unless the device or memory fails
 abbrev pub TellsBad : (at : ℕ) → Result (Option ℤ) SourceFault → Type 0
@@ -110,7 +110,7 @@ WavGives Open before after rest answer = TellsBad (length before) answer
 WavGives (Bad at) before after rest answer = TellsBad at answer
 WavGives (Whole count wav) before after rest answer =
     SampleGives wav.sample (data_of (Whole count wav) before) (data_of (head_at after rest) rest) answer
-    × GoesOn wav.sample answer after
+    × SamplesGoOn wav.sample answer after
 
 abbrev pub FormatGives : ItemFormat → (wav : Option Wav) (before : List ℕ) (after : Option Wav) (rest : List ℕ)
     → Result (Option ℤ) SourceFault → Type 0
@@ -125,18 +125,18 @@ IfKnown (Some before) None P = ⊥
 IfKnown (Some before) (Some after) P = P before after
 
 -- what an input gives, by what its window and its device were before, and are afterwards
-abbrev pub Gives : ItemFormat → (before : Window) (device : Option (List ℕ)) → Result (Option ℤ) SourceFault
+abbrev pub WindowGives : ItemFormat → (before : Window) (device : Option (List ℕ)) → Result (Option ℤ) SourceFault
     → (after : Window) (read : Option (List ℕ)) → Type 0
-Gives format before device answer after read =
+WindowGives format before device answer after read =
     IfKnown (left_of before device) (left_of after read)
     (λ left rest. FormatGives format before.wav left after.wav rest answer)
 
 -- How many were used before an answer and are used then: an item is one more, and a line or a sample that has none is
 -- told by the number that it has, counted from 1.
-abbrev pub Counts : Result (Option ℤ) SourceFault → (used now : ℕ) → Type 0
-Counts (Ok (Some item)) used now = now ≡ one_after used
-Counts (Err (BadItem number)) used now = number ≡ one_after used
-Counts answer used now = now ≡ used
+abbrev pub CountsUsed : Result (Option ℤ) SourceFault → (used now : ℕ) → Type 0
+CountsUsed (Ok (Some item)) used now = now ≡ one_after used
+CountsUsed (Err (BadItem number)) used now = number ≡ one_after used
+CountsUsed answer used now = now ≡ used
 
 -- if the input is over, its device has nothing left
 abbrev pub IsEndKnown : Window → (device : Option (List ℕ)) → Type 0
@@ -171,16 +171,16 @@ NeedsMore (format.Wav written) w = WavNeedsMore w
 -- ---- what the unused bytes alone tell
 
 -- an answer that holds whatever the device has left
-pub record Tells (format : ItemFormat) (before : Window) (answer : Result (Option ℤ) SourceFault) (after : Window)
+pub record WindowTells (format : ItemFormat) (before : Window) (answer : Result (Option ℤ) SourceFault) (after : Window)
     : Type 0 where
-  pub counted : Counts answer before.used after.used
+  pub counted : CountsUsed answer before.used after.used
   pub given : (device : Option (List ℕ)) → IsEndKnown before device
       → IfKnown (left_of before device) (left_of after device)
       (λ left rest. FormatGives format before.wav left after.wav rest answer)
 
 -- the same of a WAV file
 abbrev pub WavTells : (before : Window) (answer : Result (Option ℤ) SourceFault) (after : Window) → Type 0
-WavTells before answer after = (written : WavFormat) → Tells (format.Wav written) before answer after
+WavTells before answer after = (written : WavFormat) → WindowTells (format.Wav written) before answer after
 
 -- the answer where no more bytes come than these, which are too few for a sample: all are used, or a part is left
 abbrev pub end_told : (count left : ℕ) → Result (Option ℤ) SourceFault

@@ -1,6 +1,6 @@
 //! How items are written in the inputs and outputs of a stream.
 ghost use Rattle.std.specs.Prelude.{◌≡◌, ◌≤◌, ◌↔◌, ℕ, length, IsTrue, MatchOption};
-ghost use Rattle.kpn_stream_devices.specs.Formats.{sample_width, sample_value, wav_sample, least_item, greatest_item, least_sample, greatest_sample, HasItem, HasText, nearest_item, written_item, Names, NamesPower, IsNoFormat};
+ghost use Rattle.kpn_stream_devices.specs.Formats.{sample_width, sample_value, wav_sample, least_item, greatest_item, least_sample, greatest_sample, FormatHolds, HasText, nearest_item, written_item, NamesFormat, NamesPower, IsNoFormat};
 ghost use Rattle.kpn_stream_devices.specs.declared.formats.SampleFormat.TheVariants.{F32};
 ghost use Rattle.kpn_stream_devices.specs.declared.formats.ItemFormat.TheVariants.{Samples};
 
@@ -137,7 +137,7 @@ impl WavFormat {
 impl ItemFormat {
     /// The format that a word behind `--format` names.
     pub fn of_word(word: &str) -> Option<ItemFormat>
-        ensures { MatchOption result (IsNoFormat word.now) (Names word.now) }
+        ensures { MatchOption result (IsNoFormat word.now) (NamesFormat word.now) }
     {
         match word {
             "lines" => Some(ItemFormat::Lines),
@@ -197,7 +197,7 @@ impl ItemFormat {
 
     /// Whether the format has a text for an item.
     pub fn has(self, item: i64) -> bool
-        ensures { IsTrue result ↔ HasItem self item }
+        ensures { IsTrue result ↔ FormatHolds self item }
     {
         self.least() <= item && item <= self.greatest()
     }

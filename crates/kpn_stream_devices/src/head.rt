@@ -1,13 +1,13 @@
 //! The head of a WAV file: where its samples begin, and how they are written.
 ghost use Rattle.std.specs.Prelude.{◌≡◌, ◌+◌, ◌%◌, ◌≤◌, ◌<◌, length, drop};
 ghost use Rattle.byteorder.specs.Endian.{little_number};
-ghost use Rattle.kpn_stream_devices.specs.Head.{chunk_at, chunks_from, data_of, described, format_of, head_of, is_whole, sample_of, most_bytes, number_at, HasHead, IsWithin, is_extended};
+ghost use Rattle.kpn_stream_devices.specs.Head.{chunk_at, chunks_from, data_of, described, format_of, head_of, is_whole, sample_of, most_bytes, number_at, HasHead, IsHeadWithin, is_extended};
 
 use crate::formats::SampleFormat;
 use byteorder::{ByteOrder, LittleEndian};
 
 /// A head has so many bytes at most.
-const MOST_BYTES: usize = 1_048_576;
+const MOST_HEAD_BYTES: usize = 1_048_576;
 
 /// Behind the first bytes of a head come so many chunks at most, and `data` is the last of them.
 const MOST_CHUNKS: u32 = 1_000;
@@ -20,7 +20,7 @@ const RIFF: u32 = 0x4646_4952;
 
 const WAVE: u32 = 0x4556_4157;
 
-const FORMAT: u32 = 0x2074_6d66;
+const FORMAT_CHUNK: u32 = 0x2074_6d66;
 
 const DATA: u32 = 0x6174_6164;
 
@@ -96,7 +96,7 @@ fn chunks_from(bytes: &[u8], at: usize, sample: Option<SampleFormat>, count: u32
 fn chunk_at(bytes: &[u8], at: usize, sample: Option<SampleFormat>) -> Chunk
     requires { at ≤ most_bytes }
     ensures is { result ≡ chunk_at bytes.now at sample }
-    ensures within { IsWithin result (length bytes.now) }
+    ensures within { IsHeadWithin result (length bytes.now) }
 {
     if bytes.len() < at + 8 {
         return Chunk::Told(Head::Open);
@@ -107,10 +107,10 @@ fn chunk_at(bytes: &[u8], at: usize, sample: Option<SampleFormat>) -> Chunk
         return Chunk::Told(data_of(at, size, sample));
     }
     let next = at + 8 + size + size % 2;
-    if next > MOST_BYTES {
+    if next > MOST_HEAD_BYTES {
         return Chunk::Told(Head::Bad(at + 4));
     }
-    if name == FORMAT {
+    if name == FORMAT_CHUNK {
         format_of(bytes, at, size)
     } else {
         Chunk::Next(next, sample)
@@ -138,7 +138,7 @@ fn data_of(at: usize, size: usize, sample: Option<SampleFormat>) -> Head
 fn format_of(bytes: &[u8], at: usize, size: usize) -> Chunk
     requires { at + 8 + size + size % 2 ≤ most_bytes }
     ensures is { result ≡ format_of bytes.now at size }
-    ensures within { IsWithin result (length bytes.now) }
+    ensures within { IsHeadWithin result (length bytes.now) }
 {
     if size < 16 {
         return Chunk::Told(Head::Bad(at + 4));

@@ -2,20 +2,20 @@
 ghost use Rattle.std.specs.Prelude.{◌≡◌, false, None, OnOk, IfErr};
 ghost use Rattle.std.specs.Io.{ReadsAtMost};
 ghost use Rattle.std.specs.Io.KnownBytes.{ReadConsumes};
-ghost use Rattle.kpn_shelf.specs.Look.{LookConsumes, LooksAtMost};
+ghost use Rattle.kpn_shelf.specs.NonblockingRead.{LookConsumes, LooksAtMost};
 ghost use Rattle.kpn_stream.specs.declared.devices.Readiness.TheVariants as look;
-ghost use Rattle.kpn_stream_devices.specs.Inputs.{device_left, input_of, kept_fault, FailsToRead, HaveMoved, InputGives, InputLooks, ReadsOnly, Waits};
+ghost use Rattle.kpn_stream_devices.specs.SourceInputs.{device_left, input_of, kept_fault, FailsToRead, HaveMoved, InputGives, InputLooks, ReadsOnly, WaitsForDevice};
 
 use crate::formats::ItemFormat;
 use crate::window::{Answer, Window};
-use kpn_shelf::Look;
+use kpn_shelf::NonblockingRead;
 use kpn_stream::{Readiness as Shown, SourceFault, Sources};
 use kpn_text_items::{ItemFault, read_some};
 use std::io;
 use std::io::Read;
 
 /// How many bytes one read asks for.
-const CHUNK: usize = 8192;
+const INPUT_READ_BYTES: usize = 8192;
 
 /// A fault that a look has met.
 #[derive(Clone, Copy)]
@@ -29,7 +29,7 @@ pub enum Failed {
 /// The input of a source: that of this file, or else standard input. A fault that a look has met is told by the next
 /// call that waits for its bytes.
 #[derive(Drop)]
-pub struct Input<F: Drop> {
+pub struct SourceInput<F: Drop> {
     pub channel: usize,
     pub format: ItemFormat,
     pub file: Option<F>,
@@ -39,13 +39,13 @@ pub struct Input<F: Drop> {
 
 /// The inputs of all sources. They are lent, so that the lender has them as the last read left them.
 #[derive(Drop)]
-pub struct Inputs<'i, I, F: Drop> {
+pub struct SourceInputs<'i, I, F: Drop> {
     pub standard: &'i mut I,
-    pub each: &'i mut Vec<Input<F>>,
+    pub each: &'i mut Vec<SourceInput<F>>,
 }
 
-impl<I: Look, F: Look + Drop> Sources for Inputs<'_, I, F> {
-    ghost use Rattle.kpn_stream_devices.specs.Inputs.{InputsGive, InputsLook, IsAtHand};
+impl<I: NonblockingRead, F: NonblockingRead + Drop> Sources for SourceInputs<'_, I, F> {
+    ghost use Rattle.kpn_stream_devices.specs.SourceInputs.{InputsGive, InputsLook, IsAtHand};
 
     ghost gives = { InputsGive I.remaining F.remaining };
 
@@ -80,25 +80,28 @@ impl<I: Look, F: Look + Drop> Sources for Inputs<'_, I, F> {
 }
 
 /// Which input is that of a source: the first for its channel.
-fn input_of<F: Drop>(inputs: &[Input<F>], source: usize) -> Option<usize>
+fn input_of<F: Drop>(inputs: &[SourceInput<F>], source: usize) -> Option<usize>
     ensures { result ≡ input_of inputs.now source }
 {
     inputs.iter().position(|input| input.channel == source)
 }
 
 /// Whether an input has an answer without its device.
-fn is_told<F: Drop>(input: &Input<F>) -> bool
-    ensures told { Waits input.now → result ≡ false }
-    ensures waits { result ≡ false → Waits input.now }
+fn is_told<F: Drop>(input: &SourceInput<F>) -> bool
+    ensures told { WaitsForDevice input.now → result ≡ false }
+    ensures waits { result ≡ false → WaitsForDevice input.now }
 {
     input.failed.is_some() || input.window.is_at_hand(input.format)
 }
 
 /// Takes in what has come, unless the answer of the input is at hand. Shows whether it is then.
-fn look_at<I: Look, F: Look + Drop>(input: &mut Input<F>, standard: &mut I) -> Shown
+fn look_at<I: NonblockingRead, F: NonblockingRead + Drop>(
+    input: &mut SourceInput<F>,
+    standard: &mut I,
+) -> Shown
     ensures looks { InputLooks I.remaining F.remaining standard.old input.old
         standard.new input.new }
-    ensures at_hand { result ≡ look.AtHand → Waits input.new → ⊥ }
+    ensures at_hand { result ≡ look.AtHand → WaitsForDevice input.new → ⊥ }
 {
     if is_told(input) {
         return Shown::AtHand;
@@ -115,7 +118,10 @@ fn look_at<I: Look, F: Look + Drop>(input: &mut Input<F>, standard: &mut I) -> S
 }
 
 /// Whether a look can tell what has come to an input.
-fn can_look<I: Look, F: Look + Drop>(input: &Input<F>, standard: &I) -> bool {
+fn can_look<I: NonblockingRead, F: NonblockingRead + Drop>(
+    input: &SourceInput<F>,
+    standard: &I,
+) -> bool {
     match &input.file {
         Some(file) => file.can_look(),
         None => standard.can_look(),
@@ -124,11 +130,14 @@ fn can_look<I: Look, F: Look + Drop>(input: &Input<F>, standard: &I) -> bool {
 
 /// Takes into the window what has come, and keeps the fault if that fails. It is apart since the chunk is large.
 #[inline(never)]
-fn take_in<I: Look, F: Look + Drop>(input: &mut Input<F>, standard: &mut I)
-    requires { Waits input.old }
+fn take_in<I: NonblockingRead, F: NonblockingRead + Drop>(
+    input: &mut SourceInput<F>,
+    standard: &mut I,
+)
+    requires { WaitsForDevice input.old }
     ensures { InputLooks I.remaining F.remaining standard.old input.old standard.new input.new }
 {
-    let mut chunk = [0; CHUNK];
+    let mut chunk = [0; INPUT_READ_BYTES];
     match look_device(standard, &mut input.file, &mut chunk) {
         Ok(None) => {}
         Ok(Some(count)) => {
@@ -141,7 +150,7 @@ fn take_in<I: Look, F: Look + Drop>(input: &mut Input<F>, standard: &mut I)
 }
 
 /// One look at the file, or else at standard input.
-fn look_device<I: Look, F: Look + Drop>(
+fn look_device<I: NonblockingRead, F: NonblockingRead + Drop>(
     standard: &mut I,
     file: &mut Option<F>,
     chunk: &mut [u8],
@@ -158,7 +167,7 @@ fn look_device<I: Look, F: Look + Drop>(
 }
 
 /// The answer of an input. It reads until there are bytes enough to tell.
-fn next_of<I: Read, F: Read + Drop>(input: &mut Input<F>, standard: &mut I) -> Answer
+fn next_of<I: Read, F: Read + Drop>(input: &mut SourceInput<F>, standard: &mut I) -> Answer
     ensures { InputGives I.remaining F.remaining standard.old input.old result
         standard.new input.new }
 {
@@ -175,7 +184,7 @@ fn next_of<I: Read, F: Read + Drop>(input: &mut Input<F>, standard: &mut I) -> A
 
 /// One read into the window of an input, unless a look has met a fault, which is told.
 fn read_on<I: Read, F: Read + Drop>(
-    input: &mut Input<F>,
+    input: &mut SourceInput<F>,
     standard: &mut I,
 ) -> Result<(), SourceFault>
     requires { input.old.window.is_over ≡ false }
@@ -203,7 +212,7 @@ fn fault_of(failed: Failed) -> SourceFault
 /// One read into the window of an input. It is apart since the chunk is large.
 #[inline(never)]
 fn read_more<I: Read, F: Read + Drop>(
-    input: &mut Input<F>,
+    input: &mut SourceInput<F>,
     standard: &mut I,
 ) -> Result<(), SourceFault>
     requires open { input.old.window.is_over ≡ false }
@@ -213,7 +222,7 @@ fn read_more<I: Read, F: Read + Drop>(
     ensures fault { IfErr result (FailsToRead I.remaining F.remaining standard.old input.old
         standard.new input.new) }
 {
-    let mut chunk = [0; CHUNK];
+    let mut chunk = [0; INPUT_READ_BYTES];
     let Ok(count) = read_device(standard, &mut input.file, &mut chunk) else {
         return Err(SourceFault::Read);
     };

@@ -11,23 +11,23 @@ ghost use Rattle.kpn_stream.specs.declared.faults.SourceFault.TheVariants.{BadIt
 ghost use Rattle.kpn_stream.specs.Devices.{AreFlushedLast, Fed, Served};
 ghost use Rattle.kpn_stream.specs.Ending.{end_numbers};
 ghost use Rattle.kpn_stream_devices.specs.Floats.{float_bits, float_item};
-ghost use Rattle.kpn_stream_devices.specs.Formats.{HasItem};
+ghost use Rattle.kpn_stream_devices.specs.Formats.{FormatHolds};
 ghost use Rattle.kpn_stream_devices.specs.declared.formats.ItemFormat.TheVariants.{Samples};
 ghost use Rattle.kpn_stream_devices.specs.declared.formats.SampleFormat.TheVariants.{F32};
-ghost use Rattle.kpn_stream_devices.specs.declared.inputs.Input.{Input as Source};
-ghost use Rattle.kpn_stream_devices.specs.declared.inputs.Inputs.{Inputs as Devices};
-ghost use Rattle.kpn_stream_devices.specs.Inputs.{InputsGive, InputsLook, input_of};
+ghost use Rattle.kpn_stream_devices.specs.declared.inputs.SourceInput.{SourceInput as Source};
+ghost use Rattle.kpn_stream_devices.specs.declared.inputs.SourceInputs.{SourceInputs as Devices};
+ghost use Rattle.kpn_stream_devices.specs.SourceInputs.{InputsGive, InputsLook, input_of};
 ghost use Rattle.kpn_stream_devices.specs.Window.{fresh, used_after};
-ghost use Rattle.kpn_stream_devices.specs.declared.outputs.Output.{Output as One};
-ghost use Rattle.kpn_stream_devices.specs.declared.outputs.Outputs.{Outputs as Targets};
+ghost use Rattle.kpn_stream_devices.specs.declared.outputs.SinkOutput.{SinkOutput as One};
+ghost use Rattle.kpn_stream_devices.specs.declared.outputs.SinkOutputs.{SinkOutputs as Targets};
 ghost use Rattle.kpn_stream_devices.specs.Out.{HasOwnDevice, IsServed, text_of_all};
-ghost use Rattle.kpn_stream_devices.specs.Outputs.{OutputsFlush, OutputsTake, device_holds, output_of, was_put};
+ghost use Rattle.kpn_stream_devices.specs.SinkOutputs.{OutputsFlush, OutputsTake, device_holds, output_of, was_put};
 
-use kpn_shelf::Look;
+use kpn_shelf::NonblockingRead;
 use std::io::Write;
 
 /// The line or sample that an input tells as bad is the one behind those that gave the items so far, counted from 1.
-pub fn the_bad_line<I: Look, F: Look + Drop>()
+pub fn the_bad_line<I: NonblockingRead, F: NonblockingRead + Drop>()
     ensures { (t : Tables) → IsNetwork t → (H : List Event) → Legal t H
         → (first now : Devices I F) (c i number : ℕ)
         → Fed t (InputsGive I.remaining F.remaining) (InputsLook I.remaining F.remaining)
@@ -67,6 +67,6 @@ pub fn what_is_out<O: Write, G: Write + Drop>()
 
 /// A float that was written for an item that fits its format is read again as an item.
 pub fn a_float_is_read_again()
-    ensures { (power : ℕ) (item : ℤ) → HasItem (Samples (F32 power)) item
+    ensures { (power : ℕ) (item : ℤ) → FormatHolds (Samples (F32 power)) item
         → IsSome (float_item power (float_bits power item)) }
 {}

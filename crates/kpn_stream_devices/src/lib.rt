@@ -11,6 +11,6 @@ mod window;
 
 pub use formats::{ItemFormat, OutputFormat, SampleFormat, WavFormat};
 pub use head::{Head, Wav};
-pub use inputs::{Failed, Input, Inputs};
-pub use outputs::{Output, Outputs, head_bytes};
+pub use inputs::{Failed, SourceInput, SourceInputs};
+pub use outputs::{SinkOutput, SinkOutputs, head_bytes};
 pub use window::Window;

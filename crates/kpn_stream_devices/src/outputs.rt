@@ -4,7 +4,7 @@ ghost use Rattle.std.specs.Int.{to_le_bytes, w16, w32};
 ghost use Rattle.std.specs.Io.KnownBytes.{Appends};
 ghost use Rattle.kpn_text_items.specs.ItemFile.{item_line};
 ghost use Rattle.kpn_stream_devices.specs.Formats.{head_bytes, item_bytes, number_bytes, sample_bytes, sample_width, wav_head};
-ghost use Rattle.kpn_stream_devices.specs.Outputs.{device_holds, output_of, was_put, TakesItem, HandsOn, IsOfDevice, WritesOnly};
+ghost use Rattle.kpn_stream_devices.specs.SinkOutputs.{device_holds, output_of, was_put, TakesItem, HandsOn, IsOfDevice, WritesOnly};
 
 use crate::floats::float_bits;
 use crate::formats::{ItemFormat, OutputFormat, SampleFormat};
@@ -16,18 +16,18 @@ use std::io;
 use std::io::{ErrorKind, Write};
 
 /// With so many bytes an output hands on what it kept.
-const FULL: usize = 8192;
+const WRITE_BYTES: usize = 8192;
 
 /// How the head of a WAV file begins, up to the tag of whole numbers, and how it ends. Nobody knows the sizes yet: they
 /// are those that `sox` takes for unknown.
-const OPENING: &[u8] = b"RIFF\x24\xf0\xff\x7fWAVEfmt \x10\0\0\0\x01\0";
+const WAV_OPENING: &[u8] = b"RIFF\x24\xf0\xff\x7fWAVEfmt \x10\0\0\0\x01\0";
 
 const CLOSING: &[u8] = b"data\x00\xf0\xff\x7f";
 
 /// The output of a sink: that of this file, or else standard output. And the bytes that it has not got yet, and how
 /// many items are still wanted, if there is such a number.
 #[derive(Drop)]
-pub struct Output<G: Drop> {
+pub struct SinkOutput<G: Drop> {
     pub channel: usize,
     pub format: OutputFormat,
     pub file: Option<G>,
@@ -37,13 +37,13 @@ pub struct Output<G: Drop> {
 
 /// The outputs of all sinks. They are lent, so that the lender has them as the last write left them.
 #[derive(Drop)]
-pub struct Outputs<'o, O, G: Drop> {
+pub struct SinkOutputs<'o, O, G: Drop> {
     pub standard: &'o mut O,
-    pub each: &'o mut Vec<Output<G>>,
+    pub each: &'o mut Vec<SinkOutput<G>>,
 }
 
-impl<O: Write, G: Write + Drop> Sinks for Outputs<'_, O, G> {
-    ghost use Rattle.kpn_stream_devices.specs.Outputs.{OutputsTake, OutputsFlush};
+impl<O: Write, G: Write + Drop> Sinks for SinkOutputs<'_, O, G> {
+    ghost use Rattle.kpn_stream_devices.specs.SinkOutputs.{OutputsTake, OutputsFlush};
 
     ghost takes = { OutputsTake O.contents G.contents };
 
@@ -65,7 +65,7 @@ impl<O: Write, G: Write + Drop> Sinks for Outputs<'_, O, G> {
 }
 
 /// Which output is that of a sink: the first for its channel.
-fn output_of<G: Drop>(outputs: &[Output<G>], sink: usize) -> Option<usize>
+fn output_of<G: Drop>(outputs: &[SinkOutput<G>], sink: usize) -> Option<usize>
     ensures { result ≡ output_of outputs.now sink }
 {
     outputs.iter().position(|output| output.channel == sink)
@@ -73,7 +73,7 @@ fn output_of<G: Drop>(outputs: &[Output<G>], sink: usize) -> Option<usize>
 
 /// Puts an item to an output. Without memory for it the output is as it was.
 fn put_to<O: Write, G: Write + Drop>(
-    output: &mut Output<G>,
+    output: &mut SinkOutput<G>,
     standard: &mut O,
     item: i64,
 ) -> Result<(), SinkFault>
@@ -91,7 +91,7 @@ fn put_to<O: Write, G: Write + Drop>(
         return Err(SinkFault::NoMemory);
     }
     output.wanted = one_less(output.wanted);
-    if output.bytes.len() < FULL && !is_none_wanted(output.wanted) {
+    if output.bytes.len() < WRITE_BYTES && !is_none_wanted(output.wanted) {
         return Ok(());
     }
     hand_on(output, standard)
@@ -171,7 +171,7 @@ fn push_head(
         (bytes.new.items ≡ bytes.old.items ++ wav_head sample rate channels) }
 {
     let frame = frame_of(sample, channels);
-    bytes.extend_from_slice(OPENING)?;
+    bytes.extend_from_slice(WAV_OPENING)?;
     push_half(bytes, channels)?;
     push_word(bytes, rate)?;
     push_word(bytes, pace_of(rate, frame))?;
@@ -223,7 +223,7 @@ fn push_number(bytes: &mut Vec<u8>, item: i64, width: usize) -> Result<(), Alloc
 
 /// Hands on what an output kept.
 fn hand_on<O: Write, G: Write + Drop>(
-    output: &mut Output<G>,
+    output: &mut SinkOutput<G>,
     standard: &mut O,
 ) -> Result<(), SinkFault>
     ensures channel { output.new.channel ≡ output.old.channel }

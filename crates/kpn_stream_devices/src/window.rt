@@ -2,7 +2,7 @@
 ghost use Rattle.std.specs.Prelude.{◌≡◌, ◌+◌, ◌<◌, ◌≤◌, ◌++◌, [], true, false, Ok, Err, Some, None, drop, length, vec_len, IfOk, OnOk, OnErr, IfSome, MatchOption, position, ◌==◌, min};
 ghost use Rattle.kpn_stream_devices.specs.Formats.{sample_width};
 ghost use Rattle.kpn_stream_devices.specs.Head.{HasHead, head_at};
-ghost use Rattle.kpn_stream_devices.specs.Window.{end_told, fresh, one_after, with_one, NeedsMore, HeadNeedsMore, LineNeedsMore, SampleNeedsMore, Tells, WavNeedsMore, WavTells};
+ghost use Rattle.kpn_stream_devices.specs.Window.{end_told, fresh, one_after, with_one, NeedsMore, HeadNeedsMore, LineNeedsMore, SampleNeedsMore, WindowTells, WavNeedsMore, WavTells};
 ghost use Rattle.kpn_stream_devices.specs.declared.head.Head.TheVariants.{Whole};
 ghost use Rattle.kpn_stream_devices.specs.declared.formats.ItemFormat.TheVariants.{Lines, Samples};
 
@@ -17,7 +17,7 @@ use std::marker::Model;
 pub type Answer = Result<Option<i64>, SourceFault>;
 
 /// A line with so many bytes spells no item: 19 digits, a `-` and a carriage return are 21.
-const LONGEST: usize = 22;
+const TOO_LONG_LINE: usize = 22;
 
 /// A part of an input.
 #[derive(Drop)]
@@ -108,7 +108,7 @@ impl Window {
 
     /// The answer of the source, if no more bytes are needed to tell.
     pub fn next(&mut self, format: ItemFormat) -> Option<Answer>
-        ensures told { IfSome result (λ answer. Tells format self.old answer self.new) }
+        ensures told { IfSome result (λ answer. WindowTells format self.old answer self.new) }
         ensures needs_more { result ≡ None → self.new ≡ self.old }
         ensures needs { result ≡ None → NeedsMore format self.old }
         ensures over { self.new.is_over ≡ self.old.is_over }
@@ -128,14 +128,14 @@ impl Window {
         let unused = self.unused();
         self.is_over
             || match format {
-                ItemFormat::Lines => unused.len() >= LONGEST || line_feed(unused).is_some(),
+                ItemFormat::Lines => unused.len() >= TOO_LONG_LINE || line_feed(unused).is_some(),
                 ItemFormat::Samples(sample) => unused.len() >= sample.width(),
                 ItemFormat::Wav(_) => self.is_wav_at_hand(),
             }
     }
 
     fn next_line(&mut self) -> Option<Answer>
-        ensures told { IfSome result (λ answer. Tells Lines self.old answer self.new) }
+        ensures told { IfSome result (λ answer. WindowTells Lines self.old answer self.new) }
         ensures needs_more { result ≡ None → self.new ≡ self.old }
         ensures needs { result ≡ None → LineNeedsMore self.old }
         ensures over { self.new.is_over ≡ self.old.is_over }
@@ -149,7 +149,7 @@ impl Window {
     /// The answer of the line that has a line feed behind so many bytes.
     fn line_of(&mut self, end: usize) -> Answer
         requires { position (λ byte. byte == 10) self.old.unused ≡ Some end }
-        ensures told { Tells Lines self.old result self.new }
+        ensures told { WindowTells Lines self.old result self.new }
         ensures over { self.new.is_over ≡ self.old.is_over }
     {
         let item = item_of_line(without_carriage_return(&self.unused()[..end]));
@@ -160,7 +160,7 @@ impl Window {
     /// The answer of the last line, which lacks its line feed.
     fn last_line(&mut self) -> Option<Answer>
         requires { position (λ byte. byte == 10) self.old.unused ≡ None }
-        ensures told { IfSome result (λ answer. Tells Lines self.old answer self.new) }
+        ensures told { IfSome result (λ answer. WindowTells Lines self.old answer self.new) }
         ensures needs_more { result ≡ None → self.new ≡ self.old }
         ensures needs { result ≡ None → LineNeedsMore self.old }
         ensures over { self.new.is_over ≡ self.old.is_over }
@@ -172,7 +172,7 @@ impl Window {
         if self.is_over {
             return Some(self.whole_line(count));
         }
-        if count < LONGEST {
+        if count < TOO_LONG_LINE {
             return None;
         }
         let line = self.pass(count);
@@ -185,7 +185,7 @@ impl Window {
         requires some { 0 < count }
         requires over { self.old.is_over ≡ true }
         requires line { position (λ byte. byte == 10) self.old.unused ≡ None }
-        ensures told { Tells Lines self.old result self.new }
+        ensures told { WindowTells Lines self.old result self.new }
         ensures over { self.new.is_over ≡ self.old.is_over }
     {
         let item = item_of_line(self.unused());
@@ -195,7 +195,7 @@ impl Window {
 
     /// The answer of a sample.
     fn next_sample(&mut self, sample: SampleFormat) -> Option<Answer>
-        ensures told { IfSome result (λ answer. Tells (Samples sample) self.old answer self.new) }
+        ensures told { IfSome result (λ answer. WindowTells (Samples sample) self.old answer self.new) }
         ensures needs_more { result ≡ None → self.new ≡ self.old }
         ensures needs { result ≡ None → SampleNeedsMore sample self.old }
         ensures over { self.new.is_over ≡ self.old.is_over }
@@ -213,7 +213,7 @@ impl Window {
     /// The answer if there are too few bytes for a sample.
     fn no_sample(&self, sample: SampleFormat) -> Option<Answer>
         requires { length self.now.unused < sample_width sample }
-        ensures told { IfSome result (λ answer. Tells (Samples sample) self.now answer self.now) }
+        ensures told { IfSome result (λ answer. WindowTells (Samples sample) self.now answer self.now) }
         ensures needs { result ≡ None → SampleNeedsMore sample self.now }
     {
         if !self.is_over {

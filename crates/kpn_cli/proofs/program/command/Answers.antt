@@ -6,16 +6,16 @@ use Rattle.kpn_shelf.specs.Shelf.{Loads, Aliases}
 use Rattle.kpn_command_line.specs.Asked.{IsAsked, IsRefused}
 use Rattle.kpn_command_line.specs.declared.request.WordsFault.{WordsFault}
 use Rattle.kpn_command_line.specs.declared.request.WordsFault.TheVariants.{Usage, NoMemory}
-use Rattle.kpn_command_stream.specs.Command.{Names}
-use Rattle.kpn_cli.specs.Command.{Runs, answers, streams, tells, unclear, unread, TellsFault}
+use Rattle.kpn_command_stream.specs.Command.{DeviceNames}
+use Rattle.kpn_cli.specs.Command.{RunsProgram, answers, streams, tells, unclear, unread, TellsWordsFault}
 use Rattle.kpn_cli.proofs.program.command.Goals as goal
 
-refused : {S I F O G E : Type 0} (may_give : S → Loads) (may_alias : S → Aliases) (names : Names S F G)
+refused : {S I F O G E : Type 0} (may_give : S → Loads) (may_alias : S → Aliases) (names : DeviceNames S F G)
     (remaining : I → Option (List ℕ)) (left_in : F → Option (List ℕ)) (contents : O → Option (List ℕ))
     (holds_in : G → Option (List ℕ)) (holds : E → Option (List ℕ)) (asked : List (List ℕ)) (shelf : S) (input : I)
-    (out : O) (err told : E) (status : ℕ) (fault : WordsFault) → TellsFault holds fault err told status
+    (out : O) (err told : E) (status : ℕ) (fault : WordsFault) → TellsWordsFault holds fault err told status
     → IsRefused asked fault
-    → Runs may_give may_alias names remaining left_in contents holds_in holds asked
+    → RunsProgram may_give may_alias names remaining left_in contents holds_in holds asked
     shelf shelf input input out out err told status
 refused may_give may_alias names remaining left_in contents holds_in holds asked shelf input out err told status (Usage text) is cause =
     unclear cause refl refl refl is

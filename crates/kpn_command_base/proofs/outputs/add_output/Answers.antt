@@ -2,7 +2,7 @@
 use Rattle.std.proofs.Common.{◌≡◌, ◌≢◌, ◌++◌, ◌∷◌, [], ℕ, List, All, Bor, map, ap, sym, subst, ◌∙◌}
 use Rattle.std.proofs.lemmas.List.{map-append}
 use Rattle.std.proofs.lemmas.List.Elements.{All-map}
-use Rattle.kpn_command_base.specs.Outputs.{AreApart}
+use Rattle.kpn_command_base.specs.Outputs.{AreNamesApart}
 use Rattle.kpn_command_base.proofs.Apart.{now, apart_more}
 use Rattle.kpn_command_base.proofs.outputs.add_output.Goals as goal
 
@@ -16,6 +16,6 @@ returns-clause-apart g c =
     c.as_slice-earlier.ensures.value
     (All-map (λ (other : List ℕ). c.args.name.now ≢ other) now c.as_slice-earlier.result.now
     (c.in_ok-meets.ensures.apart c.if-meets.false)) in
-    subst (AreApart c.args.asked.now) (sym pushed)
+    subst (AreNamesApart c.args.asked.now) (sym pushed)
     (apart_more c.args.asked.now outputs c.args.name.now c.requires
     (c.in_ok-overwrites.ensures.apart c.if-overwrites.false) new)

@@ -7,7 +7,7 @@ use Rattle.kpn_command_base.specs.declared.sources.NamedEnd.{NamedEnd}
 use Rattle.kpn_command_base.specs.declared.sources.FileOption.{FileOption}
 use Rattle.kpn_command_base.specs.Inputs.{AreInputs, AreNamedSinks, IsRefusalOfRunInputs}
 use Rattle.kpn_command_base.specs.Sources.{name_in, file_in}
-use Rattle.kpn_command_base.specs.Outputs.{AreAllApart, AreSinks, outputs_of, words_of}
+use Rattle.kpn_command_base.specs.Outputs.{AreAllApart, AreSinksNamed, outputs_of, words_of}
 use Rattle.kpn_command_base.proofs.Apart.{now, unloaded, unready}
 use Rattle.kpn_command_base.proofs.outputs.prepare.Goals as goal
 
@@ -20,7 +20,7 @@ file o = o.file.now
 -- the sinks that these options name are those of the words
 are_sinks : (request : RunRequest) (d : Document) (named : List NamedEnd) (options handed : List FileOption)
     → handed ≡ options → map name options ≡ map name_in request.sinks → map file options ≡ map file_in request.sinks
-    → AreNamedSinks d (map name handed) (map file handed) named → AreSinks request d named
+    → AreNamedSinks d (map name handed) (map file handed) named → AreSinksNamed request d named
 are_sinks request d named options handed same names files are =
     subst (λ ns. AreNamedSinks d ns (map file_in request.sinks) named) (ap (map name) same ∙ names)
     (subst (λ fs. AreNamedSinks d (map name handed) fs named) (ap (map file) same ∙ files) are)

@@ -1,11 +1,11 @@
 -- The bytes that remain lead from here to the same place as all of them.
 use Rattle.std.proofs.Common.{◌≡◌, ◌≤◌, ◌+◌, drop, fold}
-use Rattle.kpn_command_explain.specs.Lines.{next_place, place_behind}
+use Rattle.kpn_command_explain.specs.Lines.{place_after_byte, place_behind}
 use Rattle.kpn_command_explain.proofs.lines.place_behind.Given as goal
 
 abbrev pub invariant-loop-byte : goal.invariant-loop-byte
 invariant-loop-byte l = record {
-  whole : fold next_place (record { line = l.line; column = l.column }) (drop l.byte-index l.text)
+  whole : fold place_after_byte (record { line = l.line; column = l.column }) (drop l.byte-index l.text)
       ≡ place_behind l.text;
   lines : l.line ≤ l.byte-index + 1;
   columns : l.column ≤ l.byte-index + 1;

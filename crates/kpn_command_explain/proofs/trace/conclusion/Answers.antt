@@ -2,7 +2,7 @@
 use Rattle.std.proofs.Common.{refl, subst}
 use Rattle.kpn_net.specs.Tables.{Tables}
 use Rattle.kpn_command_base.specs.declared.flaw.Flaw.{Flaw}
-use Rattle.kpn_command_base.specs.Flaw.{IsTold}
+use Rattle.kpn_command_base.specs.Flaw.{IsFlawTold}
 use Rattle.kpn_command_base.specs.Audited.{IsFinding, IsFlaw}
 use Rattle.kpn_command_explain.specs.TraceAnswers.{legal, budget}
 use Rattle.kpn_command_explain.proofs.trace.conclusion.Goals as goal
@@ -41,6 +41,6 @@ returns-in_ok-conclusion-in-Budget-clause-ok c =
     subst (IsFlaw t trace c.args.steps) c.in-Budget.is
     (subst (IsFinding t trace c.args.steps) c.in-NotLegal.is found) in
     let told =
-    subst (λ (f : Flaw). IsTold f made.text.items made.status) c.in-Budget.is
+    subst (λ (f : Flaw). IsFlawTold f made.text.items made.status) c.in-Budget.is
     c.in_ok-conclusion-in-Budget.ensures.0 in
     (budget c.in-Budget.field-0 is told.0 told.1, c.in_ok-conclusion-in-Budget.ensures.1)

@@ -1,7 +1,7 @@
 -- The places, the run between them, and the end.
 use Rattle.std.proofs.Common.{List, refl, subst}
-use Rattle.kpn_command_base.specs.declared.sources.Ends.TheVariants.{Sources, Sinks}
-use Rattle.kpn_command_stream.specs.Command.{IsConcluded}
+use Rattle.kpn_command_base.specs.declared.sources.EndKind.TheVariants.{Sources, Sinks}
+use Rattle.kpn_command_stream.specs.Command.{IsStreamConcluded}
 use Rattle.kpn_command_stream.specs.declared.running.Lost.{Lost}
 use Rattle.kpn_command_stream.proofs.Listing.{placed_by}
 use Rattle.kpn_command_stream.proofs.command.stream_document.Goals as goal
@@ -27,6 +27,6 @@ returns-clause-streamed g c =
       concluded =
           subst
           (λ (lost : List Lost).
-          IsConcluded g.S.Shelf.may_give c.args.request.now c.args.document.now.tables ending book lost c.args.shelf.now
+          IsStreamConcluded g.S.Shelf.may_give c.args.request.now c.args.document.now.tables ending book lost c.args.shelf.now
           c.conclude.new.shelf c.conclude.result) c.deref.ensures.value c.conclude.ensures;
     }

@@ -3,7 +3,7 @@ use Rattle.std.proofs.Common.{◌≢◌, List, Bor, ℕ, All, subst, arith}
 use Rattle.std.specs.List.{AllPairs}
 use Rattle.std.proofs.lemmas.List.{take_all}
 use Rattle.kpn_command_base.proofs.Apart.{one_more}
-use Rattle.kpn_command_stream.specs.Formats.{IsForEnd, end_in}
+use Rattle.kpn_command_stream.specs.Formats.{IsForEnd, format_end}
 use Rattle.kpn_command_stream.proofs.Worded.{pair_more}
 use Rattle.kpn_command_stream.proofs.formats.are_for_ends.Goals as goal
 
@@ -11,7 +11,7 @@ pub loop-i-preserved : goal.loop-i-preserved
 loop-i-preserved c = (
   one_more (λ word. IsForEnd c.args.document.now word.now) c.args.words.now c.loop-i.i _ c.loop-i-test.true
       c.loop-i.invariant.0 (c.is_for_end.ensures c.if-not-is_for_end.false),
-  pair_more (λ word later. end_in word.now ≢ end_in later.now) c.args.words.now c.loop-i.i _ c.loop-i-test.true
+  pair_more (λ word later. format_end word.now ≢ format_end later.now) c.args.words.now c.loop-i.i _ c.loop-i-test.true
       c.loop-i.invariant.1 (c.is_said.ensures c.if-is_said.false),
 )
 
@@ -22,5 +22,5 @@ returns-clause-ends c = λ _.
 
 pub returns-clause-apart : goal.returns-clause-apart
 returns-clause-apart c = λ _.
-    subst (λ (ws : List (Bor (List ℕ))). AllPairs (λ word later. end_in word.now ≢ end_in later.now) ws)
+    subst (λ (ws : List (Bor (List ℕ))). AllPairs (λ word later. format_end word.now ≢ format_end later.now) ws)
     (take_all c.loop-i.i c.args.words.now (omega (arith, c.loop-i-test.false))) c.loop-i.invariant.1

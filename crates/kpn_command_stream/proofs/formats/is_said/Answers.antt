@@ -2,16 +2,16 @@
 use Rattle.std.proofs.Common.{◌≢◌, List, Bor, ℕ, All, subst, arith}
 use Rattle.std.proofs.lemmas.List.{take_all}
 use Rattle.kpn_command_base.proofs.Apart.{one_more}
-use Rattle.kpn_command_stream.specs.Formats.{end_in}
+use Rattle.kpn_command_stream.specs.Formats.{format_end}
 use Rattle.kpn_command_stream.proofs.formats.is_said.Goals as goal
 
 pub loop-before-preserved : goal.loop-before-preserved
 loop-before-preserved c =
-    one_more (λ before. end_in before.now ≢ end_in c.args.word.now) c.args.words.now c.loop-before.before-index _
+    one_more (λ before. format_end before.now ≢ format_end c.args.word.now) c.args.words.now c.loop-before.before-index _
     c.loop-before-test.true c.loop-before.invariant (c.are_for_same.ensures c.if-are_for_same.false)
 
 pub returns : goal.returns
 returns c = λ _.
-    subst (λ (ws : List (Bor (List ℕ))). All (λ before. end_in before.now ≢ end_in c.args.word.now) ws)
+    subst (λ (ws : List (Bor (List ℕ))). All (λ before. format_end before.now ≢ format_end c.args.word.now) ws)
     (take_all c.loop-before.before-index c.args.words.now (omega (arith, c.loop-before-test.false)))
     c.loop-before.invariant

@@ -1,10 +1,10 @@
 -- One place more has another input.
-use Rattle.kpn_command_stream.specs.declared.places.Place.{Place}
+use Rattle.kpn_command_stream.specs.declared.places.EndPlace.{EndPlace}
 use Rattle.kpn_command_stream.proofs.Listing.{all_next}
 use Rattle.kpn_command_stream.proofs.places.has_input.Goals as goal
 
 pub loop-place-preserved : goal.loop-place-preserved
 loop-place-preserved g c =
-    all_next (λ (place : Place). g.S.Ports.are_two_inputs c.args.shelf.now place.name.now c.args.name.now)
+    all_next (λ (place : EndPlace). g.S.Ports.are_two_inputs c.args.shelf.now place.name.now c.args.name.now)
     c.args.places.now c.loop-place.place-index _ c.loop-place-test.true c.loop-place.invariant
     (c.is_one_input.ensures c.if-is_one_input.false)

@@ -1,8 +1,8 @@
 -- The first places have other inputs.
 use Rattle.std.proofs.Common.{All, take}
-use Rattle.kpn_command_stream.specs.declared.places.Place.{Place}
+use Rattle.kpn_command_stream.specs.declared.places.EndPlace.{EndPlace}
 use Rattle.kpn_command_stream.proofs.places.has_input.Given as goal
 
 abbrev pub invariant-loop-place : goal.invariant-loop-place
 invariant-loop-place g l =
-    All (λ (place : Place). g.S.Ports.are_two_inputs l.shelf place.name.now l.name) (take l.place-index l.places)
+    All (λ (place : EndPlace). g.S.Ports.are_two_inputs l.shelf place.name.now l.name) (take l.place-index l.places)

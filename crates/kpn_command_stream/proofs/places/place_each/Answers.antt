@@ -1,9 +1,9 @@
 -- One more place.
 use Rattle.std.proofs.Common.{◌+◌, ◌∙◌, ℕ, List, Bor, map, option_map, refl, sym, ap, subst}
-use Rattle.kpn_stream_devices.specs.Formats.{Names}
+use Rattle.kpn_stream_devices.specs.Formats.{NamesFormat}
 use Rattle.kpn_command_stream.specs.Formats.{format_word}
-use Rattle.kpn_command_stream.specs.Places.{ArePlaced}
-use Rattle.kpn_command_stream.specs.declared.places.Place.{Place}
+use Rattle.kpn_command_stream.specs.EndPlaces.{ArePlaced}
+use Rattle.kpn_command_stream.specs.declared.places.EndPlace.{EndPlace}
 use Rattle.kpn_command_stream.proofs.Worded.{placed_more}
 use Rattle.kpn_command_stream.proofs.places.place_each.Goals as goal
 
@@ -11,10 +11,10 @@ pub loop-number-preserved : goal.loop-number-preserved
 loop-number-preserved c =
     let words = map (λ (word : Bor (List ℕ)). word.now) c.args.formats.now in
     subst
-    (λ (places : List Place). ArePlaced c.args.document.now c.args.named.now words c.args.channels.now
+    (λ (places : List EndPlace). ArePlaced c.args.document.now c.args.named.now words c.args.channels.now
     (c.loop-number.number + 1) places) (sym c.in_ok-push.ensures.items)
     (placed_more c.args.document.now c.args.named.now words c.args.channels.now c.loop-number.number
     c.loop-number.places.items _ c.loop-number.invariant c.loop-number-test.true refl
     (sym c.name_for.ensures ∙ ap (option_map (λ (name : Bor (List ℕ)). name.now)) c.in-Some.is)
-    (subst (λ (name : List ℕ). Names (format_word words name) c.in-Some-format_for.format)
+    (subst (λ (name : List ℕ). NamesFormat (format_word words name) c.in-Some-format_for.format)
     c.channel_name-in-loop-number.ensures c.in-Some-format_for.ensures))

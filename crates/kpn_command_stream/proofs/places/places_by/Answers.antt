@@ -1,7 +1,7 @@
 -- The ends are those of the network.
 use Rattle.std.proofs.Common.{◌∙◌, ℕ, IfErr, length, ap, sym, subst}
 use Rattle.kpn_net.specs.Tables.{is_source, is_sink}
-use Rattle.kpn_command_base.specs.declared.sources.Ends.{Ends}
+use Rattle.kpn_command_base.specs.declared.sources.EndKind.{EndKind}
 use Rattle.kpn_command_base.specs.Sources.{is_end}
 use Rattle.kpn_stream.specs.Ending.{end_numbers}
 use Rattle.kpn_command_stream.specs.Causes.{IsUnplacedBy}
@@ -12,7 +12,7 @@ returns-in-Sources-clause-cause c =
     subst (λ (count : ℕ). IfErr c.place_each.result (IsUnplacedBy c.args.ends c.args.named.now count))
     (ap length
     (c.deref.ensures.value ∙ c.in_ok-numbers.ensures.sources ∙ ap (end_numbers is_source) c.network.ensures
-    ∙ ap (λ (e : Ends). end_numbers (is_end e) c.args.document.now.tables) (sym c.in-Sources.is)))
+    ∙ ap (λ (e : EndKind). end_numbers (is_end e) c.args.document.now.tables) (sym c.in-Sources.is)))
     c.place_each.ensures.cause
 
 pub returns-clause-cause : goal.returns-clause-cause
@@ -20,5 +20,5 @@ returns-clause-cause c =
     subst (λ (count : ℕ). IfErr c.place_each-in-Sinks.result (IsUnplacedBy c.args.ends c.args.named.now count))
     (ap length
     (c.deref-in-Sinks.ensures.value ∙ c.in_ok-numbers.ensures.sinks ∙ ap (end_numbers is_sink) c.network.ensures
-    ∙ ap (λ (e : Ends). end_numbers (is_end e) c.args.document.now.tables) (sym c.in-Sinks.is)))
+    ∙ ap (λ (e : EndKind). end_numbers (is_end e) c.args.document.now.tables) (sym c.in-Sinks.is)))
     c.place_each-in-Sinks.ensures.cause

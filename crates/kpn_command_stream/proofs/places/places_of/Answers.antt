@@ -6,7 +6,7 @@ use Rattle.kpn_command_base.specs.declared.sources.NamedEnd.{NamedEnd}
 use Rattle.kpn_command_base.specs.Sources.{is_end}
 use Rattle.kpn_stream.specs.Ending.{end_numbers}
 use Rattle.kpn_command_stream.specs.Causes.{IsUnplacedBy}
-use Rattle.kpn_command_stream.specs.Places.{AllPlaced}
+use Rattle.kpn_command_stream.specs.EndPlaces.{AllPlaced}
 use Rattle.kpn_command_stream.proofs.Listing.{all_placed}
 use Rattle.kpn_command_stream.proofs.Refusing.{unplaced}
 use Rattle.kpn_command_stream.proofs.places.places_of.Goals as goal

@@ -1,10 +1,10 @@
 -- One place more has an input of its own.
-use Rattle.kpn_command_stream.specs.declared.places.Place.{Place}
+use Rattle.kpn_command_stream.specs.declared.places.EndPlace.{EndPlace}
 use Rattle.kpn_command_stream.proofs.Listing.{pairs_next}
 use Rattle.kpn_command_stream.proofs.places.share_an_input.Goals as goal
 
 pub loop-i-preserved : goal.loop-i-preserved
 loop-i-preserved g c =
     pairs_next
-    (λ (earlier later : Place). g.S.Ports.are_two_inputs c.args.shelf.now earlier.name.now later.name.now)
+    (λ (earlier later : EndPlace). g.S.Ports.are_two_inputs c.args.shelf.now earlier.name.now later.name.now)
     c.args.places.now c.loop-i.i _ c.loop-i-test.true c.loop-i.invariant (c.has_input.ensures c.if-has_input.false)

@@ -1,9 +1,9 @@
 -- The stream, and what the outputs handed on then.
 use Rattle.std.proofs.Common.{◌∙◌}
-use Rattle.kpn_stream_devices.specs.declared.inputs.Inputs.{Inputs}
-use Rattle.kpn_stream_devices.specs.declared.outputs.Outputs.{Outputs}
-use Rattle.kpn_stream_devices.specs.Inputs.{InputsGive, InputsLook}
-use Rattle.kpn_stream_devices.specs.Outputs.{OutputsTake, OutputsFlush, Takes, Flushes}
+use Rattle.kpn_stream_devices.specs.declared.inputs.SourceInputs.{SourceInputs}
+use Rattle.kpn_stream_devices.specs.declared.outputs.SinkOutputs.{SinkOutputs}
+use Rattle.kpn_stream_devices.specs.SourceInputs.{InputsGive, InputsLook}
+use Rattle.kpn_stream_devices.specs.SinkOutputs.{OutputsTake, OutputsFlush, Takes, Flushes}
 use Rattle.kpn_command_stream.proofs.Keeping.{fed_keeps, served_keeps, handed_keeps, inputs_same, looks_same, outputs_same}
 use Rattle.kpn_command_stream.proofs.running.run_over.Goals as goal
 
@@ -17,16 +17,16 @@ returns-clause-ran g c =
     record {
       same_input =
           fed_keeps c.args.network.now (InputsGive left left_in) (InputsLook left left_in)
-          (λ (x : Inputs g.row.I.Denot g.row.F.Denot). x.standard.ghost_name) (inputs_same left left_in)
+          (λ (x : SourceInputs g.row.I.Denot g.row.F.Denot). x.standard.ghost_name) (inputs_same left left_in)
           (looks_same left left_in) c.args.sources.now _ _ _ s.sources;
       same_output =
           handed_keeps (OutputsTake holds holds_in) (OutputsFlush holds holds_in) c.args.limits.now.take
-          (λ (x : Outputs g.row.O.Denot g.row.G.Denot). x.standard.ghost_name)
+          (λ (x : SinkOutputs g.row.O.Denot g.row.G.Denot). x.standard.ghost_name)
           (λ before k v answer. outputs_same (Takes holds holds_in v answer) before k answer)
           (λ before k answer. outputs_same (Flushes holds holds_in answer) before k answer) c.stream.new.sinks _ _ _
           c.flush_each.ensures
           ∙ served_keeps (OutputsTake holds holds_in) (OutputsFlush holds holds_in) c.args.limits.now.take
-          (λ (x : Outputs g.row.O.Denot g.row.G.Denot). x.standard.ghost_name)
+          (λ (x : SinkOutputs g.row.O.Denot g.row.G.Denot). x.standard.ghost_name)
           (λ before k v answer. outputs_same (Takes holds holds_in v answer) before k answer)
           (λ before k answer. outputs_same (Flushes holds holds_in answer) before k answer) c.args.sinks.now _ _ _ s.sinks;
       tables = s.network;

@@ -2,7 +2,7 @@
 use Rattle.std.proofs.Common.{ℕ, List, max, ◌+◌, ◌++◌, ap, ◌∙◌}
 use Rattle.std.specs.String.{string_bytes}
 use Rattle.kpn_command_base.proofs.PieceLemmas.{three_pieces}
-use Rattle.kpn_command_views.specs.PictureText.{row_of, right_of, size_text, style_text, caption_text}
+use Rattle.kpn_command_views.specs.PictureText.{row_place, right_of, size_text, style_text, caption_text}
 use Rattle.kpn_command_views.proofs.frame.push_head.Goals as goal
 
 pub returns : goal.returns
@@ -11,7 +11,7 @@ returns c =
     let s = a.scale in
     let start = string_bytes a.text.now in
     let one = string_bytes c.push_size.new.text in
-    three_pieces start (size_text (max (right_of s + 24) 500) (row_of a.processes + 48)) style_text
+    three_pieces start (size_text (max (right_of s + 24) 500) (row_place a.processes + 48)) style_text
     (caption_text (s.front + 1) s.back a.length) one (string_bytes c.push_str.new.self)
     (string_bytes c.push_caption.new.text)
     (c.in_ok-push_size.ensures

@@ -1,7 +1,7 @@
 -- All parts, one after another.
 use Rattle.std.proofs.Common.{List, ℕ, ◌++◌, ap, ◌∙◌}
 use Rattle.kpn_ticks.specs.Shown.{shown}
-use Rattle.kpn_command_views.specs.PictureText.{head_text, grid_text, boxes_text, legend}
+use Rattle.kpn_command_views.specs.PictureText.{picture_head_text, grid_text, boxes_text, legend}
 use Rattle.kpn_command_views.proofs.picture.text_of.Goals as goal
 
 pub returns : goal.returns
@@ -18,5 +18,5 @@ returns c =
     (c.in_ok-push_grid.ensures
     ∙ ap (λ (t : List ℕ). t ++ grid)
     (c.in_ok-push_head.ensures
-    ∙ ap (λ (t : List ℕ). t ++ head_text s a.processes c.last.result) c.new-text.ensures.bytes
-    ∙ ap (head_text s a.processes) c.last.ensures)))
+    ∙ ap (λ (t : List ℕ). t ++ picture_head_text s a.processes c.last.result) c.new-text.ensures.bytes
+    ∙ ap (picture_head_text s a.processes) c.last.ensures)))

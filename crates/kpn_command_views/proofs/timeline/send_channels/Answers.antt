@@ -4,7 +4,7 @@ use Rattle.std.specs.String.{string_bytes}
 use Rattle.kpn_text_names.specs.Names.{name_at}
 use Rattle.kpn_ticks.specs.Ticks.{written_of}
 use Rattle.kpn_ticks.specs.Shown.{shown}
-use Rattle.kpn_command_views.specs.Sent.{AreSent}
+use Rattle.kpn_command_views.specs.Sent.{IsSentWhole}
 use Rattle.kpn_command_views.specs.TimelineText.{each_below, counter_label, counter_lines, channel_counters}
 use Rattle.kpn_command_views.proofs.GoingOut.{none_sent_more, one_number_more}
 use Rattle.kpn_command_views.proofs.timeline.send_channels.Goals as goal
@@ -30,5 +30,5 @@ returns g c =
     let contents = g.W.Write.contents in
     let line = channel_counters c.args.document.now.names.channels (shown c.args.clocks.now) in
     let all : c.loop-c.c ≡ c.args.channels = omega arith in
-    subst (λ n. AreSent (contents c.args.out.now) (contents c.loop-c.out) (string_bytes c.loop-c.text)
+    subst (λ n. IsSentWhole (contents c.args.out.now) (contents c.loop-c.out) (string_bytes c.loop-c.text)
     (string_bytes c.args.text.now ++ each_below n line)) all c.loop-c.invariant

@@ -1,12 +1,12 @@
 use Rattle.std.proofs.Common.{◌++◌}
 use Rattle.std.specs.String.{string_bytes}
 use Rattle.kpn_ticks.specs.Shown.{shown}
-use Rattle.kpn_command_views.specs.Sent.{AreSent}
+use Rattle.kpn_command_views.specs.Sent.{IsSentWhole}
 use Rattle.kpn_command_views.specs.TimelineText.{each_below, channel_counters}
 use Rattle.kpn_command_views.proofs.timeline.send_channels.Given as goal
 
 abbrev pub invariant-loop-c : goal.invariant-loop-c
 invariant-loop-c g l =
     let contents = g.W.Write.contents in
-    AreSent (contents l.fn.out) (contents l.out) (string_bytes l.text)
+    IsSentWhole (contents l.fn.out) (contents l.out) (string_bytes l.text)
     (string_bytes l.fn.text ++ each_below l.c (channel_counters l.document.names.channels (shown l.clocks)))

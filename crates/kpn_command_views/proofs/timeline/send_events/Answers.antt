@@ -6,7 +6,7 @@ use Rattle.std.proofs.lemmas.List.{length-take}
 use Rattle.kpn_ticks.specs.Ticks.{Clocks, start, clocks_after}
 use Rattle.kpn_ticks.specs.Shown.{shown, AreClocks}
 use Rattle.kpn_ticks.proofs.Counting.{clocks_are, ticks_are_few}
-use Rattle.kpn_command_views.specs.Sent.{AreSent}
+use Rattle.kpn_command_views.specs.Sent.{IsSentWhole}
 use Rattle.kpn_command_views.specs.TimelineText.{all_event_lines}
 use Rattle.kpn_command_views.proofs.TimelineLines.{events_next, clocks_next}
 use Rattle.kpn_command_views.proofs.GoingOut.{none_sent, step, with_nothing, nothing_to_come}
@@ -43,7 +43,7 @@ loop-k-init g c =
     let contents = g.W.Write.contents in
     let lines = all_event_lines c.args.document.now.names.channels t in (
       c.in_ok-clocks.ensures,
-      subst (λ (s : Clocks). AreSent (contents c.args.out.now) (contents c.args.out.now)
+      subst (λ (s : Clocks). IsSentWhole (contents c.args.out.now) (contents c.args.out.now)
           (text ++ lines s c.args.events.now) (text ++ lines (start t true) c.args.events.now))
           (sym c.in_ok-clocks.ensures) (none_sent _ _),
     )

@@ -4,7 +4,7 @@ use Rattle.std.proofs.Common.{◌≡◌, ◌++◌, true, take, drop}
 use Rattle.std.specs.String.{string_bytes}
 use Rattle.kpn_ticks.specs.Ticks.{start, clocks_after}
 use Rattle.kpn_ticks.specs.Shown.{shown}
-use Rattle.kpn_command_views.specs.Sent.{AreSent}
+use Rattle.kpn_command_views.specs.Sent.{IsSentWhole}
 use Rattle.kpn_command_views.specs.TimelineText.{all_event_lines}
 use Rattle.kpn_command_views.proofs.timeline.send_events.Given as goal
 
@@ -13,6 +13,6 @@ invariant-loop-k g l =
     let names = l.document.names.channels in
     let contents = g.W.Write.contents in
     (shown l.clocks ≡ clocks_after l.network true (take l.k l.events))
-    × AreSent (contents l.fn.out) (contents l.out)
+    × IsSentWhole (contents l.fn.out) (contents l.out)
     (string_bytes l.text ++ all_event_lines names l.network (shown l.clocks) (drop l.k l.events))
     (string_bytes l.fn.text ++ all_event_lines names l.network (start l.network true) l.events)

@@ -6,7 +6,7 @@ use Rattle.kpn_text_names.specs.Names.{name_at}
 use Rattle.kpn_ticks.specs.Ticks.{Clocks, start, clocks_after}
 use Rattle.kpn_ticks.specs.Shown.{shown, AreClocks}
 use Rattle.kpn_ticks.proofs.Counting.{clocks_are, ticks_are_few}
-use Rattle.kpn_command_views.specs.TimelineText.{head, track_line, each_below, all_event_lines, last_waits, channel_counters}
+use Rattle.kpn_command_views.specs.TimelineText.{timeline_head, track_line, each_below, all_event_lines, last_waits, channel_counters}
 use Rattle.kpn_command_views.proofs.GoingOut.{timeline_sent}
 use Rattle.kpn_command_views.proofs.timeline.send_timeline.Goals as goal
 
@@ -34,13 +34,13 @@ returns g c =
     let ends = clocks_after t true c.args.events.now in
     timeline_sent _ _ _ _ (string_bytes c.in_ok-text.text) (string_bytes c.send_events.new.text)
     (string_bytes c.push_last_waits.new.text) (string_bytes c.send_channels.new.text)
-    (string_bytes c.push_end.new.text) (head ++ each_below (length t.instances) track)
+    (string_bytes c.push_end.new.text) (timeline_head ++ each_below (length t.instances) track)
     (all_event_lines names.channels t (start t true) c.args.events.now)
     (last_waits names.channels (length t.instances) waits ends)
     (each_below (length t.channels) (channel_counters names.channels ends))
     (last_waits names.channels c.instances-2.result waits s)
     (each_below c.channels.result (channel_counters names.channels s)) (codes "]}\n")
-    (c.in_ok-text.ensures ∙ ap (λ n. head ++ each_below n track) c.instances.ensures) c.in_ok-clocks.ensures.text
+    (c.in_ok-text.ensures ∙ ap (λ n. timeline_head ++ each_below n track) c.instances.ensures) c.in_ok-clocks.ensures.text
     c.in_ok-push_last_waits.ensures
     (ap (λ n. last_waits names.channels n waits s) c.instances-2.ensures
     ∙ ap (λ (x : Clocks). last_waits names.channels (length t.instances) waits x) c.in_ok-clocks.ensures.clocks)

@@ -2,10 +2,10 @@
 use Rattle.std.proofs.Common.{◌≡◌, ◌++◌, drop}
 use Rattle.std.specs.String.{string_bytes}
 use Rattle.kpn_command_base.specs.ListText.{lines_from}
-use Rattle.kpn_commands.specs.RoundsText.{channel_line, rounds_text}
+use Rattle.kpn_commands.specs.RoundsText.{list_line_of, rounds_text}
 use Rattle.kpn_commands.proofs.rounds_text.text_of.Given as goal
 
 abbrev pub invariant-loop-channel : goal.invariant-loop-channel
 invariant-loop-channel l =
     let names = l.document.names.channels in
-    string_bytes l.text ++ lines_from (channel_line names) l.channel (drop l.channel l.lists) ≡ rounds_text names l.lists
+    string_bytes l.text ++ lines_from (list_line_of names) l.channel (drop l.channel l.lists) ≡ rounds_text names l.lists

@@ -1,6 +1,6 @@
 -- The input answers.
 use Rattle.std.proofs.Common.{◌∙◌, sym, refl, rules, ap}
-use Rattle.kpn_stream_devices.specs.Inputs.{by_input, input_of}
+use Rattle.kpn_stream_devices.specs.SourceInputs.{by_input, input_of}
 use Rattle.kpn_stream_devices.proofs.inputs.InputsSources.next.Goals as goal
 
 pub returns : goal.returns

@@ -5,9 +5,9 @@ use Rattle.kpn_stream.specs.declared.faults.SourceFault.{SourceFault}
 use Rattle.kpn_stream.specs.declared.faults.SourceFault.TheVariants as source_fault
 use Rattle.kpn_stream_devices.specs.declared.inputs.Failed.{Failed}
 use Rattle.kpn_stream_devices.specs.declared.inputs.Failed.TheVariants as look_fault
-use Rattle.kpn_stream_devices.specs.declared.inputs.Input.{Input}
-use Rattle.kpn_stream_devices.specs.declared.inputs.Inputs.{Inputs}
-use Rattle.kpn_stream_devices.specs.Window.{Gives, Counts, IsEndKnown, NeedsMore, Tells, left_of}
+use Rattle.kpn_stream_devices.specs.declared.inputs.SourceInput.{SourceInput}
+use Rattle.kpn_stream_devices.specs.declared.inputs.SourceInputs.{SourceInputs}
+use Rattle.kpn_stream_devices.specs.Window.{WindowGives, CountsUsed, IsEndKnown, NeedsMore, WindowTells, left_of}
 use Rattle.std.specs.Io.KnownBytes.{Keeps}
 
 -- what a device has left: the file, or else standard input
@@ -23,8 +23,8 @@ ReadsOnly standard read (Some file) (Some after) = read ≡ standard
 ReadsOnly standard read file after = ⊥
 
 -- an input waits for its device: the unused bytes are too few to tell, and no look has met a fault
-abbrev pub Waits : {F : Type 0} → Input F → Type 0
-Waits input = NeedsMore input.format input.window × (input.failed ≡ None)
+abbrev pub WaitsForDevice : {F : Type 0} → SourceInput F → Type 0
+WaitsForDevice input = NeedsMore input.format input.window × (input.failed ≡ None)
 
 -- the fault that is told
 abbrev pub kept_fault : Failed → SourceFault
@@ -33,33 +33,33 @@ kept_fault look_fault.NoMemory = source_fault.NoMemory
 
 -- What one input gives. Given are standard input and the input, each as it was and as it is afterwards.
 pub record InputGives {I F : Type 0} (left : I → Option (List ℕ)) (left_in : F → Option (List ℕ)) (standard : I)
-    (input : Input F) (answer : Result (Option ℤ) SourceFault) (read : I) (after : Input F) : Type 0 where
+    (input : SourceInput F) (answer : Result (Option ℤ) SourceFault) (read : I) (after : SourceInput F) : Type 0 where
   pub channel : after.channel ≡ input.channel
   pub format : after.format ≡ input.format
   pub only : ReadsOnly standard read input.file after.file
-  pub counted : Counts answer input.window.used after.window.used
+  pub counted : CountsUsed answer input.window.used after.window.used
   -- if the input is known to be over only where its device is at its end, this stays so, and the answer is right
   pub known : IsEndKnown input.window (device_left left left_in standard input.file)
       → IsEndKnown after.window (device_left left left_in read after.file)
   pub given : IsEndKnown input.window (device_left left left_in standard input.file)
-      → Gives input.format input.window (device_left left left_in standard input.file) answer
+      → WindowGives input.format input.window (device_left left left_in standard input.file) answer
       after.window (device_left left left_in read after.file)
   -- no device is asked if the answer is at hand
-  pub at_hand : (Waits input → ⊥) → (read ≡ standard) × (after.file ≡ input.file)
+  pub at_hand : (WaitsForDevice input → ⊥) → (read ≡ standard) × (after.file ≡ input.file)
   -- a fault that a look has met is never forgotten, and is told unless the bytes before it tell an answer
   pub failed : after.failed ≡ input.failed
   pub told : (failed : Failed) → input.failed ≡ Some failed
-      → (answer ≡ Err (kept_fault failed)) ⊎ Tells input.format input.window answer after.window
+      → (answer ≡ Err (kept_fault failed)) ⊎ WindowTells input.format input.window answer after.window
 
 -- which input is that of a source: the first for its channel
-abbrev pub input_of : {F : Type 0} → List (Input F) → (source : ℕ) → Option ℕ
+abbrev pub input_of : {F : Type 0} → List (SourceInput F) → (source : ℕ) → Option ℕ
 input_of inputs source = position (λ input. nat_eq input.channel source) inputs
 
 -- What the inputs give for a source. It has an input, and the others stay as they were; or it has none, and nothing
 -- changes.
-pub data InputsGive {I F : Type 0} (left : I → Option (List ℕ)) (left_in : F → Option (List ℕ)) (before : Inputs I F)
-    (source : ℕ) (answer : Result (Option ℤ) SourceFault) (after : Inputs I F) : Type 0 where
-  by_input : (i : ℕ) (input read : Input F) → input_of before.each.now.items source ≡ Some i →
+pub data InputsGive {I F : Type 0} (left : I → Option (List ℕ)) (left_in : F → Option (List ℕ)) (before : SourceInputs I F)
+    (source : ℕ) (answer : Result (Option ℤ) SourceFault) (after : SourceInputs I F) : Type 0 where
+  by_input : (i : ℕ) (input read : SourceInput F) → input_of before.each.now.items source ≡ Some i →
       get_or before.each.now.items i input ≡ input →
       InputGives left left_in before.standard.now input answer after.standard.now read →
       after.each.now.items ≡ slice_set before.each.now.items i read →
@@ -70,16 +70,16 @@ pub data InputsGive {I F : Type 0} (left : I → Option (List ℕ)) (left_in : F
       InputsGive left left_in before source answer after
 
 -- the answer of a source is at hand: its input does not wait
-abbrev pub IsAtHand : {I F : Type 0} → Inputs I F → (source : ℕ) → Type 0
+abbrev pub IsAtHand : {I F : Type 0} → SourceInputs I F → (source : ℕ) → Type 0
 IsAtHand {F = F} inputs source =
-    (i : ℕ) (input : Input F) → input_of inputs.each.now.items source ≡ Some i
-    → get_or inputs.each.now.items i input ≡ input → Waits input → ⊥
+    (i : ℕ) (input : SourceInput F) → input_of inputs.each.now.items source ≡ Some i
+    → get_or inputs.each.now.items i input ≡ input → WaitsForDevice input → ⊥
 
 -- What a look at an input does: what has come moves from the device to the window, and nothing else happens; or a fault
 -- is kept, which the next call tells, and the window stays. If the answer is at hand, no device is looked at, and a
 -- kept fault stays.
 pub record InputLooks {I F : Type 0} (left : I → Option (List ℕ)) (left_in : F → Option (List ℕ))
-    (standard : I) (input : Input F) (read : I) (after : Input F) : Type 0 where
+    (standard : I) (input : SourceInput F) (read : I) (after : SourceInput F) : Type 0 where
   pub channel : after.channel ≡ input.channel
   pub format : after.format ≡ input.format
   pub only : ReadsOnly standard read input.file after.file
@@ -91,13 +91,13 @@ pub record InputLooks {I F : Type 0} (left : I → Option (List ℕ)) (left_in :
       → Keeps (left_of input.window (device_left left left_in standard input.file))
       (left_of after.window (device_left left left_in read after.file))
   pub as_before : (failed : Failed) → after.failed ≡ Some failed → after.window ≡ input.window
-  pub at_hand : (Waits input → ⊥) → (read ≡ standard) × (after ≡ input)
+  pub at_hand : (WaitsForDevice input → ⊥) → (read ≡ standard) × (after ≡ input)
 
 -- What a look at the input of a source does. It has an input, and the others stay as they were; or it has none, and
 -- nothing changes.
-pub data InputsLook {I F : Type 0} (left : I → Option (List ℕ)) (left_in : F → Option (List ℕ)) (before : Inputs I F)
-    (source : ℕ) (after : Inputs I F) : Type 0 where
-  at_input : (i : ℕ) (input read : Input F) → input_of before.each.now.items source ≡ Some i →
+pub data InputsLook {I F : Type 0} (left : I → Option (List ℕ)) (left_in : F → Option (List ℕ)) (before : SourceInputs I F)
+    (source : ℕ) (after : SourceInputs I F) : Type 0 where
+  at_input : (i : ℕ) (input read : SourceInput F) → input_of before.each.now.items source ≡ Some i →
       get_or before.each.now.items i input ≡ input → InputLooks left left_in before.standard.now input
       after.standard.now read → after.each.now.items ≡ slice_set before.each.now.items i read →
       after.standard.ghost_name ≡ before.standard.ghost_name →
@@ -109,7 +109,7 @@ pub data InputsLook {I F : Type 0} (left : I → Option (List ℕ)) (left_in : F
 
 -- bytes have moved from the device to the window, and no others
 pub record HaveMoved {I F : Type 0} (left : I → Option (List ℕ)) (left_in : F → Option (List ℕ))
-    (standard : I) (input : Input F) (read : I) (after : Input F) : Type 0 where
+    (standard : I) (input : SourceInput F) (read : I) (after : SourceInput F) : Type 0 where
   pub channel : after.channel ≡ input.channel
   pub format : after.format ≡ input.format
   pub only : ReadsOnly standard read input.file after.file
@@ -122,22 +122,22 @@ pub record HaveMoved {I F : Type 0} (left : I → Option (List ℕ)) (left_in : 
   pub failed : after.failed ≡ input.failed
 
 -- so far bytes have moved, and none if the answer was at hand
-pub record IsAsked {I F : Type 0} (left : I → Option (List ℕ)) (left_in : F → Option (List ℕ)) (standard : I)
-    (input : Input F) (read : I) (after : Input F) : Type 0 where
+pub record IsInputAsked {I F : Type 0} (left : I → Option (List ℕ)) (left_in : F → Option (List ℕ)) (standard : I)
+    (input : SourceInput F) (read : I) (after : SourceInput F) : Type 0 where
   pub moved : HaveMoved left left_in standard input read after
-  pub at_hand : (Waits input → ⊥) → (read ≡ standard) × (after ≡ input)
+  pub at_hand : (WaitsForDevice input → ⊥) → (read ≡ standard) × (after ≡ input)
 
 -- a read fails, or there is no memory for what it gave; or a look has failed before, and no device is asked
 pub record FailsToRead {I F : Type 0} (left : I → Option (List ℕ)) (left_in : F → Option (List ℕ))
-    (standard : I) (input : Input F) (read : I) (after : Input F) (fault : SourceFault) : Type 0 where
+    (standard : I) (input : SourceInput F) (read : I) (after : SourceInput F) (fault : SourceFault) : Type 0 where
   pub channel : after.channel ≡ input.channel
   pub format : after.format ≡ input.format
   pub only : ReadsOnly standard read input.file after.file
-  pub counted : Counts (Err fault) input.window.used after.window.used
+  pub counted : CountsUsed (Err fault) input.window.used after.window.used
   pub at_hand : (input.failed ≡ None → ⊥) → (read ≡ standard) × (after ≡ input)
   pub known : IsEndKnown input.window (device_left left left_in standard input.file)
       → IsEndKnown after.window (device_left left left_in read after.file)
-  pub given : (format : ItemFormat) → Gives format input.window (device_left left left_in standard input.file)
+  pub given : (format : ItemFormat) → WindowGives format input.window (device_left left left_in standard input.file)
       (Err fault) after.window (device_left left left_in read after.file)
   pub failed : after.failed ≡ input.failed
   pub told : (failed : Failed) → input.failed ≡ Some failed → fault ≡ kept_fault failed

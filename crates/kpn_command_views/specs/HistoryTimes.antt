@@ -6,7 +6,7 @@ use Rattle.kpn_history.specs.declared.event.Event.TheVariants.{Get, Put}
 use Rattle.kpn_ticks.specs.Ticks.{clocks_after}
 use Rattle.kpn_ticks.specs.Chain.{shares_of}
 use Rattle.kpn_ticks.specs.Shown.{shown}
-use Rattle.kpn_command_views.specs.declared.times.Times.{Times}
+use Rattle.kpn_command_views.specs.declared.times.HistoryTimes.{HistoryTimes}
 
 -- a process gets or puts an item
 abbrev pub is_move : Event → Bool
@@ -16,7 +16,7 @@ is_move event = false
 
 -- the clocks with the capacities of the network and without any; the shares of a longest chain; how many events and how
 -- many gets and puts there are
-pub record AreTimes (t : Tables) (H : List Event) (times : Times) : Type 0 where
+pub record AreTimes (t : Tables) (H : List Event) (times : HistoryTimes) : Type 0 where
   pub bounded : shown times.bounded ≡ clocks_after t true H
   pub free : shown times.free ≡ clocks_after t false H
   pub shares : times.shares.items ≡ shares_of t H

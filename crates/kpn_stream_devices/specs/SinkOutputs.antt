@@ -4,8 +4,8 @@ use Rattle.std.specs.Io.KnownBytes.{append_known, Appends, Keeps}
 use Rattle.kpn_stream_devices.specs.declared.formats.OutputFormat.{OutputFormat}
 use Rattle.kpn_stream.specs.declared.faults.SinkFault.{SinkFault}
 use Rattle.kpn_stream.specs.declared.faults.SinkFault.TheVariants.{Gone, NoMemory, NoSample, Write}
-use Rattle.kpn_stream_devices.specs.declared.outputs.Output.{Output}
-use Rattle.kpn_stream_devices.specs.declared.outputs.Outputs.{Outputs}
+use Rattle.kpn_stream_devices.specs.declared.outputs.SinkOutput.{SinkOutput}
+use Rattle.kpn_stream_devices.specs.declared.outputs.SinkOutputs.{SinkOutputs}
 use Rattle.kpn_stream_devices.specs.Formats.{HasText, text_of}
 
 -- what a device holds: the file, or else standard output
@@ -16,7 +16,7 @@ device_holds holds holds_in standard (Some file) = holds_in file
 
 -- what was put to an output: what its device holds, and what the device has not got yet
 abbrev pub was_put : {O G : Type 0} → (holds : O → Option (List ℕ)) (holds_in : G → Option (List ℕ))
-    → (standard : O) → Output G → Option (List ℕ)
+    → (standard : O) → SinkOutput G → Option (List ℕ)
 was_put holds holds_in standard output =
     append_known (device_holds holds holds_in standard output.file) output.bytes.items
 
@@ -53,17 +53,17 @@ WritesOnly standard written file after = ⊥
 -- A call for a sink, which has this output. Given are standard output and the output, each as it was and as it is
 -- afterwards.
 abbrev pub OutputRel : (O G : Type 0) → Type 1
-OutputRel O G = (standard : O) → Output G → (written : O) → Output G → Type 0
+OutputRel O G = (standard : O) → SinkOutput G → (written : O) → SinkOutput G → Type 0
 
 -- which output is that of a sink: the first for its channel
-abbrev pub output_of : {G : Type 0} → List (Output G) → (sink : ℕ) → Option ℕ
+abbrev pub output_of : {G : Type 0} → List (SinkOutput G) → (sink : ℕ) → Option ℕ
 output_of outputs sink = position (λ output. nat_eq output.channel sink) outputs
 
 -- What the outputs do for a sink. It has an output, and the others stay as they were; or it has none, and nothing
 -- changes.
-pub data OutputsDo {O G : Type 0} (Does : OutputRel O G) (before : Outputs O G)
-    (sink : ℕ) (answer : Result (Unit {0}) SinkFault) (after : Outputs O G) : Type 0 where
-  by_output : (i : ℕ) (output written : Output G) → output_of before.each.now.items sink ≡ Some i →
+pub data OutputsDo {O G : Type 0} (Does : OutputRel O G) (before : SinkOutputs O G)
+    (sink : ℕ) (answer : Result (Unit {0}) SinkFault) (after : SinkOutputs O G) : Type 0 where
+  by_output : (i : ℕ) (output written : SinkOutput G) → output_of before.each.now.items sink ≡ Some i →
       get_or before.each.now.items i output ≡ output → written.channel ≡ output.channel →
       written.format ≡ output.format →
       WritesOnly before.standard.now after.standard.now output.file written.file →
@@ -86,9 +86,9 @@ module _ {O G : Type 0} (holds : O → Option (List ℕ)) (holds_in : G → Opti
       HandsOn answer after.bytes.items (was_put holds holds_in standard output) (was_put holds holds_in written after)
 
   -- the outputs take an item
-  abbrev pub OutputsTake : Outputs O G → ℕ → ℤ → Result (Unit {0}) SinkFault → Outputs O G → Type 0
+  abbrev pub OutputsTake : SinkOutputs O G → ℕ → ℤ → Result (Unit {0}) SinkFault → SinkOutputs O G → Type 0
   OutputsTake before sink item answer after = OutputsDo (Takes item answer) before sink answer after
 
   -- the outputs hand on what one kept
-  abbrev pub OutputsFlush : Outputs O G → ℕ → Result (Unit {0}) SinkFault → Outputs O G → Type 0
+  abbrev pub OutputsFlush : SinkOutputs O G → ℕ → Result (Unit {0}) SinkFault → SinkOutputs O G → Type 0
   OutputsFlush before sink answer after = OutputsDo (Flushes answer) before sink answer after
