@@ -47,21 +47,24 @@ abbrev pub ExplainsFile : (may_give : Loads) (file : List ℕ) (trace : Option (
 ExplainsFile may_give file None steps answer =
     Answers (TellsOnly (IsExplained may_give file)) (IsRefusalOfExplaining may_give file) answer
 ExplainsFile may_give file (Some trace) steps answer =
-    Answers (TellsOnly (traces.IsExplained may_give file trace steps)) (traces.IsRefusalOfExplaining may_give file trace)
+    Answers (TellsOnly (traces.IsExplained may_give file trace steps)) (traces.IsRefusalOfExplaining may_give file
+    trace)
     answer
 
 -- What is answered to a request. Given is the input as it was and as it is afterwards: only `alone` reads it. A stream
 -- and a timeline are not answered by a conclusion.
 abbrev pub IsRequestAnswer : {I : Type 0} → (may_give : Loads) (may_alias : Aliases) (remaining : I → Option (List ℕ))
     → Request → (input read : I) → Result Conclusion Refusal → Type 0
-IsRequestAnswer may_give may_alias remaining (Alone name) input read answer = RunsAlone remaining name.now input read answer
+IsRequestAnswer may_give may_alias remaining (Alone name) input read answer =
+    RunsAlone remaining name.now input read answer
 IsRequestAnswer may_give may_alias remaining (Check file) input read answer =
     (read ≡ input) × Answers (Succeeds (IsTextOf summary_text may_give file.now))
     (IsRefusalOfCommand may_give file.now) answer
 IsRequestAnswer may_give may_alias remaining (Explain file trace steps) input read answer =
     (read ≡ input) × ExplainsFile may_give file.now (option_map (λ name. name.now) trace) steps answer
 IsRequestAnswer may_give may_alias remaining (ExplainItems file) input read answer =
-    (read ≡ input) × Answers (TellsOnly (AreItemsExplained may_give file.now)) (IsRefusalOfItemFile may_give file.now) answer
+    (read ≡ input)
+    × Answers (TellsOnly (AreItemsExplained may_give file.now)) (IsRefusalOfItemFile may_give file.now) answer
 IsRequestAnswer may_give may_alias remaining (Print file) input read answer =
     (read ≡ input) × Answers (Succeeds (IsTextOf canonical_text may_give file.now))
     (IsRefusalOfCommand may_give file.now) answer
@@ -154,11 +157,13 @@ RequestComesTo may_give may_alias remaining request input read (Answered answer)
     IsRequestAnswer may_give may_alias remaining request input read answer
 RequestComesTo may_give may_alias remaining request input read (NeedsWorkers run) =
     (request ≡ Run run) × IsSome run.workers × (read ≡ input)
-RequestComesTo may_give may_alias remaining request input read (NeedsDevices stream) = (request ≡ Stream stream) × (read ≡ input)
+RequestComesTo may_give may_alias remaining request input read (NeedsDevices stream) =
+    (request ≡ Stream stream) × (read ≡ input)
 RequestComesTo may_give may_alias remaining request input read (NeedsOutput file trace steps) =
     (request ≡ Timeline file trace steps) × (read ≡ input)
 
 -- words that are not understood have status 2, and want of memory to read them is reported
-abbrev pub TellsWordsFault : {E : Type 0} → (holds : E → Option (List ℕ)) → WordsFault → (err told : E) (status : ℕ) → Type 0
+abbrev pub TellsWordsFault : {E : Type 0} → (holds : E → Option (List ℕ)) → WordsFault → (err told : E) (status : ℕ)
+    → Type 0
 TellsWordsFault holds (Usage text) err told status = status ≡ 2
 TellsWordsFault holds Unread err told status = IsRefusalReported holds NoMemory err told status

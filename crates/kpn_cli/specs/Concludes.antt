@@ -35,7 +35,8 @@ pub record IsCutShort {S : Type 0} (may_give : S → Loads) (files : List Stored
 
 -- a refusal is reported: the place for faults gets its line, as far as it takes it, and the status is that of the
 -- refusal
-abbrev pub IsRefusalReported : {E : Type 0} → (holds : E → Option (List ℕ)) → Refusal → (err told : E) (status : ℕ) → Type 0
+abbrev pub IsRefusalReported : {E : Type 0} → (holds : E → Option (List ℕ)) → Refusal → (err told : E) (status : ℕ)
+    → Type 0
 IsRefusalReported holds refusal err told status =
     IsLineTold (holds err) (holds told) (refusal_line refusal ++ 10 ∷ []) × (status ≡ status_of refusal)
 

@@ -17,7 +17,8 @@ use Rattle.kpn_shelf.specs.Shelf.{Loads}
 -- one more list is put in the place of its source
 pub placed_lists-more : (named : List ℕ) (lists given : List (List ℤ)) (source : ℕ) (items : List ℤ)
     → length named ≡ length lists
-    → placed_lists (named ++ source ∷ []) (lists ++ items ∷ []) given ≡ set (placed_lists named lists given) source items
+    → placed_lists (named ++ source ∷ []) (lists ++ items ∷ []) given ≡ set (placed_lists named lists given) source
+    items
 placed_lists-more [] [] given source items e = refl
 placed_lists-more [] (l ∷ lists) given source items e = absurd (omega arith)
 placed_lists-more (n ∷ named) [] given source items e = absurd (omega arith)

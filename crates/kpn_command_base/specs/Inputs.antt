@@ -44,7 +44,8 @@ pub record AreRefusedItems (may_give : Loads) (file : List ℕ) (words names : L
 abbrev pub IsRefusalOfInputs : (may_give : Loads) (file : List ℕ) (words : List (List ℕ)) → Refusal
     → Type 0
 IsRefusalOfInputs may_give file words SourceWord = Any LacksEquals words
-IsRefusalOfInputs may_give file words (Description fault) = All HasEquals words × IsRefusedDescription may_give file fault
+IsRefusalOfInputs may_give file words (Description fault) =
+    All HasEquals words × IsRefusedDescription may_give file fault
 IsRefusalOfInputs may_give file words (Names fault) =
     All HasEquals words × AreRefusedNames may_give file words fault
 IsRefusalOfInputs may_give file words (Input fault) =

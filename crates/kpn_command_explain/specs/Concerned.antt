@@ -31,7 +31,8 @@ table_of other = other
 
 -- a name, and the one before it that is the same and of the same table
 abbrev pub concerned_names : (text : List ℕ) → List Lexeme → TokenSpot → (at : ℕ) → FaultPlaces
-concerned_names text ls s at = record { first = at; second = last_before text (name_beginning_at text at) at (starts_of s ls) }
+concerned_names text ls s at =
+    record { first = at; second = last_before text (name_beginning_at text at) at (starts_of s ls) }
 
 abbrev pub two_names : (text : List ℕ) → List Lexeme → (at : ℕ) → FaultPlaces
 two_names text ls at = concerned_names text ls (table_of (spot_at at ls)) at
@@ -55,7 +56,11 @@ unknown_places text ls at other = one_place at
 -- the declaration of a channel, and the last time that its name stands at a spot
 abbrev pub last_use : (text : List ℕ) → List Lexeme → TokenSpot → (declared : ℕ) → FaultPlaces
 last_use text ls s declared =
-    record { first = declared; second = last_before text (name_beginning_at text declared) (length text) (starts_of s ls) }
+    record {
+      first = declared;
+      second = last_before text (name_beginning_at text declared) (length text) (starts_of s
+          ls);
+    }
 
 abbrev pub channel_use : (text : List ℕ) → List Lexeme → TokenSpot → (channel : ℕ) → FaultPlaces
 channel_use text ls s channel = last_use text ls s (numbered_place ls spot.Channel channel)

@@ -155,7 +155,8 @@ GivesToCommand given (Help text) = ⊥
 -- the request is what the words ask for
 abbrev pub IsAsked : (words : List (List ℕ)) → Request → Type 0
 IsAsked words (Help text) = AsksForHelp words
-IsAsked words request = (given : List Row) × NamesCommand words (command_of request) given × GivesToCommand given request
+IsAsked words request =
+    (given : List Row) × NamesCommand words (command_of request) given × GivesToCommand given request
 
 -- no request is what the words ask for
 abbrev pub AskForNothing : (words : List (List ℕ)) → Type 0

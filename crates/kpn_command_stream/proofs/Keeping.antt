@@ -71,7 +71,8 @@ module _ {K N : Type 0} (takes : K → ℕ → ℤ → Result (Unit {0}) SinkFau
       same_by_flush before c answer n flushes ∙ handed_keeps before_it listed before handed
 
 -- each call keeps them
-pub inputs_same : {I F : Type 0} (remaining : I → Option (List ℕ)) (in_file : F → Option (List ℕ)) (before : SourceInputs I F)
+pub inputs_same : {I F : Type 0} (remaining : I → Option (List ℕ)) (in_file : F → Option (List ℕ))
+    (before : SourceInputs I F)
     (c : ℕ) (answer : Result (Option ℤ) SourceFault) (after : SourceInputs I F)
     → InputsGive remaining in_file before c answer after → after.standard.ghost_name ≡ before.standard.ghost_name
 inputs_same remaining in_file before c answer after (by_input i input read found at gives each ghost lent) =
@@ -79,11 +80,13 @@ inputs_same remaining in_file before c answer after (by_input i input read found
 inputs_same remaining in_file before c answer after (by_none found is same) =
     ap (λ (x : SourceInputs _ _). x.standard.ghost_name) same
 
-pub looks_same : {I F : Type 0} (remaining : I → Option (List ℕ)) (in_file : F → Option (List ℕ)) (before : SourceInputs I F)
+pub looks_same : {I F : Type 0} (remaining : I → Option (List ℕ)) (in_file : F → Option (List ℕ))
+    (before : SourceInputs I F)
     (c : ℕ) (after : SourceInputs I F) → InputsLook remaining in_file before c after
     → after.standard.ghost_name ≡ before.standard.ghost_name
 looks_same remaining in_file before c after (at_input i input read found at looks each ghost lent) = ghost
-looks_same remaining in_file before c after (at_none found same) = ap (λ (x : SourceInputs _ _). x.standard.ghost_name) same
+looks_same remaining in_file before c after (at_none found same) =
+    ap (λ (x : SourceInputs _ _). x.standard.ghost_name) same
 
 pub outputs_same : {O G : Type 0} (Does : OutputRel O G) (before : SinkOutputs O G) (c : ℕ)
     (answer : Result (Unit {0}) SinkFault) (after : SinkOutputs O G) → OutputsDo Does before c answer after
@@ -95,8 +98,10 @@ outputs_same Does before c answer after (outputs.by_none found is same) =
     ap (λ (x : SinkOutputs _ _). x.standard.ghost_name) same
 
 -- the same run, by other names of its limits and its network
-pub ran_by : {I F O G : Type 0} (known : KnownOfDevices I F O G) (limits others : Limits) (t tables : Tables) (sinks : List ℕ)
-    (inputs read : SourceInputs I F) (outputs written : SinkOutputs O G) (ending : StreamEnding) (b : Book) (lost : List Lost)
+pub ran_by : {I F O G : Type 0} (known : KnownOfDevices I F O G) (limits others : Limits) (t tables : Tables)
+    (sinks : List ℕ)
+    (inputs read : SourceInputs I F) (outputs written : SinkOutputs O G) (ending : StreamEnding) (b : Book)
+    (lost : List Lost)
     → limits ≡ others → t ≡ tables → RanOver known limits t sinks inputs read outputs written ending b lost
     → RanOver known others tables sinks inputs read outputs written ending b lost
 ran_by known limits others t tables sinks inputs read outputs written ending b lost same same_tables ran =

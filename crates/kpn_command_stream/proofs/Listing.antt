@@ -155,7 +155,8 @@ zipped_set R (x ∷ xs) (z ∷ ys) (suc i) d y are below same =
     (are.0, zipped_set R xs ys i d y are.1 (omega arith) same)
 
 -- an output whose file keeps its name stays one for its place
-pub still_for : {G : Type 0} (goes_to : G → List ℕ) (request : StreamRequest) (place : EndPlace) (old new : SinkOutput G)
+pub still_for : {G : Type 0} (goes_to : G → List ℕ) (request : StreamRequest) (place : EndPlace)
+    (old new : SinkOutput G)
     → new.channel ≡ old.channel → new.format ≡ old.format → new.bytes ≡ old.bytes
     → KeepsName goes_to old.file new.file → IsOutputFor goes_to request place old → IsOutputFor goes_to request place new
 still_for {G} goes_to request place old new channel format bytes name is = record {
@@ -189,7 +190,8 @@ pub handed_more : {K : Type 0} (flushes : K → ℕ → Result (Unit {0}) SinkFa
 handed_more flushes first places i lost answer before now place listed so_far below at does lists =
     subst (λ (cs : List ℕ). HandedOn flushes first cs listed now)
     (sym
-    (ap (map (λ (p : EndPlace). p.channel)) (take_more places i place below ∙ ap (λ p. take i places ++ p ∷ []) (sym at))
+    (ap (map (λ (p : EndPlace). p.channel)) (take_more places i place below
+    ∙ ap (λ p. take i places ++ p ∷ []) (sym at))
     ∙ map-append (λ (p : EndPlace). p.channel) (take i places) (place ∷ [])))
     (subst
     (λ (ls : List Lost).

@@ -36,7 +36,8 @@ All-unmap P f xs all k d below =
 
 -- the words of a request are for ends
 pub for_ends : (d : Document) (words : List (Bor (List ℕ))) → All (λ word. IsForEnd d word.now) words
-    → AllPairs (λ word later. format_end word.now ≢ format_end later.now) words → AreForEnds d (map (λ word. word.now) words)
+    → AllPairs (λ word later. format_end word.now ≢ format_end later.now) words
+    → AreForEnds d (map (λ word. word.now) words)
 for_ends d words ends apart = record {
   ends = All-map (IsForEnd d) (λ word. word.now) words ends;
   apart = pairs_map (λ word later. format_end word ≢ format_end later) (λ word. word.now) words apart;

@@ -90,7 +90,8 @@ IsUnbegun may_give may_alias request (Common refusal.SourceWord) =
 IsUnbegun may_give may_alias request (Common refusal.SinkWord) =
     AreWordsRefused may_alias request refusal.SinkWord
 IsUnbegun may_give may_alias request (Common refusal.NoMemory) = ⊤
-IsUnbegun may_give may_alias request (Common (refusal.Description fault)) = IsRefusedDescription may_give request.file fault
+IsUnbegun may_give may_alias request (Common (refusal.Description fault)) =
+    IsRefusedDescription may_give request.file fault
 IsUnbegun may_give may_alias request (Common (refusal.Input fault)) =
     IsRefusalOfLoad may_give request.file fault ⊎ IsOfNetwork may_give request (Common (refusal.Input fault))
 IsUnbegun may_give may_alias request cause = IsOfNetwork may_give request cause

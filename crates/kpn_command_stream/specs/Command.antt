@@ -60,7 +60,8 @@ pub record KnownOfDevices (I F O G : Type 0) : Type 0 where
   pub holds : O → Option (List ℕ)
   pub holds_in : G → Option (List ℕ)
 
-abbrev pub names_of : {S F G : Type 0} → (S → List ℕ → List ℕ → Type 0) → (F → List ℕ) → (G → List ℕ) → DeviceNames S F G
+abbrev pub names_of : {S F G : Type 0} → (S → List ℕ → List ℕ → Type 0) → (F → List ℕ) → (G → List ℕ)
+    → DeviceNames S F G
 names_of are_two_inputs comes_from goes_to =
     record { are_two_inputs = are_two_inputs; comes_from = comes_from; goes_to = goes_to }
 
@@ -96,7 +97,8 @@ abbrev pub first_bytes : ItemFormat → StreamRequest → List ℕ
 first_bytes format request = head_bytes format (unwrap_or request.rate 48000) (unwrap_or request.channels 1)
 
 -- the output of a place, as the request asks for: only what it begins with is kept
-pub record IsOutputFor {G : Type 0} (goes_to : G → List ℕ) (request : StreamRequest) (place : EndPlace) (output : SinkOutput G)
+pub record IsOutputFor {G : Type 0} (goes_to : G → List ℕ) (request : StreamRequest) (place : EndPlace)
+    (output : SinkOutput G)
     : Type 0 where
   pub channel : output.channel ≡ place.channel
   pub format : output.format ≡ record { items = place.format; clips = request.clips }
@@ -104,7 +106,8 @@ pub record IsOutputFor {G : Type 0} (goes_to : G → List ℕ) (request : Stream
   pub bytes : output.bytes.items ≡ first_bytes place.format request
 
 -- each output stays the one of its place
-abbrev pub StayOutputs : {G : Type 0} → (goes_to : G → List ℕ) → List EndPlace → (before after : List (SinkOutput G)) → Type 0
+abbrev pub StayOutputs : {G : Type 0} → (goes_to : G → List ℕ) → List EndPlace → (before after : List (SinkOutput G))
+    → Type 0
 StayOutputs goes_to places before after =
     (request : StreamRequest) → AllZip (IsOutputFor goes_to request) places before
     → AllZip (IsOutputFor goes_to request) places after
@@ -168,14 +171,17 @@ pub record RanOver {I F O G : Type 0} (known : KnownOfDevices I F O G) (limits :
 
 -- The same, over standard input and output and these files. Standard input and output are given as they were, and as
 -- they are afterwards: they are those of the first and of the last devices.
-pub record RanOverFiles {I F O G : Type 0} (known : KnownOfDevices I F O G) (request : StreamRequest) (t : Tables) (sinks : List ℕ)
-    (inputs : List (SourceInput F)) (outputs : List (SinkOutput G)) (input read : I) (out written : O) (ending : StreamEnding)
+pub record RanOverFiles {I F O G : Type 0} (known : KnownOfDevices I F O G) (request : StreamRequest) (t : Tables)
+    (sinks : List ℕ)
+    (inputs : List (SourceInput F)) (outputs : List (SinkOutput G)) (input read : I) (out written : O)
+    (ending : StreamEnding)
     (b : Book) (lost : List Lost) : Type 0 where
   pub first_input : SourceInputs I F
   pub last_input : SourceInputs I F
   pub first_output : SinkOutputs O G
   pub last_output : SinkOutputs O G
-  pub ran : RanOver known (stream_limits_of request) t sinks first_input last_input first_output last_output ending b lost
+  pub ran : RanOver known (stream_limits_of request) t sinks first_input last_input first_output last_output ending b
+      lost
   pub inputs_are : first_input.each.now.items ≡ inputs
   pub input_is : first_input.standard.now ≡ input
   pub input_read : last_input.standard.now ≡ read
@@ -189,7 +195,8 @@ sinks_of places = map (λ place. place.channel) places.sinks.items
 
 -- the same, over standard input and output and the files of these places
 pub record RanAt {S I F O G : Type 0} (may_give : Loads) (names : DeviceNames S F G) (known : KnownOfDevices I F O G)
-    (request : StreamRequest) (t : Tables) (places : EndPlaces) (input read : I) (out written : O) (ending : StreamEnding)
+    (request : StreamRequest) (t : Tables) (places : EndPlaces) (input read : I) (out written : O)
+    (ending : StreamEnding)
     (b : Book) (lost : List Lost) : Type 0 where
   pub inputs : List (SourceInput F)
   pub are_inputs : AllZip (IsInputFor may_give names.comes_from known.left_in) places.sources.items inputs
@@ -220,9 +227,11 @@ end_status ending lost stored is_told over =
 
 -- A stream that has ended: what is told of it, its trace, and the status; or there was no memory for what is told, and
 -- no trace is stored.
-pub data IsStreamConcluded {S : Type 0} (may_give : S → Loads) (request : StreamRequest) (t : Tables) (ending : StreamEnding)
+pub data IsStreamConcluded {S : Type 0} (may_give : S → Loads) (request : StreamRequest) (t : Tables)
+    (ending : StreamEnding)
     (b : Book) (lost : List Lost) (shelf kept : S) (status : ℕ) : Type 0 where
-  told : (over : Over) → IsOver (stream_limits_of request) request.stats ending b over → (stored : Result (Unit {0}) Refusal) →
+  told : (over : Over) → IsOver (stream_limits_of request) request.stats ending b over →
+      (stored : Result (Unit {0}) Refusal) →
       IsTraceKept may_give request.trace t over shelf kept stored → (is_told : Bool) →
       status ≡ end_status ending lost stored is_told over →
       IsStreamConcluded may_give request t ending b lost shelf kept status
@@ -241,7 +250,8 @@ pub record AreAskedFor (request : StreamRequest) (d : Document) (places : EndPla
 
 -- A stream of this network. Given are the shelf, standard input and standard output, each as it was and as it is
 -- afterwards.
-pub record IsStreamedOf {S I F O G : Type 0} (may_give : S → Loads) (names : DeviceNames S F G) (known : KnownOfDevices I F O G)
+pub record IsStreamedOf {S I F O G : Type 0} (may_give : S → Loads) (names : DeviceNames S F G)
+    (known : KnownOfDevices I F O G)
     (request : StreamRequest)
     (d : Document) (shelf kept : S) (input read : I) (out written : O) (status : ℕ) : Type 0 where
   pub places : EndPlaces
@@ -254,7 +264,8 @@ pub record IsStreamedOf {S I F O G : Type 0} (may_give : S → Loads) (names : D
   pub concluded : IsStreamConcluded may_give request d.tables ending book lost shelf kept status
 
 -- A stream of what is asked for.
-pub record IsStreamed {S I F O G : Type 0} (may_give : S → Loads) (names : DeviceNames S F G) (known : KnownOfDevices I F O G)
+pub record IsStreamed {S I F O G : Type 0} (may_give : S → Loads) (names : DeviceNames S F G)
+    (known : KnownOfDevices I F O G)
     (request : StreamRequest)
     (shelf kept : S) (input read : I) (out written : O) (status : ℕ) : Type 0 where
   pub document : Document
@@ -272,7 +283,8 @@ pub record NothingBegun {S I O : Type 0} (shelf kept : S) (input read : I) (out 
 
 -- A stream; or nothing is begun for a cause that holds, and the refusal gives the status.
 pub data Streams {S I F O G : Type 0} (may_give : S → Loads) (may_alias : S → Aliases) (names : DeviceNames S F G)
-    (known : KnownOfDevices I F O G) (request : StreamRequest) (shelf kept : S) (input read : I) (out written : O) (status : ℕ)
+    (known : KnownOfDevices I F O G) (request : StreamRequest) (shelf kept : S) (input read : I) (out written : O)
+    (status : ℕ)
     : Type 0 where
   streamed : IsStreamed may_give names known request shelf kept input read out written status →
       Streams may_give may_alias names known request shelf kept input read out written status

@@ -29,7 +29,8 @@ HasFormat d words place = NamesFormat (format_word words (name_at d.names.channe
 
 -- The places of such ends in order of their channels, by the names in the options, the inputs or outputs there, and the
 -- words behind `--format`.
-pub record ArePlacesOfEnds (ends : EndKind) (d : Document) (names files words : List (List ℕ)) (places : List EndPlace) : Type 0
+pub record ArePlacesOfEnds (ends : EndKind) (d : Document) (names files words : List (List ℕ))
+    (places : List EndPlace) : Type 0
   where
     pub named : List NamedEnd
     pub numbers : ends_named ends d names ≡ Ok (map (λ end. end.number) named)

@@ -85,7 +85,8 @@ outcome_text (Some outcome) = outcome_word outcome ++ codes "\n"
 outcome_text None = []
 
 -- the sinks, the faults, the waits, the rings, and the outcome if there is one, each on a line
-abbrev pub stream_summary_text : Document → List SinkEnd → List State → (rings : List (List ℕ)) → Option Outcome → List ℕ
+abbrev pub stream_summary_text : Document → List SinkEnd → List State → (rings : List (List ℕ)) → Option Outcome
+    → List ℕ
 stream_summary_text d sinks states rings outcome =
     sink_ends_text d.names.channels sinks ++ state_lines fault_text d.names.instances 0 states
     ++ state_lines (wait_text d.names.channels) d.names.instances 0 states ++ rings_text d.names.instances rings

@@ -18,7 +18,8 @@ whole_sent a b x y grows none = record { sent = x; grows = grows; kept = ap (λ 
 pub none_sent_more : (a : Option (List ℕ)) (x : List ℕ) → IsSentWhole a a x (x ++ [])
 none_sent_more a x = subst (IsSentWhole a a x) (sym (append-nil x)) (none_sent a x)
 
-pub nothing_to_come : (a b : Option (List ℕ)) (x r w : List ℕ) → IsSentWhole a b (x ++ r) w → r ≡ [] → IsSentWhole a b x w
+pub nothing_to_come : (a b : Option (List ℕ)) (x r w : List ℕ) → IsSentWhole a b (x ++ r) w → r ≡ []
+    → IsSentWhole a b x w
 nothing_to_come a b x r w sent none =
     subst (λ y. IsSentWhole a b y w) (ap (λ s. x ++ s) none ∙ append-nil x) sent
 
@@ -78,7 +79,8 @@ write_sent a b c first x y z name unread now gone before tick reads was added mo
 pub counters_done : (a b c : Option (List ℕ)) (x w y name : List ℕ) (unread k place : ℕ) (written reads : List ℕ)
     → IsSentWhole a b (x ++ counter_lines name unread (drop k written) (drop place reads)) w → length written ≤ k
     → place ≤ length reads
-    → IsSentWhole b c y (x ++ read_lines name unread (take (length reads - place) (drop place reads))) → IsSentWhole a c y w
+    → IsSentWhole b c y (x ++ read_lines name unread (take (length reads - place) (drop place reads)))
+    → IsSentWhole a c y w
 counters_done a b c x w y name unread k place written reads was past there more =
     let rest = drop place reads in
     let all : take (length reads - place) rest ≡ rest =

@@ -132,7 +132,8 @@ growth_mark_text x y name =
 -- the growth of a channel, for which process p waits, if it is shown
 abbrev pub growth_mark : Scale → (p latest : ℕ) (name : List ℕ) → List ℕ
 growth_mark s p latest name =
-    if nat_le s.front latest && nat_le latest s.back then growth_mark_text (edge_of s latest) (row_place p + 1) name else []
+    if nat_le s.front latest && nat_le latest s.back then growth_mark_text (edge_of s latest) (row_place p + 1) name
+    else []
 
 -- what is drawn of an event
 abbrev pub event_boxes : (names : List (List ℕ)) → Tables → Scale → Clocks → Event → List ℕ

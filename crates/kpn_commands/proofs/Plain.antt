@@ -95,7 +95,8 @@ loop_sum n (suc left) x last (item ∷ items) whole =
 
 -- each process from its start
 plain_run : (process : BuiltIn) (n : ℕ) (items : List ℤ) (ran : Ran)
-    → ran ≡ alone (built_in_program process) [] n (items ∷ []) → ran.ending ≢ ending.Cut → IsPlain process (pos 0) items ran
+    → ran ≡ alone (built_in_program process) [] n (items ∷ []) → ran.ending ≢ ending.Cut
+    → IsPlain process (pos 0) items ran
 plain_run Copy n items ran is whole =
     rw is (loop_copy n n (pos 0) (pos 0) items (λ cut. whole (ap (λ r. r.ending) is ∙ cut)))
 plain_run Double n items ran is whole =

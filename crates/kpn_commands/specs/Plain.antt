@@ -31,7 +31,8 @@ values process last (item ∷ items) = either (next_value process last item) (λ
 -- the first fault, or starved of items
 abbrev pub alone_stop_of : BuiltIn → (last : ℤ) → List ℤ → AloneStop
 alone_stop_of process last [] = Starved 0
-alone_stop_of process last (item ∷ items) = either (next_value process last item) (λ v. alone_stop_of process v items) Faulted
+alone_stop_of process last (item ∷ items) =
+    either (next_value process last item) (λ v. alone_stop_of process v items) Faulted
 
 -- copy: the items; double: twice each; sum: the sums of the items so far; each on a line of its own, and then the
 -- fault

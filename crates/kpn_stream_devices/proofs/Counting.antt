@@ -36,7 +36,8 @@ module _ {I F : Type 0} (left : I → Option (List ℕ)) (left_in : F → Option
     used_of x = (get_or x.each.now.items i d).window.used
 
     -- a call or a look leaves it the input of its source
-    gives_keeps : (before : SourceInputs I F) (s : ℕ) (answer : Result (Option ℤ) SourceFault) (after : SourceInputs I F)
+    gives_keeps : (before : SourceInputs I F) (s : ℕ) (answer : Result (Option ℤ) SourceFault)
+        (after : SourceInputs I F)
         → IsMine before.each.now.items → InputsGive left left_in before s answer after → IsMine after.each.now.items
     gives_keeps before s answer after m (by_input j x y found at given each ghost lent) =
         subst IsMine (sym each)
@@ -68,7 +69,8 @@ module _ {I F : Type 0} (left : I → Option (List ℕ)) (left_in : F → Option
         absurd (found_none channel_of c i before.each.now.items d m found)
 
     -- one for another source counts nothing here
-    gives_other : (before : SourceInputs I F) (s : ℕ) (answer : Result (Option ℤ) SourceFault) (after : SourceInputs I F)
+    gives_other : (before : SourceInputs I F) (s : ℕ) (answer : Result (Option ℤ) SourceFault)
+        (after : SourceInputs I F)
         → IsMine before.each.now.items → s ≢ c → InputsGive left left_in before s answer after
         → used_of after ≡ used_of before
     gives_other before s answer after m other (by_input j x y found at given each ghost lent) =
@@ -95,7 +97,8 @@ module _ {I F : Type 0} (left : I → Option (List ℕ)) (left_in : F → Option
               (stays_here xs after.each.now.items i j y d (found_other channel_of c i xs s j x m other found) each)
         ]
 
-    module _ (t : Tables) (network : IsNetwork t) (first : SourceInputs I F) (source : is_source (channel_at t c) ≡ true)
+    module _ (t : Tables) (network : IsNetwork t) (first : SourceInputs I F)
+        (source : is_source (channel_at t c) ≡ true)
         (is_first : IsMine first.each.now.items) (new : used_of first ≡ 0) where
       -- as many were used as items were fed
       abbrev HasCounted : List Event → SourceInputs I F → Type 0

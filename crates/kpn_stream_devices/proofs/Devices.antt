@@ -126,7 +126,8 @@ if_some P all us vs ws bytes (Some ds) (Some es) (Some fs) kept took = all (us +
 pub none_is_some : (failed : Failed) → ◌≡◌ {A = Option Failed} None (Some failed) → ⊥
 none_is_some failed same = absurd cc
 
-not_waiting : {F : Type 0} (input : SourceInput F) (failed : Failed) → input.failed ≡ Some failed → WaitsForDevice input → ⊥
+not_waiting : {F : Type 0} (input : SourceInput F) (failed : Failed) → input.failed ≡ Some failed
+    → WaitsForDevice input → ⊥
 not_waiting input failed is waits = none_is_some failed (sym waits.1 ∙ is)
 
 module _ {I F : Type 0} (left : I → Option (List ℕ)) (left_in : F → Option (List ℕ)) where
@@ -178,7 +179,8 @@ module _ {I F : Type 0} (left : I → Option (List ℕ)) (left_in : F → Option
 
     module _ (between : I) (moved : SourceInput F) (so_far : IsInputAsked left left_in first input between moved) where
       -- the bytes tell the answer
-      pub told_after : (answer : Result (Option ℤ) SourceFault) (w : Window) → WindowTells moved.format moved.window answer w
+      pub told_after : (answer : Result (Option ℤ) SourceFault) (w : Window)
+          → WindowTells moved.format moved.window answer w
           → w.is_over ≡ moved.window.is_over
           → InputGives left left_in first input answer between (record moved { window = w })
       told_after answer w tells same = record {
@@ -241,7 +243,8 @@ module _ {I F : Type 0} (left : I → Option (List ℕ)) (left_in : F → Option
                 failed = next.failed ∙ so_far.moved.failed;
               };
               at_hand = λ at_hand.
-                  absurd (needed at_hand (subst (λ (i : SourceInput F). i.failed ≡ None) (so_far.at_hand at_hand).1 none));
+                  absurd (needed at_hand (subst (λ
+                  (i : SourceInput F). i.failed ≡ None) (so_far.at_hand at_hand).1 none));
             }
 
         -- the next read fails, or a look has failed

@@ -135,7 +135,8 @@ chunk_again us ds at sample told =
     (le-ltb (length us) (at + 8) least) ∙ early)))
 
 after_again : (next_chunk again : (at : ℕ) → Option SampleFormat → Head) (chunk : Chunk)
-    → ((at : ℕ) (sample : Option SampleFormat) → (next_chunk at sample ≡ Open → ⊥) → again at sample ≡ next_chunk at sample)
+    → ((at : ℕ) (sample : Option SampleFormat) → (next_chunk at sample ≡ Open → ⊥)
+    → again at sample ≡ next_chunk at sample)
     → (chunks_after next_chunk chunk ≡ Open → ⊥) → chunks_after again chunk ≡ chunks_after next_chunk chunk
 after_again next_chunk again (Told head) same told = refl
 after_again next_chunk again (Next next sample) same told = same next sample told

@@ -64,7 +64,8 @@ module _ {O G : Type 0} (holds : O → Option (List ℕ)) (holds_in : G → Opti
     first = first_stays channel_of c i os j o w below at channel m.first;
     own = elim m.own [
       | inl some ↦
-          inl (λ d. holds_still (λ (x : SinkOutput G). IsSome x.file) os j o w below at file i d m.first.within (some d))
+          inl (λ d. holds_still (λ
+          (x : SinkOutput G). IsSome x.file) os j o w below at file i d m.first.within (some d))
       | inr others ↦
           inr (λ k d inside other.
           let there : k < length os = omega (arith, length-set os j w, inside) in
@@ -87,11 +88,13 @@ module _ {O G : Type 0} (holds : O → Option (List ℕ)) (holds_in : G → Opti
               (changed os j o w below at channel
               (file_stays before.standard.now after.standard.now o.file w.file only) m),
           ap (λ (xs : List (SinkOutput G)). (get_or xs i d).format) each
-              ∙ holds_still (λ (x : SinkOutput G). x.format ≡ format_at d before) os j o w below at (λ is. format ∙ is) i d
+              ∙ holds_still (λ (x : SinkOutput G). x.format ≡ format_at d before) os j o w below at (λ is. format
+              ∙ is) i d
               m.first.within refl,
         )
     stays_mine d s (by_none found is same) =
-        subst (λ (x : SinkOutputs O G). IsMine x.each.now.items × (format_at d x ≡ format_at d before)) (sym same) (m, refl)
+        subst (λ (x : SinkOutputs O G). IsMine x.each.now.items
+        × (format_at d x ≡ format_at d before)) (sym same) (m, refl)
 
     -- a call for sink c is one for output i
     own_call : (d : SinkOutput G) → OutputsDo Does before c answer after → (o : SinkOutput G) × (w : SinkOutput G)
@@ -124,7 +127,8 @@ module _ {O G : Type 0} (holds : O → Option (List ℕ)) (holds_in : G → Opti
         (stays_here os after.each.now.items i j w d away each)
         ∙ standing o.file w.file only (get_or os i d) file
       where
-        standing : (file late : Option G) → WritesOnly before.standard.now after.standard.now file late → (x : SinkOutput G)
+        standing : (file late : Option G) → WritesOnly before.standard.now after.standard.now file late →
+            (x : SinkOutput G)
             → (file ≡ None → IsSome x.file)
             → was_put holds holds_in after.standard.now x ≡ was_put holds holds_in before.standard.now x
         standing None None only x some = apart before.standard.now after.standard.now x (some refl)
@@ -160,7 +164,8 @@ module _ {O G : Type 0} (holds : O → Option (List ℕ)) (holds_in : G → Opti
     )
 
     -- an item more
-    by_item : (H : List Event) (v : ℤ) (before now : SinkOutputs O G) → OutputsTake holds holds_in before c v (Ok tt) now
+    by_item : (H : List Event) (v : ℤ) (before now : SinkOutputs O G)
+        → OutputsTake holds holds_in before c v (Ok tt) now
         → IsPut H before → IsPut (H ++ event.Take c v ∷ []) now
     by_item H v before now answer put =
         let Does = Takes holds holds_in v (Ok tt) in

@@ -83,7 +83,8 @@ module _ (w : Window) (count : ℕ) (wav : Wav) (head : head_at w.wav w.unused �
 
   gives : (ds : List ℕ) (after : Option Wav) (rest : List ℕ) (answer : Result (Option ℤ) SourceFault)
       → SampleGives wav.sample (take wav.left (us ++ ds)) (data_of (head_at after rest) rest) answer
-      → SamplesGoOn wav.sample answer after → WavGives (head_at w.wav (w.unused ++ ds)) (w.unused ++ ds) after rest answer
+      → SamplesGoOn wav.sample answer after
+      → WavGives (head_at w.wav (w.unused ++ ds)) (w.unused ++ ds) after rest answer
   gives ds after rest answer given goes_on =
       subst (λ (h : Head). WavGives h (w.unused ++ ds) after rest answer) (sym (head_stays ds)) (
         subst (λ (samples : List ℕ). SampleGives wav.sample samples (data_of (head_at after rest) rest) answer)

@@ -78,7 +78,8 @@ module _ {O G : Type 0} (holds : O → Option (List ℕ)) (holds_in : G → Opti
   -- an output takes an item
   abbrev pub Takes : ℤ → Result (Unit {0}) SinkFault → OutputRel O G
   Takes item answer standard output written after =
-      TakesItem output.format item answer (was_put holds holds_in standard output) (was_put holds holds_in written after)
+      TakesItem output.format item answer (was_put holds holds_in standard output) (was_put holds holds_in written
+      after)
 
   -- an output hands on what it kept
   abbrev pub Flushes : Result (Unit {0}) SinkFault → OutputRel O G

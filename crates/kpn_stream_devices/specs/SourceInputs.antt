@@ -57,7 +57,8 @@ input_of inputs source = position (λ input. nat_eq input.channel source) inputs
 
 -- What the inputs give for a source. It has an input, and the others stay as they were; or it has none, and nothing
 -- changes.
-pub data InputsGive {I F : Type 0} (left : I → Option (List ℕ)) (left_in : F → Option (List ℕ)) (before : SourceInputs I F)
+pub data InputsGive {I F : Type 0} (left : I → Option (List ℕ)) (left_in : F → Option (List ℕ))
+    (before : SourceInputs I F)
     (source : ℕ) (answer : Result (Option ℤ) SourceFault) (after : SourceInputs I F) : Type 0 where
   by_input : (i : ℕ) (input read : SourceInput F) → input_of before.each.now.items source ≡ Some i →
       get_or before.each.now.items i input ≡ input →
@@ -95,7 +96,8 @@ pub record InputLooks {I F : Type 0} (left : I → Option (List ℕ)) (left_in :
 
 -- What a look at the input of a source does. It has an input, and the others stay as they were; or it has none, and
 -- nothing changes.
-pub data InputsLook {I F : Type 0} (left : I → Option (List ℕ)) (left_in : F → Option (List ℕ)) (before : SourceInputs I F)
+pub data InputsLook {I F : Type 0} (left : I → Option (List ℕ)) (left_in : F → Option (List ℕ))
+    (before : SourceInputs I F)
     (source : ℕ) (after : SourceInputs I F) : Type 0 where
   at_input : (i : ℕ) (input read : SourceInput F) → input_of before.each.now.items source ≡ Some i →
       get_or before.each.now.items i input ≡ input → InputLooks left left_in before.standard.now input

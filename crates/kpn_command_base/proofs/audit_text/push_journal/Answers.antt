@@ -23,7 +23,8 @@ pieces-preserved c =
     let long = ap (λ (l : List ℤ). length l) c.piece_at-piece.ensures.items
     ∙ length-take (length piece) (drop c.pieces.place journal) in (
       ap (λ text. text ++ spaced_items (drop (c.pieces.place + length piece) journal)) c.in_ok-push_spaced_items.ensures
-          ∙ append_assoc (string_bytes c.pieces.text) (spaced_items piece) (spaced_items (drop (c.pieces.place + length piece) journal))
+          ∙ append_assoc (string_bytes c.pieces.text) (spaced_items piece) (spaced_items (drop (c.pieces.place +
+          length piece) journal))
           ∙ ap (λ t. string_bytes c.pieces.text ++ t) more ∙ c.pieces.invariant.0,
       omega (arith, long, length-drop c.pieces.place journal, c.pieces.invariant.1),
     )

@@ -27,6 +27,7 @@ returns-clause-streamed g c =
       concluded =
           subst
           (λ (lost : List Lost).
-          IsStreamConcluded g.S.Shelf.may_give c.args.request.now c.args.document.now.tables ending book lost c.args.shelf.now
+          IsStreamConcluded g.S.Shelf.may_give c.args.request.now c.args.document.now.tables ending book lost
+          c.args.shelf.now
           c.conclude.new.shelf c.conclude.result) c.deref.ensures.value c.conclude.ensures;
     }

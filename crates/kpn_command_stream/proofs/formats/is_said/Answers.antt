@@ -7,7 +7,8 @@ use Rattle.kpn_command_stream.proofs.formats.is_said.Goals as goal
 
 pub loop-before-preserved : goal.loop-before-preserved
 loop-before-preserved c =
-    one_more (λ before. format_end before.now ≢ format_end c.args.word.now) c.args.words.now c.loop-before.before-index _
+    one_more (λ before. format_end before.now ≢ format_end c.args.word.now) c.args.words.now
+    c.loop-before.before-index _
     c.loop-before-test.true c.loop-before.invariant (c.are_for_same.ensures c.if-are_for_same.false)
 
 pub returns : goal.returns

@@ -14,7 +14,8 @@ returns c =
     let one = string_bytes c.push_row_band.new.text in
     let name = name_at a.document.now.names.instances a.p in
     let wide = right_of s - s.left in
-    two_pieces start (row_band s.left (row_place a.p + 2) wide) (row_name_text (s.left - 8) (row_place a.p + 20) name) one
+    two_pieces start (row_band s.left (row_place a.p + 2) wide) (row_name_text (s.left - 8) (row_place a.p + 20) name)
+    one
     (string_bytes c.push_row_name.new.text)
     (c.in_ok-push_row_band.ensures
     ∙ ap (λ y. start ++ row_band s.left (y + 2) c.saturating_sub-wide.result) c.row_of.ensures.exact

@@ -40,7 +40,8 @@ returns g c =
     (each_below (length t.channels) (channel_counters names.channels ends))
     (last_waits names.channels c.instances-2.result waits s)
     (each_below c.channels.result (channel_counters names.channels s)) (codes "]}\n")
-    (c.in_ok-text.ensures ∙ ap (λ n. timeline_head ++ each_below n track) c.instances.ensures) c.in_ok-clocks.ensures.text
+    (c.in_ok-text.ensures
+    ∙ ap (λ n. timeline_head ++ each_below n track) c.instances.ensures) c.in_ok-clocks.ensures.text
     c.in_ok-push_last_waits.ensures
     (ap (λ n. last_waits names.channels n waits s) c.instances-2.ensures
     ∙ ap (λ (x : Clocks). last_waits names.channels (length t.instances) waits x) c.in_ok-clocks.ensures.clocks)

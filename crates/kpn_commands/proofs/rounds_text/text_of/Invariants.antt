@@ -8,4 +8,5 @@ use Rattle.kpn_commands.proofs.rounds_text.text_of.Given as goal
 abbrev pub invariant-loop-channel : goal.invariant-loop-channel
 invariant-loop-channel l =
     let names = l.document.names.channels in
-    string_bytes l.text ++ lines_from (list_line_of names) l.channel (drop l.channel l.lists) ≡ rounds_text names l.lists
+    string_bytes l.text ++ lines_from (list_line_of names) l.channel (drop l.channel l.lists) ≡ rounds_text names
+    l.lists
