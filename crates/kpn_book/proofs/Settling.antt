@@ -22,7 +22,7 @@ use Rattle.kpn_book.specs.Appending.{AppendsAll, IsGrowthOwed}
 use Rattle.kpn_book.specs.Commits.{HasToWait, IsAnswer, HandlesStop, ready_if_paused}
 use Rattle.kpn_book.specs.Kept.{IsKept}
 use Rattle.kpn_book.specs.Open.{is_but_reserved}
-use Rattle.kpn_book.specs.Regions.{commits_or_not, goes_to, has_part, settles_if, Settles, SettleBelow, none_yet, one_more_in}
+use Rattle.kpn_book.specs.Regions.{commits_or_not, goes_to, has_part, settles_if, Settles, SettleBelow, none_yet, one_more}
 use Rattle.kpn_book.proofs.Answering.{IsAtStop}
 use Rattle.kpn_book.proofs.Appended.{tables_stay, base_tables}
 use Rattle.kpn_book.proofs.Regions.{and_left, and_right, held_of_test}
@@ -172,7 +172,7 @@ pub settled_next : (batch : Batch) (first b a : Book) (n : ℕ) (memory enough :
     → IsSettledBelow batch first n memory b → Settles enough batch n b a → IsKept a
     → IsSettledBelow batch first (n + 1) (memory && enough) a
 settled_next batch first b a n memory enough is settles kept = record {
-  settle = one_more_in enough b a is.settle settles;
+  settle = one_more enough b a is.settle settles;
   kept = kept;
   tables = network_by_part (has_part batch n b) enough batch n b a settles ∙ is.tables;
   frames = λ q above there within.

@@ -21,7 +21,7 @@ pub fn push_where(out: &mut Vec<u8>, name: &[u8], text: &[u8], at: usize) -> Res
 
 // `NAME:LINE:COLUMN: `
 fn push_place(out: &mut Vec<u8>, name: &[u8], place: Position) -> Result<(), AllocError>
-    ensures { OnOk result (out.new.items ≡ out.old.items ++ spec.place_text name.now place) }
+    ensures { OnOk result (out.new.items ≡ out.old.items ++ spec.position_text name.now place) }
 {
     let mut line = Buffer::new();
     let mut column = Buffer::new();

@@ -6,7 +6,7 @@ use crate::lines::back;
 
 /// The name that begins at a byte of a text. It is empty if none begins there.
 pub fn name_at(text: &[u8], at: usize) -> &[u8]
-    ensures { result.now ≡ spec.name_at text.now at }
+    ensures { result.now ≡ spec.name_beginning_at text.now at }
 {
     first_name(back(text, at))
 }

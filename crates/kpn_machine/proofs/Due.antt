@@ -56,7 +56,7 @@ module _ (t : Tables) (H : List Event) (c : ℕ) (ch : ChannelState) (holds : Ho
   pub unread_same : unread ch ≡ unread_on H c
   unread_same = ap (λ n. drop n ch.journal) holds.read ∙ ap (drop (length (read_on H c))) holds.journal
 
-  pub full_same : chan.is_full ch ≡ is_full t H c
+  pub full_same : chan.is_channel_full ch ≡ is_full t H c
   full_same =
       ap (λ b. not b && chan.fills (length (unread ch)) ch.capacity) holds.retired
       ∙ ap (λ o. not (not (reader_lives t H c)) && chan.fills (length (unread ch)) o) holds.capacity
@@ -150,13 +150,13 @@ module _ (t : Tables) (network : IsNetwork t) (H : List Event) (s : Machine) (ru
         )
 
     pub Legal-put : (c : ℕ) (v : ℤ) → c < length t.channels → WritesTo t s p c v
-        → chan.is_full (channel_in s c) ≡ false → Legal t (H ++ Put p c v ∷ [])
+        → chan.is_channel_full (channel_in s c) ≡ false → Legal t (H ++ Put p c v ∷ [])
     Legal-put c v below writes ready =
         legal_with (Put p c v) (there, below) (may_go p there free)
         (sym (full_same t H c (channel_in s c) (run.leads.channels c below)) ∙ ready, says_put t network H s run p there c v writes)
 
     pub Legal-wait_full : (c : ℕ) (v : ℤ) → c < length t.channels → WritesTo t s p c v
-        → chan.is_full (channel_in s c) ≡ true → Legal t (H ++ WaitFull p c ∷ [])
+        → chan.is_channel_full (channel_in s c) ≡ true → Legal t (H ++ WaitFull p c ∷ [])
     Legal-wait_full c v below writes ready =
         legal_with (WaitFull p c) (there, below) (
           may_go p there free,

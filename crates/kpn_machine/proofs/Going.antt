@@ -166,7 +166,7 @@ module _ (t : Tables) (network : IsNetwork t) (H : List Event) (s : Machine) (ru
     pub reader_is_awake : wait_in s p ≡ Nobody
     reader_is_awake = waits_for_nobody reads_no_empty reads_no_full
 
-  module _ (writes : WritesTo t s p c v) (room : chan.is_full (channel_in s c) ≡ false) where
+  module _ (writes : WritesTo t s p c v) (room : chan.is_channel_full (channel_in s c) ≡ false) where
     writes_no_empty : (d : ℕ) → wait_of t H p ≡ Empty d → ⊥
     writes_no_empty d is =
         starved d is (read_on H) (λ e. IsPrefix-refl (read_on H e)) refl (said.Put c v)

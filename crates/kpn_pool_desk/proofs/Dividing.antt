@@ -5,7 +5,7 @@ use Rattle.kpn_region.specs.Batch.{Batch}
 use Rattle.kpn_book.specs.declared.answers.Done.{Done}
 use Rattle.kpn_book.specs.Book.{Book, with_one_commit}
 use Rattle.kpn_book.specs.Commits.{HandlesStop, ready_if_paused}
-use Rattle.kpn_book.specs.Regions.{commits_or_not, goes_to, settles_if, has_part, Settles, SettleBelow, none_yet, one_more_in}
+use Rattle.kpn_book.specs.Regions.{commits_or_not, goes_to, settles_if, has_part, Settles, SettleBelow, none_yet, one_more}
 use Rattle.kpn_book.specs.RegionCalls.{CommitsRegion}
 use Rattle.kpn_book.specs.RegionClaims.{IsSameBook, ClaimsRegion}
 use Rattle.kpn_book.proofs.Appended.{base_tables, base_commits, commits_stay, tables_stay}
@@ -84,7 +84,7 @@ by_part false memory batch p before after is = stays before after is.1
 settled_further : (batch : Batch) (first : Book) {n : ℕ} {memory : Bool} {after : Book}
     → SettleBelow batch first n memory after → IsFurther first after
 settled_further batch first none_yet = stays first first refl
-settled_further batch first (one_more_in {n} enough before after so_far settles) =
+settled_further batch first (one_more {n} enough before after so_far settles) =
     then_further first before after (settled_further batch first so_far)
     (by_part (has_part batch n before) enough batch n before after settles)
 
