@@ -4,6 +4,7 @@
 #include <stdarg.h>
 #include <stdio.h>
 #include <stdlib.h>
+#include <string.h>
 
 #include "../include/kpn.h"
 
@@ -73,6 +74,10 @@ char *extend_text(text *into, size_t count) {
   into->length += count;
   into->at[into->length] = 0;
   return into->at + into->length - count;
+}
+
+void add_bytes(text *into, const char *at, size_t count) {
+  if (count) memcpy(extend_text(into, count), at, count);
 }
 
 void print_to(text *into, const char *format, ...) {

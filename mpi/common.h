@@ -54,6 +54,8 @@ void free_words(words *list);
 
 /* Makes a text longer by so many bytes, and returns the place of the first one. */
 char *extend_text(text *into, size_t count);
+/* Appends bytes as they are: a comment of a description may have a 0 in it. */
+void add_bytes(text *into, const char *at, size_t count);
 void print_to(text *into, const char *format, ...);
 void free_text(text *of);
 

@@ -115,8 +115,8 @@ refusal store_text(output *to, const text *of) {
   return works && kpn_file_store(to) ? NOTHING : CANT_WRITE;
 }
 
-refusal remove_old(const output *of) {
-  return !of->target || !unlink(of->target) || errno == ENOENT ? NOTHING : CANT_WRITE;
+void remove_old(const output *of) {
+  if (of->target) unlink(of->target);
 }
 
 refusal make_folder(const char *path) {

@@ -37,8 +37,8 @@ refusal open_output(const char *path, output *made);
 refusal store_items(output *to, const int64_t *items, size_t count);
 refusal store_text(output *to, const text *of);
 
-/* Removes what an earlier run has stored in the place of an open output. */
-refusal remove_old(const output *of);
+/* Removes what an earlier run has stored in the place of an open output, if it can. */
+void remove_old(const output *of);
 
 refusal make_folder(const char *path);
 

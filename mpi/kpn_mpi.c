@@ -87,15 +87,12 @@ static int run_place(const plan *of, int number, transport *over) {
   only = &made->rank;
   still_here = beat_here;
   open_place(made, of, number, over);
-  while (made->rank.phase == STARTING || made->rank.phase == WORKING) {
-    if (make_round(&made->rank))
+  while (made->rank.phase != REFUSED && !is_over(&made->rank)) {
+    if (make_round_at(made))
       rounds = 0;
     else
       rest(&rounds);
   }
-  if (made->rank.phase == ENDING) store_place(made);
-  while (made->rank.phase == ENDING && !is_over(&made->rank))
-    if (!make_round(&made->rank)) rest(&rounds);
   const int status = number ? 0 : report_run(made);
   close_place(made);
   free(made);
@@ -107,7 +104,7 @@ static int run(int count, char **given) {
   options asked;
   plan *made = memory(sizeof *made);
   transport *over = open_transport(&count, &given, &number, &ranks);
-  int status = read_options(count, given, number == 0, &asked) ? 0 : STATUS_USAGE;
+  int status = read_options(RUN, count, given, number == 0, &asked) ? 0 : STATUS_USAGE;
   if (!status && ranks > MOST_RANKS) {
     if (!number) fprintf(stderr, "kpn: usage: at most %d ranks\n", MOST_RANKS);
     status = STATUS_USAGE;
@@ -136,5 +133,5 @@ static int run(int count, char **given) {
 }
 
 int main(int count, char **given) {
-  return count > 1 && !strcmp(given[1], "plan") ? show_plan(count, given) : run(count, given);
+  return asks_for_plan(count, given) ? show_plan(count, given) : run(count, given);
 }

@@ -10,8 +10,10 @@ typedef struct {
   size_t length; /* of the name */
 } named_file;
 
+/* What a program does: a run over MPI, the plan of one, or one in the simulator. Each option goes with some of them. */
+typedef enum { RUN = 1, PLAN = 2, SIMULATION = 4 } command;
+
 typedef struct {
-  const char *command;  /* `run`, `plan` or `simulate` */
   const char *file, *cut, *traces;
   named_file *sources, *sinks;
   size_t source_count, sink_count;
@@ -21,8 +23,11 @@ typedef struct {
   settings settings;
 } options;
 
-/* Reads the words. If they are wrong it writes a line, if `tells`, and returns false. */
-bool read_options(int count, char **given, bool tells, options *into);
+/* Whether the words ask for a plan. */
+bool asks_for_plan(int count, char **given);
+
+/* Reads the words of a command. If they are wrong it writes a line, if `tells`, and returns false. */
+bool read_options(command of, int count, char **given, bool tells, options *into);
 void free_options(options *of);
 
 /* Whether a file, or the part file beside it, is one that the run reads, by any name of that. */

@@ -27,20 +27,25 @@ static void print_channel(const part *of, size_t number, text *into) {
     print_to(into, "  %s %.*s cap %zu;\n", is_read ? "channel" : "sink", SHOWN(it->name), of->caps[number]);
 }
 
+static void print_line(const char *before, span line, text *into) {
+  print_to(into, "%s", before);
+  add_bytes(into, line.at, line.length);
+  print_to(into, "\n");
+}
+
 void print_part(const part *of, text *into) {
   const network *net = of->net;
   bool is_used[MOST_PROCESSES] = {false};
   for (size_t p = 0; p < of->instance_count; p++) is_used[net->instances[of->instances[p]].process] = true;
-  if (net->opening.length) print_to(into, "%.*s\n", SHOWN(net->opening));
+  if (net->opening.length) print_line("", net->opening, into);
   for (size_t k = 0; k < net->process_count; k++)
-    if (is_used[k]) print_to(into, "%.*s\n", SHOWN(net->processes[k].whole));
+    if (is_used[k]) print_line("", net->processes[k].whole, into);
   print_to(into, "network {\n  limit %zu;\n", net->limit);
   /* A part of several looks after its own cycles. What is owed at a stop is for the chief to say. */
   if (net->grows_at_stops && of->cut->ranks == 1) print_to(into, "  policy all;\n");
   if (net->doubles) print_to(into, "  grow double;\n");
   for (size_t k = 0; k < of->channel_count; k++) print_channel(of, of->channels[k], into);
-  for (size_t k = 0; k < of->instance_count; k++)
-    print_to(into, "  %.*s\n", SHOWN(net->instances[of->instances[k]].whole));
+  for (size_t k = 0; k < of->instance_count; k++) print_line("  ", net->instances[of->instances[k]].whole, into);
   print_to(into, "}\n");
 }
 

@@ -245,16 +245,16 @@ static void adapt_steps(rank *of, uint64_t made, double began) {
   if (of->steps > MOST_STEPS) of->steps = MOST_STEPS;
 }
 
-/* Sends copies of what is new on a cut channel. */
-static void serve_out(rank *of, outgoing *out) {
+/* Sends copies of what is new on a cut channel, so that at most so many items are on the way. */
+static void serve_out(rank *of, outgoing *out, size_t window) {
   const kpn_channel_state state = told_of(of, out->local);
   const size_t on_way = out->sent - out->credited;
   const size_t before = out->put;
   out->put = state.got + state.unread;
-  if (out->is_left || out->put == out->sent || on_way >= of->settings.window) return;
+  if (out->is_left || out->put == out->sent || on_way >= window) return;
   note_share(of, out->channel, out->put - before);
   size_t count = out->put - out->sent, seen;
-  if (count > of->settings.window - on_way) count = of->settings.window - on_way;
+  if (count > window - on_way) count = window - on_way;
   int64_t *room = add_frame(&of->to[out->to], FRAME_ITEMS, (int64_t)out->channel, count), *at = room;
   if (on_way) {
     empty(&of->scratch);
@@ -291,7 +291,7 @@ static bool work(rank *of, bool heard) {
   const uint64_t made = step(of);
   if (!made && !heard) return false;
   of->share = 0;
-  for (size_t k = 0; k < of->out_count; k++) serve_out(of, &of->outs[k]);
+  for (size_t k = 0; k < of->out_count; k++) serve_out(of, &of->outs[k], of->settings.window);
   for (size_t k = 0; k < of->in_count; k++) serve_in(of, &of->ins[k]);
   for (size_t k = 0; k < of->sink_count; k++) serve_sink(of, &of->sinks[k]);
   if (made) adapt_steps(of, made, began);
@@ -349,10 +349,26 @@ static void report(rank *of, bool rests) {
   }
 }
 
+/* Sends what the window has held back, and returns whether there was anything. A rank that has come to rest does so:
+   a reader that has come to rest too gets nothing more, and the window would stay as it is. */
+static bool send_rest(rank *of) {
+  bool any = false;
+  for (size_t k = 0; k < of->out_count; k++) {
+    if (of->outs[k].is_left || of->outs[k].put == of->outs[k].sent) continue;
+    serve_out(of, &of->outs[k], SIZE_MAX);
+    any = true;
+  }
+  return any;
+}
+
 /* Tells the chief when the rank has come to rest, and now and then while it works. */
 static void tell(rank *of, bool did) {
   if (!did) {
-    if (of->rounds_at_rest < ROUNDS_AT_REST && ++of->rounds_at_rest == ROUNDS_AT_REST) report(of, true);
+    if (of->rounds_at_rest == ROUNDS_AT_REST || ++of->rounds_at_rest < ROUNDS_AT_REST) return;
+    if (send_rest(of))
+      of->rounds_at_rest = 0;
+    else
+      report(of, true);
     return;
   }
   const double now = of->transport->now(of->transport);

@@ -10,7 +10,7 @@
 typedef struct {
   bool has_take;
   uint64_t take, most_commits;
-  size_t window;   /* the most items of a channel on the way */
+  size_t window;   /* the most items of a channel on the way, while its writer works */
   uint64_t steps;  /* the commits of a round; 0: as the cut channels want it */
   double timeout;  /* after so many seconds without a word from a rank all end; 0: never */
 } settings;

@@ -65,11 +65,12 @@ int show_plan(int count, char **given) {
   options asked;
   text shown = {0};
   plan *made = memory(sizeof *made);
-  int status = read_options(count, given, true, &asked) ? load_plan(made, &asked) : STATUS_USAGE;
+  int status = read_options(PLAN, count, given, true, &asked) ? load_plan(made, &asked) : STATUS_USAGE;
   if (!status) {
     lay_out(made, asked.ranks);
     print_plan(&made->net, &made->cut, &shown);
     fputs(shown.at, stdout);
+    if (fflush(stdout) || ferror(stdout)) status = tell_refusal(CANT_WRITE);
   }
   free_text(&shown);
   free_plan(made);
@@ -106,20 +107,35 @@ static void open_sink(place *of, size_t channel, refused_option *first) {
   refuse_option(first, 1 + given->source_count + k, open_output(given->sinks[k].file, &of->outputs[channel]));
 }
 
-/* Makes ready what goes to the folder of --traces. So nothing of an earlier run is taken for one of this run. */
-static refusal open_traces(place *of) {
+/* Makes the folder of --traces, if it can, and names what goes there. */
+static void name_traces(place *of) {
+  const char *folder = of->plan->options->traces;
+  const int number = of->rank.number;
+  make_folder(folder);
+  print_to(&of->kept_names[KEPT_TRACE], "%s/rank-%d.trace", folder, number);
+  print_to(&of->kept_names[KEPT_PART], "%s/rank-%d.kpn", folder, number);
+  of->kept_count = KEPT_CUT;
+  if (number) return;
+  print_to(&of->kept_names[KEPT_CUT], "%s/cut", folder);
+  print_to(&of->kept_names[KEPT_RANKS], "%s/ranks", folder);
+  of->kept_count = MOST_KEPT;
+}
+
+/* Whether the file of a sink is one that goes to the folder of --traces. */
+static bool is_trace_taken(const place *of) {
   const options *given = of->plan->options;
-  const int number = of->rank.number, count = number ? KEPT_CUT : MOST_KEPT;
-  text *names = of->kept_names;
-  refusal refused = make_folder(given->traces);
-  print_to(&names[KEPT_TRACE], "%s/rank-%d.trace", given->traces, number);
-  print_to(&names[KEPT_PART], "%s/rank-%d.kpn", given->traces, number);
-  print_to(&names[KEPT_CUT], "%s/cut", given->traces);
-  print_to(&names[KEPT_RANKS], "%s/ranks", given->traces);
-  for (int k = 0; k < count && !refused.number; k++) {
-    /* The cut of an earlier run may be that of this one. */
-    refused = k != KEPT_CUT && is_input(given, names[k].at) ? CANT_WRITE : open_output(names[k].at, &of->kept[k]);
-    if (!refused.number && k != KEPT_CUT) refused = remove_old(&of->kept[k]);
+  for (int k = 0; k < of->kept_count; k++)
+    for (size_t j = 0; j < given->sink_count; j++)
+      if (kpn_file_clashes(of->kept_names[k].at, &given->sinks[j].file, 1, true)) return true;
+  return false;
+}
+
+/* Makes ready what goes to the folder of --traces. The cut of an earlier run may be that of this one. */
+static refusal open_traces(place *of) {
+  refusal refused = {0};
+  for (int k = 0; k < of->kept_count && !refused.number; k++) {
+    const bool is_read = k != KEPT_CUT && is_input(of->plan->options, of->kept_names[k].at);
+    refused = is_read ? CANT_WRITE : open_output(of->kept_names[k].at, &of->kept[k]);
   }
   return refused;
 }
@@ -144,7 +160,8 @@ void open_place(place *made, const plan *of, int number, transport *over) {
   refused_option first = {SIZE_MAX, {0}};
   made->plan = of;
   open_rank(&made->rank, &of->net, &of->cut, number, &of->options->settings, over, keeps);
-  if (has_no_output(of->options))
+  if (of->options->traces) name_traces(made);
+  if (has_no_output(of->options) || is_trace_taken(made))
     refuse_option(&first, 0, CLASH);
   else
     open_files(made, &first);
@@ -161,7 +178,7 @@ void close_place(place *of) {
   free_rank(&of->rank);
 }
 
-/* ---- behind the run */
+/* ---- after the run */
 
 static void keep_first(refusal *first, refusal next) {
   if (!first->number) *first = next;
@@ -188,8 +205,9 @@ static refusal store_traces(place *of) {
   return refused;
 }
 
-/* What can't be stored keeps nothing else from that: a run may have taken long. */
-void store_place(place *of) {
+/* Stores what is asked for of this rank, and sends the results. What can't be stored keeps nothing else from that: a
+   run may have taken long. */
+static void store_place(place *of) {
   refusal refused = {0};
   if (of->plan->options->traces) refused = store_traces(of);
   for (size_t k = 0; k < of->rank.sink_count; k++) {
@@ -198,6 +216,21 @@ void store_place(place *of) {
       keep_first(&refused, store_items(&of->outputs[sink->channel], sink->items.at, wanted_of(&of->rank, sink)));
   }
   send_results(&of->rank, refused.number ? STATUS_REFUSED : 0);
+}
+
+/* Removes the traces of an earlier run. The cut of that may be the one that this run has read. */
+static void remove_traces(place *of) {
+  for (int k = 0; k < of->kept_count; k++)
+    if (k != KEPT_CUT) remove_old(&of->kept[k]);
+}
+
+bool make_round_at(place *of) {
+  const phase before = of->rank.phase;
+  const bool did = make_round(&of->rank);
+  const phase now = of->rank.phase;
+  if (before == STARTING && now != STARTING && now != REFUSED) remove_traces(of);
+  if (now == ENDING && !of->rank.has_results) store_place(of);
+  return did;
 }
 
 static void print_sinks(const rank *of) {

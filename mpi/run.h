@@ -35,14 +35,17 @@ typedef struct {
   bool has_output[MOST_CHANNELS];
   output kept[MOST_KEPT];        /* in the folder of --traces */
   text kept_names[MOST_KEPT];
+  int kept_count;
 } place;
 
 /* Opens the part, reads its sources, and makes its outputs ready. Then the rank says so. */
 void open_place(place *made, const plan *of, int number, transport *over);
 void close_place(place *of);
 
-/* Stores what is asked for of this rank, and sends the results. */
-void store_place(place *of);
+/* Makes a round, and returns whether it has done anything. Once the ranks go, the traces of an earlier run are removed:
+   none is taken for one of this run, and a run that is refused removes none. Once the run is over, the rank stores what
+   is asked for. */
+bool make_round_at(place *of);
 
 /* At rank 0, once the run is over: writes the report, or why there is none. Returns the status. */
 int report_run(place *of);

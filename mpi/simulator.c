@@ -4,7 +4,6 @@
    channel ever holds more than its capacity. */
 #include <stdio.h>
 #include <stdlib.h>
-#include <string.h>
 
 #include "run.h"
 #include "transport_wires.h"
@@ -26,10 +25,7 @@ static void look_at_capacities(place **places, const plan *of) {
 /* Lets a random rank make a round. */
 static void go_on(place **places, const plan *of, uint64_t *state) {
   place *next = places[chance(state, (unsigned long)of->cut.ranks)];
-  rank *at = &next->rank;
-  if (at->phase == REFUSED) return;
-  make_round(at);
-  if (at->phase == ENDING && !at->has_results) store_place(next);
+  if (next->rank.phase != REFUSED) make_round_at(next);
 }
 
 static bool are_over(place **places, int ranks) {
@@ -61,7 +57,7 @@ static int simulate(const plan *of) {
 static int run(int count, char **given) {
   options asked;
   plan *made = memory(sizeof *made);
-  int status = read_options(count, given, true, &asked) ? 0 : STATUS_USAGE;
+  int status = read_options(SIMULATION, count, given, true, &asked) ? 0 : STATUS_USAGE;
   if (!asked.ranks) asked.ranks = 1;
   uint64_t state = asked.seed;
   asked.settings.steps = 1 + chance(&state, 1 + chance(&state, 100));
@@ -77,5 +73,5 @@ static int run(int count, char **given) {
 }
 
 int main(int count, char **given) {
-  return count > 1 && !strcmp(given[1], "plan") ? show_plan(count, given) : run(count, given);
+  return asks_for_plan(count, given) ? show_plan(count, given) : run(count, given);
 }
