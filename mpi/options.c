@@ -16,7 +16,7 @@
 
 enum { OF_RUNS = RUN | SIMULATION, OF_ALL = RUN | PLAN | SIMULATION };
 
-typedef enum { SOURCES, SINKS, TAKE, COMMITS, ROOM, RANKS, SEED, CUT, TRACES, TIMEOUT, OPTION_COUNT } option;
+enum option { SOURCES, SINKS, TAKE, COMMITS, ROOM, RANKS, SEED, CUT, TRACES, TIMEOUT, OPTION_COUNT };
 
 /* The options, the commands that they go with, and what is said of a wrong value. */
 static const struct {
@@ -36,17 +36,17 @@ static const struct {
     [TIMEOUT] = {"--timeout", OF_RUNS, "--timeout S, seconds above 0"},
 };
 
-typedef struct {
-  command command;
+struct reader {
+  enum kpn_command command;
   char **words;
   int count, at;
   bool is_given[OPTION_COUNT];
   const char *value; /* of the option that is read */
   const char *wrong; /* what is wrong, if anything is */
-} reader;
+};
 
 /* The option that the next word names; OPTION_COUNT if it names none of the command. */
-static option option_at(const reader *in) {
+static enum option option_at(const struct reader *in) {
   const char *word = in->words[in->at];
   const size_t length = strcspn(word, "=");
   int found = 0;
@@ -54,11 +54,11 @@ static option option_at(const reader *in) {
                                   !(in->command & known[found].commands))) {
     found++;
   }
-  return (option)found;
+  return (enum option)found;
 }
 
 /* Goes past an option, and reads its value: after `=` in the word, or the next word. Only ends are named again. */
-static void pass_option(reader *in, option which) {
+static void pass_option(struct reader *in, enum option which) {
   const char *equals = strchr(in->words[in->at++], '=');
   in->value = equals ? equals + 1 : in->at < in->count ? in->words[in->at++] : NULL;
   if (!in->value || (in->is_given[which] && which != SOURCES && which != SINKS)) {
@@ -67,7 +67,7 @@ static void pass_option(reader *in, option which) {
   in->is_given[which] = true;
 }
 
-static uint64_t number(reader *in, option which, uint64_t least, uint64_t most) {
+static uint64_t number(struct reader *in, enum option which, uint64_t least, uint64_t most) {
   char *rest;
   errno = 0;
   const unsigned long long found = strtoull(in->value, &rest, 10);
@@ -77,7 +77,7 @@ static uint64_t number(reader *in, option which, uint64_t least, uint64_t most) 
   return found;
 }
 
-static double seconds(reader *in) {
+static double seconds(struct reader *in) {
   char *rest;
   const double found = strtod(in->value, &rest);
   if (rest == in->value || *rest || !(found > 0) || isinf(found)) {
@@ -86,17 +86,17 @@ static double seconds(reader *in) {
   return found;
 }
 
-static void name_file(reader *in, option which, named_file *into, size_t *count) {
+static void name_file(struct reader *in, enum option which, struct kpn_named_file *into, size_t *count) {
   const char *equals = strchr(in->value, '=');
   if (!equals) {
     in->wrong = known[which].wrong;
     return;
   }
-  into[(*count)++] = (named_file){in->value, equals + 1, (size_t)(equals - in->value)};
+  into[(*count)++] = (struct kpn_named_file){in->value, equals + 1, (size_t)(equals - in->value)};
 }
 
-static void read_value(reader *in, option which, options *into) {
-  settings *given = &into->settings;
+static void read_value(struct reader *in, enum option which, struct kpn_options *into) {
+  struct kpn_settings *given = &into->settings;
   switch (which) {
   case SOURCES:
     name_file(in, which, into->sources, &into->source_count);
@@ -132,8 +132,8 @@ static void read_value(reader *in, option which, options *into) {
   }
 }
 
-static void read_word(reader *in, options *into) {
-  const option which = option_at(in);
+static void read_word(struct reader *in, struct kpn_options *into) {
+  const enum option which = option_at(in);
   if (which < OPTION_COUNT) {
     pass_option(in, which);
     if (!in->wrong) {
@@ -147,7 +147,7 @@ static void read_word(reader *in, options *into) {
 }
 
 /* An output is no input, and no other output. Here words are compared, since other ranks have other files. */
-static void compare_words(reader *in, const options *of) {
+static void compare_words(struct reader *in, const struct kpn_options *of) {
   for (size_t k = 0; k < of->sink_count; k++) {
     const char *out = of->sinks[k].file;
     bool is_taken = !strcmp(out, of->file) || (of->cut && !strcmp(out, of->cut));
@@ -163,7 +163,7 @@ static void compare_words(reader *in, const options *of) {
   }
 }
 
-bool is_input(const options *of, const char *path) {
+bool kpn_is_input(const struct kpn_options *of, const char *path) {
   const char *const others[] = {of->file, "/dev/stdout", "/dev/stderr", of->cut};
   bool found = kpn_file_clashes(path, others, of->cut ? 4 : 3, false);
   for (size_t k = 0; !found && k < of->source_count; k++) {
@@ -172,10 +172,10 @@ bool is_input(const options *of, const char *path) {
   return found;
 }
 
-bool has_no_output(const options *of) {
+bool kpn_has_no_output(const struct kpn_options *of) {
   bool found = false;
   for (size_t k = 0; !found && k < of->sink_count; k++) {
-    found = is_input(of, of->sinks[k].file);
+    found = kpn_is_input(of, of->sinks[k].file);
     for (size_t j = 0; !found && j < k; j++) {
       found = kpn_file_clashes(of->sinks[k].file, &of->sinks[j].file, 1, true);
     }
@@ -183,17 +183,17 @@ bool has_no_output(const options *of) {
   return found;
 }
 
-bool asks_for_plan(int count, char **given) {
+bool kpn_asks_for_plan(int count, char **given) {
   return count > 1 && !strcmp(given[1], "plan");
 }
 
-bool read_options(command of, int count, char **given, bool tells, options *into) {
+bool kpn_read_options(enum kpn_command of, int count, char **given, bool tells, struct kpn_options *into) {
   enum { USUAL_COMMITS = 10000000, USUAL_WINDOW = 8192 };
-  reader in = {.command = of, .words = given, .count = count, .at = of == PLAN ? 2 : 1};
-  *into = (options){.room = USUAL_ROOM};
-  into->settings = (settings){.most_commits = USUAL_COMMITS, .window = USUAL_WINDOW};
-  into->sources = memory((size_t)count * sizeof *into->sources);
-  into->sinks = memory((size_t)count * sizeof *into->sinks);
+  struct reader in = {.command = of, .words = given, .count = count, .at = of == PLAN ? 2 : 1};
+  *into = (struct kpn_options){.room = USUAL_ROOM};
+  into->settings = (struct kpn_settings){.most_commits = USUAL_COMMITS, .window = USUAL_WINDOW};
+  into->sources = kpn_memory((size_t)count * sizeof *into->sources);
+  into->sinks = kpn_memory((size_t)count * sizeof *into->sinks);
   while (in.at < in.count && !in.wrong) {
     read_word(&in, into);
   }
@@ -212,7 +212,7 @@ bool read_options(command of, int count, char **given, bool tells, options *into
   return !in.wrong;
 }
 
-void free_options(options *of) {
+void kpn_free_options(struct kpn_options *of) {
   free(of->sources);
   free(of->sinks);
 }

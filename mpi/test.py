@@ -32,6 +32,7 @@ import time
 TOP = pathlib.Path(__file__).resolve().parent.parent
 sys.path += [str(TOP / 'bench/stress'), str(TOP / 'python')]
 
+import random_cells  # noqa: E402
 import random_networks  # noqa: E402
 from kpn import mpi, program  # noqa: E402
 from kpn.errors import KpnError  # noqa: E402
@@ -70,6 +71,16 @@ def declared(kind, text):
 
 def instances_of(text):
     return re.findall(r'^\s*(\w+) = \w+\(', text.partition('network')[2], re.M)
+
+
+def random_network(chance):
+    """The text of a network, one in five of language 2, with items. In half of them capacities are up to 64."""
+    text, items = (random_cells if chance.random() < 0.2 else random_networks).network(chance)
+    head, network, body = text.rpartition('network {')
+    body = body.replace('; ', ';\n').replace(' source', '\nsource', 1)
+    if chance.random() < 0.5 and 'limit' not in body:
+        body = re.sub(r' cap \d+;', lambda _: f' cap {chance.randint(1, 64)};', body)
+    return head + network + body, items
 
 
 def same(what, wanted, found):
@@ -176,10 +187,10 @@ class Tests:
 
     def random_case(self, chance, ranks):
         """A network with items, a cut, room and `take`. In half of them a channel grows."""
-        text, items = random_networks.network(chance)
+        text, items = random_network(chance)
         if chance.random() < 0.5:
             while not self.grows(text, items):
-                text, items = random_networks.network(chance)
+                text, items = random_network(chance)
             cut = {name: chance.randrange(ranks) for name in instances_of(text)}
             return text, items, cut, 1, None
         cut = {name: chance.randrange(ranks) for name in instances_of(text)} if chance.random() < 0.8 else None
