@@ -74,7 +74,7 @@ static void tell(kpn_session *session, told *out) {
   SAY(out, "states %" PRIu32, kpn_tell_processes(session, states, MOST_PARTS, &count));
   for (size_t p = 0; p < count; p++) SAY(out, " %" PRIu32 ":%zu", states[p].state, states[p].channel);
   for (size_t c = 0; kpn_tell_channel(session, c, &channel) == KPN_OK; c++) {
-    SAY(out, " [%zd %zd %zu %zu %d %d", channel.writer, channel.reader, channel.got, channel.unread,
+    SAY(out, " [%zu %zu %zu %zu %d %d", channel.writer, channel.reader, channel.got, channel.unread,
         channel.is_closed, channel.is_left);
     SAY(out, " %" PRIu32, kpn_look(session, c, items, MOST_SHOWN, &count));
     for (size_t k = 0; k < count; k++) SAY(out, " %" PRId64, items[k]);

@@ -45,6 +45,7 @@
      - A session is used by one thread at a time, and not from a signal handler.
      - `kpn_open` begins with a `kpn_session` that is not open, or that was freed. You neither write to it nor use a
        copy of it once it was freed. `kpn_free` ends it.
+     - A call has 144 KiB of stack. What the deepest description needs is measured, not proved.
      - A pointer points to as many elements as the length beside it says. The buffers that a call writes do not overlap,
        and do not overlap what it reads.
      - malloc, realloc and free come from one allocator, which aligns a block to each power of two up to 16 that divides

@@ -85,9 +85,10 @@ std::string told_text(Call call) {
   std::string text;
   std::size_t length = 0;
   auto fault = call(nullptr, std::size_t{0}, &length);
-  if (fault == KPN_TOO_SMALL) {
+  while (fault == KPN_TOO_SMALL) {
     text.resize(length);
     fault = call(text.data(), text.size(), &length);
+    if (fault == KPN_OK) text.resize(length); // with memory refused before, it may have been another text
   }
   check_fault(fault);
   return text;

@@ -7,16 +7,16 @@
 #include <stdint.h>
 
 /* A list of words of 64 bits. */
-typedef struct {
+struct kpn_words {
   int64_t *at;
   size_t count, room;
-} words;
+};
 
 /* A text that grows. It ends with a 0, which its length does not count. */
-typedef struct {
+struct kpn_text {
   char *at;
   size_t length, room;
-} text;
+};
 
 /* The statuses that docs/ERRORS.md has, and those of kpn-mpi alone. */
 enum {
@@ -32,33 +32,35 @@ enum {
 };
 
 /* Ends this rank and all others with a status. The program says how. */
-extern void (*end_all)(int status);
+extern void (*kpn_end_all)(int status);
 
 /* Writes a line to standard error, and ends all ranks. */
-_Noreturn void give_up(int status, const char *format, ...);
+_Noreturn void kpn_give_up(int status, const char *format, ...);
 
 /* Called now and then by what takes long. The program says what that does. */
-extern void (*still_here)(void);
+extern void (*kpn_still_here)(void);
 
 /* Ends all ranks if a call of libkpn has returned a fault. */
-void expect(uint32_t fault, const char *call);
+void kpn_expect(uint32_t fault, const char *call);
 
 /* Memory that is there: all ranks end if there is none. */
-void *memory(size_t size);
+void *kpn_memory(size_t size);
 
 /* Makes a list longer by so many words, and returns the place of the first one. */
-int64_t *extend(words *list, size_t count);
-void append(words *list, int64_t word);
-void empty(words *list);
-void free_words(words *list);
+int64_t *kpn_extend(struct kpn_words *list, size_t count);
+void kpn_append(struct kpn_words *list, int64_t word);
+void kpn_empty(struct kpn_words *list);
+void kpn_free_words(struct kpn_words *list);
 
 /* Makes a text longer by so many bytes, and returns the place of the first one. */
-char *extend_text(text *into, size_t count);
-void print_to(text *into, const char *format, ...);
-void free_text(text *of);
+char *kpn_extend_text(struct kpn_text *into, size_t count);
+/* Appends bytes as they are: a comment of a description may have a 0 in it. */
+void kpn_add_bytes(struct kpn_text *into, const char *at, size_t count);
+void kpn_print_to(struct kpn_text *into, const char *format, ...);
+void kpn_free_text(struct kpn_text *of);
 
 /* Writes a number where there is room for MOST_DIGITS bytes, and returns the place behind it. */
 enum { MOST_DIGITS = 20 };
-char *print_number(char *at, int64_t number);
+char *kpn_print_number(char *at, int64_t number);
 
 #endif

@@ -11,9 +11,9 @@
 
 enum { LARGEST_FILE = 268435456 };
 
-static const refusal NOTHING, CANT_READ = {26, false, 0}, CANT_WRITE = {27, false, 0};
+static const struct kpn_refusal NOTHING, CANT_READ = {26, false, 0}, CANT_WRITE = {27, false, 0};
 
-int tell_refusal(refusal of) {
+int kpn_tell_refusal(struct kpn_refusal of) {
   if (of.number == NO_OUTPUT) {
     fputs("kpn: usage: " NO_OUTPUT_TEXT "\n", stderr);
     return STATUS_USAGE;
@@ -21,18 +21,22 @@ int tell_refusal(refusal of) {
   static const char *const names[] = {[25] = "BadItem", [26] = "Read", [27] = "Write"};
   const bool is_of_files = of.number >= 25 && of.number <= 27;
   fprintf(stderr, "kpn: %u %s", of.number, is_of_files ? names[of.number] : kpn_fault_name(of.number));
-  if (of.has_place) fprintf(stderr, " at %zu", of.place);
+  if (of.has_place) {
+    fprintf(stderr, " at %zu", of.place);
+  }
   fputc('\n', stderr);
   return of.number == KPN_NO_MEMORY || of.number == KPN_TEXT_NO_MEMORY ? STATUS_NO_MEMORY : STATUS_REFUSED;
 }
 
-refusal read_file(const char *path, size_t most, text *into) {
+struct kpn_refusal kpn_read_file(const char *path, size_t most, struct kpn_text *into) {
   enum { PIECE = 65536 };
   size_t count = 1;
   FILE *file = fopen(path, "rb");
-  if (!file) return CANT_READ;
+  if (!file) {
+    return CANT_READ;
+  }
   while (count && into->length <= most) {
-    count = fread(extend_text(into, PIECE), 1, PIECE, file);
+    count = fread(kpn_extend_text(into, PIECE), 1, PIECE, file);
     into->length -= PIECE - count;
   }
   into->at[into->length] = 0;
@@ -45,22 +49,28 @@ refusal read_file(const char *path, size_t most, text *into) {
 static bool read_item(const char *at, const char *end, int64_t *item) {
   const bool is_negative = at < end && *at == '-';
   at += is_negative;
-  if (at == end || end - at > 19) return false;
+  if (at == end || end - at > 19) {
+    return false;
+  }
   uint64_t found = 0;
   for (; at < end; at++) {
-    if (*at < '0' || *at > '9') return false;
+    if (*at < '0' || *at > '9') {
+      return false;
+    }
     found = 10 * found + (uint64_t)(*at - '0');
   }
-  if (found > (uint64_t)INT64_MAX + is_negative) return false;
+  if (found > (uint64_t)INT64_MAX + is_negative) {
+    return false;
+  }
   *item = is_negative ? (int64_t)(0 - found) : (int64_t)found;
   return true;
 }
 
-refusal read_items(const char *path, words *into) {
-  text read = {0};
-  refusal refused = read_file(path, LARGEST_FILE, &read);
+struct kpn_refusal kpn_read_items(const char *path, struct kpn_words *into) {
+  struct kpn_text read = {0};
+  struct kpn_refusal refused = kpn_read_file(path, LARGEST_FILE, &read);
   if (refused.number) {
-    free_text(&read);
+    kpn_free_text(&read);
     return refused;
   }
   const char *end = read.at + read.length;
@@ -68,57 +78,71 @@ refusal read_items(const char *path, words *into) {
   for (const char *at = read.at; !refused.number && at < end; line++) {
     const char *stop = memchr(at, '\n', (size_t)(end - at)), *last = stop ? stop : end;
     int64_t item = 0;
-    if (stop && last > at && last[-1] == '\r') last--;
-    if (!read_item(at, last, &item)) refused = (refusal){25, true, line + 1};
-    append(into, item);
+    if (stop && last > at && last[-1] == '\r') {
+      last--;
+    }
+    if (!read_item(at, last, &item)) {
+      refused = (struct kpn_refusal){25, true, line + 1};
+    }
+    kpn_append(into, item);
     at = stop ? stop + 1 : end;
   }
-  free_text(&read);
+  kpn_free_text(&read);
   return refused;
 }
 
-refusal open_output(const char *path, output *made) {
-  *made = (output){.name = path};
+struct kpn_refusal kpn_open_output(const char *path, struct kpn_file *made) {
+  *made = (struct kpn_file){.name = path};
   return kpn_file_prepare(made) ? NOTHING : CANT_WRITE;
 }
 
-bool write_items(FILE *file, char before, const int64_t *items, size_t count, char behind) {
+bool kpn_write_items(FILE *file, char before, const int64_t *items, size_t count, char behind) {
   enum { AT_ONCE = 256 };
   char buffer[AT_ONCE * (MOST_DIGITS + 2)];
   for (size_t done = 0; done < count;) {
     char *at = buffer;
     for (size_t k = 0; k < AT_ONCE && done < count; k++) {
-      if (before) *at++ = before;
-      at = print_number(at, items[done++]);
-      if (behind) *at++ = behind;
+      if (before) {
+        *at++ = before;
+      }
+      at = kpn_print_number(at, items[done++]);
+      if (behind) {
+        *at++ = behind;
+      }
     }
-    if (fwrite(buffer, 1, (size_t)(at - buffer), file) != (size_t)(at - buffer)) return false;
-    still_here();
+    if (fwrite(buffer, 1, (size_t)(at - buffer), file) != (size_t)(at - buffer)) {
+      return false;
+    }
+    kpn_still_here();
   }
   return true;
 }
 
-refusal store_items(output *to, const int64_t *items, size_t count) {
+struct kpn_refusal kpn_store_items(struct kpn_file *to, const int64_t *items, size_t count) {
   FILE *file = fdopen(dup(to->to), "w");
-  bool works = file && write_items(file, 0, items, count, '\n');
-  if (file) works = !fclose(file) && works;
-  return works && kpn_file_store(to) ? NOTHING : CANT_WRITE;
-}
-
-refusal store_text(output *to, const text *of) {
-  enum { PIECE = 65536 };
-  bool works = true;
-  for (size_t done = 0; works && done < of->length; done += PIECE) {
-    works = kpn_file_write(to, of->at + done, of->length - done < PIECE ? of->length - done : PIECE);
-    still_here();
+  bool works = file && kpn_write_items(file, 0, items, count, '\n');
+  if (file) {
+    works = !fclose(file) && works;
   }
   return works && kpn_file_store(to) ? NOTHING : CANT_WRITE;
 }
 
-refusal remove_old(const output *of) {
-  return !of->target || !unlink(of->target) || errno == ENOENT ? NOTHING : CANT_WRITE;
+struct kpn_refusal kpn_store_text(struct kpn_file *to, const struct kpn_text *of) {
+  enum { PIECE = 65536 };
+  bool works = true;
+  for (size_t done = 0; works && done < of->length; done += PIECE) {
+    works = kpn_file_write(to, of->at + done, of->length - done < PIECE ? of->length - done : PIECE);
+    kpn_still_here();
+  }
+  return works && kpn_file_store(to) ? NOTHING : CANT_WRITE;
 }
 
-refusal make_folder(const char *path) {
+void kpn_remove_old(const struct kpn_file *of) {
+  if (of->target) {
+    unlink(of->target);
+  }
+}
+
+struct kpn_refusal kpn_make_folder(const char *path) {
   return !mkdir(path, 0777) || errno == EEXIST ? NOTHING : CANT_WRITE;
 }

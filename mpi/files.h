@@ -8,38 +8,37 @@
 #include "common.h"
 
 /* What is refused, as `kpn` reports it: its number is 0 if nothing is. */
-typedef struct {
+struct kpn_refusal {
   unsigned number;
   bool has_place;
   size_t place;
-} refusal;
+};
 
 /* The number of an OUT that is an input or another output. It is told as a wrong word. */
 enum { NO_OUTPUT = 1000 };
 #define NO_OUTPUT_TEXT "--sink NAME=OUT, a file that is no input and no other output"
 
 /* Writes the line of a refusal to standard error, and returns the status. */
-int tell_refusal(refusal of);
+int kpn_tell_refusal(struct kpn_refusal of);
 
 /* Reads a file of at most `most` bytes. */
-refusal read_file(const char *path, size_t most, text *into);
+struct kpn_refusal kpn_read_file(const char *path, size_t most, struct kpn_text *into);
 
 /* Reads an item file. */
-refusal read_items(const char *path, words *into);
+struct kpn_refusal kpn_read_items(const char *path, struct kpn_words *into);
 
 /* Writes items, with a character before and behind each if it is not 0. Returns whether that worked. */
-bool write_items(FILE *file, char before, const int64_t *items, size_t count, char behind);
+bool kpn_write_items(FILE *file, char before, const int64_t *items, size_t count, char behind);
 
 /* A file that is stored whole or not at all, unless OUT is a device. It keeps the path. */
-typedef struct kpn_file output;
 
-refusal open_output(const char *path, output *made);
-refusal store_items(output *to, const int64_t *items, size_t count);
-refusal store_text(output *to, const text *of);
+struct kpn_refusal kpn_open_output(const char *path, struct kpn_file *made);
+struct kpn_refusal kpn_store_items(struct kpn_file *to, const int64_t *items, size_t count);
+struct kpn_refusal kpn_store_text(struct kpn_file *to, const struct kpn_text *of);
 
-/* Removes what an earlier run has stored in the place of an open output. */
-refusal remove_old(const output *of);
+/* Removes what an earlier run has stored in the place of an open output, if it can. */
+void kpn_remove_old(const struct kpn_file *of);
 
-refusal make_folder(const char *path);
+struct kpn_refusal kpn_make_folder(const char *path);
 
 #endif

@@ -25,8 +25,8 @@ enum {
 enum { HEAD = 3 };
 
 /* Appends a frame with room for so many words, and returns the place of the first one. */
-static inline int64_t *add_frame(words *message, int64_t kind, int64_t number, size_t count) {
-  int64_t *at = extend(message, HEAD + count);
+static inline int64_t *kpn_add_frame(struct kpn_words *message, int64_t kind, int64_t number, size_t count) {
+  int64_t *at = kpn_extend(message, HEAD + count);
   at[0] = kind;
   at[1] = number;
   at[2] = (int64_t)count;

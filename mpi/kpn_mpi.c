@@ -19,97 +19,106 @@ enum { ROUNDS_BEFORE_YIELD = 100, ROUNDS_BEFORE_NAP = 2000, NAP_IN_NANOSECONDS =
 static void tell_of_end(int signal) {
   static const char line[] = "kpn-mpi: the run was ended from outside: a rank has died, or somebody has ended it\n";
   (void)signal;
-  if (write(STDERR_FILENO, line, sizeof line - 1) < 0) _exit(STATUS_RANK_DIED);
+  if (write(STDERR_FILENO, line, sizeof line - 1) < 0) {
+    _exit(STATUS_RANK_DIED);
+  }
   _exit(STATUS_RANK_DIED);
 }
 
 static void rest(int *rounds) {
   static const struct timespec nap = {0, NAP_IN_NANOSECONDS};
-  if (++*rounds > ROUNDS_BEFORE_NAP)
+  if (++*rounds > ROUNDS_BEFORE_NAP) {
     nanosleep(&nap, NULL);
-  else if (*rounds > ROUNDS_BEFORE_YIELD)
+  } else if (*rounds > ROUNDS_BEFORE_YIELD) {
     sched_yield();
+  }
 }
 
 /* ---- the texts, from rank 0 to the others */
 
-static void add_text(words *message, int64_t kind, const text *of) {
-  int64_t *at = add_frame(message, kind, (int64_t)of->length, (of->length + 7) / 8);
-  if (!of->length) return;
+static void add_text(struct kpn_words *message, int64_t kind, const struct kpn_text *of) {
+  int64_t *at = kpn_add_frame(message, kind, (int64_t)of->length, (of->length + 7) / 8);
+  if (!of->length) {
+    return;
+  }
   at[(of->length - 1) / 8] = 0; /* no byte is unset */
   memcpy(at, of->at, of->length);
 }
 
-static void send_texts(transport *over, const plan *of, int ranks, bool is_refused) {
+static void send_texts(struct kpn_transport *over, const struct kpn_plan *of, int ranks, bool is_refused) {
   for (int other = 1; other < ranks; other++) {
-    words message = {0};
-    if (is_refused)
-      add_frame(&message, FRAME_GO, 1, 0);
-    else
-      add_text(&message, FRAME_TEXT, &of->description), add_text(&message, FRAME_CUT, &of->cut_lines);
+    struct kpn_words message = {0};
+    if (is_refused) {
+      kpn_add_frame(&message, FRAME_GO, 1, 0);
+    } else {
+      add_text(&message, FRAME_TEXT, &of->description);
+      add_text(&message, FRAME_CUT, &of->cut_lines);
+    }
     over->send(over, other, &message);
-    free_words(&message);
+    kpn_free_words(&message);
   }
 }
 
-static void read_text(text *into, const int64_t *frame) {
+static void read_text(struct kpn_text *into, const int64_t *frame) {
   const size_t length = (size_t)frame[1];
-  into->at = memory(length + 1);
+  into->at = kpn_memory(length + 1);
   memcpy(into->at, frame + HEAD, length);
   into->length = length;
 }
 
 /* Waits for the texts. Returns false if rank 0 has refused them. */
-static bool hear_texts(transport *over, plan *into) {
-  words message = {0};
+static bool hear_texts(struct kpn_transport *over, struct kpn_plan *into) {
+  struct kpn_words message = {0};
   int from, rounds = 0;
-  while (!over->receive(over, &from, &message)) rest(&rounds);
+  while (!over->receive(over, &from, &message)) {
+    rest(&rounds);
+  }
   const bool is_right = message.at[0] == FRAME_TEXT;
   if (is_right) {
     read_text(&into->description, message.at);
     read_text(&into->cut_lines, message.at + HEAD + message.at[2]);
   }
-  free_words(&message);
+  kpn_free_words(&message);
   return is_right;
 }
 
 /* ---- the run */
 
-static rank *only; /* in this process */
+static struct kpn_rank *only; /* in this process */
 
 static void beat_here(void) {
-  beat(only);
+  kpn_beat(only);
 }
 
-static int run_place(const plan *of, int number, transport *over) {
+static int run_site(const struct kpn_plan *of, int number, struct kpn_transport *over) {
   int rounds = 0;
-  place *made = memory(sizeof *made);
+  struct kpn_site *made = kpn_memory(sizeof *made);
   only = &made->rank;
-  still_here = beat_here;
-  open_place(made, of, number, over);
-  while (made->rank.phase == STARTING || made->rank.phase == WORKING) {
-    if (make_round(&made->rank))
+  kpn_still_here = beat_here;
+  kpn_open_site(made, of, number, over);
+  while (made->rank.phase != REFUSED && !kpn_is_over(&made->rank)) {
+    if (kpn_make_round_at(made)) {
       rounds = 0;
-    else
+    } else {
       rest(&rounds);
+    }
   }
-  if (made->rank.phase == ENDING) store_place(made);
-  while (made->rank.phase == ENDING && !is_over(&made->rank))
-    if (!make_round(&made->rank)) rest(&rounds);
-  const int status = number ? 0 : report_run(made);
-  close_place(made);
+  const int status = number ? 0 : kpn_report_run(made);
+  kpn_close_site(made);
   free(made);
   return status;
 }
 
 static int run(int count, char **given) {
   int number, ranks;
-  options asked;
-  plan *made = memory(sizeof *made);
-  transport *over = open_transport(&count, &given, &number, &ranks);
-  int status = read_options(count, given, number == 0, &asked) ? 0 : STATUS_USAGE;
+  struct kpn_options asked;
+  struct kpn_plan *made = kpn_memory(sizeof *made);
+  struct kpn_transport *over = kpn_open_transport(&count, &given, &number, &ranks);
+  int status = kpn_read_options(RUN, count, given, number == 0, &asked) ? 0 : STATUS_USAGE;
   if (!status && ranks > MOST_RANKS) {
-    if (!number) fprintf(stderr, "kpn: usage: at most %d ranks\n", MOST_RANKS);
+    if (!number) {
+      fprintf(stderr, "kpn: usage: at most %d ranks\n", MOST_RANKS);
+    }
     status = STATUS_USAGE;
   }
   signal(SIGTERM, tell_of_end);
@@ -117,24 +126,24 @@ static int run(int count, char **given) {
     asked.ranks = ranks;
     made->options = &asked;
     if (number == 0) {
-      status = load_plan(made, &asked);
+      status = kpn_load_plan(made, &asked);
       send_texts(over, made, ranks, status != 0);
     } else if (!hear_texts(over, made)) {
       status = STATUS_REFUSED;
     }
   }
   if (!status) {
-    lay_out(made, ranks);
-    status = run_place(made, number, over);
+    kpn_lay_out(made, ranks);
+    status = run_site(made, number, over);
   }
   /* The run is over. A status of rank 0 makes Open MPI end the others, if they are slower to go. */
   signal(SIGTERM, SIG_IGN);
-  close_transport(over);
-  free_plan(made);
-  free_options(&asked);
+  kpn_close_transport(over);
+  kpn_free_plan(made);
+  kpn_free_options(&asked);
   return number ? 0 : status;
 }
 
 int main(int count, char **given) {
-  return count > 1 && !strcmp(given[1], "plan") ? show_plan(count, given) : run(count, given);
+  return kpn_asks_for_plan(count, given) ? kpn_show_plan(count, given) : run(count, given);
 }

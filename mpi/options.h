@@ -5,30 +5,35 @@
 #include "rank.h"
 
 /* NAME=FILE */
-typedef struct {
+struct kpn_named_file {
   const char *name, *file;
   size_t length; /* of the name */
-} named_file;
+};
 
-typedef struct {
-  const char *command;  /* `run`, `plan` or `simulate` */
+/* What a program does: a run over MPI, the plan of one, or one in the simulator. Each option goes with some of them. */
+enum kpn_command { RUN = 1, PLAN = 2, SIMULATION = 4 };
+
+struct kpn_options {
   const char *file, *cut, *traces;
-  named_file *sources, *sinks;
+  struct kpn_named_file *sources, *sinks;
   size_t source_count, sink_count;
   size_t room;
-  int ranks;            /* of `plan` and `simulate`; 0 if it is not given */
+  int ranks; /* of `plan` and `simulate`; 0 if it is not given */
   unsigned long seed;
-  settings settings;
-} options;
+  struct kpn_settings settings;
+};
 
-/* Reads the words. If they are wrong it writes a line, if `tells`, and returns false. */
-bool read_options(int count, char **given, bool tells, options *into);
-void free_options(options *of);
+/* Whether the words ask for a plan. */
+bool kpn_asks_for_plan(int count, char **given);
+
+/* Reads the words of a command. If they are wrong it writes a line, if `tells`, and returns false. */
+bool kpn_read_options(enum kpn_command of, int count, char **given, bool tells, struct kpn_options *into);
+void kpn_free_options(struct kpn_options *of);
 
 /* Whether a file, or the part file beside it, is one that the run reads, by any name of that. */
-bool is_input(const options *of, const char *path);
+bool kpn_is_input(const struct kpn_options *of, const char *path);
 
 /* Whether the file of a sink, or the part file beside it, is an input or another output, by any names of them. */
-bool has_no_output(const options *of);
+bool kpn_has_no_output(const struct kpn_options *of);
 
 #endif

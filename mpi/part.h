@@ -8,35 +8,36 @@
 
 enum { NOWHERE = -1 };
 
-typedef struct {
-  const network *net;
-  const cut *cut;
+struct kpn_part {
+  const struct kpn_network *net;
+  const struct kpn_cut *cut;
   int rank;
-  bool keeps;                        /* whether it keeps its history, which a growth and a trace want */
-  size_t channels[MOST_CHANNELS];    /* its channels by their numbers in the whole */
+  bool keeps;                     /* whether it keeps its history, which a growth and a trace want */
+  size_t channels[MOST_CHANNELS]; /* its channels by their numbers in the whole */
   size_t instances[MOST_INSTANCES];
   size_t channel_count, instance_count;
-  int local[MOST_CHANNELS];          /* the number in the part by the one in the whole, or NOWHERE */
-  size_t caps[MOST_CHANNELS];        /* the capacities at which the session was opened, by number in the whole */
+  int local[MOST_CHANNELS];   /* the number in the part by the one in the whole, or NOWHERE */
+  size_t caps[MOST_CHANNELS]; /* the capacities at which the session was opened, by number in the whole */
   kpn_session session;
-} part;
+};
 
 /* Opens the part of a rank. */
-void open_part(part *made, const network *net, const cut *of, int rank, bool keeps);
-void close_part(part *of);
+void kpn_open_part(struct kpn_part *made, const struct kpn_network *net, const struct kpn_cut *of, int rank,
+                   bool keeps);
+void kpn_close_part(struct kpn_part *of);
 
 /* Whether the part writes this sink: one of the network or a cut channel. */
-bool is_sink_of(const part *of, size_t channel);
+bool kpn_is_sink_of(const struct kpn_part *of, size_t channel);
 
 /* The part as a description. */
-void print_part(const part *of, text *into);
+void kpn_print_part(const struct kpn_part *of, struct kpn_text *into);
 
 /* What has happened in the part, as `kpn audit` reads it. The part has to keep its history. */
-void print_trace(part *of, text *into);
+void kpn_print_trace(struct kpn_part *of, struct kpn_text *into);
 
 /* Gives a channel more room: opens the part anew at the capacities of now, and does all again that the outside had
    done, each thing only once the part has put on its sinks and got from its sources as much as it had before. So nobody
    outside can tell. */
-void grow_part(part *of, size_t channel, size_t cap);
+void kpn_grow_part(struct kpn_part *of, size_t channel, size_t cap);
 
 #endif

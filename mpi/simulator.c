@@ -4,78 +4,88 @@
    channel ever holds more than its capacity. */
 #include <stdio.h>
 #include <stdlib.h>
-#include <string.h>
 
 #include "run.h"
 #include "transport_wires.h"
 
 /* Looks whether each cut channel that was not left holds no more than its capacity. */
-static void look_at_capacities(place **places, const plan *of) {
+static void look_at_capacities(struct kpn_site **sites, const struct kpn_plan *of) {
   for (size_t c = 0; c < of->net.channel_count; c++) {
-    if (!is_cut(&of->net, &of->cut, c)) continue;
-    part *first = &places[of->cut.rank_of[of->net.channels[c].writer]]->rank.part;
-    part *second = &places[of->cut.rank_of[of->net.channels[c].reader]]->rank.part;
+    if (!kpn_is_cut(&of->net, &of->cut, c)) {
+      continue;
+    }
+    struct kpn_part *first = &sites[of->cut.rank_of[of->net.channels[c].writer]]->rank.part;
+    struct kpn_part *second = &sites[of->cut.rank_of[of->net.channels[c].reader]]->rank.part;
     kpn_channel_state here, there;
-    expect(kpn_tell_channel(&first->session, (size_t)first->local[c], &here), "kpn_tell_channel");
-    expect(kpn_tell_channel(&second->session, (size_t)second->local[c], &there), "kpn_tell_channel");
-    if (!here.is_left && !there.is_left && here.got + here.unread > there.got + first->caps[c])
-      give_up(STATUS_WRONG, "kpn-mpi: a channel holds more than its capacity");
+    kpn_expect(kpn_tell_channel(&first->session, (size_t)first->local[c], &here), "kpn_tell_channel");
+    kpn_expect(kpn_tell_channel(&second->session, (size_t)second->local[c], &there), "kpn_tell_channel");
+    if (!here.is_left && !there.is_left && here.got + here.unread > there.got + first->caps[c]) {
+      kpn_give_up(STATUS_WRONG, "kpn-mpi: a channel holds more than its capacity");
+    }
   }
 }
 
 /* Lets a random rank make a round. */
-static void go_on(place **places, const plan *of, uint64_t *state) {
-  place *next = places[chance(state, (unsigned long)of->cut.ranks)];
-  rank *at = &next->rank;
-  if (at->phase == REFUSED) return;
-  make_round(at);
-  if (at->phase == ENDING && !at->has_results) store_place(next);
+static void go_on(struct kpn_site **sites, const struct kpn_plan *of, uint64_t *state) {
+  struct kpn_site *next = sites[kpn_chance(state, (unsigned long)of->cut.ranks)];
+  if (next->rank.phase != REFUSED) {
+    kpn_make_round_at(next);
+  }
 }
 
-static bool are_over(place **places, int ranks) {
-  for (int k = 0; k < ranks; k++)
-    if (places[k]->rank.phase != REFUSED && !is_over(&places[k]->rank)) return false;
+static bool are_over(struct kpn_site **sites, int ranks) {
+  for (int k = 0; k < ranks; k++) {
+    if (sites[k]->rank.phase != REFUSED && !kpn_is_over(&sites[k]->rank)) {
+      return false;
+    }
+  }
   return true;
 }
 
-static int simulate(const plan *of) {
+static int simulate(const struct kpn_plan *of) {
   const int ranks = of->cut.ranks;
   uint64_t state = of->options->seed ^ 0x5DEECE66Du;
-  place **places = memory((size_t)ranks * sizeof *places);
-  transport **ends = open_wires(ranks, of->options->seed);
-  for (int k = 0; k < ranks; k++) open_place(places[k] = memory(sizeof **places), of, k, ends[k]);
-  while (!are_over(places, ranks)) {
-    go_on(places, of, &state);
-    look_at_capacities(places, of);
-  }
-  const int status = report_run(places[0]);
+  struct kpn_site **sites = kpn_memory((size_t)ranks * sizeof *sites);
+  struct kpn_transport **ends = kpn_open_wires(ranks, of->options->seed);
   for (int k = 0; k < ranks; k++) {
-    close_place(places[k]);
-    free(places[k]);
+    kpn_open_site(sites[k] = kpn_memory(sizeof **sites), of, k, ends[k]);
   }
-  close_wires(ends, ranks);
-  free(places);
+  while (!are_over(sites, ranks)) {
+    go_on(sites, of, &state);
+    look_at_capacities(sites, of);
+  }
+  const int status = kpn_report_run(sites[0]);
+  for (int k = 0; k < ranks; k++) {
+    kpn_close_site(sites[k]);
+    free(sites[k]);
+  }
+  kpn_close_wires(ends, ranks);
+  free(sites);
   return status;
 }
 
 static int run(int count, char **given) {
-  options asked;
-  plan *made = memory(sizeof *made);
-  int status = read_options(count, given, true, &asked) ? 0 : STATUS_USAGE;
-  if (!asked.ranks) asked.ranks = 1;
+  struct kpn_options asked;
+  struct kpn_plan *made = kpn_memory(sizeof *made);
+  int status = kpn_read_options(SIMULATION, count, given, true, &asked) ? 0 : STATUS_USAGE;
+  if (!asked.ranks) {
+    asked.ranks = 1;
+  }
   uint64_t state = asked.seed;
-  asked.settings.steps = 1 + chance(&state, 1 + chance(&state, 100));
-  asked.settings.window = 1 + chance(&state, 1 + chance(&state, 20));
-  if (!status) status = load_plan(made, &asked);
+  asked.settings.steps = 1 + kpn_chance(&state, 1 + kpn_chance(&state, 100));
+  asked.settings.window = 1 + kpn_chance(&state, 1 + kpn_chance(&state, 20));
   if (!status) {
-    lay_out(made, asked.ranks);
+    status = kpn_load_plan(made, &asked);
+  }
+  if (!status) {
+    kpn_lay_out(made, asked.ranks);
     status = simulate(made);
   }
-  free_plan(made);
-  free_options(&asked);
+  kpn_free_plan(made);
+  kpn_free_options(&asked);
   return status;
 }
 
 int main(int count, char **given) {
-  return count > 1 && !strcmp(given[1], "plan") ? show_plan(count, given) : run(count, given);
+  return kpn_asks_for_plan(count, given) ? kpn_show_plan(count, given) : run(count, given);
 }

@@ -32,6 +32,7 @@ import time
 TOP = pathlib.Path(__file__).resolve().parent.parent
 sys.path += [str(TOP / 'bench/stress'), str(TOP / 'python')]
 
+import random_cells  # noqa: E402
 import random_networks  # noqa: E402
 from kpn import mpi, program  # noqa: E402
 from kpn.errors import KpnError  # noqa: E402
@@ -70,6 +71,16 @@ def declared(kind, text):
 
 def instances_of(text):
     return re.findall(r'^\s*(\w+) = \w+\(', text.partition('network')[2], re.M)
+
+
+def random_network(chance):
+    """The text of a network, one in five of language 2, with items. In half of them capacities are up to 64."""
+    text, items = (random_cells if chance.random() < 0.2 else random_networks).network(chance)
+    head, network, body = text.rpartition('network {')
+    body = body.replace('; ', ';\n').replace(' source', '\nsource', 1)
+    if chance.random() < 0.5 and 'limit' not in body:
+        body = re.sub(r' cap \d+;', lambda _: f' cap {chance.randint(1, 64)};', body)
+    return head + network + body, items
 
 
 def same(what, wanted, found):
@@ -176,10 +187,10 @@ class Tests:
 
     def random_case(self, chance, ranks):
         """A network with items, a cut, room and `take`. In half of them a channel grows."""
-        text, items = random_networks.network(chance)
+        text, items = random_network(chance)
         if chance.random() < 0.5:
             while not self.grows(text, items):
-                text, items = random_networks.network(chance)
+                text, items = random_network(chance)
             cut = {name: chance.randrange(ranks) for name in instances_of(text)}
             return text, items, cut, 1, None
         cut = {name: chance.randrange(ranks) for name in instances_of(text)} if chance.random() < 0.8 else None
@@ -234,6 +245,15 @@ class Tests:
             same(word, (2, '', True), (status, out, error.startswith('kpn: usage: ')))
         for folder in ('nothing/traces', 'net.kpn'):
             same(folder, (1, '', 'kpn: 27 Write\n'), self.over_ranks(2, 'net.kpn', '--traces', folder))
+        # An option goes with its commands, and once.
+        for words in (['--ranks', '2'], ['--seed', '1'], ['--take', '1', '--take', '2'], ['--room=1', '--room=2']):
+            same(f'{words}', (2, ''), self.over_ranks(2, 'net.kpn', *words)[:2])
+        for words in ([], ['--ranks', '2', '--seed', '1'], ['--ranks', '2', '--take', '1']):
+            same(f'plan {words}', (2, ''), self.call(self.mpi, 'plan', 'net.kpn', *words)[:2])
+        with open('/dev/full', 'w') as full:
+            done = subprocess.run([self.mpi, 'plan', 'net.kpn', '--ranks', '2'], cwd=self.room, stdout=full,
+                                  stderr=subprocess.PIPE, env=ENVIRONMENT)
+        same('a full disk', (1, b'kpn: 27 Write\n'), (done.returncode, done.stderr))
 
     def names(self):
         """An output that is an input or another output by any name is refused, and all files stay."""
@@ -295,8 +315,57 @@ class Tests:
             same('other traces', (True, []), ((self.room / f'kept/rank-{1 - number}.trace').is_file(),
                                               list((self.room / 'kept').glob('*.kpn-part'))))
 
+    def trace_names(self):
+        """No sink has the name of a trace, and a run that is refused keeps the traces of an earlier one."""
+        words = ['net.kpn', '--cut', 'chosen', '--source', 'x=items', '--traces', 'kept']
+        wrong = 'kpn: usage: --sink NAME=OUT, a file that is no input and no other output\n'
+        names = [f'rank-{rank}.{ending}' for rank in (0, 1) for ending in ('trace', 'kpn')]
+        shutil.rmtree(self.room / 'kept', ignore_errors=True)
+        (self.room / 'by').symlink_to('kept')
+        for name in [*names, 'cut', 'ranks']:
+            for sink, out in (('y', f'kept/{name}'), ('z', f'./by/{name}'), ('z', f'kept/{name}.kpn-part')):
+                same(out, (2, '', wrong), self.over_ranks(2, *words, '--sink', f'{sink}={out}'))
+        same('another name', '', self.over_ranks(2, *words, '--sink', 'y=kept/rank-2.trace')[2])
+        (self.room / 'kept/rank-2.trace').unlink()
+        stored = {name: (self.room / 'kept' / name).read_bytes() for name in [*names, 'cut', 'ranks']}
+        for more in (['--source', 'v=nothing'], ['--sink', 'y=nothing/out'], ['--sink', 'z=kept/rank-0.kpn']):
+            same(f'{more}', False, self.over_ranks(2, *words, *more)[0] == 0)
+            same('old traces', stored, {it.name: it.read_bytes() for it in (self.room / 'kept').iterdir()})
+        same('the cut of an earlier run', '', self.over_ranks(2, 'net.kpn', '--cut', 'kept/cut', '--traces', 'kept')[2])
+
+    def zero_bytes(self):
+        """A comment may have any byte in it."""
+        text = TWO.replace('process', '# \0\nprocess # a\0b \x80\n').replace('a = ', '# \0\n  a # \0\n = ')
+        (self.room / 'zero.kpn').write_bytes(text.encode('latin-1'))
+        words = ['zero.kpn', '--source', 'x=items']
+        wanted = self.call(self.kpn, 'run', *words)
+        same('a zero byte', wanted, self.over_ranks(2, *words, '--cut', 'chosen', '--traces', 'kept'))
+        same('its audit', 0, mpi.audit(self.room / 'zero.kpn', self.room / 'kept').status)
+
+    def held_back(self):
+        """What lies unread on a cut channel is sent by the end, also if it is more than goes at once."""
+        unread = COPIES.replace('c cap 1;', 'c cap 30000;').replace('b = copy(c; y)', 'b = late(v, c; y)').replace(
+            '  source x;', '  source x;\n  source v;').replace('process', """process late(in i, j; out o) {
+  while 1 {
+    read i x;
+    read j x;
+    write o x;
+  }
+}
+process""")
+        (self.room / 'unread.kpn').write_text(unread)
+        (self.room / 'many').write_text('1234567\n' * 20_000)
+        for count in ('', '1\n' * 3):
+            (self.room / 'few').write_text(count)
+            words = ['unread.kpn', '--source', 'x=many', '--source', 'v=few']
+            wanted = self.call(self.kpn, 'run', *words)
+            same('much unread', wanted, self.over_ranks(2, *words, '--traces', 'kept'))
+            found = mpi.audit(self.room / 'unread.kpn', self.room / 'kept')
+            same('its audit', (0, True), (found.status, found.is_exact))
+
     def slow_output(self):
         """A rank whose output takes longer than `--timeout` has to say that it is there."""
+        (self.room / 'net.kpn').write_text(TWO)
         (self.room / 'many').write_text('1234567\n' * 60_000)
         os.mkfifo(self.room / 'pipe')
         reads = 'import sys, time\nwith open("pipe", "rb") as file:\n while file.read(32768): time.sleep(0.4)'
@@ -354,6 +423,9 @@ class Tests:
         self.names()
         self.stored()
         self.traces()
+        self.trace_names()
+        self.zero_bytes()
+        self.held_back()
         self.slow_output()
         # MPICH kills the others too, and has a line of its own.
         self.stopped_rank(signal.SIGKILL, [], ('kpn-mpi: the run was ended', 'BAD TERMINATION'))

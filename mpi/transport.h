@@ -5,14 +5,13 @@
 #include "common.h"
 
 /* Messages from one rank to another come once, whole and in order. */
-typedef struct transport transport;
-struct transport {
+struct kpn_transport {
   /* Sends a message, and takes its words: an empty list is left. It does not wait. */
-  void (*send)(transport *over, int to, words *message);
+  void (*send)(struct kpn_transport *over, int to, struct kpn_words *message);
   /* Receives a message in place of what the list had, and returns whether one was there. It does not wait. */
-  bool (*receive)(transport *over, int *from, words *message);
+  bool (*receive)(struct kpn_transport *over, int *from, struct kpn_words *message);
   /* Seconds since some moment. */
-  double (*now)(transport *over);
+  double (*now)(struct kpn_transport *over);
 };
 
 #endif

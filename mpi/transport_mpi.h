@@ -5,9 +5,9 @@
 #include "transport.h"
 
 /* Starts MPI, and tells the number of this rank and how many there are. */
-transport *open_transport(int *argc, char ***argv, int *number, int *ranks);
+struct kpn_transport *kpn_open_transport(int *argc, char ***argv, int *number, int *ranks);
 
 /* Waits until all that was sent is on its way, and ends MPI. */
-void close_transport(transport *over);
+void kpn_close_transport(struct kpn_transport *over);
 
 #endif

@@ -5,10 +5,10 @@
 #include "transport.h"
 
 /* Makes a transport for each rank. `seed` decides which messages are held back, and for how long. */
-transport **open_wires(int ranks, unsigned long seed);
-void close_wires(transport **ends, int ranks);
+struct kpn_transport **kpn_open_wires(int ranks, unsigned long seed);
+void kpn_close_wires(struct kpn_transport **ends, int ranks);
 
 /* A random number below a bound. */
-unsigned long chance(uint64_t *state, unsigned long below);
+unsigned long kpn_chance(uint64_t *state, unsigned long below);
 
 #endif

@@ -22,6 +22,7 @@ import shutil
 import subprocess
 import sys
 import tempfile
+import threading
 import time
 
 import check
@@ -171,6 +172,18 @@ def check_headers():
         body = re.search(rf'typedef struct {{((?:(?!typedef).)*?)}} {other};', header, re.S).group(1)
         same(other, ours, [it.strip() for it in re.findall(r'^  ([\w *]+?)\w+;', body, re.M)])
     print('headers: as the exports')
+
+
+# The bytes of stack that a call has, and the levels of blocks and of expressions that a description has at most.
+STACK, LEVELS = 144 * 1024, 32
+
+
+def deepest():
+    """The description that needs the most stack."""
+    deeper = LEVELS - 1
+    value = f'{"(" * deeper}x{" + 1)" * deeper}'
+    return (f'process deep(out o) {{ {"if 1 { " * deeper}x = {value};{" } else { }" * deeper} write o x; }}\n'
+            'network { sink z cap 1; d = deep(; z); }\n').encode()
 
 
 def same(what, wanted, found):
@@ -525,6 +538,18 @@ class Tests:
             call('cc', *STRICT, '-o', self.room / name, TOP / f'examples/c/{name}.c', self.folder / 'libkpn.a')
             same(name, True, self.answer([self.room / name], [])[1].splitlines()[-1].startswith(last))
 
+    def stack(self):
+        """All calls on the deepest description in a thread that has no more stack than kpn.h says."""
+        said, text = [], deepest()
+        trace = str(self.room / 'deep.trace')
+        threading.stack_size(STACK)
+        thread = threading.Thread(target=lambda: said.append(self.python.go(text, trace, COMMITS, ['z'], [])))
+        threading.stack_size(0)
+        thread.start()
+        thread.join()
+        same('the deepest description', [f'sink 0 1 {LEVELS - 1}'], [it for it in said[0].splitlines() if it.startswith('sink 0')])
+        print(f'the deepest description: {STACK:,} bytes of stack are enough')
+
     def forever(self, steps=500_000):
         """A session that forgets takes no more memory with time, and one that keeps does."""
         call('cc', *STRICT, '-o', self.room / 'forever', TOP / 'c/forever.c', self.folder / 'libkpn.a')
@@ -584,6 +609,7 @@ def main():
             tests.told(chance)
             tests.moves_refused(chance)
             tests.wrapper()
+            tests.stack()
             tests.forever()
             tests.million()
 

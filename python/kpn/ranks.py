@@ -17,8 +17,12 @@ SETTINGS = {'OMPI_MCA_rmaps_base_oversubscribe': '1', 'OMPI_MCA_orte_execute_qui
 
 
 def find_mpi_program() -> str:
-    """The path of the program `kpn-mpi`: that of the variable KPN_MPI, of the repository, or of the PATH."""
-    for path in (os.environ.get(VARIABLE), str(BUILT), shutil.which('kpn-mpi')):
+    """The path of the program `kpn-mpi`: that of the variable KPN_MPI, of the repository, or of the PATH. Raises KpnError
+    if there is none, or if the variable names no program."""
+    named = os.environ.get(VARIABLE)
+    if named and (not os.access(named, os.X_OK) or os.path.isdir(named)):
+        raise KpnError(f'{named} is no program: that of {VARIABLE} has to be the program `kpn-mpi`')
+    for path in (named, str(BUILT), shutil.which('kpn-mpi')):
         if path and os.access(path, os.X_OK):
             return os.path.abspath(path)
     raise KpnError('there is no program `kpn-mpi`: build it by `make -C mpi` in the repository of Combrieks, or name '

@@ -131,6 +131,11 @@ class Ranks(unittest.TestCase):
         with mock.patch.dict(os.environ, {'PATH': ''}), self.assertRaisesRegex(kpn.KpnError, '`mpirun`'):
             ranks.runner_of(2, 'net.kpn')
 
+    def test_a_wrong_variable_is_refused(self):
+        for path in (str(self.folder), str(self.folder / 'nothing'), __file__):
+            with mock.patch.dict(os.environ, {'KPN_MPI': path}), self.assertRaisesRegex(kpn.KpnError, 'KPN_MPI'):
+                ranks.find_mpi_program()
+
 
 if __name__ == '__main__':
     unittest.main()
