@@ -2,6 +2,7 @@
 from __future__ import annotations
 
 import array
+import contextlib
 import fractions
 import importlib
 import numbers
@@ -38,6 +39,11 @@ def is_numpy(items: Any) -> bool:
     return hasattr(items, '__array_interface__')
 
 
+def unmasked(items: Any) -> Any:
+    """These items, but an array of NumPy with masked cells as a list, which has None there: that is no item."""
+    return items.tolist() if is_numpy(items) and numpy().ma.is_masked(items) else items
+
+
 def check_shape(source: str, items: Any) -> None:
     """Raises TypeError for an array that has not one dimension, and for a text or bytes, which may be meant as a name.
     """
@@ -65,6 +71,7 @@ def scaled(source: str, items: Any, scale: int) -> Any:
     An array of NumPy or of `array` becomes one of 64 bits, and anything else a list.
     """
     check_shape(source, items)
+    items = unmasked(items)
     if is_numpy(items) and items.dtype.name in EXACT:
         return scaled_array(source, items, scale)
     given = listed(source, items, 'numbers')
@@ -108,18 +115,19 @@ def exact_of(given: Any) -> fractions.Fraction:
     if hasattr(given, '__index__'):
         return fractions.Fraction(operator.index(given))
     if hasattr(given, 'as_integer_ratio'):
-        return fractions.Fraction(*map(int, given.as_integer_ratio()))
-    return fractions.Fraction(given if isinstance(given, numbers.Rational) else float(given))
+        above, below = given.as_integer_ratio()
+        return fractions.Fraction(int(above), int(below))
+    return fractions.Fraction(given) if isinstance(given, numbers.Rational) else fractions.Fraction(float(given))
 
 
 def array_of(sink: str, items: Sequence[int], dtype: Any, scale: int) -> Any:
     """The items of a sink as an array of NumPy, and raises what `Result.array` does."""
     np = numpy()
-    try:
-        # None would stand for float64.
-        kind = dtype if dtype is None else np.dtype(dtype)
-    except (TypeError, ValueError):
-        kind = None
+    kind: Any = None
+    # None would stand for float64.
+    if dtype is not None:
+        with contextlib.suppress(TypeError, ValueError):
+            kind = np.dtype(dtype)
     name = dtype if kind is None else kind.name
     if name not in (*WHOLE, *REAL):
         raise KpnError(f'`dtype` is {name}: it has to be one of {", ".join((*WHOLE, *REAL))}')

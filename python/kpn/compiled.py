@@ -7,9 +7,10 @@ import os
 import pathlib
 import subprocess
 import tempfile
-from typing import TYPE_CHECKING, Any, Callable, Optional, Union
+from typing import TYPE_CHECKING, Any, Callable, Dict, Optional, Union
 
 from . import running
+from .arrays import unmasked
 from .errors import LARGEST, KpnError, whole
 from .native import command
 from .native.loaded import Loaded
@@ -36,6 +37,9 @@ class Compiled:
         self._layout, self._c, self._program = net.layout(), c, program
         self._loaded: Optional[Loaded] = None
 
+    def __getstate__(self) -> Dict[str, Any]:
+        return {**vars(self), '_loaded': None}
+
     def __repr__(self) -> str:
         return f'<Compiled {self.path}>'
 
@@ -48,7 +52,7 @@ class Compiled:
         """
         self.runs += 1
         is_judged = certify or bool(self.certify_each and self.runs % self.certify_each == 0)
-        given = running.by_name(self._layout, inputs)
+        given = {name: unmasked(items) for name, items in running.by_name(self._layout, inputs).items()}
         is_own = is_judged or set(options) - {'take', 'max_commits'} or any(isinstance(it, os.PathLike)
                                                                             for it in given.values())
         if is_own:
@@ -69,7 +73,13 @@ class Compiled:
 
 def compile_network(net: Network, *, schedule: str = command.SCHEDULES[0], cache: Cache = None, certify_each: int = 0,
                     program: Program = None) -> Compiled:
-    """Compiles a network, unless the cache has the program of the same text, generator and compiler."""
+    """Compiles a network, unless the cache has the program of the same text, generator and compiler.
+
+    `schedule` is `fuse`, `batch` or `kpn`, as of `kpn compile`. Raises KpnError for another one, for a network that is
+    not right, and if the C compiler fails.
+    """
+    if schedule not in command.SCHEDULES:
+        raise KpnError(f'`schedule` is {schedule!r}: it has to be one of {", ".join(command.SCHEDULES)}')
     net.check_limits()
     path = find_program(program)
     try:

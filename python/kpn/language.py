@@ -1,16 +1,14 @@
-"""The languages of networks: reads their texts, and writes them line by line.
+"""The languages of networks: reads their texts as trees, and writes these in the canonical form.
 
-A text that begins with `language 2;` is of language 2, and any other of language 1. A text is read only so far as the
-package has to know it: its form, the ports and the parameters of its processes, and the network. Whether the names and
-the rules are right is for `kpn` to say. The lines have the same tokens as the text that they are made from; only white
-space, comments and leading zeros differ. So a place in them is found again in the text by the number of its token. In
-language 1 they are the canonical form. In language 2 that leaves out parentheses and `else` where it can, and the lines
-keep them.
+A text that begins with `language 2;` is of language 2, and any other of language 1. Whether the names and the rules are
+right is for `kpn` to say. The canonical form of a process has the tokens of its text but for some of `LEFT_OUT`, so
+each one is found again there.
 """
 from __future__ import annotations
 
 import re
-from typing import Dict, List, NamedTuple, NoReturn, Optional, Tuple
+from dataclasses import replace
+from typing import Any, Dict, Iterator, List, NamedTuple, NoReturn, Optional, Sequence, Tuple, Union
 
 from .errors import LARGEST, KpnError, Spot
 from .process import Process
@@ -32,6 +30,10 @@ ROWS = (('||',), ('&&',), ('<', '<=', '>', '>=', '==', '!='), ('|',), ('^',), ('
 TIGHTNESS = {mark: number for number, row in enumerate(ROWS, 1) for mark in row}
 COMPARING, SHIFTING, OPERAND = TIGHTNESS['<'], TIGHTNESS['<<'], len(ROWS) + 1
 OPERATORS_OF_ONE = frozenset(TIGHTNESS) - frozenset('& | ^ << >>'.split())
+# The mark of a cell in a tree.
+INDEX = '[]'
+# What the canonical form leaves out where it can.
+LEFT_OUT = frozenset('( ) { } else -'.split())
 SPACE = re.compile(r'(?:[ \t\r\n]|#[^\n]*)*')
 TOKEN = re.compile(r'[A-Za-z_][A-Za-z0-9_]*|[0-9]+|<=|>=|==|!=|&&|\|\||<<|>>|[-(){}\[\];,=+*/%<>!~&|^?:]')
 
@@ -41,6 +43,94 @@ class Token(NamedTuple):
 
     text: str
     start: int
+
+
+# A number, a name, an operator with its one, two or three operands, or INDEX with the name of cells and their number.
+Expression = Union[int, str, Tuple['str', 'Expression'], Tuple['str', 'Expression', 'Expression'],
+                   Tuple['str', 'Expression', 'Expression', 'Expression']]
+
+
+class Assign(NamedTuple):
+    """Sets a variable."""
+
+    target: str
+    value: Expression
+
+
+class Store(NamedTuple):
+    """Sets a cell of an array."""
+
+    array: str
+    cell: Expression
+    value: Expression
+
+
+class Read(NamedTuple):
+    """Gets an item."""
+
+    port: str
+    target: str
+
+
+class Write(NamedTuple):
+    """Puts an item."""
+
+    port: str
+    value: Expression
+
+
+class If(NamedTuple):
+    """An `if` with both of its blocks."""
+
+    condition: Expression
+    first: Block
+    second: Block
+
+
+class While(NamedTuple):
+    """A `while`."""
+
+    condition: Expression
+    body: Block
+
+
+Statement = Union[Assign, Store, Read, Write, If, While]
+Block = Tuple[Statement, ...]
+
+
+class Array(NamedTuple):
+    """An array and the number of its cells."""
+
+    name: str
+    size: int
+
+    def __str__(self) -> str:
+        return f'array {self.name}[{self.size}];'
+
+
+class Table(NamedTuple):
+    """A table and its values."""
+
+    name: str
+    values: Tuple[int, ...]
+
+    def __str__(self) -> str:
+        return f'table {self.name} = {", ".join(map(str, self.values))};'
+
+
+class Code(NamedTuple):
+    """What stands in a process."""
+
+    arrays: Tuple[Array, ...]
+    tables: Tuple[Table, ...]
+    block: Block
+
+
+class Declared(NamedTuple):
+    """An array or a table, and its tokens."""
+
+    thing: Any
+    tokens: List[Token]
 
 
 class Entry(NamedTuple):
@@ -54,14 +144,14 @@ class Entry(NamedTuple):
 
 class Description(NamedTuple):
     """A text that has been read. A channel has a kind (`channel`, `source` or `sink`) and its capacity. The tables are
-    the shared ones, as lines."""
+    the shared ones."""
 
     language: int
     processes: List[Process]
     settings: Dict[str, str]
     channels: List[Tuple[str, str, Optional[int]]]
     instances: List[Tuple[str, Entry]]
-    tables: Tuple[str, ...] = ()
+    tables: Tuple[Table, ...] = ()
 
 
 def tokens_of(text: str) -> List[Token]:
@@ -76,16 +166,10 @@ def tokens_of(text: str) -> List[Token]:
         place = match.end()
 
 
-def same_place(lines: str, place: int, text: str) -> int:
-    """The place in a text that is the given place in its lines."""
-    number = sum(it.start < place for it in tokens_of(lines))
-    tokens = tokens_of(text)
-    return tokens[min(number, len(tokens) - 1)].start
-
-
-def right_tightness(mark: str) -> int:
-    """How tightly the right side of an operator has to bind in language 2, to stand without parentheses."""
-    return SHIFTING if TIGHTNESS[mark] == COMPARING else TIGHTNESS[mark] + 1
+def sides_of(mark: str) -> Tuple[int, int]:
+    """How tightly each side of an operator of language 2 has to bind, to stand without parentheses."""
+    tightness = TIGHTNESS[mark]
+    return (SHIFTING, SHIFTING) if tightness == COMPARING else (tightness, tightness + 1)
 
 
 def is_name(word: str, language: int = 1) -> bool:
@@ -99,15 +183,63 @@ def is_number(word: str) -> bool:
     return NUMBER.fullmatch(word) is not None and int(word) <= LARGEST
 
 
-class Reader:
-    """Reads a text, and gives its processes as lines."""
+def text_of(tree: Expression, language: int, least: int = 1) -> str:
+    """An expression in the canonical form, where operators that bind at least so tightly may stand without
+    parentheses. Those of language 1 always have them."""
+    if not isinstance(tree, tuple):
+        return str(tree)
+    mark, *parts = tree
+    if mark == INDEX:
+        return f'{parts[0]}[{text_of(parts[1], language)}]'
+    if len(parts) == 1:
+        return mark + text_of(parts[0], language, OPERAND)
+    if mark == '?':
+        return '({} ? {} : {})'.format(*(text_of(it, language) for it in parts))
+    left, right = (text_of(it, language, side) for it, side in zip(parts, sides_of(mark)))
+    is_free = language == 2 and TIGHTNESS[mark] >= least
+    return f'{left} {mark} {right}' if is_free else f'({left} {mark} {right})'
 
-    def __init__(self, text: str, what: str = 'text'):
+
+def lines_of(block: Block, language: int, indent: str = '  ') -> Iterator[str]:
+    """The lines of a block in the canonical form, without the braces."""
+    for it in block:
+        if isinstance(it, If):
+            yield from lines_of_branch(it, language, indent, indent)
+        elif isinstance(it, While):
+            yield f'{indent}while {text_of(it.condition, language)} {{'
+            yield from lines_of(it.body, language, indent + '  ')
+            yield indent + '}'
+        elif isinstance(it, Read):
+            yield f'{indent}read {it.port} {it.target};'
+        elif isinstance(it, Write):
+            yield f'{indent}write {it.port} {text_of(it.value, language)};'
+        else:
+            target = it.target if isinstance(it, Assign) else text_of((INDEX, it.array, it.cell), language)
+            yield f'{indent}{target} = {text_of(it.value, language)};'
+
+
+def lines_of_branch(branch: If, language: int, indent: str, before: str) -> Iterator[str]:
+    """The lines of an `if`, the first of them behind this. Language 2 leaves out what it can of an `else`."""
+    yield f'{before}if {text_of(branch.condition, language)} {{'
+    yield from lines_of(branch.first, language, indent + '  ')
+    if language == 2 and len(branch.second) == 1 and isinstance(branch.second[0], If):
+        yield from lines_of_branch(branch.second[0], language, indent, indent + '} else ')
+        return
+    if language == 1 or branch.second:
+        yield indent + '} else {'
+        yield from lines_of(branch.second, language, indent + '  ')
+    yield indent + '}'
+
+
+class Reader:
+    """Reads a text, of the language that is given or else of the one that its first tokens say."""
+
+    def __init__(self, text: str, what: str = 'text', language: int = 0):
         self.text, self.what = text, what
         self.tokens = tokens_of(text)
         opening = [it.text for it in self.tokens[:3]]
         is_two = opening[::2] == ['language', ';'] and is_number(opening[1]) and int(opening[1]) == 2
-        self.language, self.place = (2, 3) if is_two else (1, 0)
+        self.language, self.place = (language, 0) if language else (2, 3) if is_two else (1, 0)
 
     def peek(self) -> str:
         """The next token; `''` at the end of the text."""
@@ -146,9 +278,8 @@ class Reader:
             found.append(self.name())
         return tuple(found)
 
-    def process(self) -> Process:
-        """Reads a process."""
-        start = self.tokens[self.place].start
+    def head(self) -> Tuple[str, Dict[str, Tuple[str, ...]]]:
+        """Reads the name of a process, and its ports and parameters."""
         self.need('process')
         name = self.name()
         self.need('(')
@@ -167,30 +298,49 @@ class Reader:
         self.need(')')
         if len({it for names in parts.values() for it in names}) < sum(map(len, parts.values())):
             self.fail()
-        body = tuple(self.block(1, '  '))
-        last = self.tokens[self.place - 1].start + 1
-        return Process(name, parts['in'], parts['out'], parts['par'], body, self.text[start:last], self.language)
+        return name, parts
 
-    def block(self, level: int, indent: str) -> List[str]:
-        """Reads a block of a level, and gives its lines without the braces."""
-        if level > MOST_LEVELS:
-            self.fail()
+    def process(self, shared: Sequence[Declared] = ()) -> Process:
+        """Reads a process. The shared tables that it names become its own."""
+        start = shared[0].tokens[0].start if shared else self.tokens[self.place].start
+        first = self.place
+        name, parts = self.head()
         self.need('{')
-        lines = self.declarations(indent) if level == 1 else []
-        while self.peek() != '}':
-            lines += self.statement(level, indent)
-        self.need('}')
-        return lines
+        tokens = self.tokens[first:self.place]
+        arrays, tables = self.declarations()
+        first = self.place
+        block = self.block(1)
+        rest = self.tokens[first:self.place]
+        words = {it.text for it in rest}
+        declared = [*arrays, *(it for it in shared if it.thing.name in words), *tables]
+        for it in declared:
+            tokens += it.tokens
+        body = (*(f'  {it.thing}' for it in declared), *lines_of(block, self.language))
+        made = Process(name, parts['in'], parts['out'], parts['par'], body,
+                       self.text[start:rest[-1].start + 1], self.language)
+        return replace(made, places=tuple(it - start for it in places_of(str(made), [*tokens, *rest])))
 
-    def declarations(self, indent: str) -> List[str]:
-        """Reads the arrays and tables at the head of a process, and gives their lines."""
-        lines: List[str] = []
-        while self.language == 2 and self.peek() in ('array', 'table'):
-            lines.append(indent + (self.array() if self.peek() == 'array' else self.table()))
-        return lines
+    def code(self) -> Code:
+        """Reads what stands in a process, behind its head."""
+        self.need('{')
+        arrays, tables = self.declarations()
+        return Code(tuple(it.thing for it in arrays), tuple(it.thing for it in tables), self.block(1))
 
-    def array(self) -> str:
-        """Reads an array, and gives its line."""
+    def declarations(self) -> Tuple[List[Declared], List[Declared]]:
+        """Reads the arrays and the tables at the head of a process."""
+        found: Dict[str, List[Declared]] = {'array': [], 'table': []}
+        while self.language == 2 and self.peek() in found:
+            found[self.peek()].append(self.declared())
+        return found['array'], found['table']
+
+    def declared(self) -> Declared:
+        """Reads an array or a table."""
+        first = self.place
+        thing = self.array() if self.peek() == 'array' else self.table()
+        return Declared(thing, self.tokens[first:self.place])
+
+    def array(self) -> Array:
+        """Reads an array."""
         self.need('array')
         name = self.name()
         self.need('[')
@@ -199,10 +349,10 @@ class Reader:
         size = self.number()
         self.need(']')
         self.need(';')
-        return f'array {name}[{size}];'
+        return Array(name, size)
 
-    def table(self) -> str:
-        """Reads a table, and gives its line."""
+    def table(self) -> Table:
+        """Reads a table."""
         self.need('table')
         name = self.name()
         self.need('=')
@@ -211,129 +361,146 @@ class Reader:
             self.place += 1
             values.append(self.value())
         self.need(';')
-        return f'table {name} = {", ".join(values)};'
+        return Table(name, tuple(values))
 
-    def value(self) -> str:
+    def value(self) -> int:
         """Reads a number, and its sign if it has one."""
-        sign = '-' if self.peek() == '-' else ''
-        self.place += len(sign)
-        return f'{sign}{self.number()}'
+        is_negative = self.peek() == '-'
+        self.place += is_negative
+        return -self.number() if is_negative else self.number()
 
-    def statement(self, level: int, indent: str) -> List[str]:
-        """Reads a statement, and gives its lines."""
+    def block(self, level: int) -> Block:
+        """Reads the statements of a block of a level, and the brace behind them."""
+        found: List[Statement] = []
+        while self.peek() != '}':
+            found.append(self.statement(level))
+        self.need('}')
+        return tuple(found)
+
+    def inner(self, level: int) -> Block:
+        """Reads a block of a level with its braces."""
+        if level > MOST_LEVELS:
+            self.fail()
+        self.need('{')
+        return self.block(level)
+
+    def statement(self, level: int) -> Statement:
+        """Reads a statement."""
         word = self.peek()
         if word == 'if':
-            return self.branch(level, indent, indent)
+            return self.branch(level)
         if word == 'while':
             self.place += 1
-            return [f'{indent}while {self.expression()} {{', *self.block(level + 1, indent + '  '), indent + '}']
-        if word == 'read':
-            self.place += 1
-            line = f'read {self.name()} {self.name()};'
-        elif word == 'write':
-            self.place += 1
-            line = f'write {self.name()} {self.expression()};'
-        else:
-            target = self.target()
-            self.need('=')
-            line = f'{target} = {self.expression()};'
+            return While(self.expression(), self.inner(level + 1))
+        found = self.simple(word)
         self.need(';')
-        return [indent + line]
+        return found
 
-    def target(self) -> str:
-        """Reads the variable or the cell that an assignment sets."""
-        name = self.name()
-        if self.language == 1 or self.peek() != '[':
-            return name
-        self.place += 1
-        index = self.expression()
-        self.need(']')
-        return f'{name}[{index}]'
+    def simple(self, word: str) -> Statement:
+        """Reads a statement without blocks that begins with this word."""
+        if word in ('read', 'write'):
+            self.place += 1
+            port = self.name()
+            return Read(port, self.name()) if word == 'read' else Write(port, self.expression())
+        name, index = self.name(), None
+        if self.language == 2 and self.peek() == '[':
+            self.place += 1
+            index = self.expression()
+            self.need(']')
+        self.need('=')
+        return Assign(name, self.expression()) if index is None else Store(name, index, self.expression())
 
-    def branch(self, level: int, indent: str, before: str) -> List[str]:
-        """Reads an `if`, and gives its lines, the first of them behind this."""
+    def branch(self, level: int) -> If:
+        """Reads an `if`."""
         self.need('if')
-        lines = [f'{before}if {self.expression()} {{', *self.block(level + 1, indent + '  ')]
-        if self.language == 1 or self.peek() == 'else':
-            self.need('else')
-            if self.language == 2 and self.peek() == 'if':
-                return [*lines, *self.branch(level + 1, indent, indent + '} else ')]
-            lines += [indent + '} else {', *self.block(level + 1, indent + '  ')]
-        return [*lines, indent + '}']
+        condition, first = self.expression(), self.inner(level + 1)
+        if self.language == 2 and self.peek() != 'else':
+            return If(condition, first, ())
+        self.need('else')
+        if self.language == 2 and self.peek() == 'if':
+            return If(condition, first, (self.branch(level + 1),))
+        return If(condition, first, self.inner(level + 1))
 
-    def expression(self) -> str:
-        """Reads an expression, and gives it with one space around each operator with two sides."""
-        text, levels = self.operand(0) if self.language == 1 else self.operation(0, 1)
+    def expression(self) -> Expression:
+        """Reads an expression."""
+        tree, levels = self.operand(0) if self.language == 1 else self.operation(0, 1)
         if levels > MOST_LEVELS:
             self.fail()
-        return text
+        return tree
 
-    def operation(self, around: int, least: int) -> Tuple[str, int]:
+    def operation(self, around: int, least: int) -> Tuple[Expression, int]:
         """Reads operators of language 2 that bind at least so tightly, from the left, with so many signs,
-        parentheses and brackets around. It gives the text and its levels."""
-        (text, levels), most = self.operand(around), OPERAND
+        parentheses and brackets around. It gives the tree and its levels."""
+        (tree, levels), most = self.operand(around), OPERAND
         while self.peek() in TIGHTNESS:
             mark, tightness = self.peek(), TIGHTNESS[self.peek()]
             is_loose = tightness == COMPARING and most < SHIFTING
             if is_loose or not least <= tightness <= most:
                 break
             self.place += 1
-            right, others = self.operation(around, right_tightness(mark))
-            text, levels = f'{text} {mark} {right}', 1 + max(levels, others)
+            right, others = self.operation(around, sides_of(mark)[1])
+            tree, levels = (mark, tree, right), 1 + max(levels, others)
             # Nothing but `&&` and `||` goes on behind a comparison.
             most = tightness - (tightness == COMPARING)
-        return text, levels
+        return tree, levels
 
-    def operand(self, around: int) -> Tuple[str, int]:
-        """Reads an operand, with so many signs, parentheses and brackets around, and gives its text and its levels."""
+    def operand(self, around: int) -> Tuple[Expression, int]:
+        """Reads an operand, with so many signs, parentheses and brackets around, and gives its tree and its levels."""
         token = self.peek()
         if around == MOST_LEVELS:
             self.fail()
         if token in SIGNS[self.language]:
             self.place += 1
-            text, levels = self.operand(around + 1)
-            return token + text, levels + 1
+            tree, levels = self.operand(around + 1)
+            return (token, tree), levels + 1
         if is_number(token):
-            return str(self.number()), 1
+            return self.number(), 1
         if token != '(':
             return self.element(around)
         self.place += 1
-        text, levels = self.within(around + 1)
+        found = self.within(around + 1)
         self.need(')')
-        return f'({text})', levels
+        return found
 
-    def element(self, around: int) -> Tuple[str, int]:
-        """Reads a name, with an index if it has one, and gives the text and its levels."""
+    def element(self, around: int) -> Tuple[Expression, int]:
+        """Reads a name, with an index if it has one, and gives the tree and its levels."""
         name = self.name()
         if self.language == 1 or self.peek() != '[':
             return name, 1
         self.place += 1
         index, levels = self.operation(around + 1, 1)
         self.need(']')
-        return f'{name}[{index}]', levels + 1
+        return (INDEX, name, index), levels + 1
 
-    def within(self, around: int) -> Tuple[str, int]:
-        """Reads what stands in parentheses, and gives its text and its levels."""
+    def within(self, around: int) -> Tuple[Expression, int]:
+        """Reads what stands in parentheses, and gives its tree and its levels."""
         if self.language == 1:
-            parts, marks = [self.operand(around)], [self.peek()]
-            if self.peek() not in OPERATORS_OF_ONE:
+            left, levels = self.operand(around)
+            mark = self.peek()
+            if mark not in OPERATORS_OF_ONE:
                 self.fail()
-        else:
-            parts, marks = [self.operation(around, 1)], ['?', ':']
-            if self.peek() != '?':
-                return parts[0]
-        for mark in marks:
-            self.need(mark)
-            parts.append(self.operand(around) if self.language == 1 else self.operation(around, 1))
-        text = parts[0][0] + ''.join(f' {mark} {part}' for mark, (part, _) in zip(marks, parts[1:]))
-        return text, 1 + max(levels for _, levels in parts)
+            self.place += 1
+            right, others = self.operand(around)
+            return (mark, left, right), 1 + max(levels, others)
+        condition, levels = self.operation(around, 1)
+        if self.peek() != '?':
+            return condition, levels
+        self.place += 1
+        first, others = self.operation(around, 1)
+        self.need(':')
+        second, last = self.operation(around, 1)
+        return ('?', condition, first, second), 1 + max(levels, others, last)
+
+    def shared(self) -> List[Declared]:
+        """Reads the tables in front of the processes."""
+        found = []
+        while self.language == 2 and self.peek() == 'table':
+            found.append(self.declared())
+        return found
 
     def description(self) -> Description:
         """Reads a whole text."""
-        tables = []
-        while self.language == 2 and self.peek() == 'table':
-            tables.append(self.table())
-        found = Description(self.language, [], {}, [], [], tuple(tables))
+        found = Description(self.language, [], {}, [], [], tuple(it.thing for it in self.shared()))
         while self.peek() == 'process':
             found.processes.append(self.process())
         self.need('network')
@@ -375,19 +542,43 @@ class Reader:
         values: List[int] = []
         while self.peek() == (',' if values else ';'):
             self.place += 1
-            values.append(int(self.value()))
+            values.append(self.value())
         self.need(')')
         return Entry(process, ins, outs, tuple(values))
 
 
+def places_of(lines: str, tokens: Sequence[Token]) -> List[int]:
+    """Where the tokens of canonical lines stand among these, some of which the lines leave out."""
+    left = iter(tokens)
+    return [next(it.start for it in left if it.text == token.text or it.text not in LEFT_OUT)
+            for token in tokens_of(lines)[:-1]]
+
+
 def read_process(text: str) -> Process:
-    """Reads a text that is one process, behind `language 2;` if it is of that language."""
+    """Reads a text that is one process, behind `language 2;` and shared tables if it is of that language."""
     reader = Reader(text, 'the process')
     try:
-        process = reader.process()
+        process = reader.process(reader.shared())
         reader.need('')
         return process
     except KpnError as error:
         if not error.place:
             raise
         raise explain(text + '\nnetwork {\n}\n', lambda offset: Spot(reader.what, text, offset)) or error from None
+
+
+def in_language(process: Process, language: int) -> Process:
+    """A process as it stands in a text of a language; one that may not stand there stays as it is."""
+    if process.language >= language:
+        return process
+    try:
+        return Reader(process.source or str(process), language=language).process().renamed(process.name)
+    except KpnError:
+        return process
+
+
+def code_of(process: Process) -> Code:
+    """What stands in a process."""
+    reader = Reader(str(process), language=process.language)
+    reader.head()
+    return reader.code()

@@ -9,7 +9,8 @@ from typing import Union
 
 from . import compiled, running
 from .errors import LARGEST, KpnError, Spot, whole
-from .language import LARGEST_CAPACITY, LONGEST_NAME, LONGEST_TEXT, Description, Reader, is_name, same_place
+from .language import LARGEST_CAPACITY, LONGEST_NAME, LONGEST_TEXT, Description, Reader, Table, in_language
+from .language import is_name, tokens_of
 from .live import Live
 from .process import MOST_PORTS, Capacities, Instance, Outputs, Process, Stream, forking
 from .program import Program, answer, as_bytes, draw_svg, explain
@@ -64,15 +65,15 @@ class Layout(NamedTuple):
         """The place in the source of a process that stands at this place of the text, or else the place itself."""
         for start, process in self.begins:
             text = str(process)
-            if process.source and start <= offset < start + len(text):
-                place = same_place(text, offset - start, process.source)
+            if process.places and start <= offset < start + len(text):
+                number = sum(it.start < offset - start for it in tokens_of(text))
+                place = process.places[min(number, len(process.places) - 1)]
                 return Spot(f'process `{process.name}`', process.source, place)
         return Spot('the network', self.text, offset)
 
 
 class Network:
-    """A network that is being built. Its text is `str(net)`, the one that `kpn print` gives. In a network of language 2
-    each process keeps the parentheses and the `else` of its own text, some of which `kpn print` leaves out.
+    """A network that is being built. Its text is `str(net)`, the one that `kpn print` gives.
 
     `limit`, 1 to 1,048,576, is the largest capacity that a channel may grow to, `policy` is `cycles` or `all`, and
     `grow` is `one` or `double`: Combrieks' docs/RUNS.md tells which to choose. A stream that is used again is an
@@ -90,7 +91,7 @@ class Network:
         self.limit = whole('the limit', limit, 1, LARGEST_CAPACITY)
         self.policy, self.grow, self.auto_fork = policy, grow, auto_fork
         self._language = 1
-        self._tables: Tuple[str, ...] = ()
+        self._tables: Tuple[Table, ...] = ()
         self._processes: List[Process] = []
         self._channels: List[Stream] = []
         self._instances: List[Instance] = []
@@ -346,9 +347,9 @@ class Network:
         for stream in self._channels:
             names[stream] = stream.given_name or table.give(stream.wanted_name(names))
         self._names, begins = names, []
-        text = ''.join(f'{line}\n' for line in ['language 2;'] * (language == 2) + list(self._tables))
+        text = ''.join(f'{line}\n' for line in ['language 2;'] * (language == 2) + [*map(str, self._tables)])
         for process, name in called.items():
-            begins.append((len(text), process.renamed(name)))
+            begins.append((len(text), in_language(process, language).renamed(name)))
             text += str(begins[-1][1])
         text += ''.join(f'{line}\n' for line in self._lines(names, called))
         of_kind = {kind: [names[it] for it in self._channels if it.kind == kind] for kind in ('source', 'sink')}

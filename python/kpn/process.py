@@ -40,6 +40,8 @@ class Process:
     source: str = field(default='', compare=False, repr=False)
     # The language of the text that it stands in, 1 or 2.
     language: int = field(default=1, compare=False, repr=False)
+    # Where in the source each token of its lines stands.
+    places: Tuple[int, ...] = field(default=(), compare=False, repr=False)
 
     def __post_init__(self) -> None:
         for ports, what in ((self.ins, 'in'), (self.outs, 'out')):
@@ -51,7 +53,7 @@ class Process:
     def from_text(cls, text: str) -> Process:
         """Reads a process, as in `Process.from_text("process gain(in i; out o; par k) { .. }")`.
 
-        One of language 2 stands behind `language 2;`.
+        One of language 2 stands behind `language 2;`, and behind shared tables, which become its own.
 
         Raises KpnError with the place if no text of the language goes on so; a wrong name is found when it runs.
         """

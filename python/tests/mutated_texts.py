@@ -12,7 +12,7 @@ import tempfile
 from support import GALLERY, TOP, kpn
 
 from kpn.language import tokens_of
-from kpn.program import answer, as_bytes, call
+from kpn.program import as_bytes, call
 from random_networks import Maker
 
 TEXTS = [file.read_text() for folder in (TOP / 'examples', TOP / 'examples/language2', GALLERY)
@@ -103,8 +103,7 @@ def read(text):
         net.check()
     except kpn.KpnError as error:
         return '', error.error, False
-    # A text of language 2 keeps parentheses that `kpn print` leaves out.
-    return (answer('print', str(net)) if net.language == 2 else str(net)), None, True
+    return str(net), None, True
 
 
 def compare(text):

@@ -1,11 +1,14 @@
 """Compiled networks beside `kpn`: the examples, random networks, wrong bodies, words, streams, sessions."""
 import array
 import contextlib
+import copy
 import ctypes
 import fcntl
 import importlib
+import importlib.util
 import os
 import pathlib
+import pickle
 import random
 import resource
 import select
@@ -195,7 +198,7 @@ class Equal(WithFolder):
                 edited.write_text(text.replace(old, new))
                 words = [str(number), *(kind or ['']), *self.objects_of(package, edited)]
                 path = os.pathsep.join(map(str, (package, TOP / 'bench/stress')))
-                done = subprocess.run([sys.executable, '-c', TRY, *words], capture_output=True, text=True,
+                done = subprocess.run([sys.executable, '-c', TRY, *words], capture_output=True, text=True, cwd=package,
                                       env=environment(path))
                 self.assertRegex(done.stdout, f'^network {number}: ', f'{name}: {done.stderr}')
 
@@ -626,6 +629,36 @@ class Compiles(WithFolder):
         self.assertEqual(program.run([2**62] * 9).faults, {'fir': 'overflow'})
         for bad, error in (([0.5], TypeError), ([2**63], kpn.KpnError), ({'z': []}, kpn.KpnError)):
             self.assertRaises(error, program.run, bad)
+
+    @unittest.skipUnless(importlib.util.find_spec('numpy'), 'NumPy is not there')
+    def test_masked_cells(self):
+        """They are no items, whatever lies there."""
+        numpy = importlib.import_module('numpy')
+        net = kpn.Network()
+        net.sink('y', kpn.parts.gain(net.source('x'), 1))
+        program = net.compile(cache=self.folder)
+        given = numpy.ma.array([1, 2, 3], mask=[0, 1, 0])
+        for run in (net.run, program.run):
+            for more in ({}, {'scale': 2}):
+                self.assertRaisesRegex(TypeError, 'item 1 of the source `x` is None', run, given, **more)
+            self.assertEqual(list(run(numpy.ma.array([4, 5]))['y']), [4, 5])
+        self.assertRaisesRegex(TypeError, 'item 1 .* is None', net.run, given / 2, scale=2)
+
+    def test_a_pickle(self):
+        """It has the network, and loads the shared object again."""
+        net = kpn.Network()
+        net.sink('y', kpn.parts.gain(net.source('x'), 2))
+        program = net.compile(cache=self.folder)
+        self.assertEqual(program.run([1])['y'], [2])
+        again = pickle.loads(pickle.dumps(program))
+        self.assertEqual((again.run([3])['y'], again.path, again.runs), ([6], program.path, 2))
+        self.assertEqual(copy.copy(program).run([4])['y'], [8])
+
+    def test_schedules(self):
+        net = kpn.Network()
+        net.sink('y', net.source('x'))
+        self.assertRaisesRegex(kpn.KpnError, "`schedule` is 'x': it has to be one of fuse, batch, kpn", net.compile,
+                               schedule='x', cache=self.folder)
 
     def test_each_nth_run_is_judged(self):
         net = kpn.Network()

@@ -8,6 +8,7 @@ import random_cells
 from random_networks import Maker
 from support import kpn, second_canonical
 
+from kpn import parts
 from kpn.program import answer
 
 
@@ -51,41 +52,69 @@ class RoundTrips(unittest.TestCase):
         self.assertEqual(str(kpn.Network.from_text('network { } # \udc80 \ud800')), 'network {\n}\n')
 
     def test_language_2(self):
-        """A process of language 2 keeps its parentheses, and what is wrong in it is found where it stands."""
-        head, tail = 'language 2; process p(in i; out o) { read i x; ', 'network { source s; sink z cap 1; a = p(s; z); }'
-        text = head + 'if ((x & 1)) == 0 { write o (x) + 1 * 2; } else if x { } else { } } ' + tail
-        net = kpn.Network.from_text(text)
-        lines = '  if ((x & 1)) == 0 {\n    write o (x) + 1 * 2;\n  } else if x {\n  } else {\n  }\n}\n'
-        self.assertIn(lines, str(net))
-        printed = '  if (x & 1) == 0 {\n    write o x + 1 * 2;\n  } else if x {\n  }\n}\n'
-        self.assertIn(printed, answer('print', text))
-        self.assertEqual(answer('print', str(net)), answer('print', text))
+        """The text is the canonical one, and what is wrong in a process is found where it stands in its own text."""
+        head = 'language 2; process p(in i; out o) { read i x; '
+        tail = 'network { source s; sink z cap 1; a = p(s; z); }'
+        text = head + 'if ((x & 1)) == 0 { write o (x) + 1 * 2; } else if x { } else { } x = - 0; } ' + tail
+        self.assertIn('  if (x & 1) == 0 {\n    write o x + 1 * 2;\n  } else if x {\n  }\n  x = -0;\n}\n',
+                      answer('print', text))
+        self.assertEqual(str(kpn.Network.from_text(text)), answer('print', text))
         with self.assertRaises(kpn.KpnError) as caught:
             kpn.Process.from_text(head + 'write o x & 1 == 0; }')
         self.assertEqual(caught.exception.error, f'21 Grammar at {len(head) + 14}')
+        wrong = head[len('language 2; '):] + 'if ((x)) {} else { if x {} else {} } write o ((x)) + (- (y)); }'
+        self.assertEqual(self.column(f'language 2; {wrong}'), wrong.index('y') + 1)
+
+    def column(self, text):
+        """The column of what is wrong in a process, once a network has it."""
         net = kpn.Network()
-        net.sink('z', kpn.Process.from_text(head + 'if ((x)) { } write o ((x)) + y; }')(net.source('s')))
+        net.sink('z', kpn.Process.from_text(text)(net.source('s')))
         with self.assertRaises(kpn.KpnError) as caught:
             net.check()
-        self.assertEqual(caught.exception.place.column, len(head) - len('language 2; ') + 30)
+        return caught.exception.place.column
 
     def test_arrays_and_tables(self):
-        """The lines have the tokens of the text, and shared tables stand in front of the processes."""
         head = 'language 2; table t=1,-02, -0; process p(in i; out o) {table u = 5;array a[04];'
         text = head + 'read i x; a[(x)&3]=t[x]; write o a[u[0] - 4]; } ' \
             'network { source s; sink z cap 1; a = p(s; z); }'
         net = kpn.Network.from_text(text)
-        lines = 'language 2;\ntable t = 1, -2, -0;\nprocess p(in i; out o) {\n  table u = 5;\n  array a[4];\n' \
-            '  read i x;\n  a[(x) & 3] = t[x];\n'
-        self.assertTrue(str(net).startswith(lines), str(net))
         self.assertEqual(str(copy.deepcopy(net)), str(net))
         printed = answer('print', text)
         self.assertIn('table t = 1, -2, 0;\nprocess p(in i; out o) {\n  array a[4];\n  table u = 5;\n', printed)
-        self.assertEqual((answer('print', str(net)), second_canonical(text)), (printed, printed))
+        self.assertEqual((str(net), second_canonical(text)), (printed, printed))
         self.assertEqual(net.run({'s': [1]}), {'z': [-2]})
-        for old, error in (('[04]', '[00]'), ('a[(x)&3]', 'a[]'), ('table u = 5', 'table u = '), ('[x]', '[x')):
+        for old, error in (('[04]', '[00]'), ('a[(x)&3]', 'a[]'), ('table u = 5', 'table u = '), ('[x]', '[x'),
+                           ('; process', '; array b[1]; process')):
             wrong = text.replace(old, error)
             self.assertRaisesRegex(kpn.KpnError, '21 Grammar', kpn.Network.from_text, wrong)
+
+    def test_a_process_with_shared_tables(self):
+        """Those that it names become its own, and two processes may have two tables of one name."""
+        text = 'table t = 7,-1; table no = 0; process %s(in i; out o) { table v = -0; array a[1]; read i x; ' \
+            'write o t[x] + v[(a[0])]%s; }'
+        net = kpn.Network()
+        one, two = (kpn.Process.from_text(f'language 2; {text.replace("7", seven) % (name, "")}')
+                    for name, seven in (('p', '7'), ('q', '8')))
+        net.sink('y', one(net.source('r')))
+        net.sink('z', two(net.source('s')))
+        self.assertEqual(dict(net.run({'r': [0], 's': [0]})), {'y': [7], 'z': [8]})
+        self.assertEqual(answer('print', str(net)), str(net))
+        self.assertIn('  array a[1];\n  table t = 7, -1;\n  table v = 0;\n', str(one))
+        self.assertNotIn('no', str(one))
+        self.assertEqual(self.column('language 2; ' + text % ('p', ' + (u)')), (text % ('p', ' + (u)')).index('(u') + 2)
+        self.assertRaisesRegex(kpn.KpnError, '20 Token', kpn.Process.from_text, text % ('p', ''))
+
+    def test_parts_of_both_languages(self):
+        """In a text of language 2 a process of language 1 has no more parentheses than are needed."""
+        net = kpn.Network()
+        two = kpn.Process.from_text('language 2; process two(in i; out o) { while 1 { read i x; write o (x) << 1; } }')
+        one = kpn.Process.from_text('process two(in i; out o) { read i table; write o (table * 3); }')
+        net.sink('y', parts.compressor(parts.fir(two(net.source('x')), [1, 2]), 9, 2, 1, 1))
+        self.assertEqual(answer('print', str(net)), str(net))
+        self.assertEqual(second_canonical(str(net)), str(net))
+        net.sink('z', one(net.source('w')))
+        with self.assertRaisesRegex(kpn.KpnError, 'process `two_2`, line 1, column 35: .*21 Grammar'):
+            net.check()
 
     def test_300_networks_with_cells(self):
         for seed in range(300):
@@ -93,7 +122,7 @@ class RoundTrips(unittest.TestCase):
             with self.subTest(seed=seed):
                 printed = answer('print', text)
                 self.assertEqual(second_canonical(text), printed)
-                self.assertEqual(answer('print', str(kpn.Network.from_text(text))), printed)
+                self.assertEqual(str(kpn.Network.from_text(text)), printed)
 
     def test_deep_texts(self):
         for depth in (31, 32, 5_000):

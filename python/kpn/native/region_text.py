@@ -8,7 +8,8 @@ from __future__ import annotations
 from typing import Dict, Iterator, List, Tuple
 
 from .c_text import Values
-from .paths import Assign, Leave, Read, Rows, Test, Write
+from ..language import Assign, Read, Write
+from .paths import Leave, Rows, Test
 from .regions import Finder, Region, variables_of
 from .vectors import State, vectors_of
 

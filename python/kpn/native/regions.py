@@ -13,8 +13,8 @@ import fractions
 import math
 from typing import Dict, Iterator, List, NamedTuple, Optional, Sequence, Set, Tuple
 
-from ..language import Description
-from .paths import INDEX, Assign, Leave, Read, Rows, Test, Write
+from ..language import INDEX, Assign, Description, Read, Write
+from .paths import Leave, Rows, Test
 
 # The most rows of a period. What is larger falls apart at its widest channel.
 MOST_ROWS = 500

@@ -8,7 +8,7 @@ from __future__ import annotations
 
 from typing import Any, Dict, Iterator, List, NamedTuple, Optional, Tuple
 
-from .paths import INDEX, Assign, Expression, Read, Write
+from ..language import INDEX, Assign, Expression, Read, Write
 
 # What an item of 16 bits may be, and what a value of 32 bits may be.
 SMALL, WIDE = (-2**15, 2**15 - 1), (-2**31, 2**31 - 1)

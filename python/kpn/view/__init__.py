@@ -123,20 +123,19 @@ def network_of(found: Description) -> Dict[str, Any]:
                           'values': [str(it) for it in entry.values]})
     channels = [{'name': name, 'kind': kind, 'cap': cap, 'writer': writers[number], 'reader': readers[number]}
                 for number, (kind, name, cap) in enumerate(found.channels)]
-    return {'processes': [process_of(it) for it in found.processes], 'tables': found.tables, 'instances': instances,
-            'channels': channels}
+    return {'processes': [process_of(it) for it in found.processes], 'tables': [*map(str, found.tables)],
+            'instances': instances, 'channels': channels}
 
 
 def process_of(process: Process) -> Dict[str, Any]:
     """A process: its ports, its text as somebody wrote it, its canonical lines, and where these stand in the text."""
     canonical = str(process)
     lines, starts = canonical.splitlines(), [it.start for it in tokens_of(canonical)]
-    tokens = tokens_of(process.source)
+    ends = {it.start: it.start + len(it.text) for it in tokens_of(process.source)}
     spans, at = [], 0
     for line in lines:
-        # The texts have the same tokens, so one is found by its number.
         first, end = (bisect.bisect_left(starts, it) for it in (at + len(line) - len(line.lstrip()), at + len(line)))
-        spans.append((tokens[first].start, tokens[end - 1].start + len(tokens[end - 1].text)))
+        spans.append((process.places[first], ends[process.places[end - 1]]))
         at += len(line) + 1
     return {'name': process.name, 'ins': process.ins, 'outs': process.outs, 'pars': process.pars,
             'text': process.source, 'lines': lines, 'spans': spans}
