@@ -72,7 +72,7 @@ def build(text: str, program: str, out: str, runtime: Sequence[str] = ()) -> int
     with tempfile.TemporaryDirectory(prefix='kpn-') as folder:
         source = pathlib.Path(folder, 'network_of.c')
         source.write_text(text + MAIN.format(program=escaped))
-        words = [*compiler(), str(source), *(runtime or map(str, runtime_sources())), '-o', out]
+        words = [*compiler(), str(source), *(runtime or map(str, runtime_sources())), '-pthread', '-o', out]
         return subprocess.run(words, check=False).returncode
 
 
