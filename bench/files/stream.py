@@ -163,6 +163,9 @@ def started(folder, *more, net='copy.kpn', **how):
         stop.cancel()
         child.kill()
         child.wait()
+        for end in filter(None, (child.stdin, child.stdout, child.stderr)):
+            with contextlib.suppress(BrokenPipeError):
+                end.close()
 
 
 def in_pieces(folder, text, length, *more):

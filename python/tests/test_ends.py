@@ -1,10 +1,12 @@
 """The ends of streams: the quick cases of bench/files/stream.py, for `kpn stream` and for compiled programs."""
 import importlib.util
+import os
 import shutil
 import unittest
 
 from support import PROGRAM, TOP
 
+os.environ.setdefault('CFLAGS', '-std=c11 -O0 -w')
 spec = importlib.util.spec_from_file_location('ends', TOP / 'bench/files/stream.py')
 ends = importlib.util.module_from_spec(spec)
 spec.loader.exec_module(ends)
