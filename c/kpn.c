@@ -52,6 +52,7 @@ const char *kpn_fault_name(uint32_t fault) {
       [23] = "DoubleName",  [24] = "TooLong",       [28] = "NoMemory",    [42] = "NoMemory",   [43] = "NoSuchEnd",
       [44] = "SourceClosed", [46] = "SinkLeft",     [60] = "Lists",       [61] = "TooSmall",   [62] = "NoSession",
       [63] = "Null",        [64] = "NoChannel",     [65] = "OtherText",   [66] = "NoTrace",    [67] = "NoProcess",
+      [68] = "ProcessFaulted",
   };
   return fault < sizeof names / sizeof *names && names[fault] ? names[fault] : "";
 }

@@ -1,5 +1,6 @@
 /* Calls what kpn.hpp has, and compares what it tells with numbers by hand. It prints the first line that differs.
-   tools/clib.py builds it with the compilers that are there, under sanitizers. */
+   tools/clib.py builds it with the compilers that are there, under sanitizers. With kpn_native.h before it, and its
+   network compiled, it calls what a compiled network has; with KPN_FIXED that has one session. */
 #include "kpn.hpp"
 
 #include <array>
@@ -17,7 +18,7 @@ static void is(bool true_, int line) {
 
 static const char mean[] =
     "process mean(in s; out m) { while 1 { read s x; sum = (sum + x); n = (n + 1); write m (sum / n); } }\n"
-    "network { source s; sink m cap 1; r = mean(s; m); }\n";
+    "network { limit 64; source s; sink m cap 1; r = mean(s; m); }\n";
 
 /* The words of the error of a call. */
 template <class Call>
@@ -30,6 +31,7 @@ static std::string words_of(Call call) {
   return "no error";
 }
 
+#ifndef KPN_NATIVE_H
 static void texts() {
   kpn::check(mean);
   IS(words_of([] { kpn::check("network { sink b cap 1; }"); }) == "13 NoWriter at 0");
@@ -39,13 +41,17 @@ static void texts() {
   IS(ran.trace.substr(0, 12) == "kpn-trace 2\n");
   IS(words_of([] { kpn::run(mean, {}, {1, false, 0, 1}); }) == "60 Lists");
 }
+#endif
 
 static void calls() {
   kpn::session one(mean);
   const auto s = one.channel("s"), m = one.channel("m");
   one.feed(s, items{3, 5});
   one.feed(s, 10);
-  IS(one.step(3) == 3 && one.step() > 0);
+#ifndef KPN_NATIVE_H
+  IS(one.step(3) == 3);
+#endif
+  IS(one.step() > 0);
   std::array<std::int64_t, 8> room{};
   IS(one.take(m, room) == 1 && room[0] == 3);
   one.step();
@@ -59,7 +65,9 @@ static void calls() {
   IS(one.take(m, room) == 1 && one.take(m, room) == 0);
   one.step();
   IS(one.is_complete(m) && one.verdict() == KPN_ENDED);
+#ifndef KPN_NATIVE_H
   IS(one.trace().substr(0, 12) == "kpn-trace 2\n");
+#endif
 }
 
 static void moves() {
@@ -81,9 +89,11 @@ static void moves() {
 }
 
 static void tells() {
+#ifndef KPN_NATIVE_H
   IS(kpn::explain(mean).empty() && kpn::explain("network {\n  x }") == "21 Grammar at byte 14, line 2, column 5");
   IS(kpn::explain("network { sink b cap 1; }") == "13 NoWriter at channel 0");
   IS(kpn::fault_name(KPN_NO_TRACE) == "NoTrace" && kpn::fault_name(25).empty() && kpn::fault_name(99).empty());
+#endif
   kpn::session one(mean, kpn::keeping::nothing);
   const auto s = one.channel("s"), m = one.channel("m");
   IS(one.count().processes == 1 && one.count().channels == 2);
@@ -110,9 +120,12 @@ static void tells() {
   std::int64_t room[1];
   IS(words_of([&] { one.take(m, room); }) == "46 SinkLeft");
   IS(words_of([&] { one.leave_sink(s); }) == "43 NoSuchEnd");
+#ifndef KPN_FIXED
   IS(words_of([&] { one.trace(); }) == "66 NoTrace");
+#endif
 }
 
+#ifndef KPN_FIXED
 static void owners() {
   kpn::session one(mean), two(mean);
   one.feed(one.channel("s"), 5);
@@ -123,13 +136,18 @@ static void owners() {
   IS(two.take(two.channel("m"), room) == 1 && room[0] == 5);
   IS(words_of([&] { one.step(); }) == "62 NoSession");
 }
+#endif
 
 int main() {
+#ifndef KPN_NATIVE_H
   texts();
+#endif
   calls();
   moves();
   tells();
+#ifndef KPN_FIXED
   owners();
+#endif
   std::puts("wrapper: as by hand");
   return 0;
 }

@@ -193,7 +193,8 @@ uint32_t kpn_move(kpn_session *session, const kpn_item *items, size_t count, uin
                   size_t place_count, kpn_amounts *amounts);
 uint32_t kpn_is_complete(kpn_session *session, size_t channel, bool *complete);
 
-/* 0 if the run has not come to a stop, or KPN_ENDED, KPN_CLOGGED or KPN_JAMMED. */
+/* 0 while a process is ready, or KPN_ENDED, KPN_CLOGGED or KPN_JAMMED. A session that only waits for items of open
+   sources has KPN_ENDED too, and goes on with the next item; `kpn_tell_processes` says who waits or has faulted. */
 uint32_t kpn_verdict(kpn_session *session, uint32_t *verdict);
 
 typedef struct {

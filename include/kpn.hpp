@@ -4,7 +4,8 @@
    - A call that fails throws `kpn::error`, which has the number of the fault, its place and its words. Of `feed`,
      `step`, `take` and `move` the error also has what was done before.
    - A `kpn::session` frees itself. It can be moved, not copied.
-   - Items are passed as a `kpn::span`: anything with `data()` and `size()`, as a vector, an array or a `std::span`. */
+   - Items are passed as a `kpn::span`: anything with `data()` and `size()`, as a vector, an array or a `std::span`.
+   - A network that was compiled with `--prefix NAME` has the session `kpn::basic_session<NAME_calls>`, by NAME.h. */
 #ifndef KPN_HPP
 #define KPN_HPP
 
@@ -47,7 +48,9 @@ inline std::string_view fault_name(std::uint32_t number) noexcept { return kpn_f
 class error : public std::runtime_error {
  public:
   explicit error(std::uint32_t number, kpn_place place = {false, 0}, kpn_amounts done = {0, 0, 0})
-      : std::runtime_error(words(number, place)), number_(number), place_(place), done_(done) {}
+      : error(number, place, done, fault_name(number)) {}
+  error(std::uint32_t number, kpn_place place, kpn_amounts done, std::string_view name)
+      : std::runtime_error(words(number, place, name)), number_(number), place_(place), done_(done) {}
 
   std::uint32_t number() const noexcept { return number_; }
   bool has_place() const noexcept { return place_.has_place; }
@@ -56,9 +59,9 @@ class error : public std::runtime_error {
   const kpn_amounts &done() const noexcept { return done_; }
 
  private:
-  static std::string words(std::uint32_t number, kpn_place place) {
+  static std::string words(std::uint32_t number, kpn_place place, std::string_view name) {
     std::string said = std::to_string(number);
-    if (const auto name = fault_name(number); !name.empty()) said.append(" ").append(name);
+    if (!name.empty()) said.append(" ").append(name);
     return place.has_place ? said + " at " + std::to_string(place.place) : said;
   }
 
@@ -79,9 +82,9 @@ inline void check(std::string_view text) {
   check_fault(fault, place);
 }
 
-/* Asks twice: how long a text is, and for the text. */
-template <class Call>
-std::string told_text(Call call) {
+/* Asks twice: how long a text is, and for the text. A fault goes to `check`. */
+template <class Call, class Check>
+std::string told_text(Call call, Check check) {
   std::string text;
   std::size_t length = 0;
   auto fault = call(nullptr, std::size_t{0}, &length);
@@ -90,7 +93,7 @@ std::string told_text(Call call) {
     fault = call(text.data(), text.size(), &length);
     if (fault == KPN_OK) text.resize(length); // with memory refused before, it may have been another text
   }
-  check_fault(fault);
+  check(fault);
   return text;
 }
 
@@ -98,7 +101,7 @@ std::string told_text(Call call) {
 inline std::string explain(std::string_view text) {
   return told_text([&](char *words, std::size_t room, std::size_t *count) {
     return kpn_explain(text.data(), text.size(), words, room, count);
-  });
+  }, [](std::uint32_t fault) { check_fault(fault); });
 }
 
 /* What a run has come to: the items of each sink, in order of channel number, and the trace. */
@@ -145,45 +148,66 @@ inline ran run(std::string_view text, const std::vector<std::vector<std::int64_t
 /* What a session keeps of what has happened: all, for its trace, or nothing. */
 enum class keeping { all, nothing };
 
+/* The calls of a session, as kpn.h has them. */
+struct calls {
+  static constexpr auto fault_name = kpn_fault_name;
+  static constexpr auto open = kpn_open, open_forgetting = kpn_open_forgetting;
+  static constexpr auto channel = kpn_channel;
+  static constexpr auto feed = kpn_feed;
+  static constexpr auto close_source = kpn_close_source, leave_sink = kpn_leave_sink;
+  static constexpr auto step = kpn_step;
+  static constexpr auto take = kpn_take, look = kpn_look;
+  static constexpr auto move = kpn_move;
+  static constexpr auto is_complete = kpn_is_complete;
+  static constexpr auto verdict = kpn_verdict;
+  static constexpr auto count = kpn_count;
+  static constexpr auto channel_name = kpn_channel_name, process_name = kpn_process_name;
+  static constexpr auto tell_processes = kpn_tell_processes;
+  static constexpr auto tell_channel = kpn_tell_channel;
+  static constexpr auto trace = kpn_trace;
+  static constexpr auto free = kpn_free;
+};
+
 /* A run that you feed, step and take from. */
-class session {
+template <class Calls>
+class basic_session {
  public:
-  explicit session(std::string_view text, keeping keeps = keeping::all) {
+  explicit basic_session(std::string_view text, keeping keeps = keeping::all) {
     kpn_place place;
-    const auto open = keeps == keeping::all ? kpn_open : kpn_open_forgetting;
+    const auto open = keeps == keeping::all ? Calls::open : Calls::open_forgetting;
     const auto fault = open(text.data(), text.size(), &session_, &place);
     check_fault(fault, place);
   }
-  session(session &&other) noexcept : session_(std::exchange(other.session_, kpn_session{nullptr})) {}
-  session &operator=(session &&other) noexcept {
+  basic_session(basic_session &&other) noexcept : session_(std::exchange(other.session_, kpn_session{nullptr})) {}
+  basic_session &operator=(basic_session &&other) noexcept {
     std::swap(session_, other.session_);
     return *this;
   }
-  session(const session &) = delete;
-  session &operator=(const session &) = delete;
-  ~session() {
-    if (session_.at) kpn_free(&session_);
+  basic_session(const basic_session &) = delete;
+  basic_session &operator=(const basic_session &) = delete;
+  ~basic_session() {
+    if (session_.at) Calls::free(&session_);
   }
 
   /* The number of a channel. */
   std::size_t channel(std::string_view name) {
     std::size_t number;
-    check_fault(kpn_channel(&session_, name.data(), name.size(), &number));
+    check_fault(Calls::channel(&session_, name.data(), name.size(), &number));
     return number;
   }
 
   void feed(std::size_t source, span<const std::int64_t> items) {
     std::size_t fed;
-    const auto fault = kpn_feed(&session_, source, items.data(), items.size(), &fed);
+    const auto fault = Calls::feed(&session_, source, items.data(), items.size(), &fed);
     check_fault(fault, {false, 0}, {fed, 0, 0});
   }
   void feed(std::size_t source, std::int64_t item) { feed(source, span<const std::int64_t>(&item, 1)); }
-  void close_source(std::size_t source) { check_fault(kpn_close_source(&session_, source)); }
+  void close_source(std::size_t source) { check_fault(Calls::close_source(&session_, source)); }
 
   /* Steps until no process is ready, or so many commits are made, and returns how many were. */
   std::uint64_t step(std::uint64_t most = UINT64_MAX) {
     std::uint64_t commits;
-    const auto fault = kpn_step(&session_, most, &commits);
+    const auto fault = Calls::step(&session_, most, &commits);
     check_fault(fault, {false, 0}, {0, commits, 0});
     return commits;
   }
@@ -191,55 +215,55 @@ class session {
   /* Takes what is there and what there is room for, and returns how many items. */
   std::size_t take(std::size_t sink, span<std::int64_t> room) {
     std::size_t taken;
-    const auto fault = kpn_take(&session_, sink, room.data(), room.size(), &taken);
+    const auto fault = Calls::take(&session_, sink, room.data(), room.size(), &taken);
     check_fault(fault, {false, 0}, {0, 0, taken});
     return taken;
   }
 
   /* Leaves a sink: nothing is taken from it any more, and it is never full. */
-  void leave_sink(std::size_t sink) { check_fault(kpn_leave_sink(&session_, sink)); }
+  void leave_sink(std::size_t sink) { check_fault(Calls::leave_sink(&session_, sink)); }
 
   /* Feeds, steps and takes in one call. */
   kpn_amounts move(span<const kpn_item> items, span<kpn_wanted> places, std::uint64_t most = UINT64_MAX) {
     kpn_amounts done;
     const auto fault =
-        kpn_move(&session_, items.data(), items.size(), most, places.data(), places.size(), &done);
+        Calls::move(&session_, items.data(), items.size(), most, places.data(), places.size(), &done);
     check_fault(fault, {false, 0}, done);
     return done;
   }
 
   bool is_complete(std::size_t channel) {
     bool complete;
-    check_fault(kpn_is_complete(&session_, channel, &complete));
+    check_fault(Calls::is_complete(&session_, channel, &complete));
     return complete;
   }
 
   /* 0, KPN_ENDED, KPN_CLOGGED or KPN_JAMMED. */
   std::uint32_t verdict() {
     std::uint32_t told;
-    check_fault(kpn_verdict(&session_, &told));
+    check_fault(Calls::verdict(&session_, &told));
     return told;
   }
 
   /* How many processes and channels there are. */
   kpn_counts count() {
     kpn_counts counts;
-    check_fault(kpn_count(&session_, &counts));
+    check_fault(Calls::count(&session_, &counts));
     return counts;
   }
   std::string channel_name(std::size_t channel) {
     return told_text([&](char *name, std::size_t room, std::size_t *length) {
-      return kpn_channel_name(&session_, channel, name, room, length);
-    });
+      return Calls::channel_name(&session_, channel, name, room, length);
+    }, fail_with);
   }
   std::string process_name(std::size_t process) {
     return told_text([&](char *name, std::size_t room, std::size_t *length) {
-      return kpn_process_name(&session_, process, name, room, length);
-    });
+      return Calls::process_name(&session_, process, name, room, length);
+    }, fail_with);
   }
   kpn_channel_state channel_state(std::size_t channel) {
     kpn_channel_state state;
-    check_fault(kpn_tell_channel(&session_, channel, &state));
+    check_fault(Calls::tell_channel(&session_, channel, &state));
     return state;
   }
 
@@ -247,26 +271,33 @@ class session {
   std::vector<kpn_process_state> process_states() {
     std::vector<kpn_process_state> states(count().processes);
     std::size_t told;
-    check_fault(kpn_tell_processes(&session_, states.data(), states.size(), &told));
+    check_fault(Calls::tell_processes(&session_, states.data(), states.size(), &told));
     return states;
   }
 
   /* Copies unread items of a channel, as many as there is room for, and returns how many. They stay unread. */
   std::size_t look(std::size_t channel, span<std::int64_t> room) {
     std::size_t shown;
-    check_fault(kpn_look(&session_, channel, room.data(), room.size(), &shown));
+    check_fault(Calls::look(&session_, channel, room.data(), room.size(), &shown));
     return shown;
   }
 
   std::string trace() {
     return told_text([&](char *text, std::size_t room, std::size_t *length) {
-      return kpn_trace(&session_, text, room, length);
-    });
+      return Calls::trace(&session_, text, room, length);
+    }, fail_with);
   }
 
  private:
+  static void check_fault(std::uint32_t number, kpn_place place = {false, 0}, kpn_amounts done = {0, 0, 0}) {
+    if (number != KPN_OK) throw error(number, place, done, Calls::fault_name(number));
+  }
+  static void fail_with(std::uint32_t number) { check_fault(number); }
+
   kpn_session session_ = {nullptr};
 };
+
+using session = basic_session<calls>;
 
 }  // namespace kpn
 

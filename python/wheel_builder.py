@@ -50,7 +50,8 @@ def package():
     """The files of the package by their paths."""
     files = [it for it in sorted((HERE / NAME).rglob('*')) if it.suffix in SUFFIXES or it.name == 'py.typed']
     found = {it.relative_to(HERE).as_posix(): it.read_bytes() for it in files}
-    found[f'{NAME}/native/runtime/kpn.h'] = (HERE.parent / 'include/kpn.h').read_bytes()
+    for header in ('kpn.h', 'kpn_native.h'):
+        found[f'{NAME}/native/runtime/{header}'] = (HERE.parent / 'include' / header).read_bytes()
     return found
 
 

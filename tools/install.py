@@ -1,5 +1,6 @@
 #!/usr/bin/env python3
-"""Copies the program, the library for C, header, manual pages, completions, documents and examples below a prefix.
+"""Copies the program, the library for C, headers, `kpn compile`, manual pages, completions, documents and examples
+below a prefix.
 
 usage: tools/install.py PREFIX [--program KPN]
 
@@ -19,6 +20,10 @@ import pages
 import prover
 
 TOP = pathlib.Path(__file__).resolve().parent.parent
+sys.path.append(str(TOP / 'python'))
+
+import wheel_builder  # noqa: E402
+
 DOCUMENTS = 'share/doc/kpn'
 # What the kit's sources say of tables that are Unicode's.
 UNICODE = 'Unicode License'
@@ -28,10 +33,14 @@ WRAPPER = '''#!/bin/sh
 # Runs the program `kpn` with settings for its memory.
 self=$(readlink -f "$0")
 program=${self%/*}/../lib/kpn/kpn
+package=${self%/*}/../lib/kpn/python
 
 '''
-# In the launcher, the settings and the call of the program stand behind this.
-SETTINGS = '# Histories and journals'
+# In the launcher, the commands of the Python package, the rest of the help, and the settings with the call of the
+# program stand between these.
+SHARED = (('# Becomes the Python package', '# The same, and `install`.'),
+          ('# Of the help', '# Histories and journals'), ('# Histories and journals', None))
+CALL = 'call_package "$@"\nmore=\n\n'
 PKG_CONFIG = '''prefix=${{pcfiledir}}/../..
 Name: kpn
 Description: Kahn process networks, run by proved code
@@ -63,7 +72,7 @@ class Tree:
 
     @staticmethod
     def mode(path: str) -> int:
-        return 0o755 if path.startswith(('bin/', 'lib/kpn/')) else 0o644
+        return 0o755 if path.startswith('bin/') or path == 'lib/kpn/kpn' else 0o644
 
     def copy(self, source: pathlib.Path, path: str) -> None:
         """A file, or all files of a folder."""
@@ -150,7 +159,6 @@ def add_library(tree: Tree, library: pathlib.Path, version: str) -> None:
     tree.copy(library / 'libkpn.a', 'lib/libkpn.a')
     tree.copy(library / clib.SHARED, f'lib/{clib.SHARED}')
     tree.links['lib/libkpn.so'] = clib.SHARED
-    tree.copy(TOP / 'include', 'include')
     tree.files['lib/pkgconfig/kpn.pc'] = PKG_CONFIG.format(version=version).encode()
 
 
@@ -158,7 +166,11 @@ def tree_of(program: pathlib.Path, library: pathlib.Path | None, date: str) -> T
     """All that is installed: of a program, and of a library if there is one."""
     tree, version, launcher = Tree(), pages.version_of(program), (TOP / 'kpn').read_text()
     tree.copy(program, 'lib/kpn/kpn')
-    tree.files['bin/kpn'] = (WRAPPER + launcher[launcher.index(SETTINGS):]).encode()
+    package, *rest = (launcher[launcher.index(first):last and launcher.index(last)] for first, last in SHARED)
+    tree.files['bin/kpn'] = (WRAPPER + package + CALL + ''.join(rest)).encode()
+    tree.files.update({f'lib/kpn/python/{path}': data for path, data in wheel_builder.package().items()})
+    tree.copy(TOP / 'include', 'include')
+    tree.copy(TOP / 'tools/kpnConfig.cmake', 'lib/cmake/kpn/kpnConfig.cmake')
     tree.files.update({path: text.encode() for path, text in pages.files(program, version, date).items()})
     if program.read_bytes() != tree.files['lib/kpn/kpn']:
         sys.exit(f'kpn: {program} has changed meanwhile: call this once more')

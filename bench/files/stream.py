@@ -1,11 +1,21 @@
 #!/usr/bin/env python3
-"""The inputs and outputs of `kpn stream`, as the system has them: pipes, FIFOs, signals, locks and descriptors.
+"""The inputs and outputs of a stream, as the system has them: pipes, FIFOs, signals, locks and descriptors.
 
-Each case has a folder of its own, and says what has to come out and when. It is no part of the gate. A word names the
-program; the default is crates/kpn/out/kpn.
+usage: bench/files/stream.py [PROGRAM] [--kind KIND] [--only CASE]
+
+Each case has a folder of its own, and says what has to come out and when. KIND is the program that is tried, by the
+rules of docs/STREAMS.md, "Options and ends":
+
+    stream      `kpn stream`; PROGRAM is `kpn`, by default crates/kpn/out/kpn
+    compiled    the program that `kpn compile` makes of each network, by PROGRAM
+    mpi         `kpn-mpi` on one rank, which reads and writes whole files; PROGRAM is it, or its simulator
+
+Only the cases for that kind are tried. It is no part of the gate, but python/tests/test_ends.py runs its quick cases.
 """
+import atexit
 import contextlib
 import fcntl
+import functools
 import itertools
 import os
 import pathlib
@@ -38,21 +48,58 @@ SPLITS = """process split(in i; out p, q) {
 }
 network { source s; sink y cap 1; sink z cap 1; p = split(s; y, z); }
 """
+PORTS = [str(number) for number in range(8)]
+MANY = f"""process eight(in i; out {', '.join(f'o{it}' for it in PORTS)}) {{ read i x; write o0 x; }}
+network {{ {''.join(f'source s{letter}; ' for letter in 'abcde')}
+  {''.join(f'sink {letter}{it} cap 1; ' for letter in 'abcde' for it in PORTS)}
+  {''.join(f'p{letter} = eight(s{letter}; {", ".join(letter + it for it in PORTS)}); ' for letter in 'abcde')}
+}}
+"""
+TEXTS = {'copy.kpn': COPY, 'turns.kpn': TURNS, 'first.kpn': FIRST, 'splits.kpn': SPLITS, 'many.kpn': MANY}
 USAGE = b'kpn: usage: --%s, a file that is no input and no other output\n'
 SHARED = b'kpn: usage: --source NAME=IN, a plain file if two sources have it\n'
 TELLS_READ = b'sink z: 0 items, not complete\nwaits c s\nkpn: 26 Read\nat --source s=%s\n'
-TELLS_WRITE = b'sink z: 2 items, not complete\nwaits c s\nkpn: 27 Write\nat --sink z=%s\n'
+TELLS_WRITE = b'sink z: %d items, not complete\nwaits c s\nkpn: 27 Write\nat --sink z=%s\n'
 # the seconds that a line may take, and those between two lines of a slow producer
 MOST, PAUSE = 10, 0.01
 
-# the cases, and the names of those that fail
-cases, failed = [], []
+# what a compiled program says first
+COMPILED = b'kpn: compiled: nothing is proved of the program that runs here\n'
+
+# the kinds of programs, each with the words of a stream of a network
+KINDS = {
+    'stream': lambda net: [PROGRAM, 'stream', net],
+    'compiled': lambda net: [program_of(net), 'stream'],
+    'mpi': lambda net: [PROGRAM, net, '--ranks=1', '--seed=1'],
+}
+# the cases with the kinds that each is for, and the names of the quick ones
+cases, quick_ones = {}, []
+PROGRAM, KIND = '', 'stream'
 
 
-def case(test):
-    """A case: a function that gets an empty folder."""
-    cases.append(test)
-    return test
+def case(*kinds, quick=False):
+    """A case of these kinds of programs: a function that gets an empty folder. A quick one waits for no time."""
+    def keep(test):
+        cases[test] = kinds or ('stream', 'compiled')
+        quick_ones.extend([test] * quick)
+        return test
+    return keep
+
+
+@functools.cache
+def compiled(text):
+    """The program that is compiled of a network."""
+    folder = tempfile.TemporaryDirectory()
+    atexit.register(folder.cleanup)
+    net = pathlib.Path(folder.name, 'net.kpn')
+    net.write_text(text)
+    subprocess.run([sys.executable, '-m', 'kpn.native', net, '-o', net.with_suffix('.prog')], check=True,
+                   env={**os.environ, 'KPN_PROGRAM': PROGRAM, 'PYTHONPATH': str(TOP / 'python')})
+    return str(net.with_suffix('.prog'))
+
+
+def program_of(net):
+    return compiled(TEXTS[net])
 
 
 def expect(found, wanted):
@@ -61,12 +108,17 @@ def expect(found, wanted):
 
 
 def words(*more, net='copy.kpn'):
-    return [PROGRAM, 'stream', net, *more]
+    return [*KINDS[KIND](net), *more]
 
 
 def networks(folder):
-    for name, text in (('copy', COPY), ('turns', TURNS), ('first', FIRST), ('splits', SPLITS)):
-        (folder / f'{name}.kpn').write_text(text)
+    for name, text in TEXTS.items():
+        (folder / name).write_text(text)
+
+
+def heard(told):
+    """What was written on standard error, but for what each compiled program says."""
+    return told.replace(COMPILED, b'', 1) if told and KIND == 'compiled' else told
 
 
 def stream(folder, *more, net='copy.kpn', **how):
@@ -75,7 +127,12 @@ def stream(folder, *more, net='copy.kpn', **how):
     how.setdefault('stdout', subprocess.PIPE)
     how.setdefault('stderr', subprocess.PIPE)
     done = subprocess.run(words(*more, net=net), cwd=folder, timeout=MOST, **how)
-    return done.stdout, done.stderr, done.returncode
+    return done.stdout, heard(done.stderr), done.returncode
+
+
+def tells_write(out):
+    """What is said of an output that takes nothing of two items."""
+    return TELLS_WRITE % (2 if KIND == 'stream' else 0, out)
 
 
 def lines(numbers):
@@ -106,6 +163,9 @@ def started(folder, *more, net='copy.kpn', **how):
         stop.cancel()
         child.kill()
         child.wait()
+        for end in filter(None, (child.stdin, child.stdout, child.stderr)):
+            with contextlib.suppress(BrokenPipeError):
+                end.close()
 
 
 def in_pieces(folder, text, length, *more):
@@ -119,7 +179,7 @@ def in_pieces(folder, text, length, *more):
 
 # ---- when lines come
 
-@case
+@case()
 def a_line_comes_out_before_the_next_goes_in(folder):
     with started(folder, stdin=subprocess.PIPE, stdout=subprocess.PIPE) as child:
         for number in range(200):
@@ -130,7 +190,7 @@ def a_line_comes_out_before_the_next_goes_in(folder):
         expect((child.stdout.read(), child.wait()), (b'', 0))
 
 
-@case
+@case()
 def two_fifos_of_different_speed(folder):
     for name in ('fast', 'slow'):
         os.mkfifo(folder / name)
@@ -146,7 +206,7 @@ def two_fifos_of_different_speed(folder):
         expect((child.stdout.read(), child.wait()), (b'', 0))
 
 
-@case
+@case()
 def a_line_in_two_halves(folder):
     with started(folder, stdin=subprocess.PIPE, stdout=subprocess.PIPE) as child:
         for _ in range(20):
@@ -160,7 +220,7 @@ def a_line_in_two_halves(folder):
 
 # ---- how the input is cut
 
-@case
+@case()
 def lines_in_pieces(folder):
     text = b''.join(b'%d\r\n' % (number ** 9 * (-1) ** number) for number in range(80)) + b'7'
     wanted = b''.join(b'%d\n' % (number ** 9 * (-1) ** number) for number in range(80)) + b'7\n'
@@ -168,7 +228,7 @@ def lines_in_pieces(folder):
         expect(in_pieces(folder, text, length), (wanted, 0))
 
 
-@case
+@case()
 def samples_in_pieces(folder):
     for code, form in ((b'h', 's16le'), (b'i', 's32le'), (b'q', 's64le')):
         most = 2 ** (8 * struct.calcsize(code) - 1)
@@ -190,7 +250,7 @@ def wav(width, numbers, *more):
     return chunk(b'RIFF', b'WAVE' + chunks) + b''.join(more)
 
 
-@case
+@case('stream')
 def wav_files_cut_anywhere(folder):
     for width, numbers in ((1, [0, 255, 128]), (2, [-2**15, 2**15 - 1, 258]), (3, [-2**23, 2**23 - 1, 65_794])):
         file = wav(width, numbers, chunk(b'LIST', b'what no sample is'))
@@ -203,7 +263,7 @@ def wav_files_cut_anywhere(folder):
             expect((b'kpn: ' + told in err, status), (bool(told), bool(told)))
 
 
-@case
+@case('stream')
 def wav_files_in_pieces(folder):
     for width, word in ((2, 'wav'), (2, 'wav16'), (3, 'wav24')):
         file = wav(width, [1, -1, 300, -300])
@@ -213,7 +273,7 @@ def wav_files_in_pieces(folder):
             expect((out[36:40], out[44:]), (b'data', file[-4 * width:]))
 
 
-@case
+@case('stream')
 def wav_files_of_sox(folder):
     if not shutil.which('sox'):
         return
@@ -229,17 +289,17 @@ def wav_files_of_sox(folder):
         expect((back.stdout == first.stdout, back.stderr), (True, b''))
 
 
-@case
+@case(quick=True)
 def a_line_of_22_bytes(folder):
     with started(folder, stdin=subprocess.PIPE, stdout=subprocess.PIPE) as child:
         child.stdin.write(b'1\n' + b'0' * 22)
         expect((child.stdout.read(), child.wait()), (b'1\n', 1))
-        expect(child.stderr.read().splitlines()[-2:], [b'kpn: 25 BadItem at 2', b'at --source s=-'])
+        expect(heard(child.stderr.read()).splitlines()[-2:], [b'kpn: 25 BadItem at 2', b'at --source s=-'])
 
 
 # ---- ends that go
 
-@case
+@case()
 def an_endless_input_and_a_reader_that_leaves(folder):
     (folder / 'copy.kpn').write_text(COPY)
     yes = subprocess.Popen(['yes', '1'], stdout=subprocess.PIPE)
@@ -250,7 +310,7 @@ def an_endless_input_and_a_reader_that_leaves(folder):
         expect((head.stdout, child.wait(), yes.wait()), (b'1\n1\n1\n', 0, -signal.SIGPIPE))
 
 
-@case
+@case()
 def an_endless_input_of_which_some_is_wanted(folder):
     yes = subprocess.Popen(['yes', '1'], stdout=subprocess.PIPE)
     with started(folder, '--take', '5', stdin=yes.stdout, stdout=subprocess.PIPE) as child:
@@ -258,7 +318,7 @@ def an_endless_input_of_which_some_is_wanted(folder):
         expect((child.stdout.read(), child.wait(), yes.wait()), (b'1\n' * 5, 0, -signal.SIGPIPE))
 
 
-@case
+@case()
 def an_interrupt_leaves_whole_lines(folder):
     (folder / 'copy.kpn').write_text(COPY)
     for delay in (0.05, 0.1, 0.15, 0.2, 0.3):
@@ -274,7 +334,7 @@ def an_interrupt_leaves_whole_lines(folder):
 
 # ---- descriptors that refuse
 
-@case
+@case(quick=True)
 def standard_input_that_refuses(folder):
     told = (b'', TELLS_READ % b'-', 1)
     expect(stream(folder, preexec_fn=lambda: os.close(0)), told)
@@ -283,27 +343,27 @@ def standard_input_that_refuses(folder):
     expect(stream(folder, preexec_fn=lambda: os.dup2(os.open('.', os.O_RDONLY), 0)), told)
 
 
-@case
+@case(quick=True)
 def standard_output_that_refuses(folder):
     (folder / 'items').write_bytes(b'1\n2\n')
     given = ('--source', 's=items')
-    told = (TELLS_WRITE % b'-', 1)
+    told = (tells_write(b'-'), 1)
     expect(stream(folder, *given, stdout=None, preexec_fn=lambda: os.close(1))[1:], told)
     with open('/dev/null', 'rb') as reads, open('/dev/full', 'wb') as full:
         expect(stream(folder, *given, stdout=reads)[1:], told)
         expect(stream(folder, *given, stdout=full)[1:], told)
 
 
-@case
+@case(quick=True)
 def files_that_refuse(folder):
     (folder / 'items').write_bytes(b'1\n2\n')
     expect(stream(folder, '--source', 's=.'), (b'', TELLS_READ % b'.', 1))
     expect(stream(folder, '--source', 's=nothing'), (b'', b'kpn: 26 Read\n', 1))
-    expect(stream(folder, '--source', 's=items', '--sink', 'z=/dev/full'), (b'', TELLS_WRITE % b'/dev/full', 1))
+    expect(stream(folder, '--source', 's=items', '--sink', 'z=/dev/full'), (b'', tells_write(b'/dev/full'), 1))
     expect(stream(folder, '--source', 's=items', '--sink', 'z=no/out'), (b'', b'kpn: 27 Write\n', 1))
 
 
-@case
+@case(quick=True)
 def standard_error_that_refuses(folder):
     (folder / 'copy.kpn').write_text(COPY)
     done = subprocess.run(words(), cwd=folder, input=b'1\n', stdout=subprocess.PIPE, timeout=MOST,
@@ -313,7 +373,7 @@ def standard_error_that_refuses(folder):
 
 # ---- descriptors that are closed at the start
 
-@case
+@case()
 def no_file_gets_the_number_of_a_closed_descriptor(folder):
     (folder / 'items').write_bytes(b'1\n2\n')
     given = ('--source', 's=items', '--sink', 'z=out', '--trace', 'trace')
@@ -327,7 +387,7 @@ def no_file_gets_the_number_of_a_closed_descriptor(folder):
             expect(((folder / 'out').read_bytes(), (folder / 'trace').read_bytes()), (b'1\n2\n', trace))
 
 
-@case
+@case(quick=True)
 def standard_ends_share_no_file(folder):
     (folder / 'items').write_bytes(b'1\n2\n')
     out, err, status = stream(folder, '--source', 'left=-', '--source', 'right=items', net='turns.kpn',
@@ -340,15 +400,15 @@ def standard_ends_share_no_file(folder):
     expect(b'1000' in (folder / 'out').read_bytes(), False)
 
 
-@case
+@case(quick=True)
 def nothing_is_written_in_front_of_a_trace(folder):
     (folder / 'items').write_bytes(b'1\n2\n')
     expect(stream(folder, '--source', 's=items', '--trace', 'trace', stdout=None, preexec_fn=close_each([1])),
-           (None, TELLS_WRITE % b'-', 1))
+           (None, tells_write(b'-'), 1))
     expect((folder / 'trace').read_bytes()[:12], b'kpn-trace 2\n')
 
 
-@case
+@case('stream')
 def what_is_closed_can_not_be_read(folder):
     expect(stream(folder, '--trace', 'trace', preexec_fn=close_each([0])), (b'', TELLS_READ % b'-', 1))
     done = subprocess.run([PROGRAM, 'alone', 'copy'], preexec_fn=close_each([0]), capture_output=True, timeout=MOST)
@@ -357,7 +417,7 @@ def what_is_closed_can_not_be_read(folder):
 
 # ---- pipes that others let not wait
 
-@case
+@case()
 def an_input_that_never_waits(folder):
     given, gives = os.pipe()
     never_waits(given)
@@ -371,7 +431,7 @@ def an_input_that_never_waits(folder):
     os.close(given)
 
 
-@case
+@case()
 def an_output_that_never_waits(folder):
     (folder / 'items').write_bytes(lines(range(60_000)))
     taken, takes = os.pipe()
@@ -381,10 +441,10 @@ def an_output_that_never_waits(folder):
         time.sleep(0.3)
         with open(taken, 'rb') as reader:
             expect((reader.read(), child.wait()), (lines(range(60_000)), 0))
-        expect(child.stderr.read(), b'sink z: 60000 items, complete\nwaits c s\nended\n')
+        expect(heard(child.stderr.read()), b'sink z: 60000 items, complete\nwaits c s\nended\n')
 
 
-@case
+@case()
 def an_error_output_that_never_waits(folder):
     taken, takes = os.pipe()
     never_waits(takes)
@@ -396,22 +456,22 @@ def an_error_output_that_never_waits(folder):
         os.close(takes)
         time.sleep(0.1)
         with open(taken, 'rb') as reader:
-            expect(reader.read()[filled:], b'sink z: 0 items, complete\nwaits c s\nended\n')
+            expect(heard(reader.read()[filled:]), b'sink z: 0 items, complete\nwaits c s\nended\n')
         expect(child.wait(), 0)
 
 
 # ---- two names of one input
 
-@case
+@case(quick=True)
 def one_pipe_has_one_reader(folder):
     os.mkfifo(folder / 'pipe')
-    for left, right in (('-', '-'), ('-', '/dev/stdin'), ('/dev/stdin', '/dev/fd/0'), ('pipe', 'pipe'),
-                        ('pipe', './pipe')):
+    for left, right in (('-', '-'), ('-', '/dev/stdin'), ('/dev/stdin', '/dev/fd/0'), ('-', '/proc/self/fd/0'),
+                        ('pipe', 'pipe'), ('pipe', './pipe')):
         given = ('--source', f'left={left}', '--source', f'right={right}')
         expect(stream(folder, *given, net='turns.kpn', stdin=subprocess.PIPE), (b'', SHARED, 2))
 
 
-@case
+@case(quick=True)
 def each_reads_all_of_a_plain_file(folder):
     (folder / 'items').write_bytes(b'1\n2\n')
     for left, right in (('items', 'items'), ('items', './items'), ('-', '/dev/stdin'), ('-', 'items')):
@@ -423,7 +483,7 @@ def each_reads_all_of_a_plain_file(folder):
 
 # ---- outputs that are standard input
 
-@case
+@case(quick=True)
 def standard_input_is_not_written(folder):
     signal_file, linked = folder / 'signal', folder / 'linked'
     signal_file.write_bytes(b'1\n2\n')
@@ -437,9 +497,88 @@ def standard_input_is_not_written(folder):
                 expect(signal_file.read_bytes(), b'1\n2\n')
 
 
+# ---- outputs that are inputs or other outputs
+
+def named(folder, name):
+    """A file by its names: paths, a second name, a link."""
+    os.link(folder / name, folder / f'{name}-linked')
+    (folder / f'{name}-symbolic').symlink_to(name)
+    return name, f'./{name}', f'{folder}/{name}', f'../{folder.name}/{name}', f'{name}-linked', f'{name}-symbolic'
+
+
+@case('stream', 'compiled', 'mpi', quick=True)
+def no_output_is_an_input(folder):
+    (folder / 'items').write_bytes(b'1\n2\n')
+    for name in named(folder, 'items'):
+        for words in ([f'--sink=z={name}', '--source=s=items'], ['--sink=z=items', f'--source=s={name}']):
+            expect(stream(folder, *words)[1:], (USAGE % b'sink NAME=OUT', 2))
+            expect((folder / 'items').read_bytes(), b'1\n2\n')
+
+
+@case('stream', 'compiled', 'mpi', quick=True)
+def no_output_is_another_output(folder):
+    (folder / 'items').write_bytes(b'1\n2\n')
+    (folder / 'out').write_bytes(b'old')
+    for name in named(folder, 'out'):
+        given = ['--source=s=items', '--sink=y=out', f'--sink=z={name}']
+        expect(stream(folder, *given, net='splits.kpn')[1:], (USAGE % b'sink NAME=OUT', 2))
+    for number in (1, 2):
+        with open(folder / 'out', 'ab') as out:
+            done = stream(folder, '--source=s=items', '--sink=z=out', **{'stdout' if number == 1 else 'stderr': out})
+        expect((done[2], (folder / 'out').read_bytes()[:3]), (2, b'old'))
+
+
+@case('stream', 'compiled', 'mpi', quick=True)
+def the_part_file_of_an_output_is_no_input(folder):
+    (folder / 'out.kpn-part').write_bytes(b'1\n2\n')
+    given = ['--source=s=out.kpn-part', '--sink=z=out']
+    expect(stream(folder, *given)[1:], (USAGE % b'sink NAME=OUT', 2))
+    expect((folder / 'out.kpn-part').read_bytes(), b'1\n2\n')
+
+
+@case('compiled', quick=True)
+def standard_output_is_no_input(folder):
+    signal_file = folder / 'signal'
+    signal_file.write_bytes(b'1\n2\n')
+    for words in ((), ('--source=s=signal',), ('--sink=z=-',)):
+        with open(signal_file, 'rb') as given, open(signal_file, 'ab') as out:
+            expect(stream(folder, *words, stdin=given, stdout=out)[1:], (USAGE % b'sink NAME=OUT', 2))
+        expect(signal_file.read_bytes(), b'1\n2\n')
+
+
+@case(quick=True)
+def standard_output_by_two_names(folder):
+    given = ['--sink=y=-', '--sink=z=/dev/stdout']
+    out, err, status = stream(folder, *given, net='splits.kpn', input=b'1000\n1\n')
+    expect((sorted(out.split()), status), ([b'1', b'1000'], 0))
+    with open(folder / 'out', 'ab') as out:
+        expect(stream(folder, *given, net='splits.kpn', input=b'', stdout=out)[1:], (USAGE % b'sink NAME=OUT', 2))
+    expect(stream(folder, '--sink=y=-', '--sink=z=-', net='splits.kpn', input=b'')[1:], (USAGE % b'sink NAME=OUT', 2))
+    expect(stream(folder, '--trace=-', input=b'')[1:], (USAGE % b'trace OUT', 2))
+
+
+# ---- words
+
+@case('stream', 'compiled', quick=True)
+def words_that_are_no_text(folder):
+    for word in (b'z=\xff', b'z=\xc0\x80', b'z=\xed\xa0\x80', b'z=\xf4\x90\x80\x80', b'z=\xe2\x82'):
+        expect(stream(folder, '--sink', word, input=b''), (b'', b'kpn: usage: words of UTF-8 text\n', 2))
+    expect(stream(folder, '--sink', 'z=\u20ac\U0001f600', input=b'1\n')[2], 0)
+    expect((folder / '\u20ac\U0001f600').read_bytes(), b'1\n')
+
+
+@case(quick=True)
+def a_trace_with_a_long_name(folder):
+    for name, status in (('t' * 255, 0), ('t' * 256, 1), ('t' * 244 + '\u20ac\u20ac', 0)):
+        out, err, found = stream(folder, '--trace', name, input=b'1\n')
+        expect((out, found), (b'1\n' if status == 0 else b'', status))
+        expect((folder / name).exists() if status == 0 else err, True if status == 0 else b'kpn: 27 Write\n')
+    expect([it for it in os.listdir(folder) if it.endswith('.kpn-part')], [])
+
+
 # ---- the order of opening
 
-@case
+@case(quick=True)
 def two_streams_in_a_loop(folder):
     networks(folder)
     for order in (0, 1):
@@ -454,10 +593,10 @@ def two_streams_in_a_loop(folder):
         finally:
             for child in children:
                 child.kill()
-        expect(done[0].splitlines()[0], b'sink z: 500 items, not complete')
+        expect(heard(done[0]).splitlines()[0], b'sink z: 500 items, not complete')
 
 
-@case
+@case(quick=True)
 def a_reader_that_opens_all_first(folder):
     for name in ('y', 'z'):
         os.mkfifo(folder / name)
@@ -472,7 +611,7 @@ def a_reader_that_opens_all_first(folder):
                    (lines(range(1_000, 60_001, 1_000)), 59_940, 0))
 
 
-@case
+@case(quick=True)
 def a_writer_that_opens_all_first(folder):
     for name in ('left', 'right'):
         os.mkfifo(folder / name)
@@ -483,7 +622,7 @@ def a_writer_that_opens_all_first(folder):
             expect((child.stdout.read(), child.wait()), (b'1\n1\n2\n2\n', 0))
 
 
-@case
+@case()
 def a_fifo_with_nothing_in_it(folder):
     for name in ('in', 'out'):
         os.mkfifo(folder / name)
@@ -497,7 +636,7 @@ def a_fifo_with_nothing_in_it(folder):
             expect((done.stdout, child.wait(), asked.wait()), (b'', 0, 0))
 
 
-@case
+@case()
 def a_fifo_that_is_never_read(folder):
     os.mkfifo(folder / 'in')
     (folder / 'items').write_bytes(b'1\n')
@@ -517,17 +656,10 @@ def a_fifo_that_is_never_read(folder):
 
 # ---- plain outputs
 
-@case
+@case()
 def no_file_is_emptied_unless_all_are_open(folder):
     count = 40
-    ports = ', '.join(f'o{number}' for number in range(8))
     names = [f'{letter}{number}' for letter in 'abcde' for number in range(8)]
-    (folder / 'many.kpn').write_text(
-        f'process eight(in i; out {ports}) {{ read i x; write o0 x; }}\nnetwork {{ '
-        + ''.join(f'source s{letter}; ' for letter in 'abcde')
-        + ''.join(f'sink {name} cap 1; ' for name in names)
-        + ''.join(f'p{letter} = eight(s{letter}; {", ".join(f"{letter}{number}" for number in range(8))}); '
-                  for letter in 'abcde') + '}\n')
     for name in names:
         (folder / name).write_bytes(b'old\n')
     (folder / 'none').write_bytes(b'')
@@ -540,7 +672,7 @@ def no_file_is_emptied_unless_all_are_open(folder):
     expect([(folder / name).read_bytes() for name in names], [b''] * count)
 
 
-@case
+@case()
 def one_stream_writes_a_file(folder):
     with started(folder, '--sink', 'z=out', stdin=subprocess.PIPE) as child:
         child.stdin.write(b'1\n')
@@ -554,7 +686,7 @@ def one_stream_writes_a_file(folder):
     expect((folder / 'out').read_bytes(), b'2\n')
 
 
-@case
+@case()
 def a_file_that_may_not_grow(folder):
     (folder / 'items').write_bytes(lines(range(10_000)))
     few = lambda: resource.setrlimit(resource.RLIMIT_FSIZE, (8_192, 8_192))
@@ -563,26 +695,63 @@ def a_file_that_may_not_grow(folder):
     expect((out, err.splitlines()[-2:], status), (b'', [b'kpn: 27 Write', b'at --sink z=out'], 1))
 
 
+@case('compiled')
+def what_is_counted_was_taken_whole(folder):
+    (folder / 'items').write_bytes(lines(range(777_000, 778_000)))
+    few = lambda: resource.setrlimit(resource.RLIMIT_FSIZE, (1_000, 1_000))
+    for form, width in (('lines', 7), ('s24le', 3)):
+        err = stream(folder, '--source=s=items', '--sink=z=out', '--format', f'z={form}', preexec_fn=few)[1]
+        expect(err.splitlines()[0], b'sink z: %d items, not complete' % (1_000 // width))
+        expect((folder / 'out').stat().st_size // width, 1_000 // width)
+
+
+@case('compiled')
+def a_trace_to_a_fifo(folder):
+    """It waits for no other end, and no other end for it."""
+    for name in ('trace', 'in'):
+        os.mkfifo(folder / name)
+    for first, second in (('trace', 'in'), ('in', 'trace')):
+        with started(folder, '--source=s=in', '--trace=trace', stdout=subprocess.PIPE) as child:
+            opened = {name: open(folder / name, 'rb' if name == 'trace' else 'wb') for name in (first, second)}
+            opened['in'].write(b'1\n')
+            opened['in'].close()
+            expect(opened['trace'].read()[:12], b'kpn-trace 2\n')
+            opened['trace'].close()
+            expect((child.stdout.read(), child.wait()), (b'1\n', 0))
+
+
 def give_up(number, frame):
     raise TimeoutError('nobody came')
 
 
-def main():
+def attempt(test):
+    """Tries a case in a folder of its own, and gives what is wrong with it, or nothing."""
+    with tempfile.TemporaryDirectory() as folder:
+        try:
+            signal.alarm(6 * MOST)
+            test(pathlib.Path(folder))
+        except (AssertionError, OSError, subprocess.TimeoutExpired) as fault:
+            return f'{test.__name__}: {str(fault)[:300]}'
+        finally:
+            signal.alarm(0)
+    return ''
+
+
+def use(program, kind):
+    """Tries this program from now on, of this kind; gives the cases for it."""
+    global PROGRAM, KIND
+    PROGRAM, KIND = os.path.realpath(program), kind
     signal.signal(signal.SIGALRM, give_up)
-    for test in cases:
-        with tempfile.TemporaryDirectory() as folder:
-            try:
-                signal.alarm(4 * MOST)
-                test(pathlib.Path(folder))
-            except (AssertionError, OSError, subprocess.TimeoutExpired) as fault:
-                print(f'{test.__name__}: {str(fault)[:300]}')
-                failed.append(test.__name__)
-            finally:
-                signal.alarm(0)
-    print(f'{len(cases) - len(failed)} of {len(cases)} cases are well')
+    return [test for test, kinds in cases.items() if kind in kinds]
+
+
+def main():
+    asked = measure.asked(__doc__, {'program': str(TOP / 'crates/kpn/out/kpn')}, {'kind': 'stream', 'only': ''})
+    tried = [it for it in use(asked.program, asked.kind) if asked.only in it.__name__]
+    failed = list(filter(None, map(attempt, tried)))
+    print('\n'.join([*failed, f'{len(tried) - len(failed)} of {len(tried)} cases are well']))
     return 1 if failed else 0
 
 
 if __name__ == '__main__':
-    PROGRAM = os.path.realpath(measure.asked(__doc__, {'program': str(TOP / 'crates/kpn/out/kpn')}).program)
     sys.exit(main())

@@ -2,10 +2,8 @@
 from __future__ import annotations
 
 import functools
-import hashlib
 import os
 import pathlib
-import subprocess
 import tempfile
 from typing import TYPE_CHECKING, Any, Callable, Dict, Optional, Union
 
@@ -86,7 +84,7 @@ def compile_network(net: Network, *, schedule: str = command.SCHEDULES[0], cache
         canonical = answer('print', str(net), program=program)
     except KpnError as error:
         raise net.layout().error(program) or error from None
-    folder = pathlib.Path(cache) if cache else default_cache()
+    folder = pathlib.Path(cache) if cache else command.default_cache()
     folder.mkdir(parents=True, exist_ok=True)
     found, c = folder / key_of(canonical, schedule, path), functools.partial(command.c_of, canonical, schedule)
     if not found.exists():
@@ -108,24 +106,9 @@ def build(text: str, program: Optional[str], path: pathlib.Path) -> None:
         os.replace(made, path)
 
 
-def default_cache() -> pathlib.Path:
-    """The folder `kpn` of the user's cache."""
-    return pathlib.Path(os.environ.get('XDG_CACHE_HOME') or pathlib.Path.home() / '.cache') / 'kpn'
-
-
 def key_of(canonical: str, schedule: str, program: str) -> str:
     """The name of a program by all that it is made from."""
     sources = sorted(it for it in pathlib.Path(command.__file__).parent.rglob('*') if it.suffix in ('.py', '.c', '.h'))
-    digest = hashlib.sha256()
-    for part in (canonical.encode(), schedule.encode(), program.encode(), ' '.join(command.compiler()).encode(),
-                 version_of_compiler(), *(it.read_bytes() for it in sources)):
-        digest.update(hashlib.sha256(part).digest())
-    return digest.hexdigest()[:32]
-
-
-def version_of_compiler() -> bytes:
-    """What the compiler says of itself; nothing if it is not there."""
-    try:
-        return subprocess.run([command.compiler()[0], '--version'], capture_output=True, check=False).stdout
-    except OSError:
-        return b''
+    return command.digest_of(canonical.encode(), schedule.encode(), program.encode(),
+                             ' '.join(command.compiler()).encode(), command.version_of_compiler(),
+                             *(it.read_bytes() for it in sources))

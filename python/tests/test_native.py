@@ -10,6 +10,7 @@ import os
 import pathlib
 import pickle
 import random
+import re
 import resource
 import select
 import shutil
@@ -234,6 +235,15 @@ class Words(WithFolder):
         self.assertIn('kpn: certified: legal, exact\nkpn: checked: the report is that of `kpn run`\n', told)
         self.assertIn('certified: legal, the first 4 of', self.run_it('--certify', '--events', '4')[2])
 
+    def test_a_checked_run_has_a_limit(self):
+        for words, status, told in ((['--max-commits', '1'], 0, 'checked: the report'),
+                                    (['--take', '2', '--max-commits', '1'], 0, 'checked: the report')):
+            found = self.run_it('--check', 'items', *words)
+            self.assertEqual((found[0], f'kpn: {told}' in found[2]), (status, True), found)
+        self.build('process p(out o) { while 1 { write o 1; } }\nnetwork { sink z cap 1; a = p(; z); }\n')
+        found = self.call('./prog', 'run', '--max-commits', '1', '--check', 'items')
+        self.assertEqual((found[:2], 'kpn: not checked: the run was stopped' in found[2]), ((5, 'stopped\n'), True))
+
     def test_what_kpn_does_not_confirm_is_not_reported(self):
         for program in ('/bin/true', '/bin/echo', '/nowhere/kpn'):
             for words in (['--certify'], ['--check', 'items']):
@@ -295,8 +305,9 @@ class Words(WithFolder):
             self.assertRegex(done.stderr, r'^kpn: there is no file or program (/nowhere/cc|no/where); .*\n$')
 
     def test_refused_description(self):
-        done = compiled('network { sink z cap 0; }\n', self.folder)
-        self.assertEqual((done.returncode, done.stderr), (1, 'kpn: 13 NoWriter at 0\n'))
+        for words, told in (([], 'net.kpn:1:16: `z` has no writer [13 NoWriter at 0]\n'), (['--words', 'never'], '')):
+            done = compiled('network { sink z cap 0; }\n', self.folder, *words)
+            self.assertEqual((done.returncode, done.stderr[:len(told) + 22]), (1, f'kpn: 13 NoWriter at 0\n{told}'))
 
 
 @unittest.skipUnless(shutil.which('cc'), 'there is no C compiler')
@@ -575,6 +586,100 @@ class Sessions(WithFolder):
         self.assertEqual(self.ask('free'), 0)
 
 
+    def test_a_fault_is_told(self):
+        b, a, number = self.channel('b'), self.channel('a'), ctypes.c_size_t
+        items = (ctypes.c_int64 * 1)(2**63 - 1)
+        for channel in (a, a, b, b):
+            self.told('feed', number(channel), items, number(1))
+        states, count, commits = (State * 3)(), number(), ctypes.c_uint64()
+        self.assertEqual(self.told('verdict', kind=ctypes.c_uint32), 0)
+        self.assertEqual(self.ask('step', ctypes.c_uint64(10**6), ctypes.byref(commits)), 68)
+        self.assertEqual(self.take(self.channel('o'), 9), [2**63 - 1])
+        self.assertEqual(self.ask('step', ctypes.c_uint64(10**6), ctypes.byref(commits)), 0)
+        self.assertEqual(self.ask('tell_processes', states, number(2), ctypes.byref(count)), 61)
+        self.assertEqual(self.told('tell_processes', states, number(3)), 3)
+        wanted = [(4, 0), (1, b), (1, self.channel('c'))]
+        self.assertEqual([(it.state, it.channel) for it in states], wanted)
+        self.assertEqual(self.told('verdict', kind=ctypes.c_uint32), 1)
+
+
+class State(ctypes.Structure):
+    """`kpn_process_state`."""
+
+    _fields_ = [('state', ctypes.c_uint32), ('channel', ctypes.c_size_t)]
+
+
+@unittest.skipUnless(shutil.which('cc'), 'there is no C compiler')
+class Objects(WithFolder):
+    """Objects with the calls of a session, in programs in C and C++."""
+    MEAN = 'process mean(in s; out m) { while 1 { read s x; sum = (sum + x); n = (n + 1); write m (sum / n); } }\n' \
+           'network { limit 64; source s; sink m cap 1; r = mean(s; m); }\n'
+    BOTH = """#include <stdio.h>
+#include "one.h"
+#include "two.h"
+int main(void) {
+  kpn_session one, two;
+  kpn_place place;
+  size_t count;
+  uint64_t commits;
+  int64_t item = 7, other = 9;
+  one_open("", 0, &one, &place), two_open("", 0, &two, &place);
+  one_feed(&one, 0, &item, 1, &count), two_feed(&two, 0, &item, 1, &count);
+  one_step(&one, 99, &commits), two_step(&two, 99, &commits);
+  one_take(&one, 1, &item, 1, &count), two_take(&two, 1, &other, 1, &count);
+  return printf("%d %d %s\\n", (int)item, (int)other, two_fault_name(two_close_source(&two, 1))) < 0;
+}
+"""
+
+    def link(self, *words, compiler='cc'):
+        return self.call(compiler, '-I', str(TOP / 'include'), *words, '-o', 'linked')
+
+    def test_examples(self):
+        """The examples run by each kind of object as by the library, if that is there."""
+        library = TOP / 'out/c/libkpn.a'
+        for name, last in (('plant', 'step 200'), ('tanks', '299 ')):
+            file, told = TOP / f'examples/c/{name}.c', []
+            text = re.search(r'\[\] =\n(.*?);\n', file.read_text(), re.S)[1]
+            text = ''.join(re.findall(r'"(.*)"', text)).replace('\\n', '\n')
+            for options in (['--library'], ['--fixed', '4']):
+                self.assertEqual(compiled(text, self.folder, *options).returncode, 0)
+                self.assertEqual(self.link(str(file), 'prog'), (0, '', ''))
+                told.append(self.call('./linked')[1])
+            if library.exists():
+                self.link(str(file), str(library))
+                told.append(self.call('./linked')[1])
+            self.assertEqual(set(told), {told[0]}, name)
+            self.assertTrue(told[0].splitlines()[-1].startswith(last), told[0])
+
+    @unittest.skipUnless(shutil.which('c++'), 'there is no C++ compiler')
+    def test_in_cpp(self):
+        for options, more in ((['--library'], []), (['--fixed', '8'], ['-DKPN_FIXED'])):
+            self.assertEqual(compiled(self.MEAN, self.folder, *options).returncode, 0)
+            words = ['-std=c++17', '-Wall', '-Wextra', '-Werror', '-include', 'kpn_native.h', *more]
+            self.assertEqual(self.link(*words, str(TOP / 'c/wrapper.cpp'), 'prog', compiler='c++'), (0, '', ''))
+            self.assertEqual(self.call('./linked'), (0, 'wrapper: as by hand\n', ''))
+
+    def test_two_networks(self):
+        """They have prefixes, or the linker refuses them."""
+        (self.folder / 'both.c').write_text(self.BOTH)
+        for number, (name, text) in enumerate((('one', self.MEAN), ('two', Words.DOUBLE))):
+            options = ['--fixed', '4'] if name == 'one' else ['--library']
+            for more in (['--prefix', name], []):
+                self.assertEqual(compiled(text, self.folder, *options, *more).returncode, 0)
+                (self.folder / 'prog').rename(self.folder / f'{name}{"" if more else "-plain"}.a')
+        self.assertEqual(self.link('-I.', 'both.c', 'one.a', 'two.a'), (0, '', ''))
+        self.assertEqual(self.call('./linked'), (0, '7 14 NoSuchEnd\n', ''))
+        status, _, told = self.link(str(TOP / 'examples/c/plant.c'), 'one-plain.a', 'two-plain.a')
+        self.assertEqual((status, 'multiple definition of `kpn_open' in told), (1, True), told)
+        if shutil.which('nm'):
+            for name in ('one', 'two'):
+                defined = [it.split()[-1] for it in self.call('nm', '-g', '--defined-only', f'{name}.a')[1].splitlines()]
+                self.assertEqual([it for it in defined if not it.startswith(f'{name}_')], [])
+        for prefix in ('', '1x', 'kpn_x', 'a-b'):
+            self.assertEqual(compiled(self.MEAN, self.folder, '--library', '--prefix', prefix).returncode, 2)
+        self.assertEqual(compiled(self.MEAN, self.folder, '--prefix', 'one').returncode, 2)
+
+
 @unittest.skipUnless(shutil.which('cc'), 'there is no C compiler')
 class Fixed(WithFolder):
     """Archives with static memory."""
@@ -602,7 +707,7 @@ class Fixed(WithFolder):
         self.assertIn('kpn_step', own)
 
     def test_refused(self):
-        for options, status, told in ((['--fixed', '8'], 70, 'kpn: usage: --fixed wants `limit N;`'),
+        for options, status, told in ((['--fixed', '8'], 2, 'kpn: usage: net.kpn:2:1: --fixed wants `limit N;`'),
                                       (['--fixed', '0'], 2, 'a number from 1 to 1048576, and not 0')):
             done = compiled(Words.DOUBLE, self.folder, *options)
             self.assertEqual(done.returncode, status)

@@ -1,6 +1,7 @@
 """What `./kpn install` and tools/release.py put together, without the library for C: tools/clib.py tests that."""
 import os
 import pathlib
+import shutil
 import subprocess
 import sys
 import tempfile
@@ -16,6 +17,35 @@ import wheel_builder  # noqa: E402
 
 PROGRAM = pathlib.Path(os.environ.get('KPN_PROGRAM', pages.PROVED))
 DOUBLES = 'import kpn; print(kpn.find_program()); print(kpn.Network.from_text(open("two.kpn").read()).run()["z"])'
+
+# A program with two networks, the second in static memory.
+PROJECT = '''cmake_minimum_required(VERSION 3.16)
+project(both C CXX)
+set(CMAKE_CXX_STANDARD 17)
+find_package(kpn REQUIRED)
+kpn_add_network(two two.kpn)
+kpn_add_network(twice double.kpn --fixed 4)
+add_executable(main main.cpp)
+target_link_libraries(main two twice)
+'''
+DOUBLE = 'process d(in i; out o) { while 1 { read i x; write o (x * 2); } }\n' \
+         'network { limit 4; source s; sink z cap 1; d = d(s; z); }\n'
+BOTH = '''#include "two.h"
+#include "twice.h"
+#include "kpn.hpp"
+#include <iostream>
+int main() {
+  kpn::basic_session<two_calls> one("");
+  kpn::basic_session<twice_calls> other("");
+  std::int64_t room[1], doubled[1];
+  one.step();
+  other.feed(other.channel("s"), 7);
+  other.step();
+  if (one.take(one.channel("z"), room) == 1 && other.take(other.channel("z"), doubled) == 1) {
+    std::cout << room[0] << " " << doubled[0] << "\\n";
+  }
+}
+'''
 
 
 def said(*words, **more):
@@ -41,6 +71,29 @@ class Installed(unittest.TestCase):
         plain = {it: value for it, value in os.environ.items() if it != 'GLIBC_TUNABLES'}
         self.assertEqual(said(self.room / 'bin/kpn', 'a b', env=plain), f'{settings} a b\n')
         self.assertEqual(said(self.room / 'bin/kpn', 'a b', env={**plain, 'GLIBC_TUNABLES': ''}), ' a b\n')
+
+    def test_compile(self):
+        """A compiled network by the command, and two by the package of CMake, in a program in C++."""
+        if not shutil.which('cc'):
+            self.skipTest('there is no C compiler')
+        install.tree_of(PROGRAM, None, '').write(self.room / 'prefix')
+        command, two = self.room / 'prefix/bin/kpn', self.room / 'prefix' / install.DOCUMENTS / 'examples/two.kpn'
+        self.assertIn('\n  compile  ', said(command, '--help'))
+        said(command, 'compile', two, '-o', 'two', cwd=self.room)
+        self.assertEqual(said(self.room / 'two', 'run', cwd=self.room), 'sink z: 312\nended\n')
+        done = subprocess.run([command, '--words', 'never', 'compile', 'none', '-o', 'x'], capture_output=True)
+        self.assertEqual((done.stderr, done.returncode), (b'kpn: 26 Read\n', 1))
+        if shutil.which('cmake') and shutil.which('c++'):
+            self.try_cmake(two)
+
+    def try_cmake(self, two):
+        (self.room / 'CMakeLists.txt').write_text(PROJECT)
+        (self.room / 'main.cpp').write_text(BOTH)
+        (self.room / 'two.kpn').write_bytes(two.read_bytes())
+        (self.room / 'double.kpn').write_text(DOUBLE)
+        said('cmake', '-S', '.', '-B', 'build', f'-DCMAKE_PREFIX_PATH={self.room}/prefix', cwd=self.room)
+        said('cmake', '--build', 'build', cwd=self.room)
+        self.assertEqual(said(self.room / 'build/main'), '312 14\n')
 
     def test_again(self):
         """A second time replaces what is there, also where another file led elsewhere."""

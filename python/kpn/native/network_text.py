@@ -120,25 +120,26 @@ class NetworkText:
     def plan(self) -> Iterator[str]:
         """The plan of the network."""
         settings, description = self.description.settings, self.description
-        yield 'static const char text[] ='
-        for line in self.text.splitlines():
-            yield f'    "{line}\\n"'
-        yield '    "";'
-        yield 'static const char given[] ='
-        for part in self.given.splitlines(keepends=True):
-            yield f'    "{quoted(part)}"'
-        yield '    "";'
+        if not self.fixed:
+            yield 'static const char text[] ='
+            yield from (f'    "{line}\\n"' for line in self.text.splitlines())
+            yield '    "";'
         yield 'const struct kpn_plan kpn_plan = {'
         tables = (('channels', len(self.numbers)), ('processes', len(description.instances)),
                   ('variables', self.starts[-1]), ('regions', len(self.regions)))
         names = ', '.join(name if count else 'NULL' for name, count in tables)
         counts = ', '.join(str(count) for _, count in tables)
-        yield f'  text, given, {len(self.given)}, {names}, {counts}, {settings.get("limit", LARGEST_CAPACITY)},'
+        texts = ', '.join(f'{{{len(it)}, UINT64_C({hash_of(it)})}}' for it in (self.text.encode(), self.given))
+        yield f'  {"NULL" if self.fixed else "text"}, {{{texts}}},'
+        yield f'  {names}, {counts}, {settings.get("limit", LARGEST_CAPACITY)},'
         flags = (settings.get('policy') == 'all', settings.get('grow') == 'double', self.is_one_talk)
         yield '  ' + ', '.join('true' if it else 'false' for it in flags)
         yield '};'
 
 
-def quoted(text: bytes) -> str:
-    """Bytes in a string of C."""
-    return ''.join(chr(it) if 32 <= it < 127 and chr(it) not in '"\\?' else f'\\{it:03o}' for it in text)
+def hash_of(text: bytes) -> int:
+    """The hash of a text, as network.h has it."""
+    found = 14695981039346656037
+    for byte in text:
+        found = (found ^ byte) * 1099511628211 % 2**64
+    return found

@@ -273,6 +273,9 @@ class RegionText:
         """The tables of the members and of what a period needs."""
         members = ', '.join(f'{{{p}, {laps}}}' for p, laps in self.region.laps.items())
         yield f'static const struct kpn_member members_{self.number}[] = {{{members}}};'
+        inside = ', '.join(f'{{{self.channels[c]}, {count}}}' for c, count in self.put_count.items())
+        if inside:
+            yield f'static const struct kpn_inside inside_{self.number}[] = {{{inside}}};'
         needs = [f'{{{self.channels[c]}, {word}, {count}}}' for of, word in
                  ((self.region.gets, 'false'), (self.region.puts, 'true')) for c, count in of.items()]
         if needs:
@@ -281,6 +284,8 @@ class RegionText:
 
     def plan(self) -> str:
         """The region in the table of regions."""
-        needs = len(self.region.gets) + len(self.region.puts)
-        return f'  {{plain_region_{self.number}, traced_region_{self.number}, members_{self.number}, ' \
-               f'{f"needs_{self.number}" if needs else "NULL"}, {len(self.region.laps)}, {needs}}},'
+        needs, inside = len(self.region.gets) + len(self.region.puts), len(self.put_count)
+        tables = ', '.join(f'{name}_{self.number}' if count else 'NULL'
+                           for name, count in (('needs', needs), ('inside', inside)))
+        return f'  {{plain_region_{self.number}, traced_region_{self.number}, members_{self.number}, {tables}, ' \
+               f'{len(self.region.laps)}, {needs}, {inside}}},'

@@ -29,6 +29,7 @@ static const char controller[] =
     "  }\n"
     "}\n"
     "network {\n"
+    "  limit 8;\n"
     "  source wanted; source temperature;\n"
     "  channel error cap 1; channel power cap 1;\n"
     "  sink heater cap 1;\n"

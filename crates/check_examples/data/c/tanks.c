@@ -39,6 +39,7 @@ static const char controllers[] =
     "}\n"
     "process drop(in error) { while 1 { read error e; } }\n"
     "network {\n"
+    "  limit 8;\n"
     "  source first; source second;\n"
     "  channel p1 cap 1; channel e1 cap 1; channel p2 cap 1; channel e2 cap 1; channel l2 cap 1;\n"
     "  sink heater1 cap 1; sink heater2 cap 1;\n"

@@ -10,7 +10,7 @@
 
 #include "program.h"
 
-enum { PATH = 4096 };
+enum { PATH = 4096, MOST_COMMITS = 1000000000 };
 
 /* A folder for what `kpn` reads, and the texts of the words that name files in it. */
 struct folder {
@@ -254,6 +254,15 @@ static char *store_items(struct folder *folder, const struct kpn_text_items *lis
   return path;
 }
 
+/* The most commits that `kpn run` may make for a run. This one counts its commits in its own way, unless a turn is one of
+   them; and it is over, or not compared. */
+static uint64_t most_commits(const struct kpn_run *run) {
+  if (!run->network.plan->is_one_talk) {
+    return MOST_COMMITS;
+  }
+  return run->words.has_most_commits ? run->words.most_commits : KPN_USUAL_COMMITS;
+}
+
 /* The words of `kpn run` for a run: 2 for each source, and 8 at most beside these. */
 static bool run_words(struct folder *folder, const struct kpn_run *run, char **words) {
   char number[32], *path;
@@ -271,12 +280,13 @@ static bool run_words(struct folder *folder, const struct kpn_run *run, char **w
     }
     free(path);
   }
-  for (int k = 0; k < 2; k++) {
-    if (k == 0 ? run->words.has_take : run->words.has_most_commits) {
-      *kpn_digits(number, (int64_t)(k == 0 ? run->words.take : run->words.most_commits)) = 0;
-      words[count++] = strdup(k == 0 ? "--take" : "--max-commits");
-      words[count++] = strdup(number);
-    }
+  words[count++] = strdup("--max-commits");
+  *kpn_digits(number, (int64_t)most_commits(run)) = 0;
+  words[count++] = strdup(number);
+  if (run->words.has_take) {
+    *kpn_digits(number, (int64_t)run->words.take) = 0;
+    words[count++] = strdup("--take");
+    words[count++] = strdup(number);
   }
   for (size_t k = 0; k < count; k++) {
     if (!words[k]) {
@@ -290,6 +300,9 @@ int kpn_compare_runs(struct kpn_run *run) {
   struct folder folder;
   pid_t child;
   size_t most = 2 * run->words.source_count + 8;
+  if (run->outcome == KPN_STOPPED && !run->network.plan->is_one_talk) {
+    return kpn_refuse(0, "not checked: the run was stopped, and reports no items");
+  }
   char **words = calloc(most, sizeof *words);
   if (!words || !make_folder(&folder)) {
     free(words);
@@ -309,8 +322,7 @@ int kpn_compare_runs(struct kpn_run *run) {
   }
   free(words);
   if (!comparison.from || !comparison.is_same) {
-    return kpn_refuse(KPN_NOT_CERTIFIED, "not checked: `kpn run` does not give this report%s",
-                      run->words.has_most_commits ? "" : "; a long run there wants --max-commits N");
+    return kpn_refuse(KPN_NOT_CERTIFIED, "not checked: `kpn run` does not give this report");
   }
   return kpn_refuse(0, "checked: the report is that of `kpn run`");
 }

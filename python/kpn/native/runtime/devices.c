@@ -2,11 +2,54 @@
 #include "devices.h"
 
 #include <errno.h>
+#include <fcntl.h>
 #include <poll.h>
+#include <pthread.h>
+#include <stdlib.h>
 #include <string.h>
+#include <sys/stat.h>
 #include <unistd.h>
 
 enum { LONGEST_LINE = 22, LONGEST_ITEM = 32 };
+
+bool kpn_is_fifo(const char *name) {
+  struct stat told;
+  return stat(name, &told) == 0 && S_ISFIFO(told.st_mode);
+}
+
+struct kpn_opening {
+  const char *name;
+  pthread_t thread;
+  int to;
+  bool is_apart; /* a thread opens it */
+};
+
+static void *open_apart(void *of) {
+  struct kpn_opening *opening = of;
+  opening->to = open(opening->name, O_WRONLY | O_CLOEXEC);
+  return NULL;
+}
+
+struct kpn_opening *kpn_begin_opening(const char *name) {
+  struct kpn_opening *opening = calloc(1, sizeof *opening);
+  if (opening) {
+    opening->name = name;
+    opening->is_apart = pthread_create(&opening->thread, NULL, open_apart, opening) == 0;
+  }
+  if (opening && !opening->is_apart) {
+    open_apart(opening);
+  }
+  return opening;
+}
+
+int kpn_finish_opening(struct kpn_opening *opening) {
+  if (opening->is_apart) {
+    pthread_join(opening->thread, NULL);
+  }
+  int to = opening->to;
+  free(opening);
+  return to;
+}
 
 static enum kpn_input_state next_line(struct kpn_input *input, int64_t *item) {
   const char *at = input->bytes + input->start;
@@ -43,10 +86,14 @@ enum kpn_input_state kpn_next_item(struct kpn_input *input, int64_t *item) {
 }
 
 bool kpn_read_more(struct kpn_input *input) {
+  struct pollfd asked = {.fd = input->from, .events = POLLIN};
   memmove(input->bytes, input->bytes + input->start, input->end - input->start);
   input->end -= input->start;
   input->start = 0;
   for (;;) {
+    if (input->waits_for_writer) { /* before it there is nothing, which is no end */
+      poll(&asked, 1, -1);
+    }
     ssize_t count = read(input->from, input->bytes + input->end, sizeof input->bytes - input->end);
     if (count >= 0) {
       input->end += (size_t)count;
@@ -59,11 +106,32 @@ bool kpn_read_more(struct kpn_input *input) {
   }
 }
 
+/* How many whole items are in the first bytes that an output has kept. */
+static uint64_t whole_items(const struct kpn_output *output, size_t length) {
+  size_t width = kpn_sample_width(output->format);
+  uint64_t lines = 0;
+  for (size_t k = 0; width == 0 && k < length; k++) {
+    lines += output->bytes[k] == '\n';
+  }
+  return width ? length / width : lines;
+}
+
+void kpn_end_output(struct kpn_output *output) {
+  if (output->opening) {
+    output->to = kpn_finish_opening(output->opening);
+    output->opening = NULL;
+  }
+}
+
 void kpn_flush(struct kpn_output *output) {
-  if (output->length && !output->has_gone && !output->has_failed &&
-      !kpn_write_all(output->to, output->bytes, output->length)) {
-    output->has_gone = errno == EPIPE;
-    output->has_failed = !output->has_gone;
+  if (output->length) {
+    kpn_end_output(output);
+  }
+  if (output->length && !output->has_gone && !output->has_failed) {
+    size_t taken = kpn_write_most(output->to, output->bytes, output->length);
+    output->has_gone = taken < output->length && errno == EPIPE;
+    output->has_failed = taken < output->length && !output->has_gone;
+    output->taken += whole_items(output, taken);
   }
   output->length = 0;
 }

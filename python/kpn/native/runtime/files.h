@@ -10,11 +10,23 @@ struct kpn_file {
   const char *name;
   char *target, *part;   /* behind all links; null if it is a device */
   int to;
-  bool is_open;
+  bool is_open, is_begun; /* something was written */
 };
+
+/* Opens standard input, output and error where they are closed, so that no file gets their numbers: reads and writes
+   there fail. */
+void kpn_fill_standard(void);
 
 /* Whether an output would be written over another file. `others` are files that are read or written. */
 bool kpn_file_clashes(const char *name, const char *const *others, size_t count, bool are_outputs);
+
+/* Whether an output would be written over the plain file of another name; over that of standard input, output or
+   error. */
+bool kpn_file_is_same(const char *name, const char *other);
+bool kpn_file_is_standard(const char *name);
+
+/* Whether two names lead to one pipe, terminal or other device, whose bytes go to one reader only. */
+bool kpn_file_is_one_device(const char *name, const char *other);
 
 /* Makes an output ready, writes to it, and puts it in its place. False says that a device has failed. */
 bool kpn_file_prepare(struct kpn_file *file);
@@ -28,7 +40,8 @@ void kpn_file_drop(struct kpn_file *file);
    something, or room. */
 bool kpn_may_retry(int device, short events);
 
-/* Writes all bytes to a descriptor. */
+/* Writes all bytes to a descriptor, or as many as it takes. */
 bool kpn_write_all(int to, const char *text, size_t length);
+size_t kpn_write_most(int to, const char *text, size_t length);
 
 #endif

@@ -1,7 +1,10 @@
 /* main.c: which command the words name. */
+#define _GNU_SOURCE
+#include <signal.h>
 #include <stdio.h>
 #include <stdlib.h>
 #include <string.h>
+#include <unistd.h>
 
 #include "program.h"
 
@@ -24,29 +27,18 @@ static const char HELP[] =
     "\n"
     "Statuses: those of `kpn run`, and 9 if the run is not certified.\n";
 
-int kpn_main(const struct kpn_plan *plan, const char *program, int count, char **words) {
-  struct kpn_run *run = calloc(1, sizeof *run);
-  struct kpn_end *ends = calloc(2 * (size_t)count, sizeof *ends);
-  struct kpn_format_word *formats = calloc((size_t)count, sizeof *formats);
-  bool is_run = count > 1 && strcmp(words[1], "run") == 0, is_stream = count > 1 && strcmp(words[1], "stream") == 0;
-  for (int k = 1; k < count; k++) {
+static bool asks_for_help(int count, char **words) {
+  for (int k = 0; k < count; k++) {
     if (strcmp(words[k], "--help") == 0 || strcmp(words[k], "-h") == 0) {
-      fputs(HELP, stdout);
-      return 0;
+      return true;
     }
   }
-  if (!is_run && !is_stream) {
-    fputs(HELP, stderr);
-    return KPN_USAGE;
-  }
-  if (!run || !ends || !formats) {
-    return kpn_refuse(KPN_LACKS_MEMORY, "42 NoMemory");
-  }
-  run->program = getenv("KPN_PROGRAM") ? getenv("KPN_PROGRAM") : program;
-  run->words.sources = ends;
-  run->words.sinks = ends + count;
-  run->words.formats = formats;
-  if (!kpn_read_words(&run->words, is_stream, count - 2, words + 2)) {
+  return false;
+}
+
+/* Runs the network as the words behind the command ask for. */
+static int run_words(struct kpn_run *run, const struct kpn_plan *plan, bool is_stream, int count, char **words) {
+  if (!kpn_read_words(&run->words, is_stream, count, words)) {
     return KPN_USAGE;
   }
   if (!kpn_make_network(&run->network, plan)) {
@@ -55,8 +47,38 @@ int kpn_main(const struct kpn_plan *plan, const char *program, int count, char *
   if (!run->words.is_quiet) {
     kpn_refuse(0, "compiled: nothing is proved of the program that runs here");
   }
-  int status = is_run ? kpn_commands(run) : kpn_command_stream(run);
+  int status = is_stream ? kpn_command_stream(run) : kpn_commands(run);
   free(run->network.channels);
+  return status;
+}
+
+int kpn_main(const struct kpn_plan *plan, const char *program, int count, char **words) {
+  kpn_fill_standard();
+  signal(SIGXFSZ, SIG_IGN); /* a file that may not grow is a failed write */
+  if (!kpn_are_texts(count - 1, words + 1)) {
+    return KPN_USAGE;
+  }
+  if (asks_for_help(count - 1, words + 1)) {
+    return kpn_write_all(STDOUT_FILENO, HELP, strlen(HELP)) ? 0 : kpn_refuse(KPN_REFUSED, "27 Write");
+  }
+  bool is_stream = count > 1 && strcmp(words[1], "stream") == 0;
+  if (!is_stream && (count < 2 || strcmp(words[1], "run") != 0)) {
+    kpn_tell("%s", HELP);
+    return KPN_USAGE;
+  }
+  struct kpn_run *run = calloc(1, sizeof *run);
+  struct kpn_end *ends = calloc(2 * (size_t)count, sizeof *ends);
+  struct kpn_format_word *formats = calloc((size_t)count, sizeof *formats);
+  int status = KPN_LACKS_MEMORY;
+  if (run && ends && formats) {
+    run->program = getenv("KPN_PROGRAM") ? getenv("KPN_PROGRAM") : program;
+    run->words.sources = ends;
+    run->words.sinks = ends + count;
+    run->words.formats = formats;
+    status = run_words(run, plan, is_stream, count - 2, words + 2);
+  } else {
+    kpn_refuse(status, "42 NoMemory");
+  }
   free(formats);
   free(ends);
   free(run);

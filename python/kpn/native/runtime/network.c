@@ -58,7 +58,7 @@ void kpn_begin(struct kpn_network *network) {
     memcpy(network->variables, plan->variables, plan->variable_count * sizeof *plan->variables);
   }
   network->first_ready = network->ready_count = network->stalled_count = network->still_count = 0;
-  network->turns = 0;
+  network->turns = network->fault_count = 0;
   network->commits = 0;
   network->lacks_memory = false;
   for (size_t p = 0; p < plan->process_count; p++) {
@@ -238,6 +238,7 @@ static void end(struct kpn_network *network, unsigned p, enum kpn_stop cause) {
   network->processes[p].being = KPN_OVER;
   network->processes[p].why = (uint8_t)cause;
   network->still_count++;
+  network->fault_count += cause != KPN_DONE;
   if (network->history) {
     kpn_record(network, KPN_END, p, 0, cause);
   }
@@ -325,8 +326,9 @@ bool kpn_feed_item(struct kpn_network *network, unsigned source, int64_t item) {
     kpn_record(network, KPN_FEED, KPN_OUTSIDE, source, item);
   }
   if (is_read) {
-    channel->ring[channel->put++ & channel->mask] = item;
+    channel->ring[channel->put & channel->mask] = item;
   }
+  channel->put++;
   return !network->lacks_memory;
 }
 

@@ -87,7 +87,7 @@ struct kpn_region {
   bool is_ready, is_over;   /* in the queue; never together again, since a member has ended or will fault */
   uint16_t gathered;        /* members that are parked */
   uint32_t patience, left;  /* how many times it does not gather, since it was of no use; how many are left */
-  uint64_t periods;         /* since it came together */
+  uint64_t periods, before; /* made in all, and before it came together */
 };
 
 struct kpn_network;
@@ -105,11 +105,18 @@ struct kpn_member {
   uint32_t laps;           /* in a period */
 };
 
+/* A channel between members, and how many items it carries in a period. */
+struct kpn_inside {
+  uint16_t channel;
+  uint32_t count;
+};
+
 struct kpn_region_plan {
   kpn_turn *turn, *traced_turn;
   const struct kpn_member *members;
   const struct kpn_need *needs;
-  uint16_t member_count, need_count;
+  const struct kpn_inside *inside;
+  uint16_t member_count, need_count, inside_count;
 };
 
 struct kpn_channel_plan {
@@ -127,10 +134,19 @@ struct kpn_process_plan {
   uint32_t variables;      /* where its variables begin */
 };
 
+/* A text, by its length and a hash: each byte is xored to it, and then it is multiplied by KPN_PRIME. */
+struct kpn_text {
+  size_t length;
+  uint64_t hash;
+};
+
+#define KPN_OFFSET UINT64_C(14695981039346656037)
+#define KPN_PRIME UINT64_C(1099511628211)
+
 /* A network as it was compiled. */
 struct kpn_plan {
-  const char *text, *given; /* the canonical description, and the one that was compiled */
-  size_t given_length;
+  const char *text;         /* the canonical description; null in static memory */
+  struct kpn_text texts[2]; /* it, and the description that was compiled */
   const struct kpn_channel_plan *channels;
   const struct kpn_process_plan *processes;
   const int64_t *variables; /* as they are at the beginning */
@@ -155,6 +171,7 @@ struct kpn_network {
                                   events */
   size_t first_ready, ready_count, stalled_count, still_count; /* still: waiting or over */
   size_t turns;                /* since waits became events */
+  size_t fault_count;          /* of the processes that have ended by a fault */
   uint64_t commits;
   kpn_taker *taker;            /* who takes from the sinks at once; null if the owner does so when it likes */
   void *owner;

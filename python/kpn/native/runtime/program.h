@@ -10,6 +10,9 @@
 /* The statuses beside those of outcomes. */
 enum { KPN_REFUSED = 1, KPN_USAGE = 2, KPN_LACKS_MEMORY = 6, KPN_FAULTED = 8, KPN_HAS_RING = 9, KPN_NOT_CERTIFIED = 9 };
 
+/* The most commits of `kpn run` without --max-commits. */
+enum { KPN_USUAL_COMMITS = 10000000 };
+
 /* What is told of a run with a trace whose loops without checks give other items. */
 #define KPN_DIFFERED "not certified: two ways of the program give other items; please report the network and its input"
 
@@ -53,6 +56,9 @@ struct kpn_run {
   struct kpn_file trace, *files; /* of each channel: where a sink is stored */
 };
 
+/* Whether all words are UTF-8 text. If not it says so. */
+bool kpn_are_texts(int count, char **words);
+
 /* Reads the words behind the command. If they are wrong it says so and gives false. */
 bool kpn_read_words(struct kpn_words *words, bool is_stream, int count, char **given);
 
@@ -69,7 +75,8 @@ enum kpn_format kpn_format_of_end(const struct kpn_words *words, const char *nam
 /* Refuses outputs that would be written over other files; 0, or the status. `-` is a standard end of a stream. */
 int kpn_check_outputs(const struct kpn_words *words, bool is_stream);
 
-/* Says what is wrong, in the form of `kpn`, and gives the status. */
+/* Says something on standard error; says what is wrong, in the form of `kpn`, and gives the status. */
+void kpn_tell(const char *format, ...) __attribute__((format(printf, 1, 2)));
 int kpn_refuse(int status, const char *format, ...) __attribute__((format(printf, 2, 3)));
 
 /* The whole program, with the path of `kpn`. */

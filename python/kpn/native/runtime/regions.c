@@ -46,7 +46,7 @@ void kpn_gather(struct kpn_network *network) {
 static void scatter(struct kpn_network *network, unsigned r) {
   const struct kpn_region_plan *plan = &network->plan->regions[r];
   struct kpn_region *region = &network->regions[r];
-  bool was_of_use = region->way == KPN_TOGETHER && region->periods > 0;
+  bool was_of_use = region->way == KPN_TOGETHER && region->periods > region->before;
   region->patience = was_of_use ? 0 : region->patience < MOST_PATIENCE ? 2 * region->patience + 1 : MOST_PATIENCE;
   region->left = region->patience;
   for (size_t k = 0; region->way == KPN_TOGETHER && k < plan->need_count; k++) {
@@ -92,7 +92,7 @@ void kpn_park(struct kpn_network *network, unsigned p) {
     return;
   }
   region->way = KPN_TOGETHER;
-  region->periods = 0;
+  region->before = region->periods;
   for (size_t k = 0; k < network->plan->regions[r].member_count; k++) {
     member(network, r, k)->lap = 0;
   }

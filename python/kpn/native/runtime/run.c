@@ -5,9 +5,6 @@
 
 #include "program.h"
 
-/* Of `kpn run` without --max-commits. */
-enum { MOST_COMMITS = 10000000 };
-
 static bool has_enough(const struct kpn_run *run) {
   return run->words.has_take && run->sinks_short == 0;
 }
@@ -205,7 +202,7 @@ static int answer(struct kpn_run *run) {
 static int run_network(struct kpn_run *run) {
   run->history.most = run->words.events ? run->words.events : UINT64_MAX;
   run->network.history = run->words.trace || run->words.is_certified ? &run->history : NULL;
-  uint64_t usual = run->network.plan->is_one_talk ? MOST_COMMITS : UINT64_MAX;
+  uint64_t usual = run->network.plan->is_one_talk ? KPN_USUAL_COMMITS : UINT64_MAX;
   if (kpn_begin_run(run)) {
     run->outcome = kpn_run_on(run, run->words.has_most_commits ? run->words.most_commits : usual);
   }

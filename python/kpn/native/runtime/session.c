@@ -3,10 +3,6 @@
 
 #include <string.h>
 
-static struct kpn_network *network_of(kpn_session *session) {
-  return &((struct kpn_own_session *)session->at)->network;
-}
-
 static bool is_of_kind(const struct kpn_network *network, size_t c, enum kpn_kind kind) {
   return c < network->plan->channel_count && network->plan->channels[c].kind == kind;
 }
@@ -20,18 +16,24 @@ static uint32_t answer(struct kpn_own_session *session) {
   return has_lacked ? KPN_NO_MEMORY : KPN_OK;
 }
 
-static bool is_text(const char *text, size_t length, const char *other, size_t other_length) {
-  return length == other_length && memcmp(text, other, length) == 0;
+static bool is_text_of_plan(const char *text, size_t length) {
+  uint64_t hash = KPN_OFFSET;
+  for (size_t k = 0; k < length; k++) {
+    hash = (hash ^ (unsigned char)text[k]) * KPN_PRIME;
+  }
+  for (size_t k = 0; k < 2; k++) {
+    if (kpn_plan.texts[k].length == length && kpn_plan.texts[k].hash == hash) {
+      return true;
+    }
+  }
+  return false;
 }
 
 uint32_t kpn_open(const char *text, size_t length, kpn_session *session, kpn_place *place) {
   if (LACKS(text, length) || !session || !place) return KPN_NULL;
   *place = (kpn_place){false, 0};
   session->at = NULL;
-  if (length > 0 && !is_text(text, length, kpn_plan.text, strlen(kpn_plan.text)) &&
-      !is_text(text, length, kpn_plan.given, kpn_plan.given_length)) {
-    return KPN_OTHER_TEXT;
-  }
+  if (length > 0 && !is_text_of_plan(text, length)) return KPN_OTHER_TEXT;
   struct kpn_own_session *made = kpn_make_session();
   if (!made) return KPN_NO_MEMORY;
   session->at = made;
@@ -54,7 +56,7 @@ uint32_t kpn_channel(kpn_session *session, const char *name, size_t length, size
   if (!session || LACKS(name, length) || !channel) return KPN_NULL;
   *channel = 0;
   if (!session->at) return KPN_NO_SESSION;
-  const struct kpn_plan *plan = network_of(session)->plan;
+  const struct kpn_plan *plan = kpn_network_of(session)->plan;
   for (size_t c = 0; c < plan->channel_count; c++) {
     if (strlen(plan->channels[c].name) == length && memcmp(plan->channels[c].name, name, length) == 0) {
       *channel = c;
@@ -68,7 +70,7 @@ uint32_t kpn_feed(kpn_session *session, size_t source, const int64_t *items, siz
   if (!session || LACKS(items, count) || !fed) return KPN_NULL;
   *fed = 0;
   if (!session->at) return KPN_NO_SESSION;
-  struct kpn_network *network = network_of(session);
+  struct kpn_network *network = kpn_network_of(session);
   if (!is_of_kind(network, source, KPN_SOURCE)) return KPN_NO_SUCH_END;
   if (network->channels[source].is_shut) return KPN_SOURCE_CLOSED;
   while (*fed < count && !network->lacks_memory) {
@@ -85,7 +87,7 @@ uint32_t kpn_feed(kpn_session *session, size_t source, const int64_t *items, siz
 uint32_t kpn_close_source(kpn_session *session, size_t source) {
   if (!session) return KPN_NULL;
   if (!session->at) return KPN_NO_SESSION;
-  struct kpn_network *network = network_of(session);
+  struct kpn_network *network = kpn_network_of(session);
   if (!is_of_kind(network, source, KPN_SOURCE)) return KPN_NO_SUCH_END;
   if (network->channels[source].is_shut) return KPN_SOURCE_CLOSED;
   kpn_close(network, (unsigned)source);
@@ -96,19 +98,22 @@ uint32_t kpn_step(kpn_session *session, uint64_t most, uint64_t *commits) {
   if (!session || !commits) return KPN_NULL;
   *commits = 0;
   if (!session->at) return KPN_NO_SESSION;
-  struct kpn_network *network = network_of(session);
+  struct kpn_network *network = kpn_network_of(session);
   uint64_t before = network->commits;
+  size_t faults = network->fault_count;
   kpn_go(network, most < UINT64_MAX - before ? before + most : UINT64_MAX);
   *commits = network->commits - before;
-  return answer(session->at);
+  uint32_t fault = answer(session->at);
+  return fault == KPN_OK && network->fault_count > faults ? (uint32_t)KPN_PROCESS_FAULTED : fault;
 }
 
 uint32_t kpn_take(kpn_session *session, size_t sink, int64_t *items, size_t room, size_t *taken) {
   if (!session || LACKS(items, room) || !taken) return KPN_NULL;
   *taken = 0;
   if (!session->at) return KPN_NO_SESSION;
-  struct kpn_network *network = network_of(session);
+  struct kpn_network *network = kpn_network_of(session);
   if (!is_of_kind(network, sink, KPN_SINK)) return KPN_NO_SUCH_END;
+  if (network->channels[sink].is_shut) return KPN_SINK_LEFT;
   struct kpn_channel *channel = &network->channels[sink];
   while (*taken < room && channel->got != channel->put && !network->lacks_memory) {
     int64_t item = channel->ring[channel->got & channel->mask];
@@ -118,6 +123,17 @@ uint32_t kpn_take(kpn_session *session, size_t sink, int64_t *items, size_t room
     channel->got++;
     items[(*taken)++] = item;
     kpn_taken(network, (unsigned)sink);
+  }
+  return answer(session->at);
+}
+
+uint32_t kpn_leave_sink(kpn_session *session, size_t sink) {
+  if (!session) return KPN_NULL;
+  if (!session->at) return KPN_NO_SESSION;
+  struct kpn_network *network = kpn_network_of(session);
+  if (!is_of_kind(network, sink, KPN_SINK)) return KPN_NO_SUCH_END;
+  if (!network->channels[sink].is_shut) {
+    kpn_leave(network, (unsigned)sink);
   }
   return answer(session->at);
 }
@@ -134,12 +150,14 @@ uint32_t kpn_move(kpn_session *session, const kpn_item *items, size_t count, uin
     amounts->fed += moved;
   }
   fault = fault ? fault : kpn_step(session, most, &amounts->commits);
+  bool has_faulted = fault == KPN_PROCESS_FAULTED; /* which is told once all is done */
+  fault = has_faulted ? (uint32_t)KPN_OK : fault;
   for (size_t k = 0; k < place_count && !fault; k++) {
     fault = kpn_take(session, places[k].channel, &places[k].item, 1, &moved);
     places[k].has_item = moved > 0;
     amounts->served += !fault;
   }
-  return fault;
+  return has_faulted && !fault ? (uint32_t)KPN_PROCESS_FAULTED : fault;
 }
 
 uint32_t kpn_is_complete(kpn_session *session, size_t channel, bool *complete) {
@@ -147,8 +165,8 @@ uint32_t kpn_is_complete(kpn_session *session, size_t channel, bool *complete) {
   *complete = false;
   if (!session->at) return KPN_NO_SESSION;
   bool all[KPN_MOST_CHANNELS];
-  if (channel >= network_of(session)->plan->channel_count) return KPN_NO_CHANNEL;
-  kpn_complete(network_of(session), all);
+  if (channel >= kpn_network_of(session)->plan->channel_count) return KPN_NO_CHANNEL;
+  kpn_complete(kpn_network_of(session), all);
   *complete = all[channel];
   return KPN_OK;
 }
@@ -157,7 +175,7 @@ uint32_t kpn_verdict(kpn_session *session, uint32_t *verdict) {
   if (!session || !verdict) return KPN_NULL;
   *verdict = 0;
   if (!session->at) return KPN_NO_SESSION;
-  *verdict = kpn_verdict_of(network_of(session));
+  *verdict = kpn_verdict_of(kpn_network_of(session));
   return KPN_OK;
 }
 

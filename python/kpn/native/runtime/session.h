@@ -15,6 +15,11 @@ struct kpn_own_session {
 
 extern const struct kpn_plan kpn_plan;
 
+/* The network of a session that is open. */
+static inline struct kpn_network *kpn_network_of(kpn_session *session) {
+  return &((struct kpn_own_session *)session->at)->network;
+}
+
 /* A session whose network has its arrays and nothing in them, or null. */
 struct kpn_own_session *kpn_make_session(void);
 void kpn_drop_session(struct kpn_own_session *session);

@@ -1,31 +1,17 @@
 /* stream.c: the command `stream`, on items as they come. */
 #define _GNU_SOURCE
-#include <errno.h>
-#include <fcntl.h>
 #include <poll.h>
 #include <signal.h>
 #include <stdio.h>
 #include <stdlib.h>
 #include <string.h>
-#include <sys/file.h>
-#include <sys/stat.h>
 #include <unistd.h>
 
-#include "devices.h"
+#include "stream.h"
 
 /* So many commits are made until the inputs are looked at again, also while processes are ready; and so many at the end
    of an input that is wrong. A process that never talks makes as many in some milliseconds. */
 enum { SLICE = 4096, LAST_SLICE = 1048576 };
-
-struct stream {
-  struct kpn_run *run;
-  struct kpn_input **inputs;   /* of each channel; null if it is no source */
-  struct kpn_output **outputs; /* of each channel; null if it is no sink */
-  const char **files;          /* of each channel: IN or OUT */
-  int status;                  /* of what is wrong with a device */
-  char wrong[64];              /* its line, without the end */
-  unsigned wrong_channel;
-};
 
 static const struct kpn_plan *plan_of(const struct stream *stream) {
   return stream->run->network.plan;
@@ -37,114 +23,6 @@ static void fail(struct stream *stream, unsigned c, int status, const char *line
     stream->wrong_channel = c;
     snprintf(stream->wrong, sizeof stream->wrong, "%s", line);
   }
-}
-
-/* ---- ends */
-
-/* Finds the files of the ends of a kind. The only source is standard input if it is left out, and the only sink
-   standard output. */
-static int complete_ends(struct stream *stream, enum kpn_kind kind, struct kpn_end *ends, size_t count) {
-  const struct kpn_plan *plan = plan_of(stream);
-  size_t of_kind = 0;
-  if (!kpn_find_ends(plan, kind, ends, count)) {
-    return KPN_REFUSED;
-  }
-  for (unsigned c = 0; c < plan->channel_count; c++) {
-    of_kind += plan->channels[c].kind == kind;
-  }
-  for (size_t k = 0; k < count; k++) {
-    stream->files[ends[k].channel] = ends[k].file;
-  }
-  for (unsigned c = 0; c < plan->channel_count; c++) {
-    if (plan->channels[c].kind == kind && !stream->files[c]) {
-      if (of_kind != 1) {
-        bool is_source = kind == KPN_SOURCE;
-        return kpn_refuse(KPN_USAGE, "usage: --%s %s=%s", is_source ? "source" : "sink", plan->channels[c].name,
-                          is_source ? "IN" : "OUT");
-      }
-      stream->files[c] = "-";
-    }
-  }
-  return 0;
-}
-
-static bool is_plain(const char *file) {
-  struct stat told;
-  return strcmp(file, "-") != 0 && stat(file, &told) == 0 && S_ISREG(told.st_mode);
-}
-
-static int check_inputs(const struct stream *stream) {
-  const struct kpn_plan *plan = plan_of(stream);
-  for (unsigned c = 0; c < plan->channel_count; c++) {
-    for (unsigned d = 0; d < c; d++) {
-      if (plan->channels[c].kind == KPN_SOURCE && plan->channels[d].kind == KPN_SOURCE &&
-          strcmp(stream->files[c], stream->files[d]) == 0 && !is_plain(stream->files[c])) {
-        return kpn_refuse(KPN_USAGE, "usage: --source NAME=IN, a plain file if two sources have it");
-      }
-    }
-  }
-  return 0;
-}
-
-static int open_inputs(struct stream *stream) {
-  for (unsigned c = 0; c < plan_of(stream)->channel_count; c++) {
-    if (plan_of(stream)->channels[c].kind == KPN_SOURCE) {
-      struct kpn_input *input = calloc(1, sizeof *input);
-      stream->inputs[c] = input;
-      if (!input) {
-        return kpn_refuse(KPN_LACKS_MEMORY, "42 NoMemory");
-      }
-      input->format = kpn_format_of_end(&stream->run->words, plan_of(stream)->channels[c].name);
-      bool is_standard = strcmp(stream->files[c], "-") == 0;
-      input->from = is_standard ? STDIN_FILENO : open(stream->files[c], O_RDONLY | O_CLOEXEC);
-      if (input->from < 0) {
-        return kpn_refuse(KPN_REFUSED, "26 Read");
-      }
-      input->is_open = true;
-    }
-  }
-  return 0;
-}
-
-/* Whether no other stream writes the plain file that this may be. It stays locked. */
-static bool is_only_writer(int to) {
-  struct stat told;
-  return fstat(to, &told) != 0 || !S_ISREG(told.st_mode) || flock(to, LOCK_EX | LOCK_NB) == 0 || errno != EWOULDBLOCK;
-}
-
-/* Removes what the plain outputs held, once all ends are open. Standard output is written where it stands. */
-static int empty_outputs(const struct stream *stream) {
-  struct stat told;
-  for (unsigned c = 0; c < plan_of(stream)->channel_count; c++) {
-    const struct kpn_output *output = stream->outputs[c];
-    if (output && output->to != STDOUT_FILENO && fstat(output->to, &told) == 0 && S_ISREG(told.st_mode) &&
-        ftruncate(output->to, 0) != 0) {
-      return kpn_refuse(KPN_REFUSED, "27 Write");
-    }
-  }
-  return 0;
-}
-
-static int open_outputs(struct stream *stream) {
-  struct kpn_run *run = stream->run;
-  for (unsigned c = 0; c < plan_of(stream)->channel_count; c++) {
-    if (plan_of(stream)->channels[c].kind == KPN_SINK) {
-      struct kpn_output *output = calloc(1, sizeof *output);
-      stream->outputs[c] = output;
-      if (!output) {
-        return kpn_refuse(KPN_LACKS_MEMORY, "42 NoMemory");
-      }
-      output->format = kpn_format_of_end(&run->words, plan_of(stream)->channels[c].name);
-      output->clips = run->words.clips;
-      bool is_standard = strcmp(stream->files[c], "-") == 0;
-      output->to = is_standard ? STDOUT_FILENO : open(stream->files[c], O_WRONLY | O_CREAT | O_CLOEXEC, 0666);
-      if (output->to < 0 || !(is_standard || is_only_writer(output->to))) {
-        return kpn_refuse(KPN_REFUSED, "27 Write");
-      }
-      run->sinks_short++;
-    }
-  }
-  return empty_outputs(stream);
 }
 
 /* ---- items */
@@ -169,6 +47,14 @@ static void flush_all(struct stream *stream) {
   for (unsigned c = 0; c < plan_of(stream)->channel_count; c++) {
     if (stream->outputs[c]) {
       kpn_flush(stream->outputs[c]);
+    }
+  }
+}
+
+static void end_all(struct stream *stream) {
+  for (unsigned c = 0; c < plan_of(stream)->channel_count; c++) {
+    if (stream->outputs[c]) {
+      kpn_end_output(stream->outputs[c]);
     }
   }
 }
@@ -386,8 +272,8 @@ static int conclude(struct stream *stream) {
       continue;
     }
     if (!run->words.is_quiet) {
-      fprintf(stderr, "sink %s: %llu items, %scomplete\n", plan->channels[c].name, (unsigned long long)output->count,
-              complete[c] ? "" : "not ");
+      kpn_tell("sink %s: %llu items, %scomplete\n", plan->channels[c].name, (unsigned long long)output->taken,
+               complete[c] && !output->has_failed ? "" : "not ");
     }
     are_all = are_all && (complete[c] || output->has_gone ||
                           (run->words.has_take && output->count >= run->words.take));
@@ -404,15 +290,14 @@ static int conclude(struct stream *stream) {
   return are_all || run->outcome < KPN_CLOGGED || run->outcome == KPN_ENOUGH ? 0 : statuses[run->outcome];
 }
 
-static int prepare_trace(struct kpn_run *run) {
-  run->trace.name = run->words.trace;
-  return run->trace.name && !kpn_file_prepare(&run->trace) ? kpn_refuse(KPN_REFUSED, "27 Write") : 0;
-}
-
-static int store_trace(struct kpn_run *run) {
+static int store_trace(struct stream *stream) {
+  struct kpn_run *run = stream->run;
   const struct kpn_plan *plan = run->network.plan;
   if (run->network.has_differed) {
     return kpn_refuse(KPN_NOT_CERTIFIED, KPN_DIFFERED);
+  }
+  if (stream->trace) {
+    run->trace.to = kpn_finish_opening(stream->trace);
   }
   if (run->trace.name && !(kpn_history_write(&run->history, plan->is_policy_all, plan->is_growth_double,
                                              kpn_file_write, &run->trace) && kpn_file_store(&run->trace))) {
@@ -435,6 +320,7 @@ static int run_stream(struct stream *stream) {
   signal(SIGPIPE, SIG_IGN);
   go(stream);
   flush_all(stream);
+  end_all(stream);
   look_at_outputs(stream);
   if (network->lacks_memory) {
     return kpn_refuse(KPN_LACKS_MEMORY, "42 NoMemory");
@@ -442,12 +328,12 @@ static int run_stream(struct stream *stream) {
   if (stream->status) {
     run->outcome = KPN_GOING;
   }
-  int status = conclude(stream), stored = store_trace(run);
+  int status = conclude(stream), stored = store_trace(stream);
   if (stream->status) {
     unsigned c = stream->wrong_channel;
     kpn_refuse(0, "%s", stream->wrong);
-    fprintf(stderr, "at --%s %s=%s\n", stream->inputs[c] ? "source" : "sink", plan_of(stream)->channels[c].name,
-            stream->files[c]);
+    kpn_tell("at --%s %s=%s\n", stream->inputs[c] ? "source" : "sink", plan_of(stream)->channels[c].name,
+             stream->files[c]);
     return stream->status;
   }
   return stored ? stored : status;
@@ -461,14 +347,7 @@ int kpn_command_stream(struct kpn_run *run) {
                           .files = calloc(count, sizeof *stream.files)};
   int status = KPN_LACKS_MEMORY;
   if (stream.inputs && stream.outputs && stream.files) {
-    status = kpn_check_outputs(&run->words, true);
-    status = status ? status : complete_ends(&stream, KPN_SOURCE, run->words.sources, run->words.source_count);
-    status = status ? status : check_inputs(&stream);
-    status = status ? status : complete_ends(&stream, KPN_SINK, run->words.sinks, run->words.sink_count);
-    status = status ? status : kpn_check_formats(run->network.plan, &run->words) ? 0 : KPN_USAGE;
-    status = status ? status : prepare_trace(run);
-    status = status ? status : open_inputs(&stream);
-    status = status ? status : open_outputs(&stream);
+    status = kpn_open_ends(&stream);
     status = status ? status : run_stream(&stream);
   } else {
     kpn_refuse(status, "42 NoMemory");

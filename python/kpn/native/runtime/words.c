@@ -1,22 +1,77 @@
 /* words.c: the words of the command line. */
-#include <errno.h>
 #include <stdarg.h>
 #include <stdio.h>
 #include <stdlib.h>
 #include <string.h>
+#include <unistd.h>
 
 #include "program.h"
 
 enum { MOST = 1000000000 };
 
+/* Writes a text in one piece, between two others. */
+static void tell(const char *before, const char *format, va_list parts, const char *behind) {
+  char line[1024], *text = line;
+  va_list again;
+  va_copy(again, parts);
+  size_t start = strlen(before), room = sizeof line - start - 2;
+  size_t length = (size_t)vsnprintf(line + start, room, format, parts);
+  if (length >= room) {
+    text = malloc(start + length + 2);
+    text = text ? text : line;
+    length = text == line ? room - 1 : (size_t)vsnprintf(text + start, length + 1, format, again);
+  }
+  va_end(again);
+  memcpy(text, before, start);
+  strcpy(text + start + length, behind);
+  kpn_write_all(STDERR_FILENO, text, strlen(text));
+  if (text != line) {
+    free(text);
+  }
+}
+
+void kpn_tell(const char *format, ...) {
+  va_list parts;
+  va_start(parts, format);
+  tell("", format, parts, "");
+  va_end(parts);
+}
+
 int kpn_refuse(int status, const char *format, ...) {
   va_list parts;
   va_start(parts, format);
-  fputs("kpn: ", stderr);
-  vfprintf(stderr, format, parts);
-  fputc('\n', stderr);
+  tell("kpn: ", format, parts, "\n");
   va_end(parts);
   return status;
+}
+
+/* Whether a word is UTF-8 text, as `kpn` has it: no longer forms, no surrogates, nothing above 10ffff. */
+static bool is_text(const char *word) {
+  const unsigned char *at = (const unsigned char *)word;
+  while (*at) {
+    static const uint32_t least[] = {0, 0x80, 0x800, 0x10000};
+    unsigned more = *at < 0x80 ? 0 : *at < 0xc0 ? 4 : *at < 0xe0 ? 1 : *at < 0xf0 ? 2 : *at < 0xf8 ? 3 : 4;
+    uint32_t character = more == 0 ? *at : *at & (0x3fu >> more);
+    for (unsigned k = 1; k <= more && more < 4; k++) {
+      more = (at[k] & 0xc0) == 0x80 ? more : 4;
+      character = character << 6 | (at[k] & 0x3f);
+    }
+    if (more > 3 || character < least[more] || character > 0x10ffff || (character >= 0xd800 && character < 0xe000)) {
+      return false;
+    }
+    at += more + 1;
+  }
+  return true;
+}
+
+bool kpn_are_texts(int count, char **words) {
+  for (int k = 0; k < count; k++) {
+    if (!is_text(words[k])) {
+      kpn_refuse(KPN_USAGE, "usage: words of UTF-8 text");
+      return false;
+    }
+  }
+  return true;
 }
 
 static bool read_number(const char *option, const char *text, uint64_t *number) {
@@ -210,31 +265,35 @@ enum kpn_format kpn_format_of_end(const struct kpn_words *words, const char *nam
   return word ? word->format : KPN_LINES;
 }
 
-/* The names of outputs that are written over other files. */
+/* Whether an output is one of these files, or standard input, output or error. `-` is standard output, which a stream
+   has compared with its inputs. */
+static bool is_taken(const char *name, bool is_stream, const char *const *inputs, size_t count) {
+  bool is_standard = is_stream && strcmp(name, "-") == 0;
+  return !is_standard && (kpn_file_clashes(name, inputs, count, false) || kpn_file_is_standard(name));
+}
+
 int kpn_check_outputs(const struct kpn_words *words, bool is_stream) {
-  const char **others = calloc(words->source_count + words->sink_count + 3, sizeof *others);
-  size_t count = 0, inputs;
+  const char **others = calloc(words->source_count + words->sink_count + 1, sizeof *others);
+  size_t inputs = 0, count;
   int status = 0;
   if (!others) {
     return kpn_refuse(KPN_LACKS_MEMORY, "42 NoMemory");
   }
   for (size_t k = 0; k < words->source_count; k++) {
-    bool is_standard = is_stream && strcmp(words->sources[k].file, "-") == 0;
-    others[count++] = is_standard ? "/dev/stdin" : words->sources[k].file;
+    if (!is_stream || strcmp(words->sources[k].file, "-") != 0) {
+      others[inputs++] = words->sources[k].file;
+    }
   }
-  others[count++] = "/dev/stdout";
-  others[count++] = "/dev/stderr";
-  inputs = count;
-  if (words->trace && kpn_file_clashes(words->trace, others, count, false)) {
-    status = kpn_refuse(KPN_USAGE, "usage: --trace OUT, a file that is no input and no other output");
-  }
+  count = inputs;
   if (words->trace) {
+    if ((is_stream && strcmp(words->trace, "-") == 0) || is_taken(words->trace, false, others, inputs)) {
+      status = kpn_refuse(KPN_USAGE, "usage: --trace OUT, a file that is no input and no other output");
+    }
     others[count++] = words->trace;
   }
   for (size_t k = 0; k < words->sink_count && status == 0; k++) {
     const char *name = words->sinks[k].file;
-    size_t first = is_stream && strcmp(name, "-") == 0 ? inputs : 0; /* standard output is no other output then */
-    if (kpn_file_clashes(name, others + first, inputs - first, false) ||
+    if (is_taken(name, is_stream, others, inputs) ||
         kpn_file_clashes(name, others + inputs, count - inputs, true)) {
       status = kpn_refuse(KPN_USAGE, "usage: --sink NAME=OUT, a file that is no input and no other output");
     }

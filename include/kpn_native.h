@@ -1,12 +1,13 @@
 /* kpn_native.h: what a compiled network has beside the session of kpn.h.
 
-   `kpn compile NET --library -o libnet.a` makes an archive with kpn_open, kpn_open_forgetting, kpn_channel, kpn_feed,
-   kpn_close_source, kpn_step, kpn_take, kpn_move, kpn_is_complete, kpn_verdict, kpn_trace and kpn_free for this one
-   network. So a program that uses a session of kpn.h changes to it by linking. What differs:
+   `kpn compile NET --library -o libnet.a` makes an archive with the sessions of kpn.h for this one network: all its
+   calls but kpn_check, kpn_explain and kpn_run. So a program that uses a session changes to it by linking. What differs:
 
      - `kpn_open` takes the text that was compiled, as it was given or in its canonical form, or none (a length of 0).
      - `kpn_step` counts gets, puts, waits, ends and each thousand turns of loops as commits, and may make some
        thousands more than it is asked for.
+     - `kpn_step` and `kpn_move` return KPN_PROCESS_FAULTED if a process has ended by a fault in this call. All that was
+       asked for is done; `kpn_tell_processes` says which process it was.
      - A session of `kpn_open` keeps a trace only from `kpn_keep_trace` on, which has to come before all else. Without
        it, and after `kpn_open_forgetting`, it takes no more memory than its channels.
      - Nothing is proved of it. `kpn audit` judges its trace.
@@ -27,7 +28,8 @@ extern "C" {
 #endif
 
 enum {
-  KPN_OTHER_TEXT = 65 /* not the text that was compiled */
+  KPN_OTHER_TEXT = 65,     /* not the text that was compiled */
+  KPN_PROCESS_FAULTED = 68 /* a process has ended by a fault; all that was asked for is done */
 };
 
 /* Keeps a trace from now on. It is KPN_NO_TRACE if that comes too late, if the session forgets, or if two ways of the

@@ -1,0 +1,22 @@
+/* stream.h: a stream, and which file each of its ends has. docs/STREAMS.md, "Options and ends", has the rules. */
+#ifndef KPN_STREAM_H
+#define KPN_STREAM_H
+
+#include "devices.h"
+
+struct stream {
+  struct kpn_run *run;
+  struct kpn_input **inputs;   /* of each channel; null if it is no source */
+  struct kpn_output **outputs; /* of each channel; null if it is no sink */
+  const char **files;          /* of each channel: IN or OUT */
+  struct kpn_opening *trace;   /* of a FIFO; else null */
+  int status;                  /* of what is wrong with a device */
+  char wrong[64];              /* its line, without the end */
+  unsigned wrong_channel;
+};
+
+/* Finds the file of each end by the words, checks that those may be read and written, and opens all: first the trace,
+   then the inputs, then the outputs. 0, or the status with which the stream is refused; then no file has changed. */
+int kpn_open_ends(struct stream *stream);
+
+#endif
