@@ -13,13 +13,14 @@ import sys
 
 TOP = pathlib.Path(__file__).resolve().parent.parent
 CODE = re.compile(r'^ *(?:pub(?:\([a-z]+\))? )?(?:struct|enum|trait|type|const|static) ([A-Z]\w+)', re.M)
-DEFINITION = re.compile(r'^(?:pub )?(?:abbrev |data |record |opaque )?(?:pub )?(?:abbrev |data |record |opaque )?'
-                        r'(?:rec )?([A-Za-z_][\w\']*)(?= *[:({]| *$)', re.M)
 KEYWORDS = {'use', 'pub', 'mod', 'mutual', 'data', 'record', 'abbrev', 'where', 'let', 'in', 'case', 'open', 'module',
             'private'}
 # Names that two crates share on purpose, each with the reason.
 SHARED = {
     'ALL': 'a constant of a type, with all its values',
+    'CHUNK': 'how much is handled at once, in units of the crate: items of a journal, bytes of an input',
+    'State': 'of a process in a run, which the specification names; in kpn_lang private to the plain interpreter',
+    'run': 'what a program does, and a run of bytes of one kind, each read in its own crate only',
 }
 
 

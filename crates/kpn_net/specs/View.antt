@@ -25,7 +25,7 @@ tables_with programs instances channels limit policy growth =
 -- ---- scaffolding
 
 -- the tables that the code holds
-abbrev pub tables_of : held.Parts → Tables
+abbrev pub tables_of : held.NetworkParts → Tables
 tables_of p =
     record {
       programs = p.programs.items;
