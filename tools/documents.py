@@ -60,7 +60,7 @@ def known_words(files):
 def is_path(path, paths):
     if path in ELSEWHERE or STANDS_FOR & set(path.split('/')):
         return True
-    path = re.sub(r'^examples/', 'check_examples/data/', path.rstrip('/'))
+    path = re.sub(r'^examples/', 'check_examples/data/examples/', path.rstrip('/'))
     return any(f'/{it}'.endswith(f'/{path}') for it in paths)
 
 

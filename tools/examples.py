@@ -34,6 +34,8 @@ EXAMPLES, CHANGED = '# The examples\n', '# Changed histories\n'
 RUN_BY_WORKERS, WORKERS = '# The examples run by workers\n', (1, 2, 16)
 TOP = pathlib.Path(__file__).resolve().parent.parent
 FOLDER = TOP / 'crates/check_examples'
+# Where the examples for people lie among the rows' files.
+EXAMPLES_FOLDER = pathlib.Path('examples')
 
 
 class Refused(Exception):
@@ -320,7 +322,7 @@ def is_part(lines, written):
 
 def what_is_wrong(command, said, lines, rows):
     """What is wrong with what is said of a command, if anything. It runs the command in the current folder."""
-    words = command.replace('examples/', '').split()
+    words = command.split()
     if words[0] == 'stream':
         # what streams write stands above the rows that this program answers
         return None
@@ -337,7 +339,7 @@ def what_is_wrong(command, said, lines, rows):
 
 def wrong_claims(rows):
     """What the examples and the documents wrongly say of commands."""
-    files = sorted(file for folder in ('.', 'worked', 'language2') for file in pathlib.Path(folder).glob('*.kpn'))
+    files = sorted(file for folder in ('.', 'worked', 'language2') for file in (EXAMPLES_FOLDER / folder).glob('*.kpn'))
     claims = [(file.name, *claim) for file in files
               for claim in claims_of_example(file.read_text())]
     claims += [(name, *claim) for name in DOCUMENTS for claim in claims_of_document((TOP / name).read_text())]

@@ -8,8 +8,9 @@ import pathlib
 import histories
 
 DATA = pathlib.Path(__file__).resolve().parent.parent / 'crates/check_examples/data'
-HISTORIES = [('copy', 'copy'), ('kahn', 'kahn'), ('self_loop', 'worked/self_loop'), ('two', 'two'),
-             ('two_readers', 'deadlock'), ('ended_reader', 'worked/ended_reader')]
+HISTORIES = [(name, f'examples/{file}') for name, file in (
+    ('copy', 'copy'), ('kahn', 'kahn'), ('self_loop', 'worked/self_loop'), ('two', 'two'), ('two_readers', 'deadlock'),
+    ('ended_reader', 'worked/ended_reader'))]
 CHANGES = 30
 HEAD = histories.HEAD_ONE.decode()
 HEAD_TWO = histories.HEAD_TWO.decode()
@@ -183,18 +184,18 @@ def stored(file):
 
 def tables_of_version_two():
     """The same for texts of version 2."""
-    yield 'two.kpn', list(version_two_of_two(stored('two.kpn')))
-    text = stored('worked/unclogged_doubled.kpn')
+    yield 'examples/two.kpn', list(version_two_of_two(stored('examples/two.kpn')))
+    text = stored('examples/worked/unclogged_doubled.kpn')
     as_version_one = HEAD + text.split('\n', 2)[2].replace('grow 0 0 2', 'grow 0 0').replace('grow 0 0 4', 'grow 0 0')
-    yield 'worked/unclogged_doubled.kpn', [
+    yield 'examples/worked/unclogged_doubled.kpn', [
         ('the growths of a stop', text),
         ('its first growth names too much', text.replace('grow 0 0 2', 'grow 0 0 3')),
         ('its second growth names too little', text.replace('grow 0 0 4', 'grow 0 0 3')),
         ('its events in version 1', as_version_one),
     ]
-    yield 'clogged.kpn', [('the trace of a run under other rules', text)]
-    doubled = stored('worked/three_ahead_doubled.kpn')
-    yield 'worked/three_ahead_doubled.kpn', [
+    yield 'examples/clogged.kpn', [('the trace of a run under other rules', text)]
+    doubled = stored('examples/worked/three_ahead_doubled.kpn')
+    yield 'examples/worked/three_ahead_doubled.kpn', [
         ('its events in version 1, as if channels grew by one',
          HEAD + '\n'.join(' '.join(line.split()[:3]) if line.startswith('grow') else line
                           for line in doubled.split('\n')[2:])),
@@ -204,12 +205,12 @@ def tables_of_version_two():
 def tables():
     """For each network its file, and its histories with a title each."""
     for name, file in HISTORIES:
-        history = histories.read_trace((DATA / f'histories/{name}.trace').read_bytes()).history
+        history = histories.read_trace((DATA / f'examples/histories/{name}.trace').read_bytes()).history
         rows = list(chosen(histories.Network((DATA / f'{file}.kpn').read_text()), history))
         if name == 'two':
             rows += [*named_changes_of_two(history), *cuts_of_two(history), *spellings_of_two(history)]
         yield f'{file}.kpn', rows
-    yield 'worked/empty.kpn', [('an event of nobody', f'{HEAD}end 0 done\n')]
+    yield 'examples/worked/empty.kpn', [('an event of nobody', f'{HEAD}end 0 done\n')]
     yield from tables_of_version_two()
 
 

@@ -28,11 +28,11 @@ import measure  # noqa: E402
 
 DATA = TOP / 'crates/check_examples/data'
 # the trace of two.kpn, which lies there in version 1, in the version that a run stores
-TRACE = (DATA / 'histories/two.trace').read_bytes().replace(
+TRACE = (TOP / 'examples/histories/two.trace').read_bytes().replace(
     b'kpn-trace 1\n', b'kpn-trace 2\npolicy cycles grow one\n').replace(b'grow 0 0\n', b'grow 0 0 2\n')
 REPORT = b'sink z: 312\nended\n'
-COPY = (DATA / 'copy.kpn').read_bytes()
-TWO = (DATA / 'two.kpn').read_bytes()
+COPY = (TOP / 'examples/copy.kpn').read_bytes()
+TWO = (TOP / 'examples/two.kpn').read_bytes()
 USAGE = b'kpn: usage: --trace OUT, a file that is no input and no other output\n'
 SINK_USAGE = b'kpn: usage: --sink NAME=OUT, a file that is no input and no other output\n'
 WRITE = b'kpn: 27 Write\n'
@@ -646,7 +646,7 @@ def a_link_to_a_file_in_a_folder_that_is_not_there(folder):
 
 def long_run(folder):
     """The words of a run of two seconds or more, which would store its trace at its end."""
-    shutil.copy(DATA / 'worked/spin.kpn', folder / 'spin.kpn')
+    shutil.copy(TOP / 'examples/worked/spin.kpn', folder / 'spin.kpn')
     commits = 100
     while True:
         words = 'spin.kpn', '--max-commits', str(commits)
@@ -738,7 +738,7 @@ def a_part_file_that_a_killed_run_left(folder):
 
 @case
 def killed_runs(folder):
-    shutil.copy(DATA / 'worked/spin.kpn', folder / 'spin.kpn')
+    shutil.copy(TOP / 'examples/worked/spin.kpn', folder / 'spin.kpn')
     two(folder)
     left = 0
     for turn in range(40):
@@ -936,7 +936,7 @@ def an_input_that_a_signal_interrupts(folder):
 
 # ---- words for a person
 
-JAMMED = str(DATA / 'jammed.kpn')
+JAMMED = str(TOP / 'examples/jammed.kpn')
 JAMMED_REPORT = b'waits p a full\nwaits q b\njammed\n'
 
 
