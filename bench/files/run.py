@@ -26,7 +26,6 @@ sys.path.append(str(TOP / 'bench'))
 
 import measure  # noqa: E402
 
-DATA = TOP / 'crates/check_examples/data'
 # the trace of two.kpn, which lies there in version 1, in the version that a run stores
 TRACE = (TOP / 'examples/histories/two.trace').read_bytes().replace(
     b'kpn-trace 1\n', b'kpn-trace 2\npolicy cycles grow one\n').replace(b'grow 0 0\n', b'grow 0 0 2\n')
