@@ -243,9 +243,9 @@ body_law shared s b =
     (λ r. ok_then (record { scope = r.0; blocks = body_blocks r.1 }) (λ w. Ok (w, 0))))
 
 -- what is written of a body
-pub body_written : (shared : List NameBytes) (s : NameScope) (b : Statements) (v : WrittenBody) (n : ℕ)
+pub whole_body : (shared : List NameBytes) (s : NameScope) (b : Statements) (v : WrittenBody) (n : ℕ)
     → numbered_block shared (record { scope = s; blocks = [] }) b ≡ Ok (v, n) → body_of shared s b ≡ Ok v
-body_written shared s b v n e = first_part (body_of shared s b) v 0 n (sym (body_law shared s b) ∙ e)
+whole_body shared s b v n e = first_part (body_of shared s b) v 0 n (sym (body_law shared s b) ∙ e)
 
 pub body_fails : (shared : List NameBytes) (s : NameScope) (b : Statements) (e : NameFault)
     → ResolvingFails e (numbered_block shared (record { scope = s; blocks = [] }) b) → ResolvingFails e (body_of shared s b)

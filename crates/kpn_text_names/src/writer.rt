@@ -34,7 +34,7 @@ impl<'a> Writer<'a> {
         statements: &[StatementNode<'a>],
     ) -> Result<(), NameFault>
         requires { self.old.blocks.items ≡ [] }
-        ensures body_written { ResolvingGives (λ _. body_written self.new) result
+        ensures written { ResolvingGives (λ _. body_written self.new) result
             (body_of shared.now self.old.scope (block_seen statements.now)) }
         ensures vars { OnOk result (length self.old.scope.vars ≤ length self.new.scope.vars) }
     {
@@ -51,7 +51,7 @@ impl<'a> Writer<'a> {
         shared: &NameTable<'a>,
         statements: &[StatementNode<'a>],
     ) -> Result<BlockId, NameFault>
-        ensures body_written { ResolvingGives (λ n. (body_written self.new, n)) result
+        ensures written { ResolvingGives (λ n. (body_written self.new, n)) result
             (spec.numbered_block shared.now (body_written self.old) (block_seen statements.now)) }
         ensures blocks { OnOk result (length self.old.blocks.items ≤ length self.new.blocks.items) }
         ensures vars { OnOk result (length self.old.scope.vars ≤ length self.new.scope.vars) }
@@ -71,7 +71,7 @@ impl<'a> Writer<'a> {
         shared: &NameTable<'a>,
         statements: &[StatementNode<'a>],
     ) -> Result<Vec<Stmt>, NameFault>
-        ensures body_written { ResolvingGives (λ own. (body_written self.new, statements_of own.items)) result
+        ensures written { ResolvingGives (λ own. (body_written self.new, statements_of own.items)) result
             (spec.statements_at shared.now (body_written self.old) [] (block_seen statements.now)) }
         ensures blocks { OnOk result (length self.old.blocks.items ≤ length self.new.blocks.items) }
         ensures vars { OnOk result (length self.old.scope.vars ≤ length self.new.scope.vars) }
@@ -93,7 +93,7 @@ impl<'a> Writer<'a> {
         shared: &NameTable<'a>,
         statement: &StatementNode<'a>,
     ) -> Result<Stmt, NameFault>
-        ensures body_written { ResolvingGives (λ s. (body_written self.new, statement_of s)) result
+        ensures written { ResolvingGives (λ s. (body_written self.new, statement_of s)) result
             (spec.statement_at shared.now (body_written self.old) (statement_seen statement.now)) }
         ensures blocks { OnOk result (length self.old.blocks.items ≤ length self.new.blocks.items) }
         ensures vars { OnOk result (length self.old.scope.vars ≤ length self.new.scope.vars) }

@@ -7,7 +7,7 @@ use Rattle.kpn_text_names.specs.Fault.{ResolvingFails}
 use Rattle.kpn_text_names.specs.Writer.{numbered_block}
 use Rattle.kpn_text_names.specs.Blocks.{WrittenBody}
 use Rattle.kpn_text_names.specs.View.{body_written}
-use Rattle.kpn_text_names.proofs.Writing.{body_written, body_fails}
+use Rattle.kpn_text_names.proofs.Writing.{whole_body, body_fails}
 use Rattle.kpn_text_names.proofs.writer.Writer.body.Goals as goal
 
 pub returns-in_err-block-clause-written : goal.returns-in_err-block-clause-written
@@ -24,6 +24,6 @@ pub returns-clause-written : goal.returns-clause-written
 returns-clause-written c =
     let start : ◌≡◌ {A = WrittenBody} (body_written c.args.self.now) (record { scope = c.args.self.now.scope; blocks = [] }) =
     ap (λ items. record { scope = c.args.self.now.scope; blocks = blocks_of items }) c.requires in
-    body_written c.args.shared.now c.args.self.now.scope (block_seen c.args.statements.now) (body_written c.block.new.self)
+    whole_body c.args.shared.now c.args.self.now.scope (block_seen c.args.statements.now) (body_written c.block.new.self)
     c.in_ok-block.field-0
     (ap (λ w. numbered_block c.args.shared.now w (block_seen c.args.statements.now)) (sym start) ∙ c.in_ok-block.ensures.written)
