@@ -10,6 +10,9 @@ import tempfile
 import time
 
 TOP = pathlib.Path(__file__).resolve().parent.parent
+# The libraries that the program of bench/parts uses.
+PARTS_USE = ('kpn_limits kpn_lang kpn_net kpn_cycle kpn_history kpn_step kpn_chan kpn_audit kpn_book kpn_trace kpn_text '
+             'kpn_shelf kpn_command_base kpn_pool_desk kpn_pool anyhow')
 
 
 class Run:
@@ -83,17 +86,27 @@ def kpn():
     return TOP / 'crates/kpn/out/kpn'
 
 
+def newest(files):
+    """When the newest of these files was changed."""
+    return max(file.stat().st_mtime for file in files)
+
+
 def parts():
-    """The program that does what a line of its input says with one part of the program. It is built if it is not
-    current."""
-    folder = TOP / 'crates/bench_parts'
-    subprocess.run(['rt', 'run'], cwd=folder, input='frames 1\n', text=True, check=True, capture_output=True)
-    return folder / 'out/bench_parts'
+    """The program that does what a line of its input says with one part of the program (bench/parts). It is built if a
+    source is newer. The build is optimised, and not proved."""
+    sources, made = TOP / 'bench/parts', TOP / 'out/bench/parts'
+    needed = [TOP / 'crates.txt', *sources.iterdir(), *(TOP / 'crates').glob('kpn*/src/**/*.rt')]
+    if not made.exists() or made.stat().st_mtime < newest(needed):
+        made.parent.mkdir(parents=True, exist_ok=True)
+        with tempfile.TemporaryDirectory(prefix='kpn-parts-') as folder:
+            shutil.copy(built(pathlib.Path(folder), sources, PARTS_USE), made)
+    return made
 
 
 def built(folder, source, uses):
-    """The program whose root file is this source, in a copy of the tree with a crate more, which uses these libraries.
-    The build is optimised, and not proved. No .rt file may stand outside of a crate that the gate proves."""
+    """The program whose root file is this source, or whose files are in this folder, in a copy of the tree with a crate
+    more, which uses these libraries. The build is optimised, and not proved. No .rt file may stand outside of a crate
+    that the gate proves, so a source ends with .rt.txt."""
     tree, program = folder / 'tree', folder / 'program'
     shutil.copytree(TOP / 'crates', tree / 'crates', symlinks=True, ignore=shutil.ignore_patterns('out'))
     (tree / 'tools').mkdir()
@@ -102,7 +115,8 @@ def built(folder, source, uses):
     with open(tree / 'crates.txt', 'a') as crates:
         crates.write(f'bench_program: {uses}\n')
     (tree / 'crates/bench_program/src').mkdir(parents=True)
-    shutil.copy(source, tree / 'crates/bench_program/src/main.rt')
+    for file in sorted(source.iterdir()) if source.is_dir() else [source]:
+        shutil.copy(file, tree / 'crates/bench_program/src' / file.name.removesuffix('.txt'))
     words = [sys.executable, tree / 'tools/unproved.py', program, 'bench_program']
     done = subprocess.run(words, stdin=subprocess.DEVNULL, capture_output=True, text=True)
     if done.returncode != 0:

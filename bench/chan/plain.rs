@@ -1,5 +1,5 @@
 // A plain queue with a journal: what waits stands in a `VecDeque`, and all that was ever put in a `Vec` beside it. It
-// does what `chan` of the crate bench_parts does. Words: the capacity and how many items. It prints the sum of what was
+// does what `chan` of bench/parts does. Words: the capacity and how many items. It prints the sum of what was
 // read, and the last item of the journal.
 use std::collections::VecDeque;
 use std::env;

@@ -15,8 +15,7 @@ sys.path.append(str(TOP / 'bench'))
 
 import measure  # noqa: E402
 
-BENCH = TOP / 'crates/bench_parts'
-DATA = TOP / 'crates/check_examples/data'
+EXAMPLES = TOP / 'examples'
 WORKERS = (1, 2, 3, 4, 16)
 
 # seconds that a run may take, and those that a program may take beside its runs
@@ -48,12 +47,12 @@ NETWORKS = (
 )
 
 
-def stress(network, workers, runs, seed):
+def stress(program, network, workers, runs, seed):
     """So many runs of a network; the seconds that they took."""
     file, take, lists = network
     line = ' '.join(['stress', file, str(workers), str(runs), str(seed), str(take), *lists]) + '\n'
     before = time.monotonic()
-    done = subprocess.run([str(BENCH / 'out/bench_parts')], cwd=DATA, input=line, capture_output=True, text=True,
+    done = subprocess.run([program], cwd=EXAMPLES, input=line, capture_output=True, text=True,
                           timeout=BESIDE + MOST * runs)
     if done.returncode != 0 or done.stdout != f'{runs} runs\n':
         sys.exit(f'{line}{done.returncode}: {done.stdout}{done.stderr}')
@@ -63,14 +62,14 @@ def stress(network, workers, runs, seed):
 def main():
     asked = measure.asked(__doc__, {'runs': 10_000, 'seed': 1})
     wanted, seed = asked.runs, asked.seed
-    subprocess.run(['rt', 'run'], cwd=BENCH, stdin=subprocess.DEVNULL, check=True, capture_output=True)
+    program = str(measure.parts())
     runs = -(-wanted // (len(NETWORKS) * len(WORKERS)))
     for workers in WORKERS:
         took = 0
         slowest = ''
         most = 0
         for network in NETWORKS:
-            seconds = stress(network, workers, runs, seed)
+            seconds = stress(program, network, workers, runs, seed)
             seed += runs
             took += seconds
             if seconds >= most:

@@ -1,4 +1,4 @@
-// A plain writer of traces: it does what `trace` of the crate bench_parts does, with `writeln!` into a `Vec`. Words:
+// A plain writer of traces: it does what `trace` of bench/parts does, with `writeln!` into a `Vec`. Words:
 // how many events, and how often the trace is written. It prints how many bytes a trace has, and the sum of its bytes.
 use std::env;
 use std::io::{self, Write};
