@@ -76,8 +76,10 @@ enum {
   KPN_NO_SESSION = 62,     /* the session was not opened, or was freed */
   KPN_NULL = 63,           /* a pointer is null */
   KPN_NO_CHANNEL = 64,     /* no channel has this name or number */
+  KPN_OTHER_TEXT = 65,     /* of a compiled network: not the text that was compiled */
   KPN_NO_TRACE = 66,       /* the session keeps no trace */
-  KPN_NO_PROCESS = 67      /* no process has this number */
+  KPN_NO_PROCESS = 67,     /* no process has this number */
+  KPN_PROCESS_FAULTED = 68 /* of a compiled network: a process has ended by a fault; all that was asked for is done */
 };
 
 typedef struct {

@@ -27,11 +27,6 @@
 extern "C" {
 #endif
 
-enum {
-  KPN_OTHER_TEXT = 65,     /* not the text that was compiled */
-  KPN_PROCESS_FAULTED = 68 /* a process has ended by a fault; all that was asked for is done */
-};
-
 /* Keeps a trace from now on. It is KPN_NO_TRACE if that comes too late, if the session forgets, or if two ways of the
    network's periods, whose items are compared for a trace, have given other ones. */
 uint32_t kpn_keep_trace(kpn_session *session);

@@ -3,6 +3,7 @@
 #include "files.h"
 
 #include <errno.h>
+#include <stdio.h>
 #include <string.h>
 #include <sys/stat.h>
 #include <unistd.h>
@@ -14,8 +15,10 @@ enum { LARGEST_FILE = 268435456 };
 static const struct kpn_refusal NOTHING, CANT_READ = {26, false, 0}, CANT_WRITE = {27, false, 0};
 
 int kpn_tell_refusal(struct kpn_refusal of) {
-  if (of.number == NO_OUTPUT) {
-    fputs("kpn: usage: " NO_OUTPUT_TEXT "\n", stderr);
+  if (of.number == NO_OUTPUT || of.number == SHARED_INPUT) {
+    const char *wanted =
+        of.number == NO_OUTPUT ? NO_OUTPUT_TEXT : "--source NAME=IN, a plain file if two sources have it";
+    fprintf(stderr, "kpn: usage: %s\n", wanted);
     return STATUS_USAGE;
   }
   static const char *const names[] = {[25] = "BadItem", [26] = "Read", [27] = "Write"};
@@ -96,8 +99,8 @@ struct kpn_refusal kpn_open_output(const char *path, struct kpn_file *made) {
   return kpn_file_prepare(made) ? NOTHING : CANT_WRITE;
 }
 
-bool kpn_write_items(FILE *file, char before, const int64_t *items, size_t count, char behind) {
-  enum { AT_ONCE = 256 };
+bool kpn_write_items(kpn_writer *writer, void *to, char before, const int64_t *items, size_t count, char behind) {
+  enum { AT_ONCE = 1024 };
   char buffer[AT_ONCE * (MOST_DIGITS + 2)];
   for (size_t done = 0; done < count;) {
     char *at = buffer;
@@ -110,7 +113,7 @@ bool kpn_write_items(FILE *file, char before, const int64_t *items, size_t count
         *at++ = behind;
       }
     }
-    if (fwrite(buffer, 1, (size_t)(at - buffer), file) != (size_t)(at - buffer)) {
+    if (!writer(to, buffer, (size_t)(at - buffer))) {
       return false;
     }
     kpn_still_here();
@@ -119,11 +122,7 @@ bool kpn_write_items(FILE *file, char before, const int64_t *items, size_t count
 }
 
 struct kpn_refusal kpn_store_items(struct kpn_file *to, const int64_t *items, size_t count) {
-  FILE *file = fdopen(dup(to->to), "w");
-  bool works = file && kpn_write_items(file, 0, items, count, '\n');
-  if (file) {
-    works = !fclose(file) && works;
-  }
+  const bool works = kpn_file_write(to, "", 0) && kpn_write_items(kpn_file_write, to, 0, items, count, '\n');
   return works && kpn_file_store(to) ? NOTHING : CANT_WRITE;
 }
 

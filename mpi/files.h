@@ -2,8 +2,6 @@
 #ifndef KPN_MPI_FILES_H
 #define KPN_MPI_FILES_H
 
-#include <stdio.h>
-
 #include "../python/kpn/native/runtime/files.h"
 #include "common.h"
 
@@ -14,8 +12,9 @@ struct kpn_refusal {
   size_t place;
 };
 
-/* The number of an OUT that is an input or another output. It is told as a wrong word. */
-enum { NO_OUTPUT = 1000 };
+/* The numbers of an OUT that is an input or another output, and of a pipe or a device that two sources have. They are
+   told as wrong words. */
+enum { NO_OUTPUT = 1000, SHARED_INPUT };
 #define NO_OUTPUT_TEXT "--sink NAME=OUT, a file that is no input and no other output"
 
 /* Writes the line of a refusal to standard error, and returns the status. */
@@ -27,11 +26,13 @@ struct kpn_refusal kpn_read_file(const char *path, size_t most, struct kpn_text 
 /* Reads an item file. */
 struct kpn_refusal kpn_read_items(const char *path, struct kpn_words *into);
 
-/* Writes items, with a character before and behind each if it is not 0. Returns whether that worked. */
-bool kpn_write_items(FILE *file, char before, const int64_t *items, size_t count, char behind);
+/* Writes some bytes, and returns whether that worked. */
+typedef bool kpn_writer(void *to, const char *at, size_t length);
 
-/* A file that is stored whole or not at all, unless OUT is a device. It keeps the path. */
+/* Writes items, with a character before and after each if it is not 0. Returns whether that worked. */
+bool kpn_write_items(kpn_writer *writer, void *to, char before, const int64_t *items, size_t count, char behind);
 
+/* Opens a file that is stored whole or not at all, unless it is a device. It keeps the path. */
 struct kpn_refusal kpn_open_output(const char *path, struct kpn_file *made);
 struct kpn_refusal kpn_store_items(struct kpn_file *to, const int64_t *items, size_t count);
 struct kpn_refusal kpn_store_text(struct kpn_file *to, const struct kpn_text *of);

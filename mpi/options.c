@@ -183,6 +183,16 @@ bool kpn_has_no_output(const struct kpn_options *of) {
   return found;
 }
 
+bool kpn_shares_input(const struct kpn_options *of) {
+  bool found = false;
+  for (size_t k = 0; !found && k < of->source_count; k++) {
+    for (size_t j = 0; !found && j < k; j++) {
+      found = kpn_file_is_one_device(of->sources[k].file, of->sources[j].file);
+    }
+  }
+  return found;
+}
+
 bool kpn_asks_for_plan(int count, char **given) {
   return count > 1 && !strcmp(given[1], "plan");
 }

@@ -33,6 +33,9 @@ void kpn_free_options(struct kpn_options *of);
 /* Whether a file, or the part file beside it, is one that the run reads, by any name of that. */
 bool kpn_is_input(const struct kpn_options *of, const char *path);
 
+/* Whether two sources have one pipe, terminal or other device, whose bytes go to one reader only. */
+bool kpn_shares_input(const struct kpn_options *of);
+
 /* Whether the file of a sink, or the part file beside it, is an input or another output, by any names of them. */
 bool kpn_has_no_output(const struct kpn_options *of);
 

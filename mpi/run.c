@@ -1,13 +1,30 @@
 /* Reads what a run needs, stores what it gives, and writes its report, as `kpn run` does. */
+#define _XOPEN_SOURCE 700
 #include "run.h"
 
+#include <signal.h>
 #include <stdio.h>
 #include <stdlib.h>
 #include <string.h>
+#include <unistd.h>
 
-static const struct kpn_refusal CLASH = {NO_OUTPUT, false, 0}, CANT_WRITE = {27, false, 0};
+static const struct kpn_refusal CLASH = {NO_OUTPUT, false, 0}, SHARED = {SHARED_INPUT, false, 0},
+                                CANT_WRITE = {27, false, 0};
 
 enum { LONGEST_TEXT = 268435456, LONGEST_CUT = 1048576 };
+
+void kpn_begin(void) {
+  kpn_fill_standard();
+  signal(SIGPIPE, SIG_IGN);
+  signal(SIGXFSZ, SIG_IGN);
+}
+
+/* Writes a text to standard output, and empties it. Returns whether that worked. */
+static bool say(struct kpn_text *said) {
+  const bool works = kpn_write_all(STDOUT_FILENO, said->at, said->length);
+  said->length = 0;
+  return works;
+}
 
 /* ---- before the run */
 
@@ -51,6 +68,9 @@ int kpn_load_plan(struct kpn_plan *into, const struct kpn_options *given) {
   if (!refused.number) {
     refused = look_up(&into->net, given->sinks, given->sink_count, SINK);
   }
+  if (!refused.number && kpn_shares_input(given)) {
+    refused = SHARED;
+  }
   if (!refused.number && given->cut) {
     refused = kpn_read_file(given->cut, LONGEST_CUT, &into->cut_lines);
   }
@@ -89,10 +109,7 @@ int kpn_show_plan(int count, char **given) {
   if (!status) {
     kpn_lay_out(made, asked.ranks);
     kpn_print_plan(&made->net, &made->cut, &shown);
-    fputs(shown.at, stdout);
-    if (fflush(stdout) || ferror(stdout)) {
-      status = kpn_tell_refusal(CANT_WRITE);
-    }
+    status = say(&shown) ? 0 : kpn_tell_refusal(CANT_WRITE);
   }
   kpn_free_text(&shown);
   kpn_free_plan(made);
@@ -205,6 +222,8 @@ void kpn_open_site(struct kpn_site *made, const struct kpn_plan *of, int number,
   }
   if (kpn_has_no_output(of->options) || is_trace_taken(made)) {
     refuse_option(&first, 0, CLASH);
+  } else if (kpn_shares_input(of->options)) {
+    refuse_option(&first, 0, SHARED);
   } else {
     open_files(made, &first);
   }
@@ -294,19 +313,26 @@ bool kpn_make_round_at(struct kpn_site *of) {
   return did;
 }
 
-static void print_sinks(const struct kpn_rank *of) {
-  for (size_t c = 0; c < of->net->channel_count; c++) {
+static bool say_items(void *unused, const char *at, size_t length) {
+  (void)unused;
+  return kpn_write_all(STDOUT_FILENO, at, length);
+}
+
+static bool say_sinks(const struct kpn_rank *of, struct kpn_text *said) {
+  bool works = true;
+  for (size_t c = 0; works && c < of->net->channel_count; c++) {
     if (of->net->channels[c].kind != SINK) {
       continue;
     }
-    printf("sink %.*s:", SHOWN(of->net->channels[c].name));
     const struct kpn_words *items = &of->chief->items[c];
-    kpn_write_items(stdout, ' ', items->at, items->count, 0);
-    putchar('\n');
+    kpn_print_to(said, "sink %.*s:", SHOWN(of->net->channels[c].name));
+    works = say(said) && kpn_write_items(say_items, NULL, ' ', items->at, items->count, 0);
+    kpn_print_to(said, "\n");
   }
+  return works;
 }
 
-static void print_processes(const struct kpn_rank *of) {
+static void print_processes(const struct kpn_rank *of, struct kpn_text *into) {
   static const char *const faults[] = {[KPN_STATE_OVERFLOW] = "overflow",
                                        [KPN_STATE_ZERO_DIVISOR] = "zero-divisor",
                                        [KPN_STATE_INDEX] = "index",
@@ -315,13 +341,13 @@ static void print_processes(const struct kpn_rank *of) {
   const struct kpn_standing *all = of->chief->standings;
   for (size_t p = 0; p < net->instance_count; p++) {
     if (all[p].state >= KPN_STATE_OVERFLOW) {
-      printf("fault %.*s %s\n", SHOWN(net->instances[p].name), faults[all[p].state]);
+      kpn_print_to(into, "fault %.*s %s\n", SHOWN(net->instances[p].name), faults[all[p].state]);
     }
   }
   for (size_t p = 0; p < net->instance_count; p++) {
     if (all[p].state == KPN_STATE_WAITS_EMPTY || all[p].state == KPN_STATE_WAITS_FULL) {
-      printf("waits %.*s %.*s%s\n", SHOWN(net->instances[p].name), SHOWN(net->channels[all[p].channel].name),
-             all[p].state == KPN_STATE_WAITS_FULL ? " full" : "");
+      kpn_print_to(into, "waits %.*s %.*s%s\n", SHOWN(net->instances[p].name),
+                   SHOWN(net->channels[all[p].channel].name), all[p].state == KPN_STATE_WAITS_FULL ? " full" : "");
     }
   }
 }
@@ -336,6 +362,8 @@ int kpn_report_run(struct kpn_site *of) {
                   [ENOUGH] = {"enough", 0},
                   [STOPPED] = {"stopped", STATUS_STOPPED}};
   const struct kpn_rank *at = &of->rank;
+  struct kpn_text said = {0};
+  bool works = true;
   if (at->phase == REFUSED) {
     return kpn_tell_refusal(at->refused.why);
   }
@@ -343,14 +371,13 @@ int kpn_report_run(struct kpn_site *of) {
     return kpn_tell_refusal(CANT_WRITE);
   }
   if (at->outcome == ENDED || at->outcome == ENOUGH) {
-    print_sinks(at);
+    works = say_sinks(at, &said);
   }
   if (at->outcome != ENOUGH && at->outcome != STOPPED) {
-    print_processes(at);
+    print_processes(at, &said);
   }
-  printf("%s\n", outcomes[at->outcome].name);
-  if (fflush(stdout) || ferror(stdout)) {
-    return kpn_tell_refusal(CANT_WRITE);
-  }
-  return outcomes[at->outcome].status;
+  kpn_print_to(&said, "%s\n", outcomes[at->outcome].name);
+  works = works && say(&said);
+  kpn_free_text(&said);
+  return works ? outcomes[at->outcome].status : kpn_tell_refusal(CANT_WRITE);
 }

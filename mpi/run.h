@@ -11,6 +11,10 @@ struct kpn_plan {
   struct kpn_cut cut;
 };
 
+/* The first thing that a program does: no file gets the number of a standard descriptor that is closed, and a reader
+   that has gone, or a file that may not grow, is a write that fails. */
+void kpn_begin(void);
+
 /* Reads the description and the cut, and checks the names of the options. Returns a status; if it is not 0, a line on
    standard error says why. */
 int kpn_load_plan(struct kpn_plan *into, const struct kpn_options *given);

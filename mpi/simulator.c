@@ -87,5 +87,6 @@ static int run(int count, char **given) {
 }
 
 int main(int count, char **given) {
+  kpn_begin();
   return kpn_asks_for_plan(count, given) ? kpn_show_plan(count, given) : run(count, given);
 }

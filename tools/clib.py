@@ -146,8 +146,7 @@ def fault_names():
     same('the faults of descriptions have names', set(numbers.values()), set(found))
     refused = re.findall(r'refused\.(\w+).*= (\d+)', faults.read_text())
     found.update({int(it): name for name, it in refused if int(it) not in NEVER})
-    headers = [TOP / 'include/kpn.h', TOP / 'include/kpn_native.h']
-    declared = re.findall(r'\bKPN_(\w+) = (\d+)', ''.join(it.read_text() for it in headers))
+    declared = re.findall(r'\bKPN_(\w+) = (\d+)', (TOP / 'include/kpn.h').read_text())
     found.update({int(it): name.title().replace('_', '') for name, it in declared if int(it) >= 60})
     return found
 

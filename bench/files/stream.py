@@ -70,7 +70,7 @@ COMPILED = b'kpn: compiled: nothing is proved of the program that runs here\n'
 KINDS = {
     'stream': lambda net: [PROGRAM, 'stream', net],
     'compiled': lambda net: [program_of(net), 'stream'],
-    'mpi': lambda net: [PROGRAM, net, '--ranks=1', '--seed=1'],
+    'mpi': lambda net: [PROGRAM, net, *['--ranks=1', '--seed=1'] * PROGRAM.endswith('simulator')],
 }
 # the cases with the kinds that each is for, and the names of the quick ones
 cases, quick_ones = {}, []
@@ -126,8 +126,13 @@ def stream(folder, *more, net='copy.kpn', **how):
     networks(folder)
     how.setdefault('stdout', subprocess.PIPE)
     how.setdefault('stderr', subprocess.PIPE)
-    done = subprocess.run(words(*more, net=net), cwd=folder, timeout=MOST, **how)
+    done = subprocess.run(words(*more, net=net), cwd=folder, timeout=most(), **how)
     return done.stdout, heard(done.stderr), done.returncode
+
+
+def most():
+    """The seconds that a program may take. MPI starts slowly where much else runs."""
+    return 6 * MOST if KIND == 'mpi' else MOST
 
 
 def tells_write(out):
@@ -155,7 +160,7 @@ def started(folder, *more, net='copy.kpn', **how):
     networks(folder)
     how.setdefault('stderr', subprocess.PIPE)
     child = subprocess.Popen(words(*more, net=net), cwd=folder, bufsize=0, **how)
-    stop = threading.Timer(MOST, child.kill)
+    stop = threading.Timer(most(), child.kill)
     stop.start()
     try:
         yield child
@@ -387,6 +392,45 @@ def no_file_gets_the_number_of_a_closed_descriptor(folder):
             expect(((folder / 'out').read_bytes(), (folder / 'trace').read_bytes()), (b'1\n2\n', trace))
 
 
+@case('mpi', quick=True)
+def no_file_of_a_run_gets_the_number_of_a_closed_descriptor(folder):
+    (folder / 'items').write_bytes(b'1\n2\n')
+    given = ('--source', 's=items', '--sink', 'z=out', '--traces', 'kept')
+    for count in range(4):
+        for closed in itertools.combinations(range(3), count):
+            shutil.rmtree(folder / 'kept', ignore_errors=True)
+            status = stream(folder, *given, stdin=subprocess.DEVNULL, preexec_fn=close_each(closed))[2]
+            expect((status, (folder / 'out').read_bytes()), (int(1 in closed), b'1\n2\n'))
+            expect([(folder / 'kept' / name).read_bytes()[:7] for name in ('rank-0.trace', 'cut', 'ranks')],
+                   [b'kpn-tra', b'c=0\n', b'1\n'])
+
+
+@case('mpi', quick=True)
+def a_report_that_can_not_be_written(folder):
+    (folder / 'items').write_bytes(b'1\n2\n')
+    with open('/dev/null', 'rb') as reads, open('/dev/full', 'wb') as full:
+        for out in (reads, full):
+            expect(stream(folder, '--source=s=items', stdout=out)[1:], (b'kpn: 27 Write\n', 1))
+        expect(stream(folder, '--source=s=items', '--sink=z=/dev/full'), (b'', b'kpn: 27 Write\n', 1))
+    few = lambda: resource.setrlimit(resource.RLIMIT_FSIZE, (3, 3))
+    if PROGRAM.endswith('simulator'):  # MPI has files of its own, which grow
+        few = lambda: resource.setrlimit(resource.RLIMIT_FSIZE, (3, 3))
+        expect(stream(folder, '--source=s=items', '--sink=z=out', preexec_fn=few), (b'', b'kpn: 27 Write\n', 1))
+        expect([it for it in os.listdir(folder) if it.startswith('out')], [])
+
+
+@case('mpi')
+def a_report_to_a_pipe_that_never_waits(folder):
+    (folder / 'items').write_bytes(lines(range(60_000)))
+    taken, takes = os.pipe()
+    never_waits(takes)
+    with started(folder, '--source', 's=items', stdout=takes) as child:
+        os.close(takes)
+        time.sleep(0.5)
+        with open(taken, 'rb') as reader:
+            expect((len(reader.read().split()), child.wait()), (60_006, 0))
+
+
 @case(quick=True)
 def standard_ends_share_no_file(folder):
     (folder / 'items').write_bytes(b'1\n2\n')
@@ -462,11 +506,11 @@ def an_error_output_that_never_waits(folder):
 
 # ---- two names of one input
 
-@case(quick=True)
+@case('stream', 'compiled', 'mpi', quick=True)
 def one_pipe_has_one_reader(folder):
     os.mkfifo(folder / 'pipe')
-    for left, right in (('-', '-'), ('-', '/dev/stdin'), ('/dev/stdin', '/dev/fd/0'), ('-', '/proc/self/fd/0'),
-                        ('pipe', 'pipe'), ('pipe', './pipe')):
+    by_dash = (('-', '-'), ('-', '/dev/stdin'), ('-', '/proc/self/fd/0')) if KIND != 'mpi' else ()
+    for left, right in (*by_dash, ('/dev/stdin', '/dev/fd/0'), ('pipe', 'pipe'), ('pipe', './pipe')):
         given = ('--source', f'left={left}', '--source', f'right={right}')
         expect(stream(folder, *given, net='turns.kpn', stdin=subprocess.PIPE), (b'', SHARED, 2))
 
@@ -728,7 +772,7 @@ def attempt(test):
     """Tries a case in a folder of its own, and gives what is wrong with it, or nothing."""
     with tempfile.TemporaryDirectory() as folder:
         try:
-            signal.alarm(6 * MOST)
+            signal.alarm(6 * most())
             test(pathlib.Path(folder))
         except (AssertionError, OSError, subprocess.TimeoutExpired) as fault:
             return f'{test.__name__}: {str(fault)[:300]}'
