@@ -12,7 +12,7 @@ import weakref
 from typing import TYPE_CHECKING, Any, Dict, Iterator, List, Mapping, NamedTuple, Optional, Sequence, Tuple, Union
 
 from .arrays import array_of
-from .errors import GrowthWarning, KpnError
+from .errors import GrowthWarning, KpnError, whole
 from .program import Program, call, failure, words_of
 from .rates import Rate, rates_of
 from .rings import deadlock_of, rings_of
@@ -39,6 +39,8 @@ LINE = re.compile(rf'fault (\w+) ({"|".join(FAULTS)})|waits (\w+) (\w+)( full)?'
 # The lines that are read of `kpn stats` and of `kpn timeline`.
 ADVICE = re.compile(r'(\w+): (?:cap )?(\d+)\b')
 LENGTH = re.compile(r'length (\d+) ticks')
+# The most ticks to which a picture goes.
+MOST_TICKS = 10**9
 # What stands between two columns of a table.
 COLUMNS = re.compile(' {2,}')
 PUT = re.compile(r'"ts":(\d+),"dur":1,"name":"put (\w+)"')
@@ -320,9 +322,17 @@ class Result(collections.abc.Mapping):  # type: ignore[type-arg]
     def svg(self, first: Optional[int] = None, last: Optional[int] = None) -> str:
         """The run in ticks as a picture in SVG, by `kpn timeline --svg`; of a long run from a first to a last tick.
 
-        Raises KpnError if the picture would have more than 2,000 ticks, or gets, puts and waits.
+        Raises KpnError if the picture would have more than 2,000 ticks, or gets, puts, waits and growths.
         """
-        return self._ask('timeline', '--svg', *words_of(**{'from': first, 'to': last}))
+        low = 1 if first is None else whole('`first`', first, 1, MOST_TICKS)
+        high = MOST_TICKS if last is None else whole('`last`', last, low, MOST_TICKS)
+        try:
+            return self._ask('timeline', '--svg', '--from', str(low), '--to', str(high))
+        except KpnError as error:
+            if 'kpn: usage: ' not in str(error):
+                raise
+        raise KpnError('a picture has at most 2,000 ticks, and at most 2,000 gets, puts, waits and growths: give a '
+                       '`first` and a `last` tick with fewer between them')
 
     def view(self) -> str:
         """A page of HTML that shows the run: the network, the run in time, items and tables. Store it in a file."""

@@ -12,6 +12,7 @@ import warnings
 from support import TOP, kpn
 
 from kpn import parts
+from kpn.rates import growable
 from kpn.result import LOOKS
 
 WORDS = 'one of them has to write before it reads (a first item before its loop)'
@@ -156,6 +157,37 @@ class Rates(unittest.TestCase):
             net = kpn.Network()
             net.sink('y', once(*parts.fork(net.source('x'))))
             net.run(range(1000)).check()
+
+    def test_a_chain_can_not_grow(self):
+        """It fills the room that it has, also beside a cycle."""
+        copies = kpn.Process.from_text('process copy(in i; out o) { while 1 { read i x; write o x; } }')
+        net = kpn.Network()
+        net.sink('y', parts.add(copies(net.source('x'), name='wide', cap=500), net.source('v')))
+        for has_cycle in (False, True):
+            given = {'x': range(300), 'v': range(100)}
+            if has_cycle:
+                net.sink('z', parts.add(*parts.fork(net.source('w'))))
+                given['w'] = range(9)
+            result = net.run(given, trace=True)
+            with unittest.mock.patch('kpn.rates.growable', lambda layout: set(layout.channels)), \
+                    self.assertWarnsRegex(kpn.GrowthWarning, '`wide` put 300 items on it, and `add` got 101'):
+                result.check()
+            with warnings.catch_warnings():
+                warnings.simplefilter('error')
+                result.check()
+
+    def test_which_channels_may_grow(self):
+        """Those on a cycle, whichever way its channels lead; a channel between two cycles is none."""
+        net = unequal()
+        self.assertEqual(growable(net.layout()), {'fork_o1', 'fork_o2', 'downsample'})
+        one, two = parts.fork(parts.gain(parts.gain(parts.add(*parts.fork(net.source('w'))), 1), 1))
+        net.sink('z', parts.add(one, two))
+        names = growable(net.layout())
+        self.assertEqual(len(names), 7)
+        self.assertFalse({'gain', 'gain_2', 'w'} & names)
+        net.policy = 'all'
+        self.assertEqual(growable(copy.copy(net).layout()) - names, {'gain', 'gain_2', 'add_2'})
+        self.assertEqual(growable(loop(True).layout()), {'back', 'add', 'fork_o2'})
 
     def test_another_network(self):
         self.assertRaisesRegex(kpn.KpnError, 'of another network', loop(True).rates, unequal().run([1], trace=True))
