@@ -4,7 +4,7 @@ from __future__ import annotations
 import itertools
 from typing import TYPE_CHECKING, Dict, Iterator, List, Mapping, NamedTuple, Optional, Set, Tuple
 
-from .trace import FAULTS
+from .timing import ENDS
 
 if TYPE_CHECKING:
     from .network import Layout
@@ -12,7 +12,6 @@ if TYPE_CHECKING:
 
 # A channel with fewer items left is not looked at.
 LEAST_LEFT = 16
-ENDS = ('done', *FAULTS)
 
 
 class Rate(NamedTuple):
