@@ -1,5 +1,5 @@
 """`python -m kpn`: lists and shows the parts, runs the gallery, writes its texts, makes a page of a run, and prints a
-description with the capacities that a run of it advises."""
+description with capacities that are advised after a run."""
 from __future__ import annotations
 
 import argparse
@@ -12,7 +12,8 @@ from typing import List, Optional
 from . import KpnError, Network, parts, view
 from .gallery import GALLERY, stored_text
 from .parts import shown
-from .result import advice_in
+from .result import stored_run
+from .view import stats_of
 
 
 def first_line(thing: object) -> str:
@@ -69,11 +70,12 @@ def write_page(file: str, trace: str, steps: Optional[int]) -> int:
     return 0
 
 
-def print_tuned(file: str, trace: str, steps: Optional[int]) -> int:
-    """Writes a description with the capacities that `kpn stats` advises after this run."""
-    advice = advice_in(view.stats_of(file, trace, steps))
-    text = pathlib.Path(file).read_bytes().decode('utf-8', 'replace')
-    print(Network.from_text(text).tuned(advice), end='')
+def print_tuned(file: str, trace: str, kind: str, steps: Optional[int]) -> int:
+    """Writes a description with the capacities of this kind that are advised after a run."""
+    stats_of(file, trace, steps)
+    net = Network.from_text(pathlib.Path(file).read_bytes().decode('utf-8', 'replace'))
+    result = stored_run(net, trace)
+    print(net.tuned(result.least if kind == 'least' else result.fast), end='')
     return 0
 
 
@@ -108,9 +110,11 @@ def run_command(words: Optional[List[str]]) -> int:
     command.add_argument('file', metavar='FILE', help='the description')
     command.add_argument('trace', metavar='TRACE', help='what `kpn run --trace` has stored')
     command.add_argument('--steps', type=int, metavar='N', help='most steps of a process before an event')
-    command = commands.add_parser('print', help='write a description with the capacities that a run of it advises')
+    command = commands.add_parser('print', help='write a description with capacities that are advised after a run')
     command.add_argument('file', metavar='FILE', help='the description')
-    command.add_argument('--capacities', required=True, metavar='TRACE', help='what `kpn run --trace` has stored')
+    command.add_argument('trace', metavar='TRACE', help='what `kpn run --trace` has stored')
+    command.add_argument('--capacities', required=True, choices=('least', 'fast'),
+                         help='least memory for a run of the shortest length, or speed of workers and compiled ones')
     command.add_argument('--steps', type=int, metavar='N', help='most steps of a process before an event')
     given = parser.parse_args(words)
     if given.command == 'store':
@@ -120,7 +124,7 @@ def run_command(words: Optional[List[str]]) -> int:
     if given.command == 'view':
         return write_page(given.file, given.trace, given.steps)
     if given.command == 'print':
-        return print_tuned(given.file, given.capacities, given.steps)
+        return print_tuned(given.file, given.trace, given.capacities, given.steps)
     if given.command == 'gallery':
         unknown = [name for name in given.names if name not in GALLERY]
         if unknown:

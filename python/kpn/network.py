@@ -44,8 +44,8 @@ class Names:
 
 
 class Layout(NamedTuple):
-    """The text of a network and the names in it. `begins` has where its processes begin, `writers` and `readers` the
-    instance at each end of a channel, and `processes` the process of each instance."""
+    """The text of a network, the names in it and its policy. `begins` has where its processes begin, `writers` and
+    `readers` the instance at each end of a channel, and `processes` the process of each instance."""
 
     text: str
     begins: List[Tuple[int, Process]]
@@ -56,6 +56,7 @@ class Layout(NamedTuple):
     writers: Dict[str, str]
     readers: Dict[str, str]
     processes: Dict[str, Process]
+    policy: str
 
     def error(self, program: Program = None, timeout: Optional[float] = None) -> Optional[KpnError]:
         """What `kpn explain` says of the text, with places and advice in terms of what the user wrote."""
@@ -76,20 +77,21 @@ class Network:
     """A network that is being built. Its text is `str(net)`, the one that `kpn print` gives.
 
     `limit`, 1 to 1,048,576, is the largest capacity that a channel may grow to, `policy` is `cycles` or `all`, and
-    `grow` is `one` or `double`: Combrieks' docs/RUNS.md tells which to choose. A stream that is used again is an
-    error; with `auto_fork` it is forked. A copy or a pickle is a network of its own, with streams of its own.
+    `grow` is `one` or `double`: Combrieks' docs/RUNS.md tells which to choose. `cap` is the capacity of channels and
+    sinks for which none is given. A stream that is used again is an error; with `auto_fork` it is forked. A copy or a
+    pickle is a network of its own, with streams of its own.
 
     Other settings raise KpnError, and a limit that is no whole number TypeError. So do names, capacities and streams in
     the calls below that build.
     """
 
     def __init__(self, limit: int = LARGEST_CAPACITY, policy: str = 'cycles', grow: str = 'one', *,
-                 auto_fork: bool = False):
+                 auto_fork: bool = False, cap: int = 1):
         for what, given, choices in (('policy', policy, ('cycles', 'all')), ('grow', grow, ('one', 'double'))):
             if given not in choices:
                 raise KpnError(f'{what} is {given!r}: it has to be {choices[0]!r} or {choices[1]!r}')
         self.limit = whole('the limit', limit, 1, LARGEST_CAPACITY)
-        self.policy, self.grow, self.auto_fork = policy, grow, auto_fork
+        self.policy, self.grow, self.auto_fork, self.cap = policy, grow, auto_fork, self._capacity(cap) or 1
         self._language = 1
         self._tables: Tuple[Table, ...] = ()
         self._processes: List[Process] = []
@@ -357,7 +359,7 @@ class Network:
                       of_kind['source'], of_kind['sink'],
                       {names[it]: names[it.writer] for it in self._channels if it.writer},
                       {names[it]: names[it.reader] for it in self._channels if it.reader},
-                      {names[it]: it.process for it in self._instances})
+                      {names[it]: it.process for it in self._instances}, self.policy)
 
     def _lines(self, names: Mapping[Union[Instance, Stream], str], called: Mapping[Process, str]) -> Iterator[str]:
         """The lines of the network itself, behind its processes."""
@@ -420,15 +422,16 @@ class Network:
         return running.run(self, inputs, **options)
 
     def tuned(self, given: Union[Result, Mapping[str, int]]) -> Network:
-        """A copy of the network with the capacities that `kpn stats` advises after this run, which has a trace.
+        """A copy of the network with the capacities `result.least` of this run, which has a trace.
 
-        In place of a result it takes a dict of capacities by the names of channels, as `kpn.least_capacities` gives.
+        In place of a result it takes a dict of capacities by the names of channels, as `result.fast` and as
+        `kpn.least_capacities` gives.
         What is above the limit is cut to it. Raises KpnError for a result of another network, or without a trace, and
         for a channel that is not there or is a source.
         """
         if isinstance(given, Result) and given.layout.channels != self.layout().channels:
             raise KpnError('the result is of another network')
-        wanted = given.advice if isinstance(given, Result) else given
+        wanted = given.least if isinstance(given, Result) else given
         made = copy.deepcopy(self)
         channels = {made.name_of(it): it for it in made._channels if it.kind != 'source'}
         for name, cap in wanted.items():

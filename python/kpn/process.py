@@ -148,8 +148,8 @@ class Stream:
 
     @property
     def cap(self) -> int:
-        """The capacity of its channel, 1 by default."""
-        return self.channel.given_cap or 1
+        """The capacity of its channel, that of the network by default."""
+        return self.channel.given_cap or self.net.cap
 
     @property
     def is_read(self) -> bool:

@@ -17,15 +17,17 @@ from .ranks import SETTINGS
 Program = Union[None, str, 'os.PathLike[str]']
 VARIABLE = 'KPN_PROGRAM'
 HERE = pathlib.Path(__file__).resolve()
-# The program inside a wheel, and the one of the repository around the package.
-INSIDE, BUILT = HERE.parent / 'bin/kpn', HERE.parents[2] / 'crates/kpn/out/kpn'
+# The program inside a wheel, the one of the repository around the package, and the one there that is built without
+# proofs, which has to be named.
+INSIDE = HERE.parent / 'bin/kpn'
+BUILT, UNPROVED = HERE.parents[2] / 'crates/kpn/out/kpn', HERE.parents[2] / 'out/unproved/kpn'
 # The most seconds that Graphviz may take for a picture.
 DRAWING = 60
 TUNABLES = 'glibc.malloc.hugetlb=1:glibc.malloc.mmap_threshold=4194304'
 # The name under which a text is explained, and the first line of an explanation.
 NAME = 'text.kpn'
 # The options that are numbers from 1 on, and the largest ones.
-MOST = {'take': 10**9, 'workers': 16, 'max_commits': 10**9, 'from': 10**9, 'to': 10**9}
+MOST = {'take': 10**9, 'workers': 16, 'max_commits': 10**9}
 EXPLANATION = re.compile(re.escape(NAME) + r":(\d+):(\d+): (.*?(?: \[(.*)\])?)$")
 ERROR = re.compile(r'kpn: ((\d+) \w+(?: at \d+)?)$', re.M)
 
@@ -45,7 +47,10 @@ def find_program(given: Program = None) -> str:
             return str(path)
     found = shutil.which('kpn')
     if not found:
-        raise KpnError(f'there is no program `kpn`: build it by `./kpn` in its repository, or name it by {VARIABLE}')
+        is_there = os.access(UNPROVED, os.X_OK)
+        other = f', such as the unproved one, {UNPROVED},' if is_there else ''
+        raise KpnError(f'there is no program `kpn`: build it by `./kpn` in its repository, or name one{other} by '
+                       f'{VARIABLE}')
     return found
 
 
@@ -61,12 +66,14 @@ def main() -> NoReturn:
 
 
 def call(words: Sequence[str], program: Program = None, folder: Optional[str] = None,
-         timeout: Optional[float] = None) -> subprocess.CompletedProcess[str]:
-    """Calls `kpn` with these words in a folder, and gives what it wrote and its status."""
+         timeout: Optional[float] = None, is_kpn: bool = True) -> subprocess.CompletedProcess[str]:
+    """Calls `kpn`, or a program without its option `--words`, with these words in a folder, and gives what it wrote and
+    its status. `kpn` tells errors in words, with file, line and column."""
     path = find_program(program)
+    how = ['--words', 'always'] if is_kpn else []
     try:
-        return subprocess.run([path, *words], cwd=folder, env=environment(), timeout=timeout, stdin=subprocess.DEVNULL,
-                              capture_output=True, encoding='utf-8', errors='replace')
+        return subprocess.run([path, *how, *words], cwd=folder, env=environment(), timeout=timeout,
+                              stdin=subprocess.DEVNULL, capture_output=True, encoding='utf-8', errors='replace')
     except subprocess.TimeoutExpired:
         raise KpnError(f'`kpn {words[0]}` had not ended after {timeout} seconds') from None
     except OSError as error:

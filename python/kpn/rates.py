@@ -2,9 +2,9 @@
 from __future__ import annotations
 
 import itertools
-from typing import TYPE_CHECKING, Dict, List, NamedTuple, Optional
+from typing import TYPE_CHECKING, Dict, Iterator, List, Mapping, NamedTuple, Optional, Set, Tuple
 
-from .trace import FAULTS
+from .timing import ENDS
 
 if TYPE_CHECKING:
     from .network import Layout
@@ -12,7 +12,6 @@ if TYPE_CHECKING:
 
 # A channel with fewer items left is not looked at.
 LEAST_LEFT = 16
-ENDS = ('done', *FAULTS)
 
 
 class Rate(NamedTuple):
@@ -40,16 +39,17 @@ def rates_of(result: Result) -> List[Rate]:
 
 
 def growing_of(result: Result) -> List[str]:
-    """The channels between processes on which the unread items pile up through the whole run.
+    """The channels on which the unread items pile up through the whole run, of those that may grow.
 
     At the end nearly as many are unread as ever, and in the first half of the gets and puts there were far fewer. The
     items of a delay and those of a block, which come and go, are none of these.
     """
     stats, layout = result.stats, result.layout
+    able = growable(layout)
     ended = {row['process'] for row in stats.processes if row['end'] in ENDS}
     left = {str(row['channel']): int(row['left']) for row in stats.channels
             if int(row['left']) >= LEAST_LEFT and 4 * int(row['left']) >= 3 * int(row['most'])
-            and row['channel'] in layout.writers and layout.readers.get(str(row['channel']), '') not in ended | {''}}
+            and row['channel'] in able and layout.readers[str(row['channel'])] not in ended}
     if not left:
         return []
     moves = sum(int(row['gets']) + int(row['puts']) for row in stats.processes)
@@ -74,22 +74,46 @@ def most_unread(result: Result, channels: List[str], moves: int) -> Dict[str, in
     return most
 
 
-def may_grow(layout: Layout, policy: str) -> bool:
-    """Whether a channel could grow at all: there is a cycle, whichever way its channels lead, or `policy all`."""
-    if policy == 'all':
-        return True
-    root = {name: name for name in layout.instances}
+def growable(layout: Layout) -> Set[str]:
+    """The channels that may grow at all: those that lie on a cycle, whichever way its channels lead, or with
+    `policy all` each one between processes."""
+    ends = {name: (layout.writers[name], layout.readers[name]) for name in layout.channels
+            if name in layout.writers and name in layout.readers}
+    if layout.policy == 'all':
+        return set(ends)
+    near: Dict[str, List[str]] = {name: [] for name in layout.instances}
+    for name, pair in ends.items():
+        for end in pair:
+            near[end].append(name)
+    # The channels of trees that reach each process, and how far it is from the root.
+    up: Dict[str, str] = {}
+    depth: Dict[str, int] = {}
+    for root in layout.instances:
+        queue = [] if root in depth else [root]
+        depth.setdefault(root, 0)
+        for at in queue:
+            for name in near[at]:
+                to = other(ends[name], at)
+                if to not in depth:
+                    up[to], depth[to] = name, depth[at] + 1
+                    queue.append(to)
+    found: Set[str] = set()
+    for name, (one, two) in ends.items():
+        if name not in (up.get(one), up.get(two)):
+            found |= {name, *ways_to_meet(one, two, up, depth, ends)}
+    return found
 
-    def root_of(name: str) -> str:
-        while root[name] != name:
-            root[name] = root[root[name]]
-            name = root[name]
-        return name
 
-    for channel in layout.channels:
-        if channel in layout.writers and channel in layout.readers:
-            one, other = root_of(layout.writers[channel]), root_of(layout.readers[channel])
-            if one == other:
-                return True
-            root[one] = other
-    return False
+def other(ends: Tuple[str, str], end: str) -> str:
+    """The other one of two ends."""
+    return ends[1] if ends[0] == end else ends[0]
+
+
+def ways_to_meet(one: str, two: str, up: Mapping[str, str], depth: Mapping[str, int],
+                 ends: Mapping[str, Tuple[str, str]]) -> Iterator[str]:
+    """The channels of a tree on the way between two processes."""
+    while one != two:
+        lower = one if depth[one] >= depth[two] else two
+        yield up[lower]
+        above = other(ends[up[lower]], lower)
+        one, two = (above, two) if lower == one else (one, above)

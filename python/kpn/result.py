@@ -12,16 +12,17 @@ import weakref
 from typing import TYPE_CHECKING, Any, Dict, Iterator, List, Mapping, NamedTuple, Optional, Sequence, Tuple, Union
 
 from .arrays import array_of
-from .errors import GrowthWarning, KpnError
+from .errors import GrowthWarning, KpnError, whole
 from .program import Program, call, failure, words_of
 from .rates import Rate, rates_of
 from .rings import deadlock_of, rings_of
+from .timing import Moves, least_of, per_item, steady
 from .trace import FAULTS, Trace
 from .view import page, stats_of
 from .wav import Path, write_wav
 
 if TYPE_CHECKING:
-    from .network import Layout
+    from .network import Layout, Network
 
 TEXT, TRACE = 'net.kpn', 'run.trace'
 # The statuses of a run that came to an outcome.
@@ -36,12 +37,15 @@ MOST_LOOKS = 100
 # The lines that are read of the report of `kpn run` and of the summary of `kpn stream`.
 LINE = re.compile(rf'fault (\w+) ({"|".join(FAULTS)})|waits (\w+) (\w+)( full)?'
                   r'|sink (\w+): (\d+) items, (not )?complete|(ended|enough|clogged|jammed|stopped)')
-# The lines that are read of `kpn stats` and of `kpn timeline`.
-ADVICE = re.compile(r'(\w+): (?:cap )?(\d+)\b')
-LENGTH = re.compile(r'length (\d+) ticks')
+# What is read of `kpn stats` and of `kpn timeline`.
+LENGTH = re.compile(r'length (\d+) ticks?')
+# The most ticks to which a picture goes.
+MOST_TICKS = 10**9
 # What stands between two columns of a table.
 COLUMNS = re.compile(' {2,}')
-PUT = re.compile(r'"ts":(\d+),"dur":1,"name":"put (\w+)"')
+SLICE = re.compile(r'"tid":(\d+),"ts":(\d+),"dur":1,"name":"((?:get|put) \w+)"')
+# The least capacity for speed.
+FAST = 1024
 
 
 class Wait(NamedTuple):
@@ -280,23 +284,53 @@ class Result(collections.abc.Mapping):  # type: ignore[type-arg]
         return int(found[1])
 
     @property
-    def advice(self) -> Dict[str, int]:
-        """The capacity that `kpn stats` advises for each channel but the sources."""
-        return advice_in(self._told_stats())
+    def sink_ticks(self) -> Dict[str, List[int]]:
+        """For each sink the tick at which each of its items was put."""
+        puts: Dict[str, List[int]] = {name: [] for name in self._sinks}
+        for _, ticks, move in self._slices():
+            if move[:4] == 'put ' and move[4:] in puts:
+                puts[move[4:]].append(ticks)
+        return puts
 
     @property
     def ticks_per_item(self) -> Dict[str, Optional[float]]:
-        """How many ticks an item takes at each sink in the steady state: the mean over the second half of its items.
+        """How many ticks an item of each sink takes in the steady state, by a period that recurs.
 
-        It is None for a sink with fewer than two items.
+        In the last two thirds of its gets and puts, the writer of the sink and each process that it gets items from,
+        by whatever way, has to do the same at least twice. If one does not, the number is None: then run longer, or
+        there is no steady state.
         """
-        times: Dict[str, List[int]] = {name: [] for name in self._sinks}
-        for found in PUT.finditer(self.timeline()):
-            if found[2] in times:
-                times[found[2]].append(int(found[1]))
-        halves = {name: found[(len(found) - 1) // 2:] for name, found in times.items()}
-        return {name: (half[-1] - half[0]) / (len(half) - 1) if len(half) > 1 else None
-                for name, half in halves.items()}
+        ends = {str(row['process']): str(row['end']) for row in self.stats.processes}
+        moves: Dict[str, List[Tuple[str, int]]] = {name: [] for name in self._layout.instances}
+        for name, ticks, move in self._slices():
+            moves[name].append((move, ticks))
+        periods = {name: steady(found, ends[name]) for name, found in moves.items()}
+        return {sink: per_item(sink, self._layout, moves, periods, ends) for sink in self._sinks}
+
+    def _slices(self) -> List[Tuple[str, int, str]]:
+        """The gets and puts with the instance, the tick and the channel of each."""
+        return [(self._layout.instances[int(track) - 1], int(begin) + 1, move)
+                for track, begin, move in SLICE.findall(self.timeline())]
+
+    @property
+    def least(self) -> Dict[str, int]:
+        """A capacity for each channel but the sources, with which the run is as short as without any: for memory.
+
+        Each item comes as late as the length of the run allows, and so they do not grow with the run.
+        `kpn.least_capacities` searches smaller ones.
+        """
+        stats, layout = self.stats, self._layout
+        goal: Dict[str, int] = {}
+        if any(row['end'] == '-' for row in stats.processes):
+            goal = {str(row['channel']): int(row['read']) for row in stats.channels if row['channel'] in self._sinks}
+        caps = least_of(Moves(layout, self._traced()[1], goal))
+        return {name: cap for name, cap in zip(layout.channels, caps) if name not in layout.sources}
+
+    @property
+    def fast(self) -> Dict[str, int]:
+        """A capacity for each channel but the sources, with which workers and compiled programs are fast: `least`, and
+        1,024 at least."""
+        return {name: max(cap, FAST) for name, cap in self.least.items()}
 
     def _told_stats(self) -> Dict[str, Any]:
         """What `kpn stats` writes, read back."""
@@ -320,9 +354,17 @@ class Result(collections.abc.Mapping):  # type: ignore[type-arg]
     def svg(self, first: Optional[int] = None, last: Optional[int] = None) -> str:
         """The run in ticks as a picture in SVG, by `kpn timeline --svg`; of a long run from a first to a last tick.
 
-        Raises KpnError if the picture would have more than 2,000 ticks, or gets, puts and waits.
+        Raises KpnError if the picture would have more than 2,000 ticks, or gets, puts, waits and growths.
         """
-        return self._ask('timeline', '--svg', *words_of(**{'from': first, 'to': last}))
+        low = 1 if first is None else whole('`first`', first, 1, MOST_TICKS)
+        high = MOST_TICKS if last is None else whole('`last`', last, low, MOST_TICKS)
+        try:
+            return self._ask('timeline', '--svg', '--from', str(low), '--to', str(high))
+        except KpnError as error:
+            if 'kpn: usage: ' not in str(error):
+                raise
+        raise KpnError('a picture has at most 2,000 ticks, and at most 2,000 gets, puts, waits and growths: give a '
+                       '`first` and a `last` tick with fewer between them')
 
     def view(self) -> str:
         """A page of HTML that shows the run: the network, the run in time, items and tables. Store it in a file."""
@@ -363,6 +405,14 @@ class Result(collections.abc.Mapping):  # type: ignore[type-arg]
         self._look = wanted
 
 
+def stored_run(net: Network, trace: Path) -> Result:
+    """The run of a network by its trace alone, without its outcome and its items."""
+    layout = net.layout()
+    result = Result(layout, Report(None, {}, [], {}), dict.fromkeys(layout.sinks, []))
+    result.keep(Folder({TEXT: layout.text.encode()}), os.path.abspath(trace))
+    return result
+
+
 def look(layout: Layout, wanted: Look, program: Program) -> List[Rate]:
     """How many items the ends of each channel put and got in a short run; nothing if it can't be told."""
     short = {name: b''.join(it.splitlines(keepends=True)[:ITEMS_OF_LOOK]) for name, it in wanted.lines.items()}
@@ -399,12 +449,6 @@ def goes_on(rate: Rate, counts: Tuple[int, int]) -> bool:
     """Whether of what a longer run puts on a channel about the same part is unread."""
     put, unread = counts
     return 2 * unread * rate.put > put * rate.left
-
-
-def advice_in(stats: Mapping[str, Any]) -> Dict[str, int]:
-    """The capacities that `kpn stats` advises, from what it writes, read back."""
-    found = [ADVICE.match(line) for line in stats['advice']]
-    return {it[1]: int(it[2]) for it in found if it}
 
 
 def counted_in(told: str) -> Stats:

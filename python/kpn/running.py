@@ -14,13 +14,14 @@ import pathlib
 import re
 import subprocess
 import tempfile
+from dataclasses import dataclass
 from typing import TYPE_CHECKING, Any, Callable, Dict, Iterable, List, Mapping, Optional, Tuple, Union
 
 from .arrays import check_shape, checked_scale, is_numpy, listed, numpy, scaled
 from .errors import LARGEST, KpnError, seconds
 from .program import MOST, Program, call, failure, find_program, words_of
 from .ranks import runner_of
-from .rates import may_grow
+from .rates import growable
 from .result import ITEMS_OF_LONG_LOOK, STATUSES, TEXT, TRACE, Folder, Look, Result, report_of
 from .wav import Wav
 
@@ -39,11 +40,54 @@ CERTIFIED = re.compile(r'^kpn: certified: (.*)$', re.M)
 USUAL_COMMITS = MOST['max_commits']
 
 
-def run(net: Network, inputs: Inputs = None, *, take: Optional[int] = None, workers: Optional[int] = None,
-        max_commits: Optional[int] = None, trace: Union[bool, str, os.PathLike[str]] = False,
-        timeout: Optional[float] = None, program: Program = None, ranks: Optional[int] = None,
-        scale: Union[None, int, Mapping[str, int]] = None,
-        runner: Optional[Tuple[str, List[str]]] = None) -> Result:
+@dataclass(frozen=True)
+class Options:
+    """How a run goes: the words of `kpn.run`."""
+
+    take: Optional[int] = None
+    workers: Optional[int] = None
+    max_commits: Optional[int] = None
+    trace: Union[bool, str, os.PathLike[str]] = False
+    timeout: Optional[float] = None
+    program: Program = None
+    ranks: Optional[int] = None
+    scale: Union[None, int, Mapping[str, int]] = None
+    runner: Optional[Tuple[str, List[str]]] = None
+
+    def __post_init__(self) -> None:
+        if self.ranks is not None and self.runner:
+            raise KpnError('a compiled network does not run over ranks')
+        if self.ranks is not None and (self.workers is not None or self.trace is True):
+            raise KpnError('a run over ranks has no workers, and its `trace` names a folder, where each rank stores '
+                           'one')
+
+    @property
+    def most(self) -> Optional[int]:
+        """The most commits. A compiled network has no limit if none is given."""
+        return self.max_commits if self.runner or self.max_commits is not None else USUAL_COMMITS
+
+    @property
+    def stored(self) -> Optional[str]:
+        """The file of the trace; None without one in the result."""
+        if not self.trace or self.ranks is not None:
+            return None
+        return TRACE if self.trace is True else os.path.abspath(self.trace)
+
+    def words(self) -> List[str]:
+        """The words for a program, but for those that name files of the run."""
+        words = words_of(take=self.take, workers=self.workers, max_commits=self.most)
+        if self.ranks is not None and self.trace and self.trace is not True:
+            words += ['--traces', os.path.abspath(self.trace)]
+        return words
+
+    def call(self, words: List[str], folder: str) -> subprocess.CompletedProcess[str]:
+        """Calls the program that runs the network with these words besides."""
+        runner = runner_of(self.ranks, TEXT) if self.ranks is not None else self.runner
+        called, first = runner or (self.program, ['run', TEXT])
+        return call([*first, *self.words(), *words], called, folder, seconds(self.timeout), not runner)
+
+
+def run(net: Network, inputs: Inputs = None, **options: Any) -> Result:
     """Runs a network by `kpn run` on the items of its sources, and gives a `Result`.
 
     `inputs` is a dict with the items of each source, or the items of an only source: whole numbers from -2^63 to
@@ -54,16 +98,17 @@ def run(net: Network, inputs: Inputs = None, *, take: Optional[int] = None, work
     the dict it has one channel; `kpn.Wav(path)[k]` has the samples of channel k of any. In place of the dict, channel k
     goes to source k, and there are as many. The sinks are arrays of `array` then.
 
-    With `scale`, a power of two from 1 to 2^62, each item is multiplied by it and rounded to the nearest whole number,
-    a half away from 0: then lists and arrays may have floats, as float32 from -1 to 1 with a scale of 2^15. A dict has
-    a scale for some of the sources. Files of items stay as they are.
+    The options are words of the call. With `scale=`, a power of two from 1 to 2^62, each item is multiplied by it and
+    rounded to the nearest whole number, a half away from 0: then lists and arrays may have floats, as float32 from -1
+    to 1 with a scale of 2^15. A dict has a scale for some of the sources. Files of items stay as they are.
 
-    The run is over once each sink has given `take` items, or after `max_commits` turns of processes (1,000,000,000 by
-    default, which is the most). `workers` threads, 1 to 16, step the processes side by side. `trace` stores the events,
-    in a file of this name or in one of the result's own. After `timeout` seconds the run is killed.
+    The run is over once each sink has given `take=` items, or after `max_commits=` turns of processes (1,000,000,000 by
+    default, which is the most). `workers=` threads, 1 to 16, step the processes side by side. `trace=` stores the
+    events, in a file of this name or, if it is True, in one of the result's own. After `timeout=` seconds the run is
+    killed. `program=` is the path of `kpn`.
 
-    `ranks` runs the network over so many ranks of MPI, by the program `kpn-mpi`. Then each rank makes `max_commits` by
-    itself, and `trace` names a folder, with what `python -m kpn.mpi audit` reads; the result has no trace. `runner` is
+    `ranks=` runs the network over as many ranks of MPI, by the program `kpn-mpi`. Then each rank makes `max_commits` by
+    itself, and `trace` names a folder, with what `python -m kpn.mpi audit` reads; the result has no trace. `runner=` is
     a program with its first words, in place of `kpn run` and the description.
 
     Raises KpnError if the network or an input is not right, or the program does not come to an outcome in time,
@@ -71,50 +116,38 @@ def run(net: Network, inputs: Inputs = None, *, take: Optional[int] = None, work
     read. The first two tell the place of an item. An item that is not finite is refused.
     """
     net.check_limits()
-    layout, timeout = net.layout(), seconds(timeout)
-    given = scaled_by_name(by_name(layout, inputs), scale)
-    # A compiled network has no limit if none is given.
-    most = max_commits if runner or max_commits is not None else USUAL_COMMITS
-    words = words_of(take=take, workers=workers, max_commits=most)
-    if ranks is not None:
-        words += words_of_ranks(workers, trace, bool(runner))
-        runner, trace = runner_of(ranks, TEXT), False
-    kept = Folder({TEXT: layout.text.encode()}) if trace else None
-    stored = TRACE if isinstance(trace, bool) else os.path.abspath(trace)
+    how, layout = Options(**options), net.layout()
+    given = scaled_by_name(by_name(layout, inputs), how.scale)
     with tempfile.TemporaryDirectory(prefix='kpn-') as folder:
         pathlib.Path(folder, TEXT).write_bytes(layout.text.encode())
-        called, first = runner if runner else (program, ['run', TEXT])
         files = {name: file_of(folder, name, items) for name, items in given.items()}
-        for name, file in files.items():
-            words += ['--source', f'{name}={file}']
-        for name in layout.sinks:
-            words += ['--sink', f'{name}={name}.sink']
-        words += ['--trace', os.path.join(kept.path, stored)] if kept else []
-        done = call([*first, *words], called, folder, timeout)
+        words = [word for name, file in files.items() for word in ('--source', f'{name}={file}')]
+        words += [word for name in layout.sinks for word in ('--sink', f'{name}={name}.sink')]
+        kept = Folder({TEXT: layout.text.encode()}) if how.stored else None
+        words += ['--trace', os.path.join(kept.path, str(how.stored))] if kept else []
+        done = how.call(words, folder)
         if done.returncode not in STATUSES:
-            raise refusal(done, layout, given, program, timeout)
-        report = report_of(done.stdout)
-        if not report.outcome:
-            raise KpnError(f'{find_program(program)} has told no outcome: it is not the program `kpn`')
-        as_given = maker_of(given)
-        sinks = {name: as_given(items_of(pathlib.Path(folder, f'{name}.sink').read_bytes())) for name in layout.sinks}
-        result = Result(layout, report, sinks, program, most=most)
-        judged = CERTIFIED.search(done.stderr)
-        result.certified = judged[1] if judged else None
+            raise refusal(done, layout, given, how.program, how.timeout)
+        result = result_of(done, layout, folder, maker_of(given), how)
         if kept:
-            result.keep(kept, stored)
-        elif may_grow(layout, net.policy):
-            result.keep_look(Look({name: first_lines(pathlib.Path(folder, it)) for name, it in files.items()}, take))
+            result.keep(kept, str(how.stored))
+        elif growable(layout):
+            result.keep_look(Look({name: first_lines(pathlib.Path(folder, it)) for name, it in files.items()},
+                                  how.take))
     return result
 
 
-def words_of_ranks(workers: Optional[int], trace: Union[bool, str, os.PathLike[str]], is_compiled: bool) -> List[str]:
-    """The words for `kpn-mpi` that `kpn run` does not have."""
-    if is_compiled:
-        raise KpnError('a compiled network does not run over ranks')
-    if workers is not None or trace is True:
-        raise KpnError('a run over ranks has no workers, and its `trace` names a folder, where each rank stores one')
-    return ['--traces', os.path.abspath(trace)] if trace else []
+def result_of(done: subprocess.CompletedProcess[str], layout: Layout, folder: str,
+              as_given: Callable[[List[int]], Any], how: Options) -> Result:
+    """What a program that came to an outcome has told, and left in a folder."""
+    report = report_of(done.stdout)
+    if not report.outcome:
+        raise KpnError(f'{find_program(how.program)} has told no outcome: it is not the program `kpn`')
+    sinks = {name: as_given(items_of(pathlib.Path(folder, f'{name}.sink').read_bytes())) for name in layout.sinks}
+    result = Result(layout, report, sinks, how.program, most=how.most)
+    judged = CERTIFIED.search(done.stderr)
+    result.certified = judged[1] if judged else None
+    return result
 
 
 def first_lines(file: pathlib.Path) -> bytes:
@@ -258,7 +291,7 @@ def refusal(done: subprocess.CompletedProcess[str], layout: Layout, given: Mappi
         return layout.error(program, timeout) or error
     files = {name: os.fspath(items) for name, items in given.items() if isinstance(items, os.PathLike)}
     for name, file in files.items() if number in OF_ITEMS else ():
-        said = call(['--words', 'always', 'explain', os.path.abspath(file), '--items'], program, timeout=timeout)
+        said = call(['explain', os.path.abspath(file), '--items'], program, timeout=timeout)
         if said.returncode:
             return KpnError(f'the source `{name}`: {said.stdout or said.stderr}'.rstrip(), error=error.error)
     return error

@@ -1,9 +1,11 @@
 """What a result says of rings, rates and capacities, and the search for the least ones."""
 import copy
 import io
+import itertools
 import os
 import pathlib
 import pickle
+import random
 import tempfile
 import unittest
 import unittest.mock
@@ -12,6 +14,7 @@ import warnings
 from support import TOP, kpn
 
 from kpn import parts
+from kpn.rates import growable
 from kpn.result import LOOKS
 
 WORDS = 'one of them has to write before it reads (a first item before its loop)'
@@ -157,10 +160,63 @@ class Rates(unittest.TestCase):
             net.sink('y', once(*parts.fork(net.source('x'))))
             net.run(range(1000)).check()
 
+    def test_a_chain_can_not_grow(self):
+        """It fills the room that it has, also beside a cycle."""
+        copies = kpn.Process.from_text('process copy(in i; out o) { while 1 { read i x; write o x; } }')
+        net = kpn.Network()
+        net.sink('y', parts.add(copies(net.source('x'), name='wide', cap=500), net.source('v')))
+        for has_cycle in (False, True):
+            given = {'x': range(300), 'v': range(100)}
+            if has_cycle:
+                net.sink('z', parts.add(*parts.fork(net.source('w'))))
+                given['w'] = range(9)
+            result = net.run(given, trace=True)
+            with unittest.mock.patch('kpn.rates.growable', lambda layout: set(layout.channels)), \
+                    self.assertWarnsRegex(kpn.GrowthWarning, '`wide` put 300 items on it, and `add` got 101'):
+                result.check()
+            with warnings.catch_warnings():
+                warnings.simplefilter('error')
+                result.check()
+
+    def test_which_channels_may_grow(self):
+        """Those on a cycle, whichever way its channels lead; a channel between two cycles is none."""
+        net = unequal()
+        self.assertEqual(growable(net.layout()), {'fork_o1', 'fork_o2', 'downsample'})
+        one, two = parts.fork(parts.gain(parts.gain(parts.add(*parts.fork(net.source('w'))), 1), 1))
+        net.sink('z', parts.add(one, two))
+        names = growable(net.layout())
+        self.assertEqual(len(names), 7)
+        self.assertFalse({'gain', 'gain_2', 'w'} & names)
+        net.policy = 'all'
+        self.assertEqual(growable(copy.copy(net).layout()) - names, {'gain', 'gain_2', 'add_2'})
+        self.assertEqual(growable(loop(True).layout()), {'back', 'add', 'fork_o2'})
+
     def test_another_network(self):
         self.assertRaisesRegex(kpn.KpnError, 'of another network', loop(True).rates, unequal().run([1], trace=True))
         self.assertRaisesRegex(kpn.KpnError, 'of another network', loop(True).tuned, unequal().run([1], trace=True))
         self.assertRaisesRegex(kpn.KpnError, 'give `trace=True`', unequal().rates, unequal().run([1]))
+
+
+def rate(name, gets, puts):
+    """A process that gets and puts so many items in turn."""
+    return kpn.Process.from_text(
+        f'process {name}(in i; out o) {{ while 1 {{ n = 0; while (n < {gets}) {{ read i x; n = (n + 1); }} n = 0; '
+        f'while (n < {puts}) {{ write o x; n = (n + 1); }} }} }}')
+
+
+def chain(*processes, cap=1):
+    """A chain of processes."""
+    net = kpn.Network(cap=cap)
+    stream = net.source('x')
+    for process in processes:
+        stream = process(stream)
+    net.sink('y', stream)
+    return net
+
+
+def cd2dat():
+    """From 147 samples to 160 by four rates, as from a compact disc to a tape."""
+    return chain(*(rate(*it) for it in (('a', 1, 1), ('b', 1, 2), ('c', 3, 2), ('d', 7, 8), ('e', 7, 5), ('f', 1, 1))))
 
 
 class Ticks(unittest.TestCase):
@@ -168,22 +224,89 @@ class Ticks(unittest.TestCase):
         net = kpn.Network()
         net.sink('y', parts.gain(net.source('x'), 2))
         net.sink('z', parts.downsample(net.source('w'), 3))
-        result = net.run({'x': range(9), 'w': range(5)}, trace=True)
-        self.assertEqual((result.ticks, result.ticks_per_item), (18, {'y': 2.0, 'z': 4.0}))
+        result = net.run({'x': range(9), 'w': range(16)}, trace=True)
+        self.assertEqual((result.ticks, result.ticks_per_item), (22, {'y': 2.0, 'z': 4.0}))
+        self.assertEqual(result.sink_ticks, {'y': list(range(2, 19, 2)), 'z': [2, 6, 10, 14, 18, 22]})
         self.assertEqual(net.run({'x': [1], 'w': []}, trace=True).ticks_per_item, {'y': None, 'z': None})
+
+    def test_a_length_of_one_tick(self):
+        text = 'process one(out o) { write o 1; } network { sink z cap 1; p = one(; z); }'
+        result = kpn.Network.from_text(text).run(trace=True)
+        self.assertEqual((result.ticks, result.least), (1, {'z': 1}))
+        self.assertEqual(kpn.least_capacities(kpn.Network.from_text(text)).ticks, 1)
+
+    def test_bursts(self):
+        """One burst shows no period, and neither does what goes on behind it."""
+        for bursts, ticks in ((1, None), (2, None), (3, 3.0), (5, 3.0)):
+            net = chain(rate('burst', 48, 24), rate('copy', 1, 1), cap=24)
+            result = net.run(range(48 * bursts), trace=True)
+            self.assertEqual(result.ticks_per_item, {'y': ticks}, bursts)
+
+    def test_no_period(self):
+        """A process that waits for another move than its period says, one that ends, and one without a period."""
+        for gets, ticks in ((3, None), (200, 1.0)):
+            burst = f'process p(in i; out o) {{ n = 0; while (n < {gets}) {{ read i x; n = (n + 1); }} ' \
+                'n = 0; while (n < 60) { write o x; n = (n + 1); } read i x; }'
+            self.assertEqual(chain(kpn.Process.from_text(burst)).run([1] * 3, trace=True).ticks_per_item, {'y': None})
+        generator = kpn.Process.from_text('process p(out o) { n = 1; while n { m = n; while m { m = (m - 1); '
+                                          'write o m; } write o 0; n = (n + 1); } }')
+        net = kpn.Network()
+        net.sink('y', parts.gain(generator(net=net), 1))
+        self.assertEqual(net.run(take=100, trace=True).ticks_per_item, {'y': 2.0})
+        first = kpn.Process.from_text('process p(in c, i; out o) { read c k; while 1 { read i x; write o (x * k); } }')
+        net = kpn.Network()
+        net.sink('y', first(parts.constant(net, 7, 1), net.source('x')))
+        self.assertEqual(net.run(range(9), trace=True).ticks_per_item, {'y': 2.0})
 
 
 class Capacities(unittest.TestCase):
     def test_tuned(self):
         net = example('two')
         result = net.run(trace=True)
-        self.assertEqual(result.advice, {'a': 2, 'b': 1, 'z': 1})
+        self.assertEqual((result.least, result.fast), ({'a': 2, 'b': 1, 'z': 1}, dict.fromkeys('abz', 1024)))
         tuned = net.tuned(result)
         self.assertEqual(str(tuned), str(net).replace('channel a cap 1', 'channel a cap 2'))
         again = tuned.run(trace=True)
         self.assertEqual((again['z'], again.ticks), (result['z'], 7))
         self.assertEqual(sum(row['growths'] for row in again.stats.channels), 0)
         self.assertEqual(str(net.tuned({'z': 3})), str(net).replace('sink z cap 1', 'sink z cap 3'))
+
+    def test_the_least_for_a_shortest_run_do_not_grow_with_it(self):
+        net, found = cd2dat(), []
+        for count in (1, 4):
+            result = net.run(range(147 * count), trace=True)
+            found.append(result.least)
+            again = net.tuned(result).run(range(147 * count), trace=True)
+            self.assertIn(f'length {again.ticks} ticks, {again.ticks} without', again._told_stats()['head'][0])
+            self.assertEqual(again['y'], result['y'])
+        self.assertEqual(found, [{'a': 1, 'b': 3, 'c': 5, 'd': 7, 'e': 3, 'y': 1}] * 2)
+        self.assertEqual(max(net.run(range(147), trace=True).fast.values()), 1024)
+        two = unequal()
+        two.sink('z', parts.hold(two.source('w'), 7))
+        result = two.run({'x': range(40), 'w': range(40)}, trace=True)
+        self.assertLess(result.least['fork_o2'], 26)
+
+    def test_the_least_where_the_sinks_have_enough(self):
+        """What went on beside needs no room."""
+        net = kpn.Network()
+        one, two = parts.fork(parts.count(net))
+        net.sink('y', one)
+        net.sink('z', parts.hold(parts.gain(two, 1), 2))
+        for take in (3, 30):
+            result = net.run(take=take, trace=True)
+            again = net.tuned(result).run(take=take, trace=True)
+            self.assertEqual((dict(again), again.outcome), (dict(result), 'enough'))
+            self.assertLessEqual(max(result.least.values()), 3)
+
+    def test_a_capacity_for_all(self):
+        net = kpn.Network(cap=64)
+        net.sink('y', parts.delay(parts.gain(net.source('x'), 1), 2, cap=3), cap=5)
+        net.sink('z', parts.gain(net.source('w'), 1))
+        caps = {name: cap for _, name, cap in kpn.language.Reader(str(copy.copy(net))).description().channels}
+        self.assertEqual(caps, {'x': None, 'y': 5, 'gain': 64, 'w': None, 'z': 64})
+        self.assertEqual(net.source('v').cap, 64)
+        for cap in (0, 2_000_000):
+            self.assertRaisesRegex(kpn.KpnError, f'a capacity of {cap} is given', kpn.Network, cap=cap)
 
     def test_what_can_not_be_tuned(self):
         self.assertRaisesRegex(kpn.KpnError, 'no channel `q`.* there are a, b, z', example('two').tuned, {'q': 1})
@@ -196,16 +319,54 @@ class Capacities(unittest.TestCase):
     def test_the_least_capacities(self):
         net, told = unequal(), []
         found = kpn.least_capacities(net, range(40), tell=told.append)
-        self.assertEqual(found, {'fork_o1': 1, 'fork_o2': 20, 'downsample': 1, 'y': 1})
-        self.assertRegex(told[-1], 'run [1-9]: `fork_o2` at .* in all')
-        length = net.tuned(found).run(range(40), trace=True).ticks
-        self.assertEqual(length, net.tuned(net.run(range(40), trace=True)).run(range(40), trace=True).ticks)
-        for name in found:
-            fewer = {**found, name: max(found[name] - 1, 1)}
-            result = net.tuned(fewer).run(range(40), trace=True)
-            grown = sum(row['growths'] for row in result.stats.channels)
-            self.assertTrue(fewer == found or grown or result.ticks > length, name)
+        self.assertEqual((dict(found), found.is_exact), ({'fork_o1': 1, 'fork_o2': 20, 'downsample': 1, 'y': 1}, True))
+        self.assertRegex(told[-1], '^[0-9]+: a run with 23 in all')
+        self.assertEqual(net.tuned(found).run(range(40), trace=True).ticks, found.ticks)
+        again = pickle.loads(pickle.dumps(found))
+        self.assertEqual((again, again.ticks, again.is_exact), (found, found.ticks, True))
         self.assertRaisesRegex(kpn.KpnError, 'has stopped', kpn.least_capacities, net, range(40), max_commits=9)
+        self.assertRaisesRegex(kpn.KpnError, 'has jammed', kpn.least_capacities, example('jammed'))
+        self.assertRaisesRegex(kpn.KpnError, "the goal is 'x': it has to be one of", kpn.least_capacities, net,
+                               goal='x')
+
+    def test_goals(self):
+        net = cd2dat()
+        shortest = kpn.least_capacities(net, range(147))
+        self.assertEqual((sum(shortest.values()), shortest.ticks, shortest.is_exact), (18, 521, True))
+        points = kpn.least_capacities(net, range(147), goal='pareto')
+        self.assertEqual((points[0], points[-1].ticks), (dict.fromkeys(shortest, 1), 521))
+        self.assertEqual(kpn.least_capacities(net, range(147), goal='deadlock-free'), points[0])
+        self.assertEqual([sum(it.values()) for it in points], list(range(6, 19)))
+        self.assertTrue(all(one.ticks > two.ticks and two.is_exact for one, two in zip(points, points[1:])))
+
+    def test_enough_items(self):
+        """What goes on inside once the sinks have theirs does not count, with workers neither."""
+        for options in ({}, {'workers': 3}):
+            found = kpn.least_capacities(cd2dat(), range(147 * 4), take=160, **options)
+            self.assertEqual((sum(found.values()), found.ticks), (18, 521))
+        net = kpn.Network()
+        net.sink('y', parts.add(*parts.fork(parts.count(net))))
+        found = kpn.least_capacities(net, take=9)
+        self.assertEqual((set(found.values()), found.ticks), ({1}, 30))
+
+    def test_all_choices_of_small_networks(self):
+        """No smaller sum keeps a run as short, by runs of `kpn` with each choice."""
+        for seed in range(4):
+            numbers = random.Random(seed)
+            net = chain(*(rate(f'p{it}', numbers.randrange(1, 4), numbers.randrange(1, 4)) for it in range(3)))
+            found = kpn.least_capacities(net, range(18))
+            self.assertTrue(found.is_exact)
+            for caps in itertools.product(range(1, sum(found.values()) - 1), repeat=2):
+                if sum(caps) + 1 < sum(found.values()):
+                    run = net.tuned(dict(zip(found, caps))).run(range(18), trace=True)
+                    self.assertTrue(run.ticks > found.ticks or any(it['growths'] for it in run.stats.channels), seed)
+
+    def test_a_search_that_takes_too_long(self):
+        with unittest.mock.patch('kpn.room.MOST_MOVES', 0):
+            found = kpn.least_capacities(cd2dat(), range(147))
+            points = kpn.least_capacities(cd2dat(), range(147), goal='pareto')
+        self.assertEqual((sum(found.values()) < 21, found.ticks, found.is_exact), (True, 521, False))
+        self.assertEqual([(it.ticks > 521, it.is_exact) for it in points], [(True, False), (False, False)])
 
     def test_a_terminal_sees_the_search(self):
         class Terminal(io.StringIO):
@@ -218,7 +379,7 @@ class Capacities(unittest.TestCase):
                 unittest.mock.patch('os.get_terminal_size', lambda number: os.terminal_size((30, 9))):
             kpn.least_capacities(example('two'))
         lines = told.getvalue().split('\r\x1b[K')
-        self.assertEqual((lines[0], lines[1], lines[-1]), ('', 'run 1: what is advised', ''))
+        self.assertEqual((lines[0], lines[1], lines[-1]), ('', '1: the run as it is', ''))
         self.assertLess(max(map(len, lines)), 30)
 
 

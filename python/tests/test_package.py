@@ -127,11 +127,15 @@ class Command(unittest.TestCase):
             trace = str(pathlib.Path(folder, 'two.trace'))
             net = kpn.Network.from_text(two.read_text())
             net.run(trace=trace)
-            status, text = said('print', str(two), '--capacities', trace)
-            self.assertEqual((status, text), (0, str(net).replace('channel a cap 1', 'channel a cap 2')))
+            for kind, caps in (('least', (2, 1, 1)), ('fast', (1024,) * 3)):
+                status, text = said('print', str(two), trace, '--capacities', kind)
+                self.assertEqual((status, text), (0, str(net.tuned(dict(zip('abz', caps))))))
             with contextlib.redirect_stderr(io.StringIO()) as told:
-                self.assertEqual(said('print', str(TOP / 'examples/copy.kpn'), '--capacities', trace), (1, ''))
+                self.assertEqual(said('print', str(TOP / 'examples/copy.kpn'), trace, '--capacities', 'fast'), (1, ''))
             self.assertIn('two.trace: illegal at', told.getvalue())
+            with contextlib.redirect_stderr(io.StringIO()) as told:
+                self.assertEqual(said('print', 'no.kpn', trace, '--capacities', 'least'), (1, ''))
+            self.assertIn("/no.kpn` can't be read: there is no such file", told.getvalue())
 
     def test_a_folder_that_is_not_there(self):
         with contextlib.redirect_stderr(io.StringIO()) as told:

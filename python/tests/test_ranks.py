@@ -127,7 +127,8 @@ class Ranks(unittest.TestCase):
             kpn.Network().run(ranks=0)
         with self.assertRaisesRegex(kpn.KpnError, 'a compiled network'):
             kpn.running.run(kpn.Network(), ranks=2, runner=('a', []))
-        self.assertEqual(kpn.running.words_of_ranks(None, 'traces', False), ['--traces', os.path.abspath('traces')])
+        self.assertEqual(kpn.running.Options(trace='traces', ranks=2).words()[-2:],
+                         ['--traces', os.path.abspath('traces')])
         with mock.patch.dict(os.environ, {'PATH': ''}), self.assertRaisesRegex(kpn.KpnError, '`mpirun`'):
             ranks.runner_of(2, 'net.kpn')
 

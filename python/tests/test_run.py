@@ -96,7 +96,8 @@ class Inputs(unittest.TestCase):
             self.refused(said, doubling(), [1], **{word: given})
         for given in (True, 2.0, '3'):
             self.refused('`take` has to be a whole number', doubling(), [1], take=given, error=TypeError)
-        self.refused('27 Write', doubling(), [1], trace='/nowhere/at/all')
+        self.refused("27 Write\n`/nowhere/at/all` can't be written: its folder is not there", doubling(), [1],
+                     trace='/nowhere/at/all')
 
 
 class Outcomes(unittest.TestCase):
@@ -187,6 +188,17 @@ class Traced(unittest.TestCase):
                                                 if it.kind in ('get', 'put')))
         for svg in (result.svg(), result.svg(1, 3), result._repr_svg_()):
             self.assertTrue(xml.etree.ElementTree.fromstring(svg).tag.endswith('svg'))
+
+    def test_a_picture_that_is_too_large(self):
+        result = doubling().run(range(1500), trace=True)
+        self.assertIn('of 3000</text>', result.svg(2000, 2100))
+        for ticks, error, said in (((), kpn.KpnError, 'at most 2,000 ticks.* a `first` and a `last` tick with fewer'),
+                                   ((900, 2900), kpn.KpnError, 'give a `first`'),
+                                   ((7, 6), kpn.KpnError, '`last` is 6: it has to be from 7 to 1000000000'),
+                                   ((0,), kpn.KpnError, '`first` is 0'), ((1, 2.5), TypeError, '`last` has to be a w')):
+            with self.assertRaisesRegex(error, said) as caught:
+                result.svg(*ticks)
+            self.assertNotIn('--', str(caught.exception))
 
     def test_waits_that_never_end_are_drawn(self):
         result = example('deadlock').run(trace=True)
@@ -292,9 +304,12 @@ class Programs(unittest.TestCase):
     def test_no_program(self):
         missing = pathlib.Path('/nowhere')
         with unittest.mock.patch.dict(os.environ, {'PATH': '/nowhere'}), \
-                unittest.mock.patch('kpn.program.BUILT', missing):
+                unittest.mock.patch('kpn.program.BUILT', missing), \
+                unittest.mock.patch('kpn.program.UNPROVED', missing):
             os.environ.pop('KPN_PROGRAM', None)
-            self.assertRaisesRegex(kpn.KpnError, 'no program `kpn`: build it', doubling().run, [1])
+            self.assertRaisesRegex(kpn.KpnError, 'no program `kpn`: build it by .* name one by', doubling().run, [1])
+            with unittest.mock.patch('kpn.program.UNPROVED', pathlib.Path(PROGRAM)):
+                self.assertRaisesRegex(kpn.KpnError, f'the unproved one, {PROGRAM}, by KPN', doubling().run, [1])
 
     def test_a_program_that_fails(self):
         with tempfile.TemporaryDirectory() as folder:
@@ -324,7 +339,7 @@ class Programs(unittest.TestCase):
 
     def test_why_a_run_was_refused_is_asked_in_time(self):
         with tempfile.TemporaryDirectory() as folder:
-            path = self.program(folder, 'case $1 in explain) exec sleep 60;; esac\n'
+            path = self.program(folder, 'case $3 in explain) exec sleep 60;; esac\n'
                                         'echo "kpn: 21 Grammar at 3" >&2; exit 1')
             self.assertRaisesRegex(kpn.KpnError, '`kpn explain` had not ended after 3 seconds', doubling().run, [1],
                                    program=path, timeout=3)
