@@ -1,6 +1,6 @@
 //! The one type of input and of output that all command lines have. They are in memory, and calls of them may fail.
 
-use kpn_cli::Look;
+use kpn_cli::NonblockingRead;
 use std::alloc::Global;
 use std::io;
 use std::io::{ErrorKind, Read, Write};
@@ -73,7 +73,7 @@ impl Read for Input<'_> {
 }
 
 /// All has come.
-impl Look for Input<'_> {
+impl NonblockingRead for Input<'_> {
     fn look(&mut self, buf: &mut [u8]) -> io::Result<Option<usize>> {
         Ok(Some(self.read(buf)?))
     }
