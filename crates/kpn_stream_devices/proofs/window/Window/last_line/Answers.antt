@@ -7,4 +7,4 @@ pub returns-clause-told : goal.returns-clause-told
 returns-clause-told c =
     let w = c.args.self.now in
     long_tells w c.pass-line.new.self _ c.pass-line.result c.pass-line.ensures.passed
-    c.pass-line.ensures.number (omega (arith, c.if-count-lt-LONGEST.false, ap length c.unused-count.ensures)) c.requires
+    c.pass-line.ensures.number (omega (arith, c.if-count-lt-TOO_LONG_LINE.false, ap length c.unused-count.ensures)) c.requires

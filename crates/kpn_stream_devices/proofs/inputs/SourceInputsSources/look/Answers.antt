@@ -1,7 +1,7 @@
 -- The input is looked at.
 use Rattle.std.proofs.Common.{◌∙◌, sym, refl, rules, ap}
 use Rattle.kpn_stream_devices.specs.SourceInputs.{at_input, input_of}
-use Rattle.kpn_stream_devices.proofs.inputs.InputsSources.look.Goals as goal
+use Rattle.kpn_stream_devices.proofs.inputs.SourceInputsSources.look.Goals as goal
 
 pub returns-clause-looks : goal.returns-clause-looks
 returns-clause-looks g c =

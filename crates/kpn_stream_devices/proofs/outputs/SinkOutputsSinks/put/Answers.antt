@@ -3,7 +3,7 @@ use Rattle.std.proofs.Common.{◌∙◌, sym, refl, rules, ap, subst, w64, SFits
 use Rattle.std.specs.Prelude.{ℤ}
 use Rattle.std.proofs.lemmas.Int.{to_z-of_z}
 use Rattle.kpn_stream_devices.specs.SinkOutputs.{by_output, output_of, Takes}
-use Rattle.kpn_stream_devices.proofs.outputs.OutputsSinks.put.Goals as goal
+use Rattle.kpn_stream_devices.proofs.outputs.SinkOutputsSinks.put.Goals as goal
 
 pub returns : goal.returns
 returns g c =
