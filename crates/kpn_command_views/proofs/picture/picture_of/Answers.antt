@@ -38,5 +38,5 @@ returns-clause-ok c =
     (c.new-scale.ensures
     ∙ ap (scale_for a.document.now.names.instances c.instances-processes.result a.first a.last) c.last.ensures)
     c.instances-processes.ensures c.in_ok-ends.ensures c.in_ok-text.text.items c.in_ok-boxes.boxes c.count_last.result
-    c.in_ok-text.ensures (omega (arith, c.ticks.ensures, c.if-ticks-gt-MOST.false)) c.in_ok-boxes.ensures.exact
+    c.in_ok-text.ensures (omega (arith, c.ticks.ensures, c.if-ticks-gt-MOST_DRAWN.false)) c.in_ok-boxes.ensures.exact
     c.count_last.ensures.exact (omega arith)
