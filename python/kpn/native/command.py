@@ -22,9 +22,10 @@ RUNTIME = pathlib.Path(__file__).resolve().parent / 'runtime'
 # Of the runtime, and of kpn.h.
 HEADERS = (RUNTIME, RUNTIME.parents[3] / 'include')
 # What a library has of the runtime, and what one with static memory has; a program has neither session.
-LIBRARY = ('history.c', 'network.c', 'regions.c', 'rings.c', 'session.c', 'session_memory.c', 'session_tell.c', 'vectors.c')
-FIXED = ('fixed.c', 'network.c', 'regions.c', 'session.c', 'session_tell.c')
-SESSION = ('fixed.c', 'session.c', 'session_memory.c', 'session_tell.c')
+LIBRARY = ('history.c', 'lock.c', 'network.c', 'regions.c', 'rings.c', 'session.c', 'session_memory.c',
+           'session_tell.c', 'vectors.c')
+FIXED = ('fixed.c', 'lock.c', 'network.c', 'regions.c', 'session.c', 'session_tell.c')
+SESSION = ('fixed.c', 'lock.c', 'session.c', 'session_memory.c', 'session_tell.c')
 # What a shared object has beside the runtime of a program.
 SHARED = 'arrays.c'
 # The schedules, from the usual one to that of `kpn run`.
@@ -43,13 +44,14 @@ class Unlimited(KpnError):
     """Static memory is asked for, and the description sets no limit."""
 
 
-def c_of(canonical: str, schedule: str, given: bytes = b'', fixed: int = 0) -> str:
-    """The C of a network, from its canonical text; it knows the given text too. With static memory, so many
-    items may wait at each source."""
+def c_of(canonical: str, schedule: str, given: bytes = b'', fixed: int = 0, is_session: bool = False) -> str:
+    """The C of a network, from its canonical text, for a program or for a session; it knows the given text too. With
+    static memory, so many items may wait at each source."""
     description = Reader(canonical).description()
     if fixed and 'limit' not in description.settings:
         raise Unlimited('--fixed wants `limit N;` in the network, the most that a capacity may become')
-    return '\n'.join(NetworkText(canonical, given, description, schedule, fixed).lines()) + '\n'
+    network = NetworkText(canonical, given, description, schedule, fixed, is_session or fixed > 0)
+    return '\n'.join(network.lines()) + '\n'
 
 
 def compiler(words: Sequence[str] = ()) -> List[str]:
@@ -208,7 +210,7 @@ def compile_file(given: argparse.Namespace) -> int:
         return printed.returncode
     beside = pathlib.Path(given.file).read_bytes()
     try:
-        text = c_of(printed.stdout, given.schedule, beside, given.fixed)
+        text = c_of(printed.stdout, given.schedule, beside, given.fixed, given.library)
     except Unlimited as error:
         raise Unlimited(f'usage: {place_of_network(given.file, beside)}: {error}') from None
     if given.c:

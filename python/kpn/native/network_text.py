@@ -4,7 +4,8 @@ from __future__ import annotations
 from typing import Dict, Iterator, List
 
 from ..language import LARGEST_CAPACITY, Description, Entry
-from .c_text import Function, Kind
+from .c_text import WAYS, Function, Kind
+from .lock_text import lock_of
 from .paths import rows_of
 from .region_text import RegionText
 from .regions import Finder
@@ -13,10 +14,13 @@ from .regions import Finder
 class NetworkText:
     """A whole network as C."""
 
-    def __init__(self, text: str, given: bytes, description: Description, schedule: str, fixed: int = 0):
+    def __init__(self, text: str, given: bytes, description: Description, schedule: str, fixed: int = 0,
+                 is_session: bool = False):
         self.text, self.given, self.description, self.is_one_talk = text, given, description, schedule == 'kpn'
         # The most items that wait at a source in static memory; 0 if memory is taken as it is needed.
         self.fixed = fixed
+        # Static memory has no trace.
+        self.ways = WAYS[:1] if fixed else WAYS
         self.rows = {it.name: rows_of(it, number, description.tables)
                      for number, it in enumerate(description.processes)}
         self.kinds: Dict[Kind, int] = {}
@@ -26,9 +30,14 @@ class NetworkText:
         for _, entry in description.instances:
             self.starts.append(self.starts[-1] + self.rows[entry.process].places)
         finder = Finder(description, self.rows)
-        found = list(finder.regions()) if schedule == 'fuse' else []
+        kinds = {name: kind for kind, name, _ in description.channels}
+        # Only a session goes in lock step with its caller.
+        self.lock = lock_of(finder, kinds, self.starts) if is_session and schedule == 'fuse' else None
+        # In static memory little waits at a source: there long runs of periods are rare, and lock step is all.
+        found = list(finder.regions()) if schedule == 'fuse' and not (fixed and self.lock) else []
+        self.variable_count = self.starts[-1] + (self.lock.token_count() if self.lock else 0)
         self.heads = {self.of_instance[p]: finder.loops[p].head for region in found for p in region.laps}
-        self.regions = [RegionText(number, region, finder, self.starts, self.numbers, fixed == 0)
+        self.regions = [RegionText(number, region, finder, self.starts, self.numbers, fixed > 0)
                         for number, region in enumerate(found)]
 
     def kind_of(self, entry: Entry) -> Kind:
@@ -51,9 +60,12 @@ class NetworkText:
         yield ''
         yield from self.constants()
         for kind, number in self.kinds.items():
-            yield from Function(number, kind, self.rows[kind.name], self.heads.get(kind), self.is_one_talk).text()
+            rows, head = self.rows[kind.name], self.heads.get(kind)
+            yield from Function(number, kind, rows, head, self.is_one_talk, self.ways).text()
         for region in self.regions:
             yield from region.lines()
+        if self.lock:
+            yield from self.lock.lines()
         yield from self.tables()
         yield from self.plan()
         if self.fixed:
@@ -89,13 +101,13 @@ class NetworkText:
         for p, (name, entry) in enumerate(self.description.instances):
             number = self.kinds[self.of_instance[p]]
             ports = f'ports_{p}' if entry.ins or entry.outs else 'NULL'
-            rows.append(f'  {{"{name}", plain_turn_{number}, traced_turn_{number}, {ports}, {len(entry.ins)}, '
-                        f'{len(entry.outs)}, {self.starts[p]}}},')
+            turns = ', '.join(f'{self.ways[it][0]}_turn_{number}' for it in (0, -1))
+            rows.append(f'  {{"{name}", {turns}, {ports}, {len(entry.ins)}, {len(entry.outs)}, {self.starts[p]}}},')
             values += [f'[{self.starts[p] + place}] = {it}' for place, it in enumerate(entry.values) if it]
         if rows:
             yield '\n'.join(['static const struct kpn_process_plan processes[] = {', *rows, '};'])
-        if self.starts[-1]:
-            yield f'static const int64_t variables[{self.starts[-1]}] = {{{", ".join(values) or "0"}}};'
+        if self.variable_count:
+            yield f'static const int64_t variables[{self.variable_count}] = {{{", ".join(values) or "0"}}};'
         if self.regions:
             plans = [it.plan() for it in self.regions]
             yield '\n'.join(['static const struct kpn_region_plan regions[] = {', *plans, '};'])
@@ -110,7 +122,7 @@ class NetworkText:
         yield f'static const struct kpn_fixed_ring rings[] = {{{", ".join(rings or ["{0}"])}}};'
         processes, regions = len(self.description.instances), len(self.regions)
         arrays = (('struct kpn_channel', 'channels', len(rings)), ('struct kpn_process', 'processes', processes),
-                  ('struct kpn_region', 'regions', regions), ('int64_t', 'variables', self.starts[-1]),
+                  ('struct kpn_region', 'regions', regions), ('int64_t', 'variables', self.variable_count),
                   ('uint16_t', 'numbers', 2 * processes + regions))
         for kind, name, count in arrays:
             yield f'static {kind} own_{name}[{max(1, count)}];'
@@ -126,8 +138,9 @@ class NetworkText:
             yield '    "";'
         yield 'const struct kpn_plan kpn_plan = {'
         tables = (('channels', len(self.numbers)), ('processes', len(description.instances)),
-                  ('variables', self.starts[-1]), ('regions', len(self.regions)))
-        names = ', '.join(name if count else 'NULL' for name, count in tables)
+                  ('variables', self.variable_count), ('regions', len(self.regions)))
+        names = ', '.join([*(name if count else 'NULL' for name, count in tables),
+                           '&lock_plan' if self.lock else 'NULL'])
         counts = ', '.join(str(count) for _, count in tables)
         texts = ', '.join(f'{{{len(it)}, UINT64_C({hash_of(it)})}}' for it in (self.text.encode(), self.given))
         yield f'  {"NULL" if self.fixed else "text"}, {{{texts}}},'

@@ -7,8 +7,8 @@ from __future__ import annotations
 
 from typing import Dict, Iterator, List, Tuple
 
-from .c_text import Values
 from ..language import Assign, Read, Write
+from .c_text import WAYS, Values
 from .paths import Leave, Rows, Test
 from .regions import Finder, Region, variables_of
 from .vectors import State, vectors_of
@@ -18,7 +18,7 @@ class RegionText:
     """The function and the tables of a region."""
 
     def __init__(self, number: int, region: Region, finder: Finder, starts: List[int], channels: Dict[str, int],
-                 may_have_vectors: bool = True):
+                 is_fixed: bool = False):
         self.number, self.region, self.finder, self.starts, self.channels = number, region, finder, starts, channels
         self.live: Dict[int, List[str]] = {}
         self.assigned: Dict[int, List[str]] = {}
@@ -34,7 +34,8 @@ class RegionText:
         self.body: List[str] = []
         for p, lap, place in region.order:
             self.body += self.row(p, lap, place)
-        self.vectors = vectors_of(self) if may_have_vectors else None
+        self.vectors = None if is_fixed else vectors_of(self)
+        self.ways = WAYS[:1] if is_fixed else WAYS
 
     def rows(self, p: int) -> Rows:
         """The rows of a member."""
@@ -128,7 +129,7 @@ class RegionText:
         yield from self.behind_vectors()
         yield from self.ending()
         yield '}'
-        for word, value in (('plain', 'false'), ('traced', 'true')):
+        for word, value in self.ways:
             yield f'static enum kpn_stop {word}_{head}) {{ return any_region_{self.number}(network, self, {value}); }}'
         yield from self.tables()
 
@@ -287,5 +288,6 @@ class RegionText:
         needs, inside = len(self.region.gets) + len(self.region.puts), len(self.put_count)
         tables = ', '.join(f'{name}_{self.number}' if count else 'NULL'
                            for name, count in (('needs', needs), ('inside', inside)))
-        return f'  {{plain_region_{self.number}, traced_region_{self.number}, members_{self.number}, {tables}, ' \
+        plain, traced = (f'{self.ways[it][0]}_region_{self.number}' for it in (0, -1))
+        return f'  {{{plain}, {traced}, members_{self.number}, {tables}, ' \
                f'{len(self.region.laps)}, {needs}, {inside}}},'

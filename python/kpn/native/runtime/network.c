@@ -61,6 +61,7 @@ void kpn_begin(struct kpn_network *network) {
   network->turns = network->fault_count = 0;
   network->commits = 0;
   network->lacks_memory = false;
+  network->lock = (struct kpn_lock){0};
   for (size_t p = 0; p < plan->process_count; p++) {
     network->processes[p] = (struct kpn_process){.region = KPN_OUTSIDE, .last_lap = UINT64_MAX};
     kpn_make_ready(network, (unsigned)p);
@@ -367,7 +368,7 @@ void kpn_leave(struct kpn_network *network, unsigned sink) {
 
 /* ---- what a run has come to */
 
-unsigned kpn_verdict_of(struct kpn_network *network) {
+unsigned kpn_verdict_of(const struct kpn_network *network) {
   unsigned found = KPN_ENDED;
   if (network->ready_count || network->stalled_count) {
     return KPN_GOING;

@@ -90,6 +90,14 @@ struct kpn_region {
   uint64_t periods, before; /* made in all, and before it came together */
 };
 
+/* Whether phases are made: then processes and what lies inside have to be asked for in lock.c. */
+struct kpn_lock {
+  bool is_on;
+  uint16_t phase, entry;   /* now, and the one at which it began */
+  uint32_t patience, left; /* how many times it does not begin, since it was of no use; how many are left */
+  uint64_t made;           /* phases since it began */
+};
+
 struct kpn_network;
 typedef enum kpn_stop kpn_turn(struct kpn_network *network, unsigned self);
 
@@ -134,6 +142,19 @@ struct kpn_process_plan {
   uint32_t variables;      /* where its variables begin */
 };
 
+/* Lock step: what follows one more item of each source, in phases that recur (lock_text.py). The tables have, for each
+   phase and in the order of numbers: the rows at which processes wait, the channels on which they do, and the unread
+   items; and what was done from the first phase on, also behind the last one: laps of processes, gets from channels. */
+struct kpn_lock_plan {
+  bool (*step)(struct kpn_network *network, unsigned phase); /* false: it can't be made, and nothing was changed */
+  const uint16_t *rows, *waits, *unread;
+  const uint32_t *laps, *gots;
+  const uint16_t *slots;   /* of each channel: where its items lie between phases, from `base` on among the variables */
+  const uint16_t *sources; /* the numbers of the sources */
+  uint32_t base;
+  uint16_t phase_count, source_count;
+};
+
 /* A text, by its length and a hash: each byte is xored to it, and then it is multiplied by KPN_PRIME. */
 struct kpn_text {
   size_t length;
@@ -151,6 +172,7 @@ struct kpn_plan {
   const struct kpn_process_plan *processes;
   const int64_t *variables; /* as they are at the beginning */
   const struct kpn_region_plan *regions;
+  const struct kpn_lock_plan *lock; /* null without lock step */
   size_t channel_count, process_count, variable_count, region_count;
   uint32_t limit;
   bool is_policy_all, is_growth_double;
@@ -167,6 +189,7 @@ struct kpn_network {
   struct kpn_process *processes;
   int64_t *variables;
   struct kpn_region *regions;
+  struct kpn_lock lock;
   uint16_t *queue, *stalled;   /* who is ready, in a ring, where regions are behind processes; whose waits are to become
                                   events */
   size_t first_ready, ready_count, stalled_count, still_count; /* still: waiting or over */
@@ -282,6 +305,17 @@ void kpn_region_turn(struct kpn_network *network, unsigned region);
 void kpn_wake_region(struct kpn_network *network, unsigned region);
 void kpn_end_region(struct kpn_network *network, unsigned region);
 
+/* ---- lock step */
+
+/* Begins it if all processes wait as at the beginning of a phase; ends it; makes some phases, up to `most` commits in
+   all. False says that it has ended, since there is work which takes the long way. */
+void kpn_lock_begin(struct kpn_network *network);
+void kpn_lock_end(struct kpn_network *network);
+bool kpn_lock_run(struct kpn_network *network, uint64_t most);
+
+/* Whether a source has more items than at the beginning of its phase. */
+bool kpn_lock_has_work(const struct kpn_network *network);
+
 /* ---- loops without checks. The items of a ring from a position on, as numbers of 32 bits; false if one has more than
    16 bits. And what they have put, from a place in the array up to another one, in a ring whose position is that of the
    array's first item. */
@@ -322,7 +356,7 @@ void kpn_taken(struct kpn_network *network, unsigned sink);
 void kpn_leave(struct kpn_network *network, unsigned sink);
 
 /* How the run has come to a stop; KPN_GOING while a process is ready. */
-unsigned kpn_verdict_of(struct kpn_network *network);
+unsigned kpn_verdict_of(const struct kpn_network *network);
 
 /* Whether nothing more is ever put on each channel, whatever the capacities. */
 void kpn_complete(const struct kpn_network *network, bool *complete);

@@ -90,21 +90,32 @@ uint32_t kpn_close_source(kpn_session *session, size_t source) {
   struct kpn_network *network = kpn_network_of(session);
   if (!is_of_kind(network, source, KPN_SOURCE)) return KPN_NO_SUCH_END;
   if (network->channels[source].is_shut) return KPN_SOURCE_CLOSED;
+  kpn_lock_end(network);
   kpn_close(network, (unsigned)source);
   return answer(session->at);
+}
+
+/* Steps a session that is open. */
+static uint32_t step(struct kpn_own_session *session, uint64_t most, uint64_t *commits) {
+  struct kpn_network *network = &session->network;
+  uint64_t before = network->commits, limit = most < UINT64_MAX - before ? before + most : UINT64_MAX;
+  size_t faults = network->fault_count;
+  if (network->lock.is_on && kpn_lock_run(network, limit)) {
+    *commits = network->commits - before;
+    return KPN_OK;
+  }
+  kpn_go(network, limit);
+  kpn_lock_begin(network);
+  *commits = network->commits - before;
+  uint32_t fault = answer(session);
+  return fault == KPN_OK && network->fault_count > faults ? (uint32_t)KPN_PROCESS_FAULTED : fault;
 }
 
 uint32_t kpn_step(kpn_session *session, uint64_t most, uint64_t *commits) {
   if (!session || !commits) return KPN_NULL;
   *commits = 0;
   if (!session->at) return KPN_NO_SESSION;
-  struct kpn_network *network = kpn_network_of(session);
-  uint64_t before = network->commits;
-  size_t faults = network->fault_count;
-  kpn_go(network, most < UINT64_MAX - before ? before + most : UINT64_MAX);
-  *commits = network->commits - before;
-  uint32_t fault = answer(session->at);
-  return fault == KPN_OK && network->fault_count > faults ? (uint32_t)KPN_PROCESS_FAULTED : fault;
+  return step(session->at, most, commits);
 }
 
 uint32_t kpn_take(kpn_session *session, size_t sink, int64_t *items, size_t room, size_t *taken) {
@@ -132,10 +143,44 @@ uint32_t kpn_leave_sink(kpn_session *session, size_t sink) {
   if (!session->at) return KPN_NO_SESSION;
   struct kpn_network *network = kpn_network_of(session);
   if (!is_of_kind(network, sink, KPN_SINK)) return KPN_NO_SUCH_END;
+  kpn_lock_end(network);
   if (!network->channels[sink].is_shut) {
     kpn_leave(network, (unsigned)sink);
   }
   return answer(session->at);
+}
+
+/* Feeds items in lock step, where no process waits for them, and tells how many: up to one that takes the long way. */
+static size_t feed_in_step(const struct kpn_network *network, const kpn_item *items, size_t count) {
+  struct kpn_channel *const channels = network->channels;
+  const size_t channel_count = network->plan->channel_count;
+  size_t k = 0;
+  for (; k < count && items[k].channel < channel_count; k++) {
+    struct kpn_channel *channel = &channels[items[k].channel];
+    if (channel->writer != KPN_OUTSIDE || channel->put - channel->got > channel->mask) {
+      break;
+    }
+    channel->ring[channel->put++ & channel->mask] = items[k].item;
+  }
+  return k;
+}
+
+/* Takes items in lock step, where no process waits for room, and tells how many places are served. */
+static size_t take_in_step(const struct kpn_network *network, kpn_wanted *places, size_t count) {
+  struct kpn_channel *const channels = network->channels;
+  const size_t channel_count = network->plan->channel_count;
+  size_t k = 0;
+  for (; k < count && places[k].channel < channel_count; k++) {
+    struct kpn_channel *channel = &channels[places[k].channel];
+    if (channel->reader != KPN_OUTSIDE) {
+      break;
+    }
+    places[k].has_item = channel->got != channel->put;
+    if (places[k].has_item) {
+      places[k].item = channel->ring[channel->got++ & channel->mask];
+    }
+  }
+  return k;
 }
 
 uint32_t kpn_move(kpn_session *session, const kpn_item *items, size_t count, uint64_t most, kpn_wanted *places,
@@ -143,20 +188,22 @@ uint32_t kpn_move(kpn_session *session, const kpn_item *items, size_t count, uin
   if (!session || LACKS(items, count) || LACKS(places, place_count) || !amounts) return KPN_NULL;
   *amounts = (kpn_amounts){0};
   if (!session->at) return KPN_NO_SESSION;
-  size_t moved;
+  struct kpn_network *network = kpn_network_of(session);
+  size_t moved = 0, fed = network->lock.is_on ? feed_in_step(network, items, count) : 0, served = 0;
   uint32_t fault = KPN_OK;
-  for (size_t k = 0; k < count && !fault; k++) {
-    fault = kpn_feed(session, items[k].channel, &items[k].item, 1, &moved);
-    amounts->fed += moved;
+  for (; fed < count && !fault; fed += moved) {
+    fault = kpn_feed(session, items[fed].channel, &items[fed].item, 1, &moved);
   }
-  fault = fault ? fault : kpn_step(session, most, &amounts->commits);
+  amounts->fed = fed;
+  fault = fault ? fault : step(session->at, most, &amounts->commits);
   bool has_faulted = fault == KPN_PROCESS_FAULTED; /* which is told once all is done */
   fault = has_faulted ? (uint32_t)KPN_OK : fault;
-  for (size_t k = 0; k < place_count && !fault; k++) {
-    fault = kpn_take(session, places[k].channel, &places[k].item, 1, &moved);
-    places[k].has_item = moved > 0;
-    amounts->served += !fault;
+  served = network->lock.is_on && !fault ? take_in_step(network, places, place_count) : 0;
+  for (; served < place_count && !fault; served += !fault) {
+    fault = kpn_take(session, places[served].channel, &places[served].item, 1, &moved);
+    places[served].has_item = moved > 0;
   }
+  amounts->served = served;
   return has_faulted && !fault ? (uint32_t)KPN_PROCESS_FAULTED : fault;
 }
 
@@ -166,6 +213,7 @@ uint32_t kpn_is_complete(kpn_session *session, size_t channel, bool *complete) {
   if (!session->at) return KPN_NO_SESSION;
   bool all[KPN_MOST_CHANNELS];
   if (channel >= kpn_network_of(session)->plan->channel_count) return KPN_NO_CHANNEL;
+  kpn_lock_end(kpn_network_of(session));
   kpn_complete(kpn_network_of(session), all);
   *complete = all[channel];
   return KPN_OK;
@@ -175,7 +223,8 @@ uint32_t kpn_verdict(kpn_session *session, uint32_t *verdict) {
   if (!session || !verdict) return KPN_NULL;
   *verdict = 0;
   if (!session->at) return KPN_NO_SESSION;
-  *verdict = kpn_verdict_of(kpn_network_of(session));
+  const struct kpn_network *network = kpn_network_of(session);
+  *verdict = network->lock.is_on && kpn_lock_has_work(network) ? (uint32_t)KPN_GOING : kpn_verdict_of(network);
   return KPN_OK;
 }
 

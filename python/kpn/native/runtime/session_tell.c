@@ -70,7 +70,8 @@ uint32_t kpn_tell_processes(kpn_session *session, kpn_process_state *states, siz
   if (!session || LACKS(states, room) || !count) return KPN_NULL;
   *count = 0;
   if (!session->at) return KPN_NO_SESSION;
-  const struct kpn_network *network = kpn_network_of(session);
+  struct kpn_network *network = kpn_network_of(session);
+  kpn_lock_end(network);
   *count = network->plan->process_count;
   if (room < *count) return KPN_TOO_SMALL;
   for (size_t p = 0; p < *count; p++) {
@@ -96,8 +97,9 @@ uint32_t kpn_tell_channel(kpn_session *session, size_t channel, kpn_channel_stat
   if (!session || !state) return KPN_NULL;
   *state = (kpn_channel_state){0};
   if (!session->at) return KPN_NO_SESSION;
-  const struct kpn_network *network = kpn_network_of(session);
+  struct kpn_network *network = kpn_network_of(session);
   if (channel >= network->plan->channel_count) return KPN_NO_CHANNEL;
+  kpn_lock_end(network);
   const struct kpn_channel *own = &network->channels[channel];
   bool is_source = own->writer == KPN_OUTSIDE;
   *state = (kpn_channel_state){
