@@ -533,7 +533,7 @@ class Tests:
                  self.folder / 'libkpn.a')
             same(compiler, (0, 'wrapper: as by hand\n'), self.answer([made], [])[:2])
             print(f'kpn.hpp by {compiler}: as by hand')
-        for name, last in (('plant', 'step 200'), ('tanks', '299 ')):
+        for name, last in (('plant', 'step 200'), ('tanks', '299 '), ('loop', 'step 400')):
             call('cc', *STRICT, '-o', self.room / name, TOP / f'examples/c/{name}.c', self.folder / 'libkpn.a')
             same(name, True, self.answer([self.room / name], [])[1].splitlines()[-1].startswith(last))
 

@@ -28,6 +28,8 @@ import kpn  # noqa: E402
 import random_cells  # noqa: E402
 import native  # noqa: E402
 import native_fixed  # noqa: E402
+import native_lock  # noqa: E402
+import native_networks  # noqa: E402
 import native_stream  # noqa: E402
 from kpn.native import command  # noqa: E402
 from native_networks import MARKS  # noqa: E402
@@ -92,6 +94,12 @@ def compiled(text, folder, *options):
     (pathlib.Path(folder) / 'net.kpn').write_text(text)
     words = [sys.executable, '-m', 'kpn.native', 'net.kpn', '-o', 'prog', *options]
     return subprocess.run(words, cwd=folder, capture_output=True, text=True, env=environment())
+
+
+def text_of_example(name):
+    """The description in an example in C."""
+    text = re.search(r'\[\] =\n(.*?);\n\n', (TOP / f'examples/c/{name}.c').read_text(), re.S)[1]
+    return ''.join(re.findall(r'"(.*)"', text)).replace('\\n', '\n')
 
 
 def environment(package=TOP / 'python'):
@@ -637,12 +645,10 @@ int main(void) {
     def test_examples(self):
         """The examples run by each kind of object as by the library, if that is there."""
         library = TOP / 'out/c/libkpn.a'
-        for name, last in (('plant', 'step 200'), ('tanks', '299 ')):
+        for name, last in (('plant', 'step 200'), ('tanks', '299 '), ('loop', 'step 400')):
             file, told = TOP / f'examples/c/{name}.c', []
-            text = re.search(r'\[\] =\n(.*?);\n', file.read_text(), re.S)[1]
-            text = ''.join(re.findall(r'"(.*)"', text)).replace('\\n', '\n')
             for options in (['--library'], ['--fixed', '4']):
-                self.assertEqual(compiled(text, self.folder, *options).returncode, 0)
+                self.assertEqual(compiled(text_of_example(name), self.folder, *options).returncode, 0)
                 self.assertEqual(self.link(str(file), 'prog'), (0, '', ''))
                 told.append(self.call('./linked')[1])
             if library.exists():
@@ -678,6 +684,38 @@ int main(void) {
         for prefix in ('', '1x', 'kpn_x', 'a-b'):
             self.assertEqual(compiled(self.MEAN, self.folder, '--library', '--prefix', prefix).returncode, 2)
         self.assertEqual(compiled(self.MEAN, self.folder, '--prefix', 'one').returncode, 2)
+
+
+@unittest.skipUnless(shutil.which('cc'), 'there is no C compiler')
+class LockStep(WithFolder):
+    """Sessions in lock step beside sessions whose processes make turns."""
+    # Wrong bodies of lock.c.
+    WRONG = (('channel->got += (size_t)since_entry(network, plan->lock->gots, plan->channel_count, c);', ''),
+             ('*slot_of(network, c, k) = channel->ring', '*slot_of(network, c, k) = 1 + channel->ring'))
+    TRY = 'import sys, native_lock, random; print(native_lock.try_network(sys.argv[1], random.Random(1)))'
+
+    def test_example(self):
+        """The loop of the example, of two phases, by both kinds of objects."""
+        for fixed in (0, native_lock.ITEMS):
+            self.assertEqual(native_lock.try_network(text_of_example('loop'), random.Random(1), fixed), 'the same')
+
+    def test_random_networks(self):
+        for seed, kind in ((4, 'faults'), (9, 'small')):
+            text, _ = native_networks.network(random.Random(seed), kind)
+            self.assertEqual(native_lock.try_network(text, random.Random(seed)), 'the same')
+
+    def test_wrong_bodies(self):
+        shutil.copytree(TOP / 'include', self.folder / 'include')
+        for number, (old, new) in enumerate(self.WRONG):
+            package = self.folder / str(number)
+            shutil.copytree(TOP / 'python/kpn', package / 'kpn', ignore=shutil.ignore_patterns('__pycache__'))
+            edited = package / 'kpn/native/runtime/lock.c'
+            self.assertEqual(edited.read_text().count(old), 1)
+            edited.write_text(edited.read_text().replace(old, new))
+            path = os.pathsep.join(map(str, (package, TOP / 'bench/stress')))
+            done = subprocess.run([sys.executable, '-c', self.TRY, text_of_example('loop')], capture_output=True,
+                                  text=True, env=environment(path))
+            self.assertIn('native.Difference: ', done.stderr, old)
 
 
 @unittest.skipUnless(shutil.which('cc'), 'there is no C compiler')
