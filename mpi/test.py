@@ -93,7 +93,7 @@ class Tests:
 
     def __init__(self, room, mpirun, programs):
         self.room, self.mpirun = room, mpirun
-        self.kpn, self.counts = program.find_program(), collections.Counter()
+        self.kpn, self.counts, self.notes = program.find_program(), collections.Counter(), ''
         self.mpi, self.simulator = programs / 'kpn-mpi', programs / 'kpn-mpi-simulator'
 
     def call(self, *words, **more):
@@ -103,6 +103,7 @@ class Tests:
 
     def over_ranks(self, ranks, *words):
         status, out, error = self.call(*self.mpirun.split(), '-n', ranks, self.mpi, *words, timeout=300)
+        self.notes = ''.join(NOTES.findall(error))
         return status, out, error if status > 128 else NOTES.sub('', error)
 
     def simulated(self, ranks, seed, *words):
@@ -146,7 +147,7 @@ class Tests:
         most = ['--max-commits', COMMITS] if ranks == 1 else []
         found = start('net.kpn', *more, *stored, *cut_words, '--room', room, *most, *kept)
         found = (*found, self.outputs(sinks))
-        said = f'{text}\nitems {items}\nranks {ranks}, cut {cut}, room {room}, take {take}'
+        said = f'{text}\nitems {items}\nranks {ranks}, cut {cut}, room {room}, take {take}\n{self.notes}'
         same(said, wanted, found)
         self.counts[wanted[1].split()[-1] if not wanted[2] else 'refused'] += 1
         if audited and not wanted[2]:

@@ -204,7 +204,7 @@ def compile_file(given: argparse.Namespace) -> int:
     """Compiles the file of a description, and gives the status."""
     program = find_program()
     has_words = given.words == 'always' or (given.words == 'terminal' and sys.stderr.isatty())
-    printed = call(['--words', 'always' if has_words else 'never', 'print', given.file], program)
+    printed = call(['--words', 'always' if has_words else 'never', 'print', given.file], program, is_kpn=False)
     if printed.returncode:
         sys.stderr.write(printed.stderr)
         return printed.returncode
