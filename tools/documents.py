@@ -38,7 +38,7 @@ PLACE = re.compile(r"`([\w:']+)` \(`([\w/]+\.(?:rt|py|antt))`(?=[;)])")
 # Of the kit, of std, of other programs, and names in examples.
 ELSEWHERE = set("""share/kpn/editors rt go awk clap arrayvec indexmap itoa linked_list_allocator thiserror anyhow std objdump bin/clang
     logs/ ISO/IEC nope Kinds Now check_ bench_ HANDLES start_io start_lib
-    dac8208d650f15bf""".split())
+    dac8208d650f15bf mean_open mean_feed CMAKE_PREFIX_PATH""".split())
 
 
 def files_of_project():
