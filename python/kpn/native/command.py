@@ -27,7 +27,7 @@ LIBRARY = ('history.c', 'lock.c', 'network.c', 'regions.c', 'rings.c', 'session.
 FIXED = ('fixed.c', 'lock.c', 'network.c', 'regions.c', 'session.c', 'session_tell.c')
 SESSION = ('fixed.c', 'lock.c', 'session.c', 'session_memory.c', 'session_tell.c')
 # What a shared object has beside the runtime of a program.
-SHARED = 'arrays.c'
+SHARED = ('arrays.c', 'live.c')
 # The schedules, from the usual one to that of `kpn run`.
 SCHEDULES = ('fuse', 'batch', 'kpn')
 # The statuses of wrong words, and if the C compiler fails, as that of the launcher if a build fails.
@@ -73,7 +73,7 @@ def compile_runtime(folder: str, words: Sequence[str] = ()) -> List[str]:
 
 def runtime_sources() -> List[pathlib.Path]:
     """The C files of the runtime of a program."""
-    return sorted(it for it in RUNTIME.glob('*.c') if it.name not in (*SESSION, SHARED))
+    return sorted(it for it in RUNTIME.glob('*.c') if it.name not in (*SESSION, *SHARED))
 
 
 def version_of_compiler() -> bytes:
@@ -141,8 +141,9 @@ def build_shared(text: str, out: str) -> int:
     with tempfile.TemporaryDirectory(prefix='kpn-') as folder:
         source = pathlib.Path(folder, 'network_of.c')
         source.write_text(text)
-        words = [*compiler(), '-shared', '-fPIC', str(source), *kept_runtime('-fPIC', [RUNTIME / SHARED]), '-pthread']
-        return subprocess.run([*words, '-o', out], check=False).returncode
+        runtime = kept_runtime('-fPIC', [RUNTIME / it for it in SHARED])
+        words = [*compiler(), '-shared', '-fPIC', str(source), *runtime, '-pthread', '-o', out]
+        return subprocess.run(words, check=False).returncode
 
 
 def build_library(text: str, out: str, is_fixed: bool = False, prefix: str = '') -> int:
@@ -174,8 +175,8 @@ def parser_of_words() -> argparse.ArgumentParser:
                         help='make such an object with static memory, where so many items may wait at each source; '
                         'the description has to set a limit')
     parser.add_argument('--prefix', type=prefix_of, metavar='NAME',
-                        help='begin the calls of such an object with NAME_ in place of kpn_, and make NAME.h beside it: '
-                        'so a program may have several')
+                        help='begin the calls of such an object with NAME_ in place of kpn_, and make NAME.h beside '
+                        'it: so a program may have several')
     parser.add_argument('--c', action='store_true', help='write the C of the network in place of a program')
     parser.add_argument('--words', choices=('always', 'never', 'terminal'), default='always',
                         help='when a refused description is explained in words, beside the line of `kpn`')

@@ -87,6 +87,9 @@ int kpn_command_stream(struct kpn_run *run);
 /* Begins a run on the lists of the sources, which stay where they are; false says that memory was refused. */
 bool kpn_begin_run(struct kpn_run *run);
 
+/* Begins a run that is fed while it goes on. */
+bool kpn_begin_live(struct kpn_run *run);
+
 /* Runs on until so many commits were made in all. Gives the outcome; KPN_GOING if memory was refused. */
 unsigned kpn_run_on(struct kpn_run *run, uint64_t most);
 

@@ -264,8 +264,8 @@ static int conclude(struct stream *stream) {
   static const int statuses[] = {[KPN_CLOGGED] = 3, [KPN_JAMMED] = 4, [KPN_STOPPED] = 5};
   struct kpn_run *run = stream->run;
   const struct kpn_plan *plan = plan_of(stream);
-  bool complete[KPN_MOST_CHANNELS], are_all = true;
-  kpn_complete(&run->network, complete);
+  struct kpn_channels all = kpn_complete(&run->network);
+  bool are_all = true;
   for (unsigned c = 0; c < plan->channel_count; c++) {
     struct kpn_output *output = stream->outputs[c];
     if (!output) {
@@ -273,9 +273,9 @@ static int conclude(struct stream *stream) {
     }
     if (!run->words.is_quiet) {
       kpn_tell("sink %s: %llu items, %scomplete\n", plan->channels[c].name, (unsigned long long)output->taken,
-               complete[c] && !output->has_failed ? "" : "not ");
+               kpn_has_channel(&all, c) && !output->has_failed ? "" : "not ");
     }
-    are_all = are_all && (complete[c] || output->has_gone ||
+    are_all = are_all && (kpn_has_channel(&all, c) || output->has_gone ||
                           (run->words.has_take && output->count >= run->words.take));
   }
   if (!run->words.is_quiet) {
