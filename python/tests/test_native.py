@@ -332,7 +332,6 @@ class Streams(WithFolder):
             done = subprocess.run([*program, *words], cwd=self.folder, input=given, capture_output=True, timeout=60)
             out = (self.folder / 'out').read_bytes() if (self.folder / 'out').exists() else None
             told = done.stderr.replace(b'kpn: compiled: nothing is proved of the program that runs here\n', b'')
-            told = told.replace(native_stream.FORMATS_TOLD, native_stream.FORMATS_KNOWN)
             answers.append((done.returncode, done.stdout, told, out))
         self.assertEqual(*answers, words)
 
