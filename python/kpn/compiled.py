@@ -14,6 +14,7 @@ from . import running
 from .arrays import unmasked
 from .errors import LARGEST, KpnError, whole
 from .native import command
+from .native.live import CompiledLive
 from .native.loaded import Loaded
 from .program import Program, answer, find_program, words_of
 from .result import Result
@@ -71,6 +72,10 @@ class Compiled:
             return running.run(self.net, given, runner=(self.path, words), program=self._program, **options)
         words_of(**options)
         return self._shared().run(given, options.get('take') or 0, options.get('max_commits') or LARGEST)
+
+    def stream(self) -> CompiledLive:
+        """A run in this process that is fed and read while it goes on, as one of `net.stream()`."""
+        return CompiledLive(self._shared().library, self._layout)
 
     def _shared(self) -> Loaded:
         """The network as a shared object."""

@@ -802,6 +802,34 @@ class Compiles(WithFolder):
         self.assertRaisesRegex(kpn.KpnError, "`schedule` is 'x': it has to be one of fuse, batch, kpn", net.compile,
                                schedule='x', cache=self.folder)
 
+    def test_live(self):
+        """Runs that are fed and read in blocks give what one run gives, and refuse what `net.stream` does."""
+        net = kpn.Network()
+        net.sink('y', kpn.parts.fir(net.source('x'), [1, 4, 6, 4, 1]))
+        program, given = net.compile(cache=self.folder), list(range(-20, 3000))
+        wanted = net.run(given)
+        for kind in (list, lambda it: array.array('q', it)):
+            with program.stream() as live:
+                found = live.process(kind(given[:7]))
+                self.assertEqual((type(found), list(found)), (type(kind([])), wanted['y'][:7]))
+                live.feed(kind(given[7:100]))
+                self.assertEqual(list(live.read(50)), wanted['y'][7:57])
+                with self.assertRaisesRegex(TimeoutError, 'the sink `y` has 43 items, and not 44: feed more'):
+                    live.read(44)
+                live.feed(kind(given[100:]))
+                result = live.finish()
+                self.assertEqual((list(result['y']), result.outcome, result.waits, result.complete),
+                                 (wanted['y'][57:], wanted.outcome, wanted.waits, wanted.complete))
+                self.assertRaises(kpn.KpnError, live.feed, [1])
+                self.assertRaises(kpn.KpnError, live.read, 1, 'x')
+            self.assertRaises(kpn.KpnError, live.read)
+        with program.stream() as live:
+            live.feed([2**62] * 9)
+            self.assertEqual(live.finish().faults, {'fir': 'overflow'})
+        with program.stream() as live:
+            live.leave()
+            self.assertEqual(live.process([1, 2]), [])
+
     def test_each_nth_run_is_judged(self):
         net = kpn.Network()
         net.sink('y', net.source('x'))
