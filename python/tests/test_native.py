@@ -743,6 +743,14 @@ class Fixed(WithFolder):
         self.assertLessEqual(wanted - own, {'memcpy', 'memcmp', 'memset', 'strlen', '_GLOBAL_OFFSET_TABLE_'})
         self.assertIn('kpn_step', own)
 
+    def test_sizes(self):
+        done = compiled(self.LOOP, self.folder, '--fixed', '8', '--sizes')
+        self.assertRegex(done.stdout, r'^\d+ bytes of code and constants, \d+ bytes of memory, (\d+ bytes|and a) ')
+        found = [int(it) for it in re.findall(r'\d+', done.stdout)][:2]
+        if shutil.which('size'):
+            text, data, bss = map(int, self.call('size', 'prog')[1].splitlines()[1].split()[:3])
+            self.assertEqual(found, [text, data + bss])
+
     def test_refused(self):
         for options, status, told in ((['--fixed', '8'], 2, 'kpn: usage: net.kpn:2:1: --fixed wants `limit N;`'),
                                       (['--fixed', '0'], 2, 'a number from 1 to 1048576, and not 0')):
