@@ -255,7 +255,7 @@ def wav(width, numbers, *more):
     return chunk(b'RIFF', b'WAVE' + chunks) + b''.join(more)
 
 
-@case('stream')
+@case()
 def wav_files_cut_anywhere(folder):
     for width, numbers in ((1, [0, 255, 128]), (2, [-2**15, 2**15 - 1, 258]), (3, [-2**23, 2**23 - 1, 65_794])):
         file = wav(width, numbers, chunk(b'LIST', b'what no sample is'))
@@ -268,7 +268,7 @@ def wav_files_cut_anywhere(folder):
             expect((b'kpn: ' + told in err, status), (bool(told), bool(told)))
 
 
-@case('stream')
+@case()
 def wav_files_in_pieces(folder):
     for width, word in ((2, 'wav'), (2, 'wav16'), (3, 'wav24')):
         file = wav(width, [1, -1, 300, -300])
@@ -278,7 +278,7 @@ def wav_files_in_pieces(folder):
             expect((out[36:40], out[44:]), (b'data', file[-4 * width:]))
 
 
-@case('stream')
+@case()
 def wav_files_of_sox(folder):
     if not shutil.which('sox'):
         return

@@ -4,8 +4,8 @@
 usage: bench/stress/native_lock.py [NETWORKS [SEED]] [--fixed]
 
 KPN_PROGRAM names the program `kpn`, and CC and CFLAGS the compiler. Of each network that has a lock step the two have
-to give and tell the same, whatever is fed, taken and asked for; native_lock.c chooses that. With `--fixed` the first has
-static memory. It ends with 1 at the first difference. It is no part of the gate, but python/tests/test_native.py uses
+to give and tell the same, whatever is fed, taken and asked for; native_lock.c chooses that. With `--fixed` the first
+has static memory. It ends with 1 at the first difference. It is no part of the gate, but python/tests/test_native.py uses
 it.
 """
 import argparse

@@ -41,10 +41,9 @@ NETWORKS = {
              'network { source a; sink y cap 4; sink z cap 4; s = split(a; y, z); }\n',
 }
 # Each sample with its code in `struct`; lines and s24le have none.
-CODES = {'lines': '', 'u8': 'B', 's8': 'b', 's16le': '<h', 's24le': '', 's32le': '<i', 's64le': '<q', 'f32le': '<f'}
+CODES = {'lines': '', 'u8': 'B', 's8': 'b', 's16le': '<h', 's24le': '', 's32le': '<i', 's64le': '<q', 'f32le': '<f',
+         'f32le:0': '<f', 'f32le:40': '<f', 'wav': '', 'wav16': '', 'wav24': ''}
 TOLD = b'kpn: compiled: nothing is proved of the program that runs here\n'
-# The names of formats that `kpn stream` tells, and those of them that a compiled network knows.
-FORMATS_TOLD, FORMATS_KNOWN = b's64le, f32le, f32le:POWER, wav, wav16 or wav24\n', b's64le or f32le\n'
 # Seconds that a stream may take.
 MOST = 60
 
@@ -62,7 +61,7 @@ def text_of(chosen, format, number):
         return b'%d%s' % (number, chosen.choice((b'\n',) * 30 + (b'\r\n', b'x\n', b'\n\n')))
     if format == 's24le':
         return struct.pack('<i', number >> 40)[:3]
-    if format == 'f32le':
+    if format.startswith('f32le'):
         # Items, halves between two, and now and then what no item is.
         half = (chosen.getrandbits(chosen.randrange(24)) + 0.5) * chosen.choice((-1, 1)) / 2**15
         strange = chosen.choice((half, 2.0**48, -2.0**48, 1e30, math.inf, -math.inf, math.nan))
@@ -75,10 +74,30 @@ def text_of(chosen, format, number):
 def bytes_for(chosen, format):
     """What an input may hold: random bytes, or the texts of items, perhaps cut."""
     count = chosen.choice((0, 1, 5, 100, 3000))
+    if format.startswith('wav'):
+        made = wav_of(chosen, count)
+        return made[:chosen.randrange(len(made) + 1)] if chosen.random() < 0.3 else made
     if chosen.random() < 0.3:
         return chosen.randbytes(count)
     made = b''.join(text_of(chosen, format, item(chosen)) for _ in range(count))
     return made[:chosen.randrange(len(made) + 1)] if chosen.random() < 0.3 else made
+
+
+def wav_of(chosen, count):
+    """A WAV file of so many bytes of samples, perhaps with a wrong byte in its head or a wrong size."""
+    width, channels = chosen.choice((1, 2, 3)), chosen.choice((1, 2))
+    kind = struct.pack('<HHIIHH', 1, channels, 8000, 8000 * width, channels * width, 8 * width)
+    samples = chosen.randbytes(count)
+    sizes = (count, count, count, 2**31 - 4096, 2**31 - 8192, 2**31 - 8193, max(0, count - 5), count + 5)
+    head = struct.pack('<4sI4s', b'RIFF', 0, b'WAVE')
+    for _ in range(chosen.choice((0, 0, 1, 3))):
+        size = chosen.randrange(40)
+        head += struct.pack('<4sI', b'note', size) + bytes(size + size % 2)
+    head += struct.pack('<4sI', b'fmt ', len(kind)) + kind + struct.pack('<4sI', b'data', chosen.choice(sizes))
+    if chosen.random() < 0.2:
+        place = chosen.randrange(len(head))
+        head = head[:place] + chosen.randbytes(1) + head[place + 1:]
+    return head + samples + chosen.choice((b'', b'', b'\0', b'LIST'))
 
 
 class Streams:
@@ -110,7 +129,10 @@ class Streams:
         found = {end: chosen.choice((common, chosen.choice(list(CODES)))) for end in ends}
         words += [f'--format={end}={format}' for end, format in found.items() if format != common]
         if chosen.random() < 0.05:
-            words += ['--format', chosen.choice(('s16', 'q=u8', 'u8', 'y=u8', 'a=', '=u8', 'y=s8=u8', 'y=s16be'))]
+            words += ['--format', chosen.choice(('s16', 'q=u8', 'u8', 'y=u8', 'a=', '=u8', 'y=s8=u8', 'y=s16be',
+                                                 'f32le:63', 'f32le:-1', 'f32le:', 'y=f32le:07', 'wav8'))]
+        if any(format.startswith('wav') for format in found.values()) and chosen.random() < 0.5:
+            words += ['--rate', '44100', '--channels', chosen.choice(('1', '2', '1000'))]
         return words, found
 
     def words(self, name):
@@ -136,7 +158,7 @@ class Streams:
             (self.folder / f'{sink}.out').unlink(missing_ok=True)
         out, status, told = call([*program, *words], self.folder, input=standard, timeout=MOST)
         files = [self.folder / f'{sink}.out' for sink in self.ends(name)[1]]
-        told = told.replace(TOLD, b'').replace(FORMATS_TOLD, FORMATS_KNOWN)
+        told = told.replace(TOLD, b'')
         return status, out, told, [it.read_bytes() if it.exists() else None for it in files]
 
     def stream(self):

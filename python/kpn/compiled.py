@@ -1,16 +1,20 @@
 """Networks compiled to programs by `kpn.native`, and kept in a folder for later calls."""
 from __future__ import annotations
 
+import contextlib
 import functools
 import os
 import pathlib
+import sys
 import tempfile
-from typing import TYPE_CHECKING, Any, Callable, Dict, Optional, Union
+import threading
+from typing import TYPE_CHECKING, Any, Callable, Dict, Iterator, Optional, Union
 
 from . import running
 from .arrays import unmasked
 from .errors import LARGEST, KpnError, whole
 from .native import command
+from .native.live import CompiledLive
 from .native.loaded import Loaded
 from .program import Program, answer, find_program, words_of
 from .result import Result
@@ -18,6 +22,8 @@ from .result import Result
 if TYPE_CHECKING:
     from .network import Network
 
+# The seconds until a line says that a compiler is at work.
+PATIENCE = 2
 # Where programs are kept; None stands for the folder `kpn` of the user's cache.
 Cache = Union[None, str, 'os.PathLike[str]']
 
@@ -27,19 +33,27 @@ class Compiled:
 
     A run goes on in this process, and reads arrays of 64 bits where they lie; the sinks of NumPy arrays are arrays of
     the memory that the run has filled. With a trace, a timeout, a file of items or to be judged it is a process of its
-    own. Each `certify_each`-th run is judged as by `certify=True`, if that is not 0.
+    own, which is compiled when it is first needed, as by `path`. Each `certify_each`-th run is judged as by
+    `certify=True`, if that is not 0.
     """
 
     def __init__(self, net: Network, path: str, c: Callable[[], str], program: Program = None, certify_each: int = 0):
-        self.net, self.path, self.certify_each, self.runs = net, path, whole('`certify_each`', certify_each), 0
-        self._layout, self._c, self._program = net.layout(), c, program
+        self.net, self.certify_each, self.runs = net, whole('`certify_each`', certify_each), 0
+        self._layout, self._path, self._c, self._program = net.layout(), path, c, program
         self._loaded: Optional[Loaded] = None
+
+    @property
+    def path(self) -> str:
+        """The path of the program."""
+        if not os.path.exists(self._path):
+            build(self._c(), find_program(self._program), pathlib.Path(self._path))
+        return self._path
 
     def __getstate__(self) -> Dict[str, Any]:
         return {**vars(self), '_loaded': None}
 
     def __repr__(self) -> str:
-        return f'<Compiled {self.path}>'
+        return f'<Compiled {self._path}>'
 
     def run(self, inputs: running.Inputs = None, *, certify: bool = False, **options: Any) -> Result:
         """Runs the network on these items; the options are those of `net.run`, without workers. Without `max_commits`
@@ -59,10 +73,14 @@ class Compiled:
         words_of(**options)
         return self._shared().run(given, options.get('take') or 0, options.get('max_commits') or LARGEST)
 
+    def stream(self) -> CompiledLive:
+        """A run in this process that is fed and read while it goes on, as one of `net.stream()`."""
+        return CompiledLive(self._shared().library, self._layout)
+
     def _shared(self) -> Loaded:
-        """The network as a shared object, which is made beside the program once it is asked for."""
+        """The network as a shared object."""
         if self._loaded is None:
-            path = pathlib.Path(f'{self.path}.so')
+            path = pathlib.Path(f'{self._path}.so')
             if not path.exists():
                 build(self._c(), None, path)
             self._loaded = Loaded(str(path), self._layout)
@@ -87,15 +105,27 @@ def compile_network(net: Network, *, schedule: str = command.SCHEDULES[0], cache
     folder = pathlib.Path(cache) if cache else command.default_cache()
     folder.mkdir(parents=True, exist_ok=True)
     found, c = folder / key_of(canonical, schedule, path), functools.partial(command.c_of, canonical, schedule)
-    if not found.exists():
-        build(c(), path, found)
-    return Compiled(net, str(found), c, program, certify_each)
+    made = Compiled(net, str(found), c, program, certify_each)
+    made._shared()
+    return made
+
+
+@contextlib.contextmanager
+def progress() -> Iterator[None]:
+    """Says on a terminal that a compiler is at work, if it is so for some seconds."""
+    say = threading.Timer(PATIENCE, lambda: sys.stderr.write('kpn: the C compiler is at work\n'))
+    if sys.stderr.isatty():
+        say.start()
+    try:
+        yield
+    finally:
+        say.cancel()
 
 
 def build(text: str, program: Optional[str], path: pathlib.Path) -> None:
     """Compiles C beside the place of the program, and puts the program there once it is whole; without the path of
     `kpn` a shared object."""
-    with tempfile.TemporaryDirectory(prefix='kpn-', dir=path.parent) as folder:
+    with tempfile.TemporaryDirectory(prefix='kpn-', dir=path.parent) as folder, progress():
         made = os.path.join(folder, 'program')
         try:
             status = command.build(text, program, made) if program else command.build_shared(text, made)

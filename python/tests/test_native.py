@@ -332,7 +332,6 @@ class Streams(WithFolder):
             done = subprocess.run([*program, *words], cwd=self.folder, input=given, capture_output=True, timeout=60)
             out = (self.folder / 'out').read_bytes() if (self.folder / 'out').exists() else None
             told = done.stderr.replace(b'kpn: compiled: nothing is proved of the program that runs here\n', b'')
-            told = told.replace(native_stream.FORMATS_TOLD, native_stream.FORMATS_KNOWN)
             answers.append((done.returncode, done.stdout, told, out))
         self.assertEqual(*answers, words)
 
@@ -744,6 +743,14 @@ class Fixed(WithFolder):
         self.assertLessEqual(wanted - own, {'memcpy', 'memcmp', 'memset', 'strlen', '_GLOBAL_OFFSET_TABLE_'})
         self.assertIn('kpn_step', own)
 
+    def test_sizes(self):
+        done = compiled(self.LOOP, self.folder, '--fixed', '8', '--sizes')
+        self.assertRegex(done.stdout, r'^\d+ bytes of code and constants, \d+ bytes of memory, (\d+ bytes|and a) ')
+        found = [int(it) for it in re.findall(r'\d+', done.stdout)][:2]
+        if shutil.which('size'):
+            text, data, bss = map(int, self.call('size', 'prog')[1].splitlines()[1].split()[:3])
+            self.assertEqual(found, [text, data + bss])
+
     def test_refused(self):
         for options, status, told in ((['--fixed', '8'], 2, 'kpn: usage: net.kpn:2:1: --fixed wants `limit N;`'),
                                       (['--fixed', '0'], 2, 'a number from 1 to 1048576, and not 0')):
@@ -803,6 +810,34 @@ class Compiles(WithFolder):
         self.assertRaisesRegex(kpn.KpnError, "`schedule` is 'x': it has to be one of fuse, batch, kpn", net.compile,
                                schedule='x', cache=self.folder)
 
+    def test_live(self):
+        """Runs that are fed and read in blocks give what one run gives, and refuse what `net.stream` does."""
+        net = kpn.Network()
+        net.sink('y', kpn.parts.fir(net.source('x'), [1, 4, 6, 4, 1]))
+        program, given = net.compile(cache=self.folder), list(range(-20, 3000))
+        wanted = net.run(given)
+        for kind in (list, lambda it: array.array('q', it)):
+            with program.stream() as live:
+                found = live.process(kind(given[:7]))
+                self.assertEqual((type(found), list(found)), (type(kind([])), wanted['y'][:7]))
+                live.feed(kind(given[7:100]))
+                self.assertEqual(list(live.read(50)), wanted['y'][7:57])
+                with self.assertRaisesRegex(TimeoutError, 'the sink `y` has 43 items, and not 44: feed more'):
+                    live.read(44)
+                live.feed(kind(given[100:]))
+                result = live.finish()
+                self.assertEqual((list(result['y']), result.outcome, result.waits, result.complete),
+                                 (wanted['y'][57:], wanted.outcome, wanted.waits, wanted.complete))
+                self.assertRaises(kpn.KpnError, live.feed, [1])
+                self.assertRaises(kpn.KpnError, live.read, 1, 'x')
+            self.assertRaises(kpn.KpnError, live.read)
+        with program.stream() as live:
+            live.feed([2**62] * 9)
+            self.assertEqual(live.finish().faults, {'fir': 'overflow'})
+        with program.stream() as live:
+            live.leave()
+            self.assertEqual(live.process([1, 2]), [])
+
     def test_each_nth_run_is_judged(self):
         net = kpn.Network()
         net.sink('y', net.source('x'))
@@ -815,7 +850,7 @@ class Compiles(WithFolder):
         net.sink('y', kpn.parts.fir(net.source('x'), [1, 4, 6, 4, 1]))
         program = net.compile(cache=self.folder)
         self.assertEqual(net.compile(cache=self.folder).path, program.path)
-        self.assertEqual(len(list(self.folder.iterdir())), 1)
+        self.assertEqual(sorted(it.suffix for it in self.folder.iterdir()), ['', '.so'])
         given = list(range(50))
         wanted = net.run(given, trace=True)
         for certify in (False, True):

@@ -15,7 +15,7 @@ from typing import List, Optional, Sequence
 from ..errors import KpnError
 from ..language import LARGEST_CAPACITY, Reader
 from ..program import call, find_program
-from . import prefixed
+from . import prefixed, sizes
 from .network_text import NetworkText
 
 RUNTIME = pathlib.Path(__file__).resolve().parent / 'runtime'
@@ -27,7 +27,7 @@ LIBRARY = ('history.c', 'lock.c', 'network.c', 'regions.c', 'rings.c', 'session.
 FIXED = ('fixed.c', 'lock.c', 'network.c', 'regions.c', 'session.c', 'session_tell.c')
 SESSION = ('fixed.c', 'lock.c', 'session.c', 'session_memory.c', 'session_tell.c')
 # What a shared object has beside the runtime of a program.
-SHARED = 'arrays.c'
+SHARED = ('arrays.c', 'live.c')
 # The schedules, from the usual one to that of `kpn run`.
 SCHEDULES = ('fuse', 'batch', 'kpn')
 # The statuses of wrong words, and if the C compiler fails, as that of the launcher if a build fails.
@@ -73,7 +73,7 @@ def compile_runtime(folder: str, words: Sequence[str] = ()) -> List[str]:
 
 def runtime_sources() -> List[pathlib.Path]:
     """The C files of the runtime of a program."""
-    return sorted(it for it in RUNTIME.glob('*.c') if it.name not in (*SESSION, SHARED))
+    return sorted(it for it in RUNTIME.glob('*.c') if it.name not in (*SESSION, *SHARED))
 
 
 def version_of_compiler() -> bytes:
@@ -109,7 +109,7 @@ def kept_runtime(flag: str, more: Sequence[pathlib.Path]) -> List[str]:
         made.parent.mkdir(parents=True, exist_ok=True)
         if not made.exists():
             with tempfile.TemporaryDirectory(prefix='kpn-', dir=made.parent) as folder:
-                if join([str(it) for it in sources], f'{folder}/runtime.o', [flag]):
+                if join([str(it) for it in sources], f'{folder}/runtime.o', [flag], folder):
                     return list(map(str, sources))
                 os.replace(f'{folder}/runtime.o', made)
     except OSError:
@@ -117,13 +117,26 @@ def kept_runtime(flag: str, more: Sequence[pathlib.Path]) -> List[str]:
     return [str(made)]
 
 
-def join(sources: Sequence[str], out: str, flags: Sequence[str]) -> int:
-    """Compiles C files to one object; gives the status of the compiler."""
+def join(sources: Sequence[str], out: str, flags: Sequence[str], folder: str) -> int:
+    """Compiles C files to one object, by way of others in a folder; gives the status of the compiler."""
     words = [*compiler(), *flags]
-    with tempfile.TemporaryDirectory(prefix='kpn-') as folder:
-        status = subprocess.run([*words, '-c', *map(os.path.abspath, sources)], cwd=folder, check=False).returncode
-        objects = [f'{folder}/{pathlib.Path(it).stem}.o' for it in sources]
-        return status or subprocess.run([*words, '-r', '-nostdlib', *objects, '-o', out], check=False).returncode
+    status = subprocess.run([*words, '-c', *map(os.path.abspath, sources)], cwd=folder, check=False).returncode
+    objects = [f'{folder}/{pathlib.Path(it).stem}.o' for it in sources]
+    return status or subprocess.run([*words, '-r', '-nostdlib', *objects, '-o', out], check=False).returncode
+
+
+def is_gcc() -> bool:
+    """Whether the compiler tells frames and calls."""
+    return subprocess.run([*compiler(), sizes.GRAPH, '-x', 'c', '-E', '-o', '/dev/null', '/dev/null'],
+                          check=False, stderr=subprocess.DEVNULL).returncode == 0
+
+
+def tell_sizes(made: pathlib.Path, folder: pathlib.Path) -> None:
+    """Writes how large an object is."""
+    found = sizes.sections_of(made.read_bytes())
+    stack = sizes.stack_of(folder.glob('*.ci'))
+    print(f'{found["code"]} bytes of code and constants, {found["memory"]} bytes of memory, '
+          + (f'{stack} bytes of stack in a call at most' if stack else 'and a stack that only gcc tells'))
 
 
 def build(text: str, program: str, out: str, runtime: Sequence[str] = ()) -> int:
@@ -141,11 +154,12 @@ def build_shared(text: str, out: str) -> int:
     with tempfile.TemporaryDirectory(prefix='kpn-') as folder:
         source = pathlib.Path(folder, 'network_of.c')
         source.write_text(text)
-        words = [*compiler(), '-shared', '-fPIC', str(source), *kept_runtime('-fPIC', [RUNTIME / SHARED]), '-pthread']
-        return subprocess.run([*words, '-o', out], check=False).returncode
+        runtime = kept_runtime('-fPIC', [RUNTIME / it for it in SHARED])
+        words = [*compiler(), '-shared', '-fPIC', str(source), *runtime, '-pthread', '-o', out]
+        return subprocess.run(words, check=False).returncode
 
 
-def build_library(text: str, out: str, is_fixed: bool = False, prefix: str = '') -> int:
+def build_library(text: str, out: str, is_fixed: bool = False, prefix: str = '', tells_sizes: bool = False) -> int:
     """Compiles the C of a network to one object with the calls of a session, with a prefix also a header for it beside
     it. Two objects in one program are an error of the linker, unless they have different prefixes."""
     names, flags = (FIXED, ['-DKPN_FIXED']) if is_fixed else (LIBRARY, ['-fPIC'])
@@ -156,7 +170,12 @@ def build_library(text: str, out: str, is_fixed: bool = False, prefix: str = '')
             renames.write_text(prefixed.renames(prefix, [RUNTIME / it for it in names]))
             flags += ['-include', str(renames)]
             pathlib.Path(out).with_name(f'{prefix}.h').write_text(prefixed.header(prefix, is_fixed, HEADERS))
-        return join([str(source), *(str(RUNTIME / name) for name in names)], out, [*flags, '-ffunction-sections'])
+        flags += ['-ffunction-sections', *([sizes.GRAPH] if tells_sizes and is_gcc() else [])]
+        sources = [str(source), *(str(RUNTIME / name) for name in names)]
+        status = join(sources, out, flags, folder)
+        if tells_sizes and not status:
+            tell_sizes(pathlib.Path(out), pathlib.Path(folder))
+        return status
 
 
 def parser_of_words() -> argparse.ArgumentParser:
@@ -174,8 +193,10 @@ def parser_of_words() -> argparse.ArgumentParser:
                         help='make such an object with static memory, where so many items may wait at each source; '
                         'the description has to set a limit')
     parser.add_argument('--prefix', type=prefix_of, metavar='NAME',
-                        help='begin the calls of such an object with NAME_ in place of kpn_, and make NAME.h beside it: '
-                        'so a program may have several')
+                        help='begin the calls of such an object with NAME_ in place of kpn_, and make NAME.h beside '
+                        'it: so a program may have several')
+    parser.add_argument('--sizes', action='store_true',
+                        help='write how much code, memory and stack an object with static memory takes')
     parser.add_argument('--c', action='store_true', help='write the C of the network in place of a program')
     parser.add_argument('--words', choices=('always', 'never', 'terminal'), default='always',
                         help='when a refused description is explained in words, beside the line of `kpn`')
@@ -188,6 +209,8 @@ def main(words: Optional[List[str]] = None) -> int:
     given = parser.parse_args(words)
     if given.prefix and not (given.library or given.fixed):
         parser.error('--prefix NAME is for --library and --fixed')
+    if given.sizes and not given.fixed:
+        parser.error('--sizes is for --fixed')
     try:
         return compile_file(given)
     except Unlimited as error:
@@ -217,7 +240,7 @@ def compile_file(given: argparse.Namespace) -> int:
         pathlib.Path(given.out).write_text(text)
         return 0
     if given.library or given.fixed:
-        failed = build_library(text, given.out, given.fixed > 0, given.prefix or '')
+        failed = build_library(text, given.out, given.fixed > 0, given.prefix or '', given.sizes)
     else:
         failed = build(text, program, given.out)
     if failed:

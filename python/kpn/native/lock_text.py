@@ -2,8 +2,8 @@
 
 If each source gets one item at a time, all processes come to wait for items again, at rows that do not depend on the
 items, and after some such steps, the phases, they wait where they waited before. The function makes one phase, in one
-piece: the items that processes hand on are locals. As a period of a region a phase is whole or nothing: with a fault, or
-without an item or room, nothing of it is kept, and the processes go on by their turns (lock.c).
+piece: the items that processes hand on are locals. As a period of a region a phase is whole or nothing: with a fault,
+or without an item or room, nothing of it is kept, and the processes go on by their turns (lock.c).
 """
 from __future__ import annotations
 

@@ -30,8 +30,8 @@ def header(prefix: str, is_fixed: bool, folders: Sequence[pathlib.Path]) -> str:
                 declared[call] = f'{result}{prefix}_{call}{words};'
     guard = f'{prefix.upper()}_H'
     calls = '\n'.join(f'  static constexpr auto {call} = {prefix}_{call};' for call in declared)
-    return f"""/* {prefix}.h: the calls of the network that `kpn compile --prefix {prefix}` has made. kpn.h and kpn_native.h say what
-   each does. Made by `kpn compile`. */
+    return f"""/* {prefix}.h: the calls of the network that `kpn compile --prefix {prefix}` has made. kpn.h and
+   kpn_native.h say what each does. */
 #ifndef {guard}
 #define {guard}
 

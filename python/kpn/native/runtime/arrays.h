@@ -31,4 +31,29 @@ void kpn_arrays_free(int64_t *items);
 
 void kpn_arrays_end(struct kpn_run *run);
 
+/* ---- runs that are fed and read while they go on (live.c) */
+
+struct kpn_live;
+
+/* A run, or null without memory; and its end. */
+struct kpn_live *kpn_live_begin(void);
+void kpn_live_end(struct kpn_live *live);
+
+/* Feeds a source; 0 says that memory was refused. Closes a source; leaves a sink. */
+uint32_t kpn_live_feed(struct kpn_live *live, size_t source, const int64_t *items, size_t count);
+void kpn_live_close(struct kpn_live *live, size_t source);
+void kpn_live_leave(struct kpn_live *live, size_t sink);
+
+/* Goes on for so many commits, or until no process is ready; gives the outcome so far, 0 while a process is ready. */
+enum { KPN_LIVE_LACKS_MEMORY = 42 };
+uint32_t kpn_live_go(struct kpn_live *live, uint64_t commits);
+
+/* How many items have come to a sink and were not read; whether no more come; reads so many of them. */
+size_t kpn_live_came(const struct kpn_live *live, size_t sink);
+uint32_t kpn_live_is_complete(const struct kpn_live *live, size_t channel);
+void kpn_live_read(struct kpn_live *live, size_t sink, int64_t *items, size_t count);
+
+/* Writes who has faulted or waits, and the outcome; gives the length. */
+size_t kpn_live_report(const struct kpn_live *live, char *text, size_t size);
+
 #endif

@@ -254,8 +254,8 @@ static char *store_items(struct folder *folder, const struct kpn_text_items *lis
   return path;
 }
 
-/* The most commits that `kpn run` may make for a run. This one counts its commits in its own way, unless a turn is one of
-   them; and it is over, or not compared. */
+/* The most commits that `kpn run` may make for a run. This one counts its commits in its own way, unless a turn is one
+   of them; and it is over, or not compared. */
 static uint64_t most_commits(const struct kpn_run *run) {
   if (!run->network.plan->is_one_talk) {
     return MOST_COMMITS;

@@ -81,8 +81,40 @@ static enum kpn_input_state next_sample(struct kpn_input *input, int64_t *item) 
   return is_item ? KPN_ITEM : KPN_BAD_ITEM;
 }
 
+/* Reads the head of a WAV file. */
+static enum kpn_input_state pass_head(struct kpn_input *input) {
+  size_t used;
+  enum kpn_head head = kpn_read_head(&input->wav, &input->format.sample, input->bytes + input->start,
+                                     input->end - input->start, &used);
+  input->start += used;
+  if (head == KPN_HEAD_OPEN && input->has_ended) {
+    input->wav.bad = input->wav.at + (input->end - input->start);
+  }
+  return head == KPN_HEAD_WHOLE ? KPN_ITEM : head == KPN_HEAD_BAD || input->has_ended ? KPN_BAD_HEAD : KPN_NO_ITEM_YET;
+}
+
+static enum kpn_input_state next_of_wav(struct kpn_input *input, int64_t *item) {
+  enum kpn_input_state state = input->wav.is_whole ? KPN_ITEM : pass_head(input);
+  size_t width = kpn_sample_width(input->format), length = input->end - input->start;
+  if (state != KPN_ITEM) {
+    return state;
+  }
+  if (length < width || input->wav.left < width) {
+    bool is_over = input->has_ended || length >= input->wav.left;
+    return !is_over ? KPN_NO_ITEM_YET : length == 0 || input->wav.left == 0 ? KPN_NO_MORE_ITEMS : KPN_CUT_SAMPLE;
+  }
+  kpn_read_sample(input->format, input->bytes + input->start, item);
+  input->wav.left -= width;
+  input->start += width;
+  input->used++;
+  return KPN_ITEM;
+}
+
 enum kpn_input_state kpn_next_item(struct kpn_input *input, int64_t *item) {
-  return input->format == KPN_LINES ? next_line(input, item) : next_sample(input, item);
+  if (input->format.is_wav) {
+    return next_of_wav(input, item);
+  }
+  return input->format.sample == KPN_LINES ? next_line(input, item) : next_sample(input, item);
 }
 
 bool kpn_read_more(struct kpn_input *input) {
@@ -113,7 +145,25 @@ static uint64_t whole_items(const struct kpn_output *output, size_t length) {
   for (size_t k = 0; width == 0 && k < length; k++) {
     lines += output->bytes[k] == '\n';
   }
-  return width ? length / width : lines;
+  return width == 0 ? lines : length < output->head ? 0 : (length - output->head) / width;
+}
+
+/* Removes the beginning of an item from the end of a plain file that can't grow. */
+static void cut_back(const struct kpn_output *output, size_t taken) {
+  struct stat told;
+  size_t width = kpn_sample_width(output->format), whole = taken;
+  if (width > 0) {
+    whole -= taken < output->head ? taken : (taken - output->head) % width;
+  }
+  while (width == 0 && whole > 0 && output->bytes[whole - 1] != '\n') {
+    whole--;
+  }
+  off_t at = output->to == STDOUT_FILENO || fstat(output->to, &told) != 0 || !S_ISREG(told.st_mode)
+                 ? -1
+                 : lseek(output->to, 0, SEEK_CUR);
+  if (at > 0 && whole < taken && ftruncate(output->to, at - (off_t)(taken - whole)) != 0) {
+    return; /* it stays longer */
+  }
 }
 
 void kpn_end_output(struct kpn_output *output) {
@@ -132,6 +182,10 @@ void kpn_flush(struct kpn_output *output) {
     output->has_gone = taken < output->length && errno == EPIPE;
     output->has_failed = taken < output->length && !output->has_gone;
     output->taken += whole_items(output, taken);
+    if (output->has_failed) {
+      cut_back(output, taken);
+    }
+    output->head = 0;
   }
   output->length = 0;
 }
@@ -150,7 +204,7 @@ void kpn_give_item(struct kpn_output *output, int64_t item) {
     kpn_flush(output);
   }
   char *end = output->bytes + output->length;
-  if (output->format == KPN_LINES) {
+  if (output->format.sample == KPN_LINES) {
     end = kpn_digits(end, nearest);
     *end++ = '\n';
   } else {

@@ -19,7 +19,8 @@ struct kpn_input {
   int from;
   bool is_open, has_ended;   /* until its source is closed; no more bytes come */
   bool waits_for_writer;     /* a FIFO, where perhaps nobody writes yet */
-  enum kpn_format format;
+  struct kpn_format format;
+  struct kpn_wav wav;
   size_t start, end, used;   /* the bytes that were not used yet; lines or samples so far */
   char bytes[KPN_DEVICE_BYTES];
 };
@@ -27,7 +28,8 @@ struct kpn_input {
 struct kpn_output {
   int to;
   struct kpn_opening *opening; /* of a FIFO, until its first byte; else null */
-  enum kpn_format format;
+  struct kpn_format format;
+  size_t head;               /* bytes in front of the first item that were not written yet */
   bool clips;                /* it writes the nearest item that the format has */
   bool has_gone, has_failed; /* nobody reads it any more; it could not be written */
   bool has_misfit;           /* an item that the format does not have was to be written */
@@ -46,7 +48,7 @@ struct kpn_opening *kpn_begin_opening(const char *name);
 int kpn_finish_opening(struct kpn_opening *opening);
 
 /* What an input has come to. */
-enum kpn_input_state { KPN_ITEM, KPN_NO_ITEM_YET, KPN_NO_MORE_ITEMS, KPN_BAD_ITEM, KPN_CUT_SAMPLE };
+enum kpn_input_state { KPN_ITEM, KPN_NO_ITEM_YET, KPN_NO_MORE_ITEMS, KPN_BAD_ITEM, KPN_BAD_HEAD, KPN_CUT_SAMPLE };
 
 /* Takes an item from the bytes that are there. */
 enum kpn_input_state kpn_next_item(struct kpn_input *input, int64_t *item);

@@ -10,6 +10,9 @@
 
 #include "stream.h"
 
+/* Samples a second of a written WAV file, if no option says another number. */
+enum { USUAL_RATE = 48000 };
+
 static const struct kpn_plan *plan_of(const struct stream *stream) {
   return stream->run->network.plan;
 }
@@ -80,8 +83,8 @@ static int find_ends(struct stream *stream) {
   status = status ? status : complete_ends(stream, KPN_SOURCE, words->sources, words->source_count);
   status = status ? status : check_ends(stream, KPN_SOURCE);
   status = status ? status : complete_ends(stream, KPN_SINK, words->sinks, words->sink_count);
-  status = status ? status : check_ends(stream, KPN_SINK);
-  return status ? status : kpn_check_formats(plan_of(stream), words) ? 0 : KPN_USAGE;
+  status = status ? status : kpn_check_formats(plan_of(stream), words) ? 0 : KPN_USAGE;
+  return status ? status : check_ends(stream, KPN_SINK);
 }
 
 static int open_trace(struct stream *stream) {
@@ -124,6 +127,12 @@ static int open_output(struct stream *stream, unsigned c) {
   }
   output->format = kpn_format_of_end(&stream->run->words, plan_of(stream)->channels[c].name);
   output->clips = stream->run->words.clips;
+  if (output->format.is_wav) {
+    const struct kpn_words *words = &stream->run->words;
+    kpn_write_head(output->bytes, output->format, words->rate ? (uint32_t)words->rate : USUAL_RATE,
+                   words->channels ? (uint16_t)words->channels : 1);
+    output->head = output->length = KPN_HEAD_BYTES;
+  }
   stream->run->sinks_short++;
   if (is_standard(stream, c)) {
     output->to = STDOUT_FILENO;

@@ -6,26 +6,51 @@
 #include <stddef.h>
 #include <stdint.h>
 
-/* Lines, or samples: a byte, two's complement with the lowest byte first, and floats of 4 bytes, where an item n is
-   n / 2^15. */
-enum kpn_format { KPN_LINES, KPN_U8, KPN_S8, KPN_S16, KPN_S24, KPN_S32, KPN_S64, KPN_F32, KPN_FORMATS };
+/* Lines, or samples: a byte, two's complement with the lowest byte first, and floats of 4 bytes. */
+enum kpn_sample { KPN_LINES, KPN_U8, KPN_S8, KPN_S16, KPN_S24, KPN_S32, KPN_S64, KPN_F32, KPN_SAMPLES };
+
+struct kpn_format {
+  enum kpn_sample sample; /* of a WAV file that is read, what its head says */
+  unsigned power;         /* of a float: an item n is n / 2^power */
+  bool is_wav;
+};
 
 /* The formats as an option lists them. */
-#define KPN_FORMAT_NAMES "lines, u8, s8, s16le, s24le, s32le, s64le or f32le"
+#define KPN_FORMAT_NAMES "lines, u8, s8, s16le, s24le, s32le, s64le, f32le, f32le:POWER, wav, wav16 or wav24"
 
-/* The format of a name, or KPN_FORMATS if there is none. */
-enum kpn_format kpn_format_of_name(const char *name);
+/* The format of a name. False says that there is none. */
+bool kpn_format_of_name(const char *name, struct kpn_format *format);
 
 /* How many bytes a sample has; 0 for lines. */
-size_t kpn_sample_width(enum kpn_format format);
+size_t kpn_sample_width(struct kpn_format format);
 
 /* Reads a sample. False says that it writes no item. */
-bool kpn_read_sample(enum kpn_format format, const char *bytes, int64_t *item);
+bool kpn_read_sample(struct kpn_format format, const char *bytes, int64_t *item);
 
 /* The nearest item that the format can write: the item itself, if it can write that. */
-int64_t kpn_nearest_item(enum kpn_format format, int64_t item);
+int64_t kpn_nearest_item(struct kpn_format format, int64_t item);
 
 /* Writes the sample of such an item, and gives where it ends. */
-char *kpn_write_sample(enum kpn_format format, char *to, int64_t item);
+char *kpn_write_sample(struct kpn_format format, char *to, int64_t item);
+
+/* The head of a WAV file as far as it was read. */
+struct kpn_wav {
+  bool has_riff, has_sample, is_whole;
+  uint32_t size;           /* of the whole file from byte 8 on, as it says */
+  size_t at, skipped, bad; /* the next byte; how many belong to a chunk that says nothing; a place that is wrong, or 0 */
+  unsigned chunks;
+  uint64_t left;           /* the bytes of samples behind it */
+};
+
+/* What the bytes behind the head that was read tell. */
+enum kpn_head { KPN_HEAD_OPEN, KPN_HEAD_BAD, KPN_HEAD_WHOLE };
+
+/* Reads on in a head, and tells how many bytes were used. A bad place is in `bad`. */
+enum kpn_head kpn_read_head(struct kpn_wav *wav, enum kpn_sample *sample, const char *bytes, size_t length,
+                            size_t *used);
+
+/* Writes the head of a WAV file whose sizes are not known. */
+enum { KPN_HEAD_BYTES = 44 };
+void kpn_write_head(char *to, struct kpn_format format, uint32_t rate, uint16_t channels);
 
 #endif

@@ -12,7 +12,7 @@ static const char HELP[] =
     "usage: PROGRAM run [--source NAME=FILE].. [--sink NAME=OUT].. [--take K] [--max-commits N] [--trace OUT]\n"
     "                   [--certify] [--events N] [--check items]\n"
     "       PROGRAM stream [--source NAME=IN].. [--sink NAME=OUT].. [--format F].. [--format NAME=F].. [--clip]\n"
-    "                   [--take K] [--max-commits N] [--trace OUT] [--quiet]\n"
+    "                   [--rate N] [--channels N] [--take K] [--max-commits N] [--trace OUT] [--quiet]\n"
     "\n"
     "Runs the network that this program was compiled from. The commands and options are those of `kpn run` and\n"
     "`kpn stream`, and so are the reports. Nothing is proved of this program. But `kpn`, which is proved, can judge\n"

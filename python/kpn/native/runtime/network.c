@@ -33,10 +33,12 @@ static void wake(struct kpn_network *network, unsigned process) {
 }
 
 void kpn_serve_reader(struct kpn_network *network, struct kpn_channel *channel) {
+#ifndef KPN_FIXED /* where nobody takes at once */
   if (channel->reader == KPN_OUTSIDE) {
     network->taker(network, (unsigned)(channel - network->channels));
     return;
   }
+#endif
   channel->reader_waits = false;
   wake(network, channel->reader);
 }
@@ -384,26 +386,36 @@ unsigned kpn_verdict_of(const struct kpn_network *network) {
   return found;
 }
 
+bool kpn_has_channel(const struct kpn_channels *channels, size_t channel) {
+  return channels->words[channel / 32] >> (channel % 32) & 1;
+}
+
+static bool is_finished(const struct kpn_process *process, const struct kpn_channels *complete) {
+  bool is_still = process->being == KPN_STALLED || process->being == KPN_WAITING;
+  return process->being == KPN_OVER ||
+         (is_still && process->why == KPN_EMPTY && kpn_has_channel(complete, process->channel));
+}
+
 /* A channel gets no more if it is a source that is closed, or its writer is finished. A process is finished if it has
    ended, or waits for an item of a channel that gets no more. Those that are not finished are found one by one. */
-void kpn_complete(const struct kpn_network *network, bool *complete) {
+struct kpn_channels kpn_complete(const struct kpn_network *network) {
   const struct kpn_plan *plan = network->plan;
-  for (size_t c = 0; c < plan->channel_count; c++) {
-    complete[c] = plan->channels[c].kind != KPN_SOURCE || network->channels[c].is_shut;
-  }
+  struct kpn_channels complete = {{0}};
   bool has_changed = true;
+  for (size_t c = 0; c < plan->channel_count; c++) {
+    bool may_be = plan->channels[c].kind != KPN_SOURCE || network->channels[c].is_shut;
+    complete.words[c / 32] |= (uint32_t)may_be << (c % 32);
+  }
   while (has_changed) {
     has_changed = false;
     for (size_t c = 0; c < plan->channel_count; c++) {
       unsigned writer = network->channels[c].writer;
-      if (!complete[c] || writer == KPN_OUTSIDE) {
-        continue;
+      if (writer != KPN_OUTSIDE && kpn_has_channel(&complete, c) &&
+          !is_finished(&network->processes[writer], &complete)) {
+        complete.words[c / 32] &= ~((uint32_t)1 << (c % 32));
+        has_changed = true;
       }
-      const struct kpn_process *process = &network->processes[writer];
-      bool is_still = process->being == KPN_STALLED || process->being == KPN_WAITING;
-      complete[c] = process->being == KPN_OVER ||
-                    (is_still && process->why == KPN_EMPTY && complete[process->channel]);
-      has_changed = has_changed || !complete[c];
     }
   }
+  return complete;
 }

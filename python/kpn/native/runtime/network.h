@@ -358,7 +358,12 @@ void kpn_leave(struct kpn_network *network, unsigned sink);
 /* How the run has come to a stop; KPN_GOING while a process is ready. */
 unsigned kpn_verdict_of(const struct kpn_network *network);
 
-/* Whether nothing more is ever put on each channel, whatever the capacities. */
-void kpn_complete(const struct kpn_network *network, bool *complete);
+/* The channels to which nothing more is ever put, whatever the capacities, as a set of their numbers. */
+struct kpn_channels {
+  uint32_t words[KPN_MOST_CHANNELS / 32];
+};
+
+struct kpn_channels kpn_complete(const struct kpn_network *network);
+bool kpn_has_channel(const struct kpn_channels *channels, size_t channel);
 
 #endif

@@ -25,7 +25,7 @@ struct kpn_end {
 /* A word FORMAT or NAME=FORMAT. */
 struct kpn_format_word {
   const char *name; /* of the only end that it is for; null if it is for all */
-  enum kpn_format format;
+  struct kpn_format format;
 };
 
 /* What the words of the command line ask for. */
@@ -35,7 +35,7 @@ struct kpn_words {
   size_t source_count, sink_count, format_count;
   const char *trace;
   bool has_take, is_certified, is_checked, has_most_commits, is_quiet, clips;
-  uint64_t take, most_commits, events;
+  uint64_t take, most_commits, events, rate, channels;
 };
 
 /* Where a sink's items go in a run. */
@@ -70,7 +70,7 @@ bool kpn_find_ends(const struct kpn_plan *plan, enum kpn_kind kind, struct kpn_e
 bool kpn_check_formats(const struct kpn_plan *plan, const struct kpn_words *words);
 
 /* How the items of an end are written. */
-enum kpn_format kpn_format_of_end(const struct kpn_words *words, const char *name);
+struct kpn_format kpn_format_of_end(const struct kpn_words *words, const char *name);
 
 /* Refuses outputs that would be written over other files; 0, or the status. `-` is a standard end of a stream. */
 int kpn_check_outputs(const struct kpn_words *words, bool is_stream);
@@ -86,6 +86,9 @@ int kpn_command_stream(struct kpn_run *run);
 
 /* Begins a run on the lists of the sources, which stay where they are; false says that memory was refused. */
 bool kpn_begin_run(struct kpn_run *run);
+
+/* Begins a run that is fed while it goes on. */
+bool kpn_begin_live(struct kpn_run *run);
 
 /* Runs on until so many commits were made in all. Gives the outcome; KPN_GOING if memory was refused. */
 unsigned kpn_run_on(struct kpn_run *run, uint64_t most);

@@ -102,7 +102,8 @@ static void feed(struct kpn_run *run) {
   }
 }
 
-bool kpn_begin_run(struct kpn_run *run) {
+/* Begins a run whose sources have rings of their own, or none yet. */
+static bool begin(struct kpn_run *run, bool with_sources) {
   struct kpn_network *network = &run->network;
   network->owner = run;
   network->taker = take;
@@ -110,11 +111,19 @@ bool kpn_begin_run(struct kpn_run *run) {
   for (size_t c = 0; c < network->plan->channel_count; c++) {
     run->sinks_short += network->plan->channels[c].kind == KPN_SINK;
   }
-  network->lacks_memory = !kpn_reserve_all(network, false);
-  if (!network->lacks_memory) {
+  network->lacks_memory = !kpn_reserve_all(network, with_sources);
+  return !network->lacks_memory;
+}
+
+bool kpn_begin_run(struct kpn_run *run) {
+  if (begin(run, false)) {
     feed(run);
   }
-  return !network->lacks_memory;
+  return !run->network.lacks_memory;
+}
+
+bool kpn_begin_live(struct kpn_run *run) {
+  return begin(run, true);
 }
 
 unsigned kpn_run_on(struct kpn_run *run, uint64_t most) {

@@ -211,11 +211,10 @@ uint32_t kpn_is_complete(kpn_session *session, size_t channel, bool *complete) {
   if (!session || !complete) return KPN_NULL;
   *complete = false;
   if (!session->at) return KPN_NO_SESSION;
-  bool all[KPN_MOST_CHANNELS];
   if (channel >= kpn_network_of(session)->plan->channel_count) return KPN_NO_CHANNEL;
   kpn_lock_end(kpn_network_of(session));
-  kpn_complete(kpn_network_of(session), all);
-  *complete = all[channel];
+  struct kpn_channels all = kpn_complete(kpn_network_of(session));
+  *complete = kpn_has_channel(&all, channel);
   return KPN_OK;
 }
 

@@ -91,6 +91,9 @@ static void look_behind_items(struct stream *stream, unsigned c, enum kpn_input_
   if (state == KPN_BAD_ITEM) {
     snprintf(line, sizeof line, "25 BadItem at %zu", stream->inputs[c]->used);
     fail(stream, c, KPN_REFUSED, line);
+  } else if (state == KPN_BAD_HEAD) {
+    snprintf(line, sizeof line, "55 BadHead at %zu", stream->inputs[c]->wav.bad);
+    fail(stream, c, KPN_REFUSED, line);
   } else if (state == KPN_CUT_SAMPLE) {
     fail(stream, c, KPN_REFUSED, "29 CutSample");
   } else if (state == KPN_NO_MORE_ITEMS) {
@@ -264,8 +267,8 @@ static int conclude(struct stream *stream) {
   static const int statuses[] = {[KPN_CLOGGED] = 3, [KPN_JAMMED] = 4, [KPN_STOPPED] = 5};
   struct kpn_run *run = stream->run;
   const struct kpn_plan *plan = plan_of(stream);
-  bool complete[KPN_MOST_CHANNELS], are_all = true;
-  kpn_complete(&run->network, complete);
+  struct kpn_channels all = kpn_complete(&run->network);
+  bool are_all = true, has_sink = false;
   for (unsigned c = 0; c < plan->channel_count; c++) {
     struct kpn_output *output = stream->outputs[c];
     if (!output) {
@@ -273,9 +276,10 @@ static int conclude(struct stream *stream) {
     }
     if (!run->words.is_quiet) {
       kpn_tell("sink %s: %llu items, %scomplete\n", plan->channels[c].name, (unsigned long long)output->taken,
-               complete[c] && !output->has_failed ? "" : "not ");
+               kpn_has_channel(&all, c) && !output->has_failed ? "" : "not ");
     }
-    are_all = are_all && (complete[c] || output->has_gone ||
+    has_sink = true;
+    are_all = are_all && (kpn_has_channel(&all, c) || output->has_gone ||
                           (run->words.has_take && output->count >= run->words.take));
   }
   if (!run->words.is_quiet) {
@@ -287,7 +291,7 @@ static int conclude(struct stream *stream) {
   if (run->outcome != KPN_ENOUGH && has_ring(&run->network)) {
     return KPN_HAS_RING;
   }
-  return are_all || run->outcome < KPN_CLOGGED || run->outcome == KPN_ENOUGH ? 0 : statuses[run->outcome];
+  return (has_sink && are_all) || run->outcome < KPN_CLOGGED || run->outcome == KPN_ENOUGH ? 0 : statuses[run->outcome];
 }
 
 static int store_trace(struct stream *stream) {

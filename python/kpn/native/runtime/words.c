@@ -7,7 +7,7 @@
 
 #include "program.h"
 
-enum { MOST = 1000000000 };
+enum { MOST = 1000000000, MOST_RATE = 1000000, MOST_CHANNELS = 1000 };
 
 /* Writes a text in one piece, between two others. */
 static void tell(const char *before, const char *format, va_list parts, const char *behind) {
@@ -74,11 +74,11 @@ bool kpn_are_texts(int count, char **words) {
   return true;
 }
 
-static bool read_number(const char *option, const char *text, uint64_t *number) {
+static bool read_number(const char *option, const char *text, int most, uint64_t *number) {
   size_t length = strlen(text);
   *number = length > 0 && length <= 19 && strspn(text, "0123456789") == length ? strtoull(text, NULL, 10) : 0;
-  if (*number < 1 || *number > MOST) {
-    kpn_refuse(KPN_USAGE, "usage: %s N, a number from 1 to %d, and not %s", option, MOST, text);
+  if (*number < 1 || *number > (uint64_t)most) {
+    kpn_refuse(KPN_USAGE, "usage: %s N, a number from 1 to %d, and not %s", option, most, text);
     return false;
   }
   return true;
@@ -108,9 +108,10 @@ static bool read_format(struct kpn_words *words, char *text) {
   if (cut) {
     *cut = 0;
   }
-  enum kpn_format format = kpn_format_of_name(cut ? cut + 1 : text);
+  struct kpn_format format;
+  bool is_format = kpn_format_of_name(cut ? cut + 1 : text, &format);
   words->formats[words->format_count++] = (struct kpn_format_word){cut ? text : NULL, format};
-  return format != KPN_FORMATS || refuse_formats();
+  return is_format || refuse_formats();
 }
 
 /* What an option without a value sets, or null if it is none. */
@@ -122,9 +123,9 @@ static bool *flag_of(struct kpn_words *words, bool is_stream, const char *option
 }
 
 /* The options with a value; the first of them may be repeated. */
-enum option { SOURCE, SINK, FORMAT, TAKE, COMMITS, TRACE, CHECK, EVENTS, WORKERS, OPTIONS };
+enum option { SOURCE, SINK, FORMAT, TAKE, COMMITS, TRACE, RATE, CHANNELS, CHECK, EVENTS, WORKERS, OPTIONS };
 static const char *const OPTION_NAMES[] = {"--source", "--sink", "--format", "--take", "--max-commits", "--trace",
-                                           "--check", "--events", "--workers"};
+                                           "--rate", "--channels", "--check", "--events", "--workers"};
 
 /* Reads the value of an option. */
 static bool read_value(struct kpn_words *words, bool is_stream, enum option option, char *value) {
@@ -136,17 +137,21 @@ static bool read_value(struct kpn_words *words, bool is_stream, enum option opti
     return read_end(name, "OUT", value, words->sinks, &words->sink_count);
   case TAKE:
     words->has_take = true;
-    return read_number(name, value, &words->take);
+    return read_number(name, value, MOST, &words->take);
   case COMMITS:
     words->has_most_commits = true;
-    return read_number(name, value, &words->most_commits);
+    return read_number(name, value, MOST, &words->most_commits);
+  case RATE:
+    return read_number(name, value, MOST_RATE, &words->rate);
+  case CHANNELS:
+    return read_number(name, value, MOST_CHANNELS, &words->channels);
   case TRACE:
     words->trace = value;
     return true;
   case FORMAT:
     return read_format(words, value);
   case EVENTS:
-    return read_number(name, value, &words->events);
+    return read_number(name, value, MOST, &words->events);
   case CHECK:
     words->is_checked = true;
     if (strcmp(value, "items") == 0) {
@@ -161,7 +166,8 @@ static bool read_value(struct kpn_words *words, bool is_stream, enum option opti
 }
 
 static bool may_have(bool is_stream, enum option option) {
-  return is_stream ? option != CHECK && option != EVENTS : option != FORMAT;
+  bool is_of_stream = option == FORMAT || option == RATE || option == CHANNELS;
+  return is_stream ? option != CHECK && option != EVENTS : !is_of_stream;
 }
 
 static unsigned option_of(bool is_stream, const char *name) {
@@ -259,10 +265,10 @@ bool kpn_check_formats(const struct kpn_plan *plan, const struct kpn_words *word
   return true;
 }
 
-enum kpn_format kpn_format_of_end(const struct kpn_words *words, const char *name) {
+struct kpn_format kpn_format_of_end(const struct kpn_words *words, const char *name) {
   const struct kpn_format_word *word = format_word(words, name);
   word = word ? word : format_word(words, NULL);
-  return word ? word->format : KPN_LINES;
+  return word ? word->format : (struct kpn_format){.sample = KPN_LINES};
 }
 
 /* Whether an output is one of these files, or standard input, output or error. `-` is standard output, which a stream

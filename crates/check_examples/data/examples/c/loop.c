@@ -1,5 +1,5 @@
-/* A simulator of a motor, whose speed a cascade of two controllers holds in lock step: in each step one call of kpn_move
-   feeds what is wanted and measured, lets the network go on until it can't, and takes the voltage.
+/* A simulator of a motor, whose speed a cascade of two controllers holds in lock step: in each step one call of
+   kpn_move feeds what is wanted and measured, lets the network go on until it can't, and takes the voltage.
 
    The network has 11 processes: two PI controllers that stop to sum up where their limiter is at a stop, an observer of
    the load, two forks, two delays, and two decimators, which give every second item to a log. docs/COMPILED.md says how
