@@ -61,7 +61,7 @@ static enum option option_at(const struct reader *in) {
 static void pass_option(struct reader *in, enum option which) {
   const char *equals = strchr(in->words[in->at++], '=');
   in->value = equals ? equals + 1 : in->at < in->count ? in->words[in->at++] : NULL;
-  if (!in->value || (in->is_given[which] && which != SOURCES && which != SINKS)) {
+  if (!in->value || (which == TRACES && !*in->value) || (in->is_given[which] && which != SOURCES && which != SINKS)) {
     in->wrong = USAGE;
   }
   in->is_given[which] = true;

@@ -247,7 +247,8 @@ class Tests:
         for folder in ('nothing/traces', 'net.kpn'):
             same(folder, (1, '', 'kpn: 27 Write\n'), self.over_ranks(2, 'net.kpn', '--traces', folder))
         # An option goes with its commands, and once.
-        for words in (['--ranks', '2'], ['--seed', '1'], ['--take', '1', '--take', '2'], ['--room=1', '--room=2']):
+        for words in (['--ranks', '2'], ['--seed', '1'], ['--take', '1', '--take', '2'], ['--room=1', '--room=2'],
+                      ['--traces', '']):
             same(f'{words}', (2, ''), self.over_ranks(2, 'net.kpn', *words)[:2])
         for words in ([], ['--ranks', '2', '--seed', '1'], ['--ranks', '2', '--take', '1']):
             same(f'plan {words}', (2, ''), self.call(self.mpi, 'plan', 'net.kpn', *words)[:2])
