@@ -61,7 +61,7 @@ static enum option option_at(const struct reader *in) {
 static void pass_option(struct reader *in, enum option which) {
   const char *equals = strchr(in->words[in->at++], '=');
   in->value = equals ? equals + 1 : in->at < in->count ? in->words[in->at++] : NULL;
-  if (!in->value || (in->is_given[which] && which != SOURCES && which != SINKS)) {
+  if (!in->value || (which == TRACES && !*in->value) || (in->is_given[which] && which != SOURCES && which != SINKS)) {
     in->wrong = USAGE;
   }
   in->is_given[which] = true;
@@ -164,8 +164,8 @@ static void compare_words(struct reader *in, const struct kpn_options *of) {
 }
 
 bool kpn_is_input(const struct kpn_options *of, const char *path) {
-  const char *const others[] = {of->file, "/dev/stdout", "/dev/stderr", of->cut};
-  bool found = kpn_file_clashes(path, others, of->cut ? 4 : 3, false);
+  const char *const others[] = {of->file, of->cut};
+  bool found = kpn_file_clashes(path, others, of->cut ? 2 : 1, false) || kpn_file_is_standard(path);
   for (size_t k = 0; !found && k < of->source_count; k++) {
     found = kpn_file_clashes(path, &of->sources[k].file, 1, false);
   }

@@ -30,7 +30,8 @@ bool kpn_asks_for_plan(int count, char **given);
 bool kpn_read_options(enum kpn_command of, int count, char **given, bool tells, struct kpn_options *into);
 void kpn_free_options(struct kpn_options *of);
 
-/* Whether a file, or the part file beside it, is one that the run reads, by any name of that. */
+/* Whether a file, or the part file beside it, is one that the run reads, or that is standard input, output or error, by
+   any name of that. */
 bool kpn_is_input(const struct kpn_options *of, const char *path);
 
 /* Whether two sources have one pipe, terminal or other device, whose bytes go to one reader only. */

@@ -102,9 +102,16 @@ class Tests:
         return done.returncode, done.stdout, done.stderr
 
     def over_ranks(self, ranks, *words):
-        status, out, error = self.call(*self.mpirun.split(), '-n', ranks, self.mpi, *words, timeout=300)
-        self.notes = ''.join(NOTES.findall(error))
-        return status, out, error if status > 128 else NOTES.sub('', error)
+        """What a run gives. kpn-mpi has a line for its status 1. Without one, `mpirun` has not heard in time that a rank
+        is done, where much else runs: then the run is made again."""
+        for _ in range(3):
+            status, out, error = self.call(*self.mpirun.split(), '-n', ranks, self.mpi, *words, timeout=600)
+            self.notes = ''.join(NOTES.findall(error))
+            told = error if status > 128 else NOTES.sub('', error)
+            if status != 1 or told:
+                break
+            self.counts['made again'] += 1
+        return status, out, told
 
     def simulated(self, ranks, seed, *words):
         return self.call(self.simulator, *words, '--ranks', ranks, '--seed', seed, timeout=300)
@@ -247,7 +254,8 @@ class Tests:
         for folder in ('nothing/traces', 'net.kpn'):
             same(folder, (1, '', 'kpn: 27 Write\n'), self.over_ranks(2, 'net.kpn', '--traces', folder))
         # An option goes with its commands, and once.
-        for words in (['--ranks', '2'], ['--seed', '1'], ['--take', '1', '--take', '2'], ['--room=1', '--room=2']):
+        for words in (['--ranks', '2'], ['--seed', '1'], ['--take', '1', '--take', '2'], ['--room=1', '--room=2'],
+                      ['--traces', '']):
             same(f'{words}', (2, ''), self.over_ranks(2, 'net.kpn', *words)[:2])
         for words in ([], ['--ranks', '2', '--seed', '1'], ['--ranks', '2', '--take', '1']):
             same(f'plan {words}', (2, ''), self.call(self.mpi, 'plan', 'net.kpn', *words)[:2])

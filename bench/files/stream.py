@@ -527,15 +527,16 @@ def each_reads_all_of_a_plain_file(folder):
 
 # ---- outputs that are standard input
 
-@case(quick=True)
+@case('stream', 'compiled', 'mpi', quick=True)
 def standard_input_is_not_written(folder):
     signal_file, linked = folder / 'signal', folder / 'linked'
     signal_file.write_bytes(b'1\n2\n')
     os.link(signal_file, linked)
     (folder / 'symbolic').symlink_to('signal')
     for name in ('signal', './signal', 'linked', 'symbolic', '/dev/stdin'):
-        for option, usage in ((f'--sink=z={name}', b'sink NAME=OUT'), (f'--trace={name}', b'trace OUT')):
-            for more in ((), ('--source', 's=-')):
+        outputs = ((f'--sink=z={name}', b'sink NAME=OUT'), (f'--trace={name}', b'trace OUT'))
+        for option, usage in outputs[:1] if KIND == 'mpi' else outputs:
+            for more in ((), ('--source', 's=/dev/stdin' if KIND == 'mpi' else 's=-')):
                 with open(signal_file, 'rb') as given:
                     expect(stream(folder, option, *more, stdin=given), (b'', USAGE % usage, 2))
                 expect(signal_file.read_bytes(), b'1\n2\n')
