@@ -13,6 +13,7 @@ from typing import TYPE_CHECKING, Any, Dict, Iterator, List, Mapping, NamedTuple
 
 from .arrays import array_of
 from .errors import GrowthWarning, KpnError, whole
+from .faults import Fault, faults_of
 from .program import Program, call, failure, words_of
 from .rates import Rate, rates_of
 from .rings import deadlock_of, rings_of
@@ -244,7 +245,8 @@ class Result(collections.abc.Mapping):  # type: ignore[type-arg]
 
     def _reasons(self) -> str:
         """What is wrong: faults, sinks that may lack items, and who waits for room; nothing if all is right."""
-        reasons = [f'`{name}` ended by a fault: {fault}' for name, fault in self.faults.items()]
+        told = self.fault_places if self.faults and self._trace else {}
+        reasons = [f'`{name}` ended by a fault: {told.get(name, fault)}' for name, fault in self.faults.items()]
         reasons += [f'the sink `{name}` is {"not" if known is False else "perhaps not"} complete'
                     for name, known in self.complete.items()
                     if not known and (self.outcome != 'enough' or name in self._left)]
@@ -255,6 +257,14 @@ class Result(collections.abc.Mapping):  # type: ignore[type-arg]
             how += f' at `max_commits`, {self._most}'
         waits = [f'`{it.instance}` waits on the full channel `{it.channel}`' for it in self.waits if it.is_full]
         return '; '.join([how, *reasons, *waits])
+
+    @property
+    def fault_places(self) -> Dict[str, Fault]:
+        """For each instance that a fault ended a `Fault`: its word, the place, the expression and the values there.
+
+        It steps through the process again, and leaves out one that takes more than a million statements.
+        """
+        return faults_of(self.faults, self._layout, self._traced()[1])
 
     def trace(self) -> Trace:
         """The events of the run, with names: a `Trace` to loop over."""
