@@ -149,7 +149,7 @@ class Outcomes(unittest.TestCase):
     def test_a_fault(self):
         result = doubling().run([1, 2**62, 3])
         self.assertEqual((result['y'], result.faults, result.complete), ([2], {'gain': 'overflow'}, {'y': True}))
-        with self.assertRaisesRegex(kpn.KpnError, '`gain` ended by a fault: overflow'):
+        with self.assertRaisesRegex(kpn.KpnError, '`gain` ended by a fault: overflow .a run with `trace=True`'):
             result.check()
 
     def test_where_a_fault_was(self):
@@ -169,7 +169,9 @@ class Outcomes(unittest.TestCase):
             net.sink('z', kpn.Process.from_text(text % expression)(net.source('s'), net.source('t'), 9))
             result = net.run(dict(zip('st', items)), trace=True)
             self.assertEqual(str(result.fault_places['p']), said)
-            self.assertRaisesRegex(kpn.KpnError, re.escape(f'`p` ended by a fault: {said}'), result.check)
+            with self.assertRaisesRegex(kpn.KpnError, re.escape(f'`p` ended by a fault: {said}')) as caught:
+                result.check()
+            self.assertEqual(caught.exception.place, ('process `p`', 5, column))
             self.assertEqual(result.fault_places['p'].word, result.faults['p'])
         result = doubling().run([2**62], trace=True)
         self.assertEqual(result.fault_places['gain'].values, {'x': 2**62, 'k': 2})
