@@ -200,35 +200,35 @@ def text_of(tree: Expression, language: int, least: int = 1) -> str:
     return f'{left} {mark} {right}' if is_free else f'({left} {mark} {right})'
 
 
-def lines_of(block: Block, language: int, indent: str = '  ') -> Iterator[str]:
-    """The lines of a block in the canonical form, without the braces."""
+def lines_of(block: Block, language: int, indent: str = '  ') -> Iterator[Tuple[str, Statement]]:
+    """The lines of a block in the canonical form, without the braces, each with its statement."""
     for it in block:
         if isinstance(it, If):
             yield from lines_of_branch(it, language, indent, indent)
         elif isinstance(it, While):
-            yield f'{indent}while {text_of(it.condition, language)} {{'
+            yield f'{indent}while {text_of(it.condition, language)} {{', it
             yield from lines_of(it.body, language, indent + '  ')
-            yield indent + '}'
+            yield indent + '}', it
         elif isinstance(it, Read):
-            yield f'{indent}read {it.port} {it.target};'
+            yield f'{indent}read {it.port} {it.target};', it
         elif isinstance(it, Write):
-            yield f'{indent}write {it.port} {text_of(it.value, language)};'
+            yield f'{indent}write {it.port} {text_of(it.value, language)};', it
         else:
             target = it.target if isinstance(it, Assign) else text_of((INDEX, it.array, it.cell), language)
-            yield f'{indent}{target} = {text_of(it.value, language)};'
+            yield f'{indent}{target} = {text_of(it.value, language)};', it
 
 
-def lines_of_branch(branch: If, language: int, indent: str, before: str) -> Iterator[str]:
+def lines_of_branch(branch: If, language: int, indent: str, before: str) -> Iterator[Tuple[str, Statement]]:
     """The lines of an `if`, the first of them behind this. Language 2 leaves out what it can of an `else`."""
-    yield f'{before}if {text_of(branch.condition, language)} {{'
+    yield f'{before}if {text_of(branch.condition, language)} {{', branch
     yield from lines_of(branch.first, language, indent + '  ')
     if language == 2 and len(branch.second) == 1 and isinstance(branch.second[0], If):
         yield from lines_of_branch(branch.second[0], language, indent, indent + '} else ')
         return
     if language == 1 or branch.second:
-        yield indent + '} else {'
+        yield indent + '} else {', branch
         yield from lines_of(branch.second, language, indent + '  ')
-    yield indent + '}'
+    yield indent + '}', branch
 
 
 class Reader:
@@ -315,7 +315,7 @@ class Reader:
         declared = [*arrays, *(it for it in shared if it.thing.name in words), *tables]
         for it in declared:
             tokens += it.tokens
-        body = (*(f'  {it.thing}' for it in declared), *lines_of(block, self.language))
+        body = (*(f'  {it.thing}' for it in declared), *(line for line, _ in lines_of(block, self.language)))
         made = Process(name, parts['in'], parts['out'], parts['par'], body,
                        self.text[start:rest[-1].start + 1], self.language)
         return replace(made, places=tuple(it - start for it in places_of(str(made), [*tokens, *rest])))

@@ -13,6 +13,7 @@ from typing import TYPE_CHECKING, Any, Dict, Iterator, List, Mapping, NamedTuple
 
 from .arrays import array_of
 from .errors import GrowthWarning, KpnError, whole
+from .faults import Fault, faults_of
 from .program import Program, call, failure, words_of
 from .rates import Rate, rates_of
 from .rings import deadlock_of, rings_of
@@ -215,15 +216,16 @@ class Result(collections.abc.Mapping):  # type: ignore[type-arg]
     def check(self) -> Result:
         """This result, if no process faulted and each sink has all its items or as many as `take` says.
 
-        Raises KpnError that says what lacks if not, and `kpn.Deadlock` if there is a ring. Warns by a
-        `kpn.GrowthWarning` of each channel that grows with the length of the run. Without a trace it finds those by a
-        second, short run on the first 1,000 items of each source, and a longer one where that finds some.
+        Raises KpnError that says what lacks if not, with the place of a fault if there is a trace, and `kpn.Deadlock`
+        if there is a ring. Warns by a `kpn.GrowthWarning` of each channel that grows with the length of the run.
+        Without a trace it finds those by a second, short run on the first 1,000 items of each source, and a longer one
+        where that finds some.
         """
         reasons = self._reasons()
         if self.outcome != 'enough' and self.deadlock:
             raise deadlock_of(self.deadlock, self._layout, reasons)
         if reasons:
-            raise KpnError(reasons)
+            raise KpnError(reasons, place=next((it.place for it in self._known_faults().values()), None))
         for it in (it for it in self._rates() if it.grows):
             how = '' if self._trace else ', in a short run on the first items'
             warnings.warn(f'the channel `{it.channel}` grows with the length of the run: `{it.writer}` put {it.put} '
@@ -242,9 +244,15 @@ class Result(collections.abc.Mapping):  # type: ignore[type-arg]
             LOOKS[text] = look(self._layout, self._look, self._program)
         return LOOKS.get(text, [])
 
+    def _known_faults(self) -> Dict[str, Fault]:
+        """The faults with their places, as far as these are known."""
+        return self.fault_places if self.faults and self._trace else {}
+
     def _reasons(self) -> str:
         """What is wrong: faults, sinks that may lack items, and who waits for room; nothing if all is right."""
-        reasons = [f'`{name}` ended by a fault: {fault}' for name, fault in self.faults.items()]
+        told = self._known_faults()
+        more = '' if self._trace or self._told is not None else ' (a run with `trace=True` tells where)'
+        reasons = [f'`{name}` ended by a fault: {told.get(name, fault)}{more}' for name, fault in self.faults.items()]
         reasons += [f'the sink `{name}` is {"not" if known is False else "perhaps not"} complete'
                     for name, known in self.complete.items()
                     if not known and (self.outcome != 'enough' or name in self._left)]
@@ -255,6 +263,14 @@ class Result(collections.abc.Mapping):  # type: ignore[type-arg]
             how += f' at `max_commits`, {self._most}'
         waits = [f'`{it.instance}` waits on the full channel `{it.channel}`' for it in self.waits if it.is_full]
         return '; '.join([how, *reasons, *waits])
+
+    @property
+    def fault_places(self) -> Dict[str, Fault]:
+        """For each instance that a fault ended a `Fault`: its word, the place, the expression and the values there.
+
+        It steps through the process again, and leaves out one that takes more than a million statements.
+        """
+        return faults_of(self.faults, self._layout, self._traced()[1])
 
     def trace(self) -> Trace:
         """The events of the run, with names: a `Trace` to loop over."""

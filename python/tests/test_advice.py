@@ -6,6 +6,7 @@ import os
 import pathlib
 import pickle
 import random
+import re
 import tempfile
 import unittest
 import unittest.mock
@@ -13,9 +14,11 @@ import warnings
 
 from support import TOP, kpn
 
+import native_networks
 from kpn import parts
 from kpn.rates import growable
 from kpn.result import LOOKS
+from kpn.timing import Clock, Moves
 
 WORDS = 'one of them has to write before it reads (a first item before its loop)'
 
@@ -243,20 +246,40 @@ class Ticks(unittest.TestCase):
             self.assertEqual(result.ticks_per_item, {'y': ticks}, bursts)
 
     def test_no_period(self):
-        """A process that waits for another move than its period says, one that ends, and one without a period."""
-        for gets, ticks in ((3, None), (200, 1.0)):
-            burst = f'process p(in i; out o) {{ n = 0; while (n < {gets}) {{ read i x; n = (n + 1); }} ' \
-                'n = 0; while (n < 60) { write o x; n = (n + 1); } read i x; }'
-            self.assertEqual(chain(kpn.Process.from_text(burst)).run([1] * 3, trace=True).ticks_per_item, {'y': None})
-        generator = kpn.Process.from_text('process p(out o) { n = 1; while n { m = n; while m { m = (m - 1); '
-                                          'write o m; } write o 0; n = (n + 1); } }')
-        net = kpn.Network()
-        net.sink('y', parts.gain(generator(net=net), 1))
-        self.assertEqual(net.run(take=100, trace=True).ticks_per_item, {'y': 2.0})
+        """A process that waits for another move than its period says, one that never does the same twice, and one that
+        gets a first item besides."""
+        burst = 'process p(in i; out o) { n = 0; while (n < 3) { read i x; n = (n + 1); } ' \
+            'n = 0; while (n < 60) { write o x; n = (n + 1); } read i x; }'
+        self.assertEqual(chain(kpn.Process.from_text(burst)).run([1] * 3, trace=True).ticks_per_item, {'y': None})
+        ever_more = kpn.Process.from_text('process p(in i; out o) { n = 1; while n { m = n; while m { m = (m - 1); '
+                                          'write o m; } read i x; n = (n + 1); } }')
+        self.assertEqual(chain(ever_more, rate('copy', 1, 1)).run([1] * 20, trace=True).ticks_per_item, {'y': None})
         first = kpn.Process.from_text('process p(in c, i; out o) { read c k; while 1 { read i x; write o (x * k); } }')
         net = kpn.Network()
         net.sink('y', first(parts.constant(net, 7, 1), net.source('x')))
         self.assertEqual(net.run(range(9), trace=True).ticks_per_item, {'y': 2.0})
+
+    def test_random_networks(self):
+        """The package computes the ticks of `kpn stats`, without capacities and with those of the run; and a run with
+        the least ones is as short as without any, and the same."""
+        compared = 0
+        for seed in range(30):
+            text, lists = native_networks.network(random.Random(seed))
+            net = kpn.Network.from_text(text)
+            given = {name: items[:20] for name, items in lists.items()}
+            result = net.run(given, trace=True, max_commits=3_000)
+            with_caps, without = map(int, re.findall(r'\d+', result._told_stats()['head'][0]))
+            moves = Moves(result.layout, result.trace().path, {})
+            self.assertEqual(Clock(moves).ticks(), without, seed)
+            if not any(row['growths'] for row in result.stats.channels):
+                caps = [cap or 1 for _, _, cap in kpn.language.Reader(text).description().channels]
+                self.assertEqual(Clock(moves, caps).ticks(), with_caps, seed)
+            if result.outcome in ('ended', 'clogged'):
+                compared += 1
+                again = net.tuned(result).run(given, trace=True)
+                self.assertEqual((dict(again), again.outcome, again.ticks), (dict(result), result.outcome, without))
+                self.assertFalse(any(row['growths'] for row in again.stats.channels), seed)
+        self.assertGreater(compared, 9)
 
 
 class Capacities(unittest.TestCase):
