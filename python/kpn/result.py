@@ -305,6 +305,14 @@ class Result(collections.abc.Mapping):  # type: ignore[type-arg]
             self._tables = stats_of(os.path.join(folder, TEXT), os.path.join(folder, trace), program=self._program)
         return self._tables
 
+    def audit(self) -> str:
+        """What `kpn audit` says of the trace: `legal, exact`, or `legal` if the run has not come to its end.
+
+        Raises KpnError with its words if the trace is not legal.
+        """
+        verdict, exact = self._ask('audit').splitlines()[:2]
+        return f'{verdict}, exact' if exact == 'exact yes' else verdict
+
     def explain(self) -> str:
         """A text of `kpn explain`: which sinks are complete, and what to do about those that are not."""
         return self._ask('explain')
