@@ -15,6 +15,7 @@ text{font:12px sans-serif;fill:#222}
 .odd,.put{fill:#0072b2}
 .empty{fill:#d9d9d9}
 .full{fill:#d55e00}
+.grow{fill:#222}
 .curve{fill:none;stroke:#0072b2;stroke-width:2}
 .point{fill:#d55e00}
 .inner.odd,.inner.put,.inner.full{fill:#fff}
@@ -24,6 +25,9 @@ text{font:12px sans-serif;fill:#222}
 '''
 ROW, TOP, WIDTH = 32, 40, 1_000
 LETTER = 7
+# Where in its row a bar of a kind lies, and how high it is: gets above puts, so that both are seen in a long picture.
+LANES = {'get': (6, 10), 'put': (16, 10)}
+LANE = 6, 20
 
 
 class Bar(NamedTuple):
@@ -58,23 +62,25 @@ def bars_svg(names: Sequence[str], bars: Sequence[Bar], last: float, first: floa
     """Rows of bars from a first to a last time. Bars of a kind that are less than half a pixel wide are drawn as one
     where they meet, so a long picture stays small. Marks are dashed lines, and a legend names kinds."""
     length = max(last - first, 1)
-    left, scale = 24 + LETTER * max(map(len, names), default=0), WIDTH / length
-    scale = min(scale, 44)
+    left, scale = 24 + LETTER * max(map(len, names), default=0), min(WIDTH / length, 44)
     bottom = TOP + ROW * len(names)
-    parts = [head_of(left + scale * length + 24, bottom + 16 + 24 * bool(legend))]
+
+    def at(when: float) -> float:
+        return left + scale * (min(max(when, first), last) - first)
+
+    wide = max(at(last) + 24, 12 + 150 * len(legend))
+    parts = [head_of(wide, bottom + 16 + 24 * bool(legend))]
     for row, name in enumerate(names):
-        parts.append(f'<rect class="row" x="{left}" y="{TOP + ROW * row + 2}" width="{scale * length:g}" height="28"/>\n'
-                     f'<text class="name" x="{left - 8}" y="{TOP + ROW * row + 20}">{html.escape(name)}</text>\n')
+        y = TOP + ROW * row
+        parts.append(f'<rect class="row" x="{left}" y="{y + 2}" width="{scale * length:g}" height="28"/>\n'
+                     f'<text class="name" x="{left - 8}" y="{y + 20}">{html.escape(name)}</text>\n')
     step = int(step_of(length))
     for when in range(-int(-first // step) * step, int(last) + 1, step):
-        x = f'{left + scale * (when - first):g}'
-        parts.append(f'<path class="tick" d="M{x} 36V{bottom}"/>\n<text class="mark" x="{x}" y="32">{when}</text>\n')
-    for bar in merged([it for it in bars if it.end > first and it.start < last], 0.5 / scale):
-        x, end = (left + scale * (min(max(it, first), last) - first) for it in (bar.start, bar.end))
-        parts.append(drawn(bar, x, end - x))
-    for when in marks:
-        if first <= when <= last:
-            parts.append(f'<path class="period" d="M{left + scale * (when - first):g} 36V{bottom}"/>\n')
+        parts.append(f'<path class="tick" d="M{at(when):g} 36V{bottom}"/>\n'
+                     f'<text class="mark" x="{at(when):g}" y="32">{when}</text>\n')
+    for bar in merged([it for it in bars if it.end >= first and it.start <= last], 0.5 / scale):
+        parts.append(drawn(bar, at(bar.start), at(bar.end) - at(bar.start)))
+    parts += [f'<path class="period" d="M{at(it):g} 36V{bottom}"/>\n' for it in marks if first <= it <= last]
     for number, (kind, words) in enumerate(legend):
         x = 12 + 150 * number
         parts.append(f'<rect class="{kind}" x="{x}" y="{bottom + 12}" width="16" height="16"/>'
@@ -84,12 +90,14 @@ def bars_svg(names: Sequence[str], bars: Sequence[Bar], last: float, first: floa
 
 def drawn(bar: Bar, x: float, wide: float) -> str:
     """A bar, with its text if it is wide enough."""
-    y = TOP + ROW * bar.row
-    told = (f'<rect class="{bar.kind}" x="{x:g}" y="{y + 6}" width="{max(wide, 0.1):g}" height="20" '
+    down, high = LANES.get(bar.kind, LANE)
+    y, least = TOP + ROW * bar.row + down, 1.5 if bar.start == bar.end else 0.1
+    told = (f'<rect class="{bar.kind}" x="{x:g}" y="{y}" width="{max(wide, least):g}" height="{high}" '
             + 'stroke="#fff" stroke-width=".5"' * (wide > 4)
             + f'><title>{html.escape(bar.title)}</title></rect>\n')
     if 6 * len(bar.text) + 2 <= wide and bar.text:
-        told += f'<text class="inner {bar.kind}" x="{x + wide / 2:g}" y="{y + 20}">{html.escape(bar.text)}</text>\n'
+        told += (f'<text class="inner {bar.kind}" x="{x + wide / 2:g}" y="{y + high / 2 + 4:g}">'
+                 f'{html.escape(bar.text)}</text>\n')
     return told
 
 
@@ -112,30 +120,32 @@ def merged(bars: Sequence[Bar], narrow: float) -> List[Bar]:
 def curve_svg(points: Sequence[Tuple[float, float, str]], right: str, up: str) -> str:
     """Points that a stair joins, with the words of both axes. A point has a title."""
     left, width, height = 90, 560, 320
-    low, high = (min((it[0] for it in points), default=0), max((it[0] for it in points), default=1))
+    low, high = min((it[0] for it in points), default=0), max((it[0] for it in points), default=1)
     margin = max((high - low) * 0.05, 1)
     low, high, top = low - margin, high + margin, max((it[1] for it in points), default=1) * 1.1
 
-    def at(x: float, y: float) -> str:
-        return f'{left + width * (x - low) / (high - low):g} {20 + height * (1 - y / top):g}'
+    def across(x: float) -> float:
+        return left + width * (x - low) / (high - low)
+
+    def down(y: float) -> float:
+        return 20 + height * (1 - y / top)
 
     parts = [head_of(left + width + 24, height + 70)]
     step = max(step_of(high - low, 10), 1)
     for number in range(int(-(-low // step)), int(high // step) + 1):
-        x, _ = at(number * step, 0).split()
-        parts.append(f'<path class="tick" d="M{x} 20V{20 + height}"/>\n'
-                     f'<text class="mark" x="{x}" y="{36 + height}">{number * step:g}</text>\n')
+        x = across(number * step)
+        parts.append(f'<path class="tick" d="M{x:g} 20V{20 + height}"/>\n'
+                     f'<text class="mark" x="{x:g}" y="{36 + height}">{number * step:g}</text>\n')
     step = step_of(top, 8)
     for number in range(int(top // step) + 1):
-        _, y = at(low, number * step).split()
-        parts.append(f'<path class="tick" d="M{left} {y}H{left + width}"/>\n'
-                     f'<text class="name" x="{left - 6}" y="{float(y) + 4:g}">{number * step:.3g}</text>\n')
+        y = down(number * step)
+        parts.append(f'<path class="tick" d="M{left} {y:g}H{left + width}"/>\n'
+                     f'<text class="name" x="{left - 6}" y="{y + 4:g}">{number * step:.3g}</text>\n')
+    stair = ''.join(f'H{across(x):g}V{down(y):g}' for x, y, _ in points)
     if points:
-        stair = ''.join(f'H{at(x, y).split()[0]}V{at(x, y).split()[1]}' for x, y, _ in points)
-        parts.append(f'<path class="curve" d="M{at(points[0][0], 0)}{stair}H{left + width}"/>\n')
-    for x, y, title in points:
-        cx, cy = at(x, y).split()
-        parts.append(f'<circle class="point" cx="{cx}" cy="{cy}" r="4"><title>{html.escape(title)}</title></circle>\n')
+        parts.append(f'<path class="curve" d="M{across(points[0][0]):g} {down(0):g}{stair}H{left + width}"/>\n')
+    parts += [f'<circle class="point" cx="{across(x):g}" cy="{down(y):g}" r="4"><title>{html.escape(title)}</title>'
+              '</circle>\n' for x, y, title in points]
     parts.append(f'<text x="{left + width / 2:g}" y="{height + 58}" text-anchor="middle">{html.escape(right)}</text>\n'
                  f'<text x="12" y="14">{html.escape(up)}</text>\n')
     return ''.join([*parts, '</svg>\n'])

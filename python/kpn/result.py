@@ -11,6 +11,7 @@ import warnings
 import weakref
 from typing import TYPE_CHECKING, Any, Dict, Iterator, List, Mapping, NamedTuple, Optional, Sequence, Tuple, Union
 
+from . import exports
 from .arrays import array_of
 from .errors import GrowthWarning, KpnError
 from .program import Program, call, failure, words_of
@@ -331,6 +332,25 @@ class Result(collections.abc.Mapping):  # type: ignore[type-arg]
         Raises KpnError if the picture would have more than 2,000 ticks, or gets, puts and waits.
         """
         return self._ask('timeline', '--svg', *words_of(**{'from': first, 'to': last}))
+
+    def figure(self, first: Optional[int] = None, last: Optional[int] = None) -> str:
+        """The run in ticks as a picture in SVG, of any length: what is too narrow to be seen is drawn as one mark.
+
+        Raises KpnError if there are no ticks from the first to the last one.
+        """
+        return exports.figure_of(self, first, last)
+
+    def vcd(self) -> str:
+        """The run as a Value Change Dump (IEEE 1364), for GTKWave and others; a tick is a nanosecond.
+
+        Each channel has two variables: the item last put there (of a source, last got), and how many are unread.
+        """
+        return exports.vcd_of(self)
+
+    def csv(self) -> str:
+        """The events as a table with commas between: number, kind, process, channel, value and, of gets and puts, the
+        tick."""
+        return exports.csv_of(self)
 
     def view(self) -> str:
         """A page of HTML that shows the run: the network, the run in time, items and tables. Store it in a file."""

@@ -1,4 +1,4 @@
-"""Synchronous and cyclo-static dataflow graphs: repetition vectors, deadlocks, throughput, capacities, and runs of them.
+"""Dataflow graphs, synchronous and cyclo-static: repetition vectors, deadlocks, throughput, capacities, and runs.
 
 All is computed in Python. `graph.network()` runs by the program `kpn`, which is proved; so `graph.confirm` and
 `graph.check` tell of capacities and firings what a proved run has shown.

@@ -1,6 +1,7 @@
 """Synchronous and cyclo-static dataflow graphs, as they are described."""
 from __future__ import annotations
 
+import importlib
 import math
 from typing import TYPE_CHECKING, Any, Dict, Iterable, List, Mapping, NamedTuple, Optional, Sequence, Tuple, Union
 
@@ -210,8 +211,8 @@ class Graph:
     # ---- what is computed of it
 
     def schedule(self) -> List[Tuple[str, int]]:
-        """A periodic schedule of one firing after the other: an iteration as pairs of an actor and how often it fires in
-        a row. Raises KpnError that tells who waits for whom if there is none."""
+        """A periodic schedule of one firing after the other: an iteration as pairs of an actor and how often it fires
+        in a row. Raises KpnError that tells who waits for whom if there is none."""
         return timed.schedule(self)
 
     def deadlock(self) -> Optional[timed.Deadlock]:
@@ -301,7 +302,7 @@ class Graph:
         """The graph as a `MultiDiGraph` of networkx, with the fields of actors and channels. Raises KpnError if that
         is not there."""
         try:
-            import networkx
+            networkx = importlib.import_module('networkx')
         except ImportError:
             raise KpnError('networkx is not there: install it by `pip install networkx`') from None
         made = networkx.MultiDiGraph(name=self.name)
@@ -316,7 +317,7 @@ class Graph:
 def check_name(name: str) -> None:
     """Refuses what files and pictures can't show as a name."""
     if not isinstance(name, str) or not name.strip() or not name.isprintable():
-        raise KpnError(f'{name!r} is no name of a graph, an actor or a channel: it has to be a text that can be printed')
+        raise KpnError(f'{name!r} is no name of a graph, an actor or a channel: give a text that can be printed')
 
 
 def numbers(what: str, given: Numbers) -> Tuple[int, ...]:

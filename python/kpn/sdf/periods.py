@@ -1,7 +1,7 @@
 """The graph of a network: for each process the period in which it gets and puts.
 
-A process is stepped with the values of its parameters, while what it reads is unknown. Only the variables that its tests
-depend on count: where they come again at the same place, a period is over.
+A process is stepped with the values of its parameters, while what it reads is unknown. Only the variables that its
+tests depend on count: where they come again at the same place, a period is over.
 """
 from __future__ import annotations
 
@@ -55,7 +55,7 @@ BINARY: Dict[str, Any] = {
 UNARY: Dict[str, Any] = {'-': int.__neg__, '!': lambda a: int(not a), '~': int.__invert__}
 
 
-def value_of(tree: Expression, known: Dict[str, Optional[int]], tables: Dict[str, Sequence[int]]) -> int:
+def value_of(tree: Expression, known: Dict[str, Optional[int]], tables: Mapping[str, Sequence[int]]) -> int:
     """The value of an expression. Raises Unknown if it depends on what is not known, or is a fault."""
     if isinstance(tree, int):
         return tree
@@ -124,7 +124,7 @@ def period_of(rows: Rows, values: Sequence[int]) -> Period:
     raise Unknown
 
 
-def value_or_none(tree: Expression, known: Dict[str, Optional[int]], tables: Dict[str, Sequence[int]]
+def value_or_none(tree: Expression, known: Dict[str, Optional[int]], tables: Mapping[str, Sequence[int]]
                   ) -> Optional[int]:
     """The value of an expression, if it is known."""
     try:

@@ -80,7 +80,8 @@ def cycle_ratio(graph: Graph) -> Cycle:
     behind: List[List[Edge]] = [[] for _ in made.firings]
     for edge in made.edges:
         behind[edge.before].append(edge)
-    order, cycle = in_order(made, behind), []
+    order = in_order(made, behind)
+    cycle: List[Edge] = []
     while len(order) == len(made.firings):
         ratio = Fraction(sum(made.times[it.before] for it in cycle), sum(it.delay for it in cycle) or 1)
         larger = longer_cycle(made, behind, order, ratio)

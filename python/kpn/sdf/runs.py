@@ -86,10 +86,10 @@ class Writer:
     def first(self) -> Iterator[str]:
         """The lines for the initial tokens and the initial room."""
         for it in self.outs:
-            number = self.port['n'][it.name]
-            yield f'{number} = 0;'
-            yield from repeat(str(it.tokens), f'write {self.port["put"][it.name]} {number}; '
-                              f'{number} = {number} + {int(self.counts)};')
+            port, number = self.port['put'][it.name], self.port['n'][it.name]
+            yield f'{number} = 0;' * self.counts
+            yield from repeat(str(it.tokens), f'write {port} {number}; {number} = {number} + 1;' if self.counts else
+                              f'write {port} 0;')
         for it in self.ins:
             if it.capacity is not None:
                 yield from repeat(str(it.capacity - it.tokens), f'write {self.port["free"][it.name]} 0;')
@@ -115,8 +115,8 @@ class Writer:
         for name, rate in puts.items():
             number = self.port['n'][name]
             what = f'{self.arrays[name]}[k]' if self.own is not None else number if self.counts else 'result'
-            claim = '' if is_atomic else claims.get(name, '')
-            yield from repeat(rate, f'{claim} write {self.port["put"][name]} {what}; {number} = {number} + 1;')
+            claim, count = '' if is_atomic else claims.get(name, ''), f'{number} = {number} + 1;' * self.counts
+            yield from repeat(rate, f'{claim} write {self.port["put"][name]} {what}; {count}')
         yield f'write {sink} result;' if sink else ''
         if is_atomic:
             for name, line in frees.items():
@@ -300,5 +300,5 @@ def confirm(graph: Graph, capacities: Capacities, by: str) -> str:
                            'least ones without a deadlock')
         smaller += 1
     total = sum(it.capacity or 0 for it in sized.channels.values())
-    return (f'{graph.name}: with capacities of {total} in all a run of `kpn` made {sum(found.firings.values())} firings '
-            f'and ended ({found.audited}); {smaller} runs with one token less on a channel deadlocked')
+    return (f'{graph.name}: with capacities of {total} in all a run of `kpn` made {sum(found.firings.values())} '
+            f'firings and ended ({found.audited}); {smaller} runs with one token less on a channel deadlocked')

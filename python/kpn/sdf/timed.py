@@ -29,17 +29,17 @@ class Plan:
         phases = [graph.phases(name) for name in self.names]
         self.times = [[actor.times[k % len(actor.times)] for k in range(count)]
                       for actor, count in zip(graph.actors.values(), phases)]
-        self.channels, self.tokens, self.room = list(graph.channels.values()), [], {}
+        self.channels = list(graph.channels.values())
+        self.tokens: List[int] = []
         self.writers: List[int] = []
         self.readers: List[int] = []
+        self.room: Dict[int, Channel] = {}
         self.needs: List[List[List[Tuple[int, int]]]] = [[[] for _ in range(count)] for count in phases]
         self.gives: List[List[List[Tuple[int, int]]]] = [[[] for _ in range(count)] for count in phases]
         for it in self.channels:
             self.add(place[it.writer], place[it.reader], it.puts, it.gets, it.tokens)
-        self.place_of_room: Dict[str, int] = {}
         for it in self.channels:
             if it.capacity is not None or bounded:
-                self.place_of_room[it.name] = len(self.tokens)
                 self.room[len(self.tokens)] = it
                 self.add(place[it.reader], place[it.writer], it.gets, it.puts, (it.capacity or it.tokens) - it.tokens)
 
