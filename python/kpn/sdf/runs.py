@@ -1,11 +1,12 @@
 """Graphs as networks of processes that fire atomically, by credits, and what runs of them show."""
 from __future__ import annotations
 
+import itertools
 import re
-from typing import TYPE_CHECKING, Dict, Iterable, Iterator, List, Mapping, NamedTuple, Sequence, Tuple, Union
+from typing import TYPE_CHECKING, Dict, Iterable, Iterator, List, Mapping, NamedTuple, Optional, Sequence, Tuple, Union
 
-from ..errors import KpnError, whole
-from ..language import LONGEST_NAME
+from ..errors import LARGEST, KpnError, whole
+from ..language import LONGEST_NAME, Reader
 from ..network import Names, Network
 from ..process import Process
 
@@ -18,10 +19,12 @@ WORDS = ('firing', 'phase', 'item', 'result')
 OWN_WORDS = ('firings', 'total', 'x', 'k')
 # What the process of an actor does: gets or puts an item on a channel of the network.
 Talk = Tuple[str, str]
+# What is expected of an actor without channels.
+SILENCE: Tuple[Talk, int] = ('end', 'done'), LARGEST
 
 
 class Audit(NamedTuple):
-    """What an audited run did: firings of each actor that has a channel, the most tokens that each channel had room
+    """What an audited run did: the firings of each actor that are over, the most tokens that each channel had room
     claimed for, the rings of processes that wait for one another, and what `kpn audit` said of its trace."""
 
     firings: Dict[str, int]
@@ -181,29 +184,28 @@ def check_words(graph: Graph, body: Union[str, Mapping[str, str]], by: str, acto
 
 
 class Follower:
-    """Follows what a process does, talk by talk, and counts its firings."""
+    """Follows what a process does, talk by talk. Each talk goes with the number of its firing, -1 before the first."""
 
     def __init__(self, graph: Graph, naming: Naming, actor: str, by: str, has_input: str, has_output: str):
         self.ins = [it for it in graph.channels.values() if it.reader == actor]
         self.outs = [it for it in graph.channels.values() if it.writer == actor]
-        self.naming, self.by, self.fired = naming, by, -1
+        self.naming, self.by, self.last = naming, by, -1
         self.source, self.sink = [('get', has_input)] * bool(has_input), [('put', has_output)] * bool(has_output)
         self.phases = graph.phases(actor)
         self.talks = self.all_talks()
-        self.expected = next(self.talks, None)
+        self.expected = next(self.talks, SILENCE)
 
-    def all_talks(self) -> Iterator[Talk]:
+    def all_talks(self) -> Iterator[Tuple[Talk, int]]:
         """What an actor's process does, from its first puts on."""
         for it in self.outs:
-            yield from [('put', self.naming.channels[it.name])] * it.tokens
+            yield from [(('put', self.naming.channels[it.name]), -1)] * it.tokens
         for it in self.ins:
             if it.capacity is not None:
-                yield from [('put', self.naming.rooms[it.name])] * (it.capacity - it.tokens)
+                yield from [(('put', self.naming.rooms[it.name]), -1)] * (it.capacity - it.tokens)
         phases = [list(self.firing(phase)) for phase in range(self.phases)]
-        while any(phases):
-            for phase in phases:
-                self.fired += 1
-                yield from phase
+        for number in itertools.count() if any(phases) else ():
+            for talk in phases[number % self.phases]:
+                yield talk, number
 
     def firing(self, phase: int) -> Iterator[Talk]:
         """What a firing does."""
@@ -223,16 +225,22 @@ class Follower:
 
     def room(self, kind: str, channel: Channel) -> List[Talk]:
         """A get or put of a credit, if the channel has a capacity."""
-        return [(kind, self.naming.rooms[channel.name])] * (channel.capacity is not None)
+        return [(kind, self.naming.rooms[channel.name])] if channel.capacity is not None else []
 
-    def follow(self, talk: Talk, number: int, process: str) -> None:
+    def follow(self, talk: Talk, event: int, process: str) -> None:
         """Goes past a talk, which has to be the expected one."""
-        if talk != self.expected:
-            wanted = 'end' if self.expected is None else ' from '.join(self.expected) if self.expected[0] == 'get' \
-                else ' on '.join(self.expected)
-            raise KpnError(f'event {number} of the run: `{process}` does `{" ".join(talk)}` in firing '
-                           f'{max(self.fired, 0)}, where its actor would {wanted}')
-        self.expected = next(self.talks, None)
+        wanted, number = self.expected
+        if talk != wanted:
+            raise KpnError(f'event {event} of the run: `{process}` has a {" on ".join(talk)}, and firing {number} of '
+                           f'its actor has a {" on ".join(wanted)} there')
+        self.last, self.expected = number, next(self.talks, SILENCE)
+
+    def fired(self, said: Optional[int], process: str) -> int:
+        """How many firings are over. Of a process that has ended this is said, since a firing may be silent."""
+        least = self.last + (self.expected[1] > self.last)
+        if said is not None and not least <= said <= self.expected[1]:
+            raise KpnError(f'`{process}` has ended after {said} firings, but has made {least}')
+        return least if said is None else said
 
 
 def check(graph: Graph, result: Result, by: str) -> Audit:
@@ -249,15 +257,19 @@ def check(graph: Graph, result: Result, by: str) -> Audit:
                  for actor, name in naming.actors.items()}
     audited = result.audit()
     held = Held(graph, naming)
+    said = {name: entry.values[0] for name, entry in Reader(layout.text).description().instances}
+    ended: Dict[str, int] = {}
     for number, event in enumerate(result.trace()):
+        process, talk = str(event.process), (event.kind, str(event.channel))
         if event.kind in ('get', 'put'):
-            talk = event.kind, str(event.channel)
-            followers[str(event.process)].follow(talk, number, str(event.process))
+            followers[process].follow(talk, number, process)
             held.count(talk)
-        elif event.kind == 'grow':
-            raise KpnError(f'event {number} of the run: the channel `{event.channel}` grows')
-    firings = {actor: max(followers[name].fired, 0) for actor, name in naming.actors.items()
-               if followers[name].expected is not None}
+        elif event.kind == 'end' and event.value == 'done':
+            ended[process] = said[process]
+        elif event.kind in ('end', 'grow'):
+            raise KpnError(f'event {number} of the run: `{process}` ends by a fault, or a channel grows: '
+                           f'{event.value}')
+    firings = {actor: followers[name].fired(ended.get(name), name) for actor, name in naming.actors.items()}
     return Audit(firings, held.most, result.deadlock, audited)
 
 
