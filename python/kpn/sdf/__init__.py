@@ -4,11 +4,12 @@ All is computed in Python. `graph.network()` runs by the program `kpn`, which is
 `graph.check` tell of capacities and firings what a proved run has shown.
 """
 from .graph import Actor, Channel, Graph, Inconsistent
+from .order import Deadlock, Lack
 from .pictures import Gantt
 from .ratio import Cycle
 from .runs import Audit
 from .sizes import Pareto, Sizes
-from .timed import Deadlock, Lack, Throughput
+from .timed import Throughput
 
 __all__ = ['Actor', 'Audit', 'Channel', 'Cycle', 'Deadlock', 'Gantt', 'Graph', 'Inconsistent', 'Lack', 'Pareto',
            'Sizes', 'Throughput']

@@ -8,7 +8,7 @@ from typing import TYPE_CHECKING, Any, Dict, Iterable, List, Mapping, NamedTuple
 from ..balance import Link, Unbalanced, rounds_of
 from ..errors import KpnError, whole
 from ..program import draw_svg
-from . import files, periods, pictures, ratio, runs, sizes, timed
+from . import files, order, periods, pictures, plan, ratio, runs, sizes, timed
 
 if TYPE_CHECKING:
     from os import PathLike
@@ -171,7 +171,7 @@ class Graph:
         A phase for each token that a firing gets, in the order of the channels, frees its room and takes no time. Then
         one takes the time of the firing, and one for each token that it puts claims room for it.
         """
-        return timed.by_items(self)
+        return plan.by_items(self)
 
     # ---- what follows from rates
 
@@ -213,12 +213,12 @@ class Graph:
     def schedule(self) -> List[Tuple[str, int]]:
         """A periodic schedule of one firing after the other: an iteration as pairs of an actor and how often it fires
         in a row. Raises KpnError that tells who waits for whom if there is none."""
-        return timed.schedule(self)
+        return order.schedule(self)
 
-    def deadlock(self) -> Optional[timed.Deadlock]:
+    def deadlock(self) -> Optional[order.Deadlock]:
         """None if the graph can make an iteration, and so any number of them; or else which actors wait for one
         another, and the least initial tokens that free all of them."""
-        return timed.deadlock(self)
+        return order.deadlock(self)
 
     def throughput(self, capacities: Capacities = None, by: str = 'firing') -> timed.Throughput:
         """The exact throughput if each actor fires as soon as it can (self-timed execution), with these capacities
@@ -228,7 +228,7 @@ class Graph:
         Without a capacity, no channel fills: strongly connected parts then go on by themselves, and the slowest one
         binds the graph. Ghamarian et al., "Throughput analysis of synchronous data flow graphs", 2006.
         """
-        return timed.throughput(timed.model(self.with_capacities(capacities), by), self.repetition)
+        return timed.throughput(plan.model(self.with_capacities(capacities), by), self.repetition)
 
     def cycle_ratio(self, capacities: Capacities = None, by: str = 'firing') -> ratio.Cycle:
         """How many units of time an iteration takes, as the maximum cycle ratio of the homogeneous graph: this is the
@@ -237,7 +237,7 @@ class Graph:
         Raises KpnError if the homogeneous graph has more than 20,000 firings. Sriram and Bhattacharyya, "Embedded
         Multiprocessors: Scheduling and Synchronization", 2000, tell of this graph.
         """
-        return ratio.cycle_ratio(timed.model(self.with_capacities(capacities), by))
+        return ratio.cycle_ratio(plan.model(self.with_capacities(capacities), by))
 
     def least_capacities(self, throughput: Any = None, by: str = 'firing', limit: float = 60) -> sizes.Sizes:
         """Capacities with the least sum, in tokens, without a deadlock, or for a throughput in iterations per unit of
@@ -292,7 +292,7 @@ class Graph:
 
     def gantt(self, time: Optional[int] = None, capacities: Capacities = None, by: str = 'firing') -> pictures.Gantt:
         """The self-timed schedule, for this many units of time, or else for two periods behind the transient."""
-        return pictures.gantt_of(timed.model(self.with_capacities(capacities), by), time)
+        return pictures.gantt_of(plan.model(self.with_capacities(capacities), by), time)
 
     def _repr_svg_(self) -> Optional[str]:
         """The picture that a notebook shows, if Graphviz is there."""

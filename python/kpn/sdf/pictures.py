@@ -5,7 +5,8 @@ from typing import TYPE_CHECKING, List, NamedTuple, Optional, Sequence, Tuple, U
 
 from ..errors import KpnError, whole
 from ..figures import Bar, bars_svg, curve_svg
-from .timed import Plan, Run, throughput
+from .plan import Plan
+from .timed import Run, throughput
 
 if TYPE_CHECKING:
     from fractions import Fraction
@@ -58,8 +59,8 @@ def gantt_of(graph: Graph, time: Optional[int]) -> Gantt:
         run.step()
         if sum(run.fired) > MOST_FIRINGS:
             raise KpnError(f'there are more than {MOST_FIRINGS:,} firings up to {last}: give a smaller time')
-    firings = [Firing(name, number, it.time, it.time + plan.times[actor][number % len(plan.times[actor])])
-               for actor, name in enumerate(plan.names) for number, it in enumerate(run.starts[actor])]
+    firings = [Firing(name, number, start, start + plan.times[actor][number % len(plan.times[actor])])
+               for actor, name in enumerate(plan.names) for number, (start, _) in enumerate(run.starts[actor])]
     shown = sorted((it for it in firings if it.start < (last or run.now + 1)), key=lambda it: (it.start, it.end))
     return Gantt(plan.names, shown, last or run.now, found.transient, found.period)
 

@@ -6,10 +6,10 @@ import collections
 import itertools
 import math
 from fractions import Fraction
-from typing import TYPE_CHECKING, List, NamedTuple, Optional, Sequence, Set, Tuple, Union
+from typing import TYPE_CHECKING, Dict, List, NamedTuple, Sequence, Set, Tuple, Union
 
 from ..errors import KpnError
-from .timed import Plan
+from .plan import Plan
 
 if TYPE_CHECKING:
     from .graph import Graph
@@ -73,81 +73,107 @@ def totals(phases: Sequence[Sequence[Tuple[int, int]]], channel: int, turns: int
 
 
 def cycle_ratio(graph: Graph) -> Cycle:
-    """The maximum cycle ratio: from a cycle on, again and again a cycle with a larger one, until there is none."""
+    """The maximum cycle ratio."""
     made = homogeneous(graph)
-    if not made.firings:
-        return Cycle(Fraction(0), [])
-    behind: List[List[Edge]] = [[] for _ in made.firings]
+    order = in_order(made)
+    if len(order) < len(made.firings):
+        return Cycle(math.inf, names_of(made, waiting_cycle(made, set(order))))
+    ahead: List[List[Edge]] = [[] for _ in made.firings]
     for edge in made.edges:
-        behind[edge.before].append(edge)
-    order = in_order(made, behind)
-    cycle: List[Edge] = []
-    while len(order) == len(made.firings):
-        ratio = Fraction(sum(made.times[it.before] for it in cycle), sum(it.delay for it in cycle) or 1)
-        larger = longer_cycle(made, behind, order, ratio)
-        if not larger:
-            return Cycle(ratio, [made.firings[it.before] for it in cycle])
-        cycle = larger
-    return Cycle(math.inf, [made.firings[it.before] for it in waiting_cycle(made, set(order))])
+        ahead[edge.before].append(edge)
+    return Search(made, [edge for node in reversed(order) for edge in ahead[node]]).result() if order else \
+        Cycle(Fraction(0), [])
 
 
-def in_order(made: Homogeneous, behind: Sequence[Sequence[Edge]]) -> List[int]:
+def names_of(made: Homogeneous, cycle: Sequence[Edge]) -> List[Tuple[str, int]]:
+    """The firings of a cycle."""
+    return [made.firings[it.before] for it in cycle]
+
+
+def in_order(made: Homogeneous) -> List[int]:
     """The firings of an iteration in an order in which each one has its tokens; those of a deadlock are left out."""
     waits = collections.Counter(it.after for it in made.edges if not it.delay)
+    ahead: Dict[int, List[int]] = collections.defaultdict(list)
+    for edge in made.edges:
+        if not edge.delay:
+            ahead[edge.before].append(edge.after)
     order = [it for it in range(len(made.firings)) if not waits[it]]
     for node in order:
-        for edge in behind[node]:
-            waits[edge.after] -= not edge.delay
-            if not edge.delay and not waits[edge.after]:
-                order.append(edge.after)
+        for after in ahead[node]:
+            waits[after] -= 1
+            if not waits[after]:
+                order.append(after)
     return order
 
 
 def waiting_cycle(made: Homogeneous, ordered: Set[int]) -> List[Edge]:
-    """A cycle of firings that all wait in the same iteration."""
-    via: List[Optional[Edge]] = [None] * len(made.firings)
-    for edge in made.edges:
-        if not edge.delay and edge.before not in ordered:
-            via[edge.after] = edge
-    return cycle_in(via)
+    """A cycle of firings that wait for one another in the same iteration: each has one before it that waits too."""
+    before = {it.after: it for it in made.edges if not it.delay and it.before not in ordered}
+    node = next(it for it in before if it not in ordered)
+    path: List[Edge] = []
+    while node not in {it.after for it in path[-1:]} and all(it.after != node for it in path):
+        path.append(before[node])
+        node = before[node].before
+    return path[[it.after for it in path].index(node):][::-1]
 
 
-def longer_cycle(made: Homogeneous, behind: Sequence[Sequence[Edge]], order: Sequence[int], ratio: Fraction
-                 ) -> List[Edge]:
-    """A cycle whose time is more than the ratio times its delay; nothing if there is none (Bellman and Ford)."""
-    longest, left, waits = [0] * len(order), collections.deque(order), [True] * len(order)
-    via: List[Optional[Edge]] = [None] * len(order)
-    changes = 0
-    while left:
-        node = left.popleft()
-        waits[node] = False
-        reach = longest[node] + made.times[node] * ratio.denominator
-        for edge in behind[node]:
-            length, after = reach - edge.delay * ratio.numerator, edge.after
-            if length > longest[after]:
-                longest[after], via[after] = length, edge
-                changes += 1
-                if not waits[after]:
-                    waits[after] = True
-                    left.append(after)
-                found = cycle_in(via) if changes % len(order) == 0 else []
-                if found:
-                    return found
-    return []
+class Search:
+    """Howard's search: each firing chooses one edge, and the best cycle of these choices binds the others.
 
+    `longest` is how long the way from a firing to that cycle is, where an edge counts its time less the ratio for each
+    iteration of its delay, all times the denominator of the ratio. If no edge makes it longer, then no cycle has a
+    larger ratio, whatever was chosen before.
+    """
 
-def cycle_in(via: Sequence[Optional[Edge]]) -> List[Edge]:
-    """A cycle among edges that lead to each node, in their order; nothing if there is none."""
-    met = [-1] * len(via)
-    for start in range(len(via)):
-        node, path = start, []
-        edge = via[node]
-        while edge and met[node] < 0:
-            met[node] = start
-            path.append(edge)
-            node = edge.before
-            edge = via[node]
-        if edge and met[node] == start:
-            ends = [it.after for it in path]
-            return path[ends.index(node):][::-1]
-    return []
+    def __init__(self, made: Homogeneous, edges: Sequence[Edge]):
+        self.made, self.edges, self.ratio = made, edges, Fraction(-1)
+        self.choice = {it.before: it for it in edges}
+        self.longest = [0] * len(made.firings)
+        self.cycle: List[Edge] = []
+
+    def result(self) -> Cycle:
+        """The maximum cycle ratio."""
+        improves = True
+        while improves:
+            self.look()
+            self.evaluate()
+            improves = False
+            for edge in self.edges:
+                length = self.weight(edge) + self.longest[edge.after]
+                if length > self.longest[edge.before]:
+                    self.longest[edge.before], self.choice[edge.before], improves = length, edge, True
+        return Cycle(self.ratio, names_of(self.made, self.cycle))
+
+    def weight(self, edge: Edge) -> int:
+        """How long an edge is at the ratio."""
+        return self.made.times[edge.before] * self.ratio.denominator - edge.delay * self.ratio.numerator
+
+    def look(self) -> None:
+        """Finds the cycle with the largest ratio among the choices."""
+        met: Dict[int, int] = {}
+        before = self.ratio
+        for start in self.choice:
+            node, path = start, []
+            while node not in met:
+                met[node] = start
+                path.append(node)
+                node = self.choice[node].after
+            if met[node] == start and path:
+                cycle = [self.choice[it] for it in path[path.index(node):]]
+                ratio = Fraction(sum(self.made.times[it.before] for it in cycle), sum(it.delay for it in cycle))
+                if ratio > self.ratio:
+                    self.ratio, self.cycle = ratio, cycle
+        self.longest = [it * self.ratio.denominator // before.denominator for it in self.longest]
+
+    def evaluate(self) -> None:
+        """Sets how long the chosen ways to the cycle are."""
+        behind: Dict[int, List[Edge]] = collections.defaultdict(list)
+        for edge in self.choice.values():
+            behind[edge.after].append(edge)
+        left, root = [self.cycle[0].before], self.cycle[0].before
+        while left:
+            node = left.pop()
+            for edge in behind[node]:
+                if edge.before != root:
+                    self.longest[edge.before] = self.weight(edge) + self.longest[node]
+                    left.append(edge.before)

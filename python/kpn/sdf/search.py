@@ -61,11 +61,11 @@ def search(start: Sizes, judge: Judge, wanted: Any, limit: float) -> Found:
 
 
 def enough(start: Sizes, judge: Judge, wanted: Any, limit: float) -> Found:
-    """Sizes that are enough, from these on: they grow by half where they bind, and then each one shrinks by itself."""
+    """Sizes that are enough, from these on: they double where they bind, and then each one shrinks by itself."""
     sizes, judged = list(start), judge(start)
     while judged.value < wanted and judged.steps:
         for place, step in judged.steps.items():
-            sizes[place] += max(step, sizes[place] // 2)
+            sizes[place] += max(step, sizes[place])
         judged = judge(tuple(sizes))
     until = time.monotonic() + limit
     for place in sorted(range(len(sizes)), key=lambda it: -sizes[it]):

@@ -5,9 +5,11 @@ from fractions import Fraction
 from typing import TYPE_CHECKING, Any, Dict, List, NamedTuple, Tuple, Union
 
 from ..errors import KpnError
+from .order import stuck
 from .pictures import pareto_svg
+from .plan import Plan, model
 from .search import Found, Judgement, curve, search
-from .timed import Periodic, Plan, model, periodic, stuck
+from .timed import Periodic, periodic
 
 if TYPE_CHECKING:
     from .graph import Graph
@@ -91,10 +93,10 @@ def critical(seen: Periodic) -> List[Tuple[int, int]]:
     number = len(starts[actor]) - 1
     path: Dict[Tuple[int, int], Tuple[int, int]] = {}
     while (actor, number) not in path:
-        cause = starts[actor][number].cause
+        cause = starts[actor][number][1]
         assert cause
-        path[actor, number] = cause.channel, cause.lack
-        actor, number = cause.actor, cause.number
+        path[actor, number] = cause[2:]
+        actor, number = cause[:2]
         while number < len(starts[actor]) - turns[actor]:
             number += turns[actor]
     return list(path.values())[list(path).index((actor, number)):]

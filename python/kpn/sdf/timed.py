@@ -1,4 +1,4 @@
-"""Execution of a graph: one iteration firing by firing, and self-timed, until a state comes again."""
+"""Self-timed execution of a graph, until a state comes again."""
 from __future__ import annotations
 
 import heapq
@@ -7,117 +7,24 @@ from fractions import Fraction
 from typing import TYPE_CHECKING, Dict, List, Mapping, NamedTuple, Optional, Sequence, Set, Tuple, Union
 
 from ..errors import KpnError
-from .search import Judgement, search
+from .order import stuck
+from .plan import Plan
 
 if TYPE_CHECKING:
-    from .graph import Channel, Graph
+    from .graph import Graph
 
 # The most instants of an execution before a state has come again.
 MOST_INSTANTS = 20_000_000
 
 
-class Plan:
-    """A graph by numbers: for each phase of each actor its time, and the tokens that it gets and puts on channels.
-
-    A channel with a capacity has a second one that leads back, whose tokens are room: `room` has the channel that each
-    of these belongs to. With `bounded`, all channels have one.
-    """
-
-    def __init__(self, graph: Graph, bounded: bool = False):
-        self.names, self.repetition = list(graph.actors), list(graph.repetition.values())
-        place = {name: number for number, name in enumerate(self.names)}
-        phases = [graph.phases(name) for name in self.names]
-        self.times = [[actor.times[k % len(actor.times)] for k in range(count)]
-                      for actor, count in zip(graph.actors.values(), phases)]
-        self.channels = list(graph.channels.values())
-        self.tokens: List[int] = []
-        self.writers: List[int] = []
-        self.readers: List[int] = []
-        self.room: Dict[int, Channel] = {}
-        self.needs: List[List[List[Tuple[int, int]]]] = [[[] for _ in range(count)] for count in phases]
-        self.gives: List[List[List[Tuple[int, int]]]] = [[[] for _ in range(count)] for count in phases]
-        for it in self.channels:
-            self.add(place[it.writer], place[it.reader], it.puts, it.gets, it.tokens)
-        for it in self.channels:
-            if it.capacity is not None or bounded:
-                self.room[len(self.tokens)] = it
-                self.add(place[it.reader], place[it.writer], it.gets, it.puts, (it.capacity or it.tokens) - it.tokens)
-
-    def add(self, writer: int, reader: int, puts: Sequence[int], gets: Sequence[int], tokens: int) -> None:
-        """Adds a channel."""
-        number = len(self.tokens)
-        for end, rates, sides in ((writer, puts, self.gives), (reader, gets, self.needs)):
-            for phase, side in enumerate(sides[end]):
-                if rates[phase % len(rates)]:
-                    side.append((number, rates[phase % len(rates)]))
-        self.tokens.append(tokens)
-        self.writers.append(writer)
-        self.readers.append(reader)
-
-    def part(self, actors: Set[int]) -> Plan:
-        """The plan of some of the actors alone, with the channels between them. The others don't fire."""
-        made = Plan.__new__(Plan)
-        vars(made).update(vars(self))
-        inside = {c for c, (writer, reader) in enumerate(zip(self.writers, self.readers)) if {writer, reader} <= actors}
-        made.needs, made.gives = ([[[it for it in phase if it[0] in inside] for phase in phases] for phases in sides]
-                                  for sides in (self.needs, self.gives))
-        return made
-
-    def parts(self) -> List[Set[int]]:
-        """The strongly connected parts, each behind those that it depends on."""
-        ahead: List[List[int]] = [[] for _ in self.names]
-        back: List[List[int]] = [[] for _ in self.names]
-        for writer, reader in zip(self.writers, self.readers):
-            ahead[writer].append(reader)
-            back[reader].append(writer)
-        order: List[int] = []
-        met: Set[int] = set()
-        for actor in range(len(self.names)):
-            order += walked(actor, ahead, met)
-        found, met = [], set()
-        for actor in reversed(order):
-            part = walked(actor, back, met)
-            found += [set(part)] if part else []
-        return found
-
-
-def walked(start: int, ahead: Sequence[Sequence[int]], met: Set[int]) -> List[int]:
-    """What can be reached and was not met, each behind what was reached from it."""
-    found: List[int] = []
-    left = [(start, iter(ahead[start]))] if start not in met else []
-    met.add(start)
-    while left:
-        actor, others = left[-1]
-        for other in others:
-            if other not in met:
-                met.add(other)
-                left.append((other, iter(ahead[other])))
-                break
-        else:
-            found.append(left.pop()[0])
-    return found
-
-
-class Cause(NamedTuple):
-    """The end of a firing that let another one start: its actor and number, the channel whose tokens lacked until then
-    (-1 if the actor was busy itself), and how many lacked."""
-
-    actor: int
-    number: int
-    channel: int
-    lack: int
-
-
-class Start(NamedTuple):
-    """When a firing started, and why not before; None at the beginning."""
-
-    time: int
-    cause: Optional[Cause]
+# The end of a firing that let another one start: its actor and number, the channel whose tokens lacked until then (-1
+# if the actor was busy itself), and how many lacked. None at the beginning.
+Cause = Optional[Tuple[int, int, int, int]]
 
 
 class Run:
     """A self-timed execution, one instant after the other. An idle actor watches the first channel that lacks tokens.
-    With `keep`, all starts are kept."""
+    With `keep`, the times and causes of all starts are kept."""
 
     def __init__(self, plan: Plan, actors: Sequence[int], keep: bool = False):
         self.plan, self.keep, self.now = plan, keep, 0
@@ -126,11 +33,11 @@ class Run:
         self.phase, self.fired, self.ends, self.lacks = [0] * count, [0] * count, [-1] * count, [0] * count
         self.watched = [-1] * count
         self.busy: List[Tuple[int, int]] = []
-        self.starts: List[List[Start]] = [[] for _ in range(count)]
+        self.starts: List[List[Tuple[int, Cause]]] = [[] for _ in range(count)]
         for actor in actors:
             self.look(actor, None)
 
-    def look(self, actor: int, cause: Optional[Cause]) -> None:
+    def look(self, actor: int, cause: Cause) -> None:
         """Starts an idle actor, or finds what it lacks."""
         phase = self.phase[actor]
         needs = self.plan.needs[actor][phase]
@@ -142,7 +49,7 @@ class Run:
             self.tokens[channel] -= count
         self.watched[actor] = -1
         if self.keep:
-            self.starts[actor].append(Start(self.now, cause))
+            self.starts[actor].append((self.now, cause))
         self.ends[actor] = self.now + self.plan.times[actor][phase]
         heapq.heappush(self.busy, (self.ends[actor], actor))
 
@@ -165,8 +72,8 @@ class Run:
             lack = self.lacks[plan.readers[channel]] - self.tokens[channel]
             self.tokens[channel] += count
             if self.watched[plan.readers[channel]] == channel and lack <= count:
-                self.look(plan.readers[channel], Cause(actor, number, channel, lack))
-        self.look(actor, Cause(actor, number, -1, 0))
+                self.look(plan.readers[channel], (actor, number, channel, lack))
+        self.look(actor, (actor, number, -1, 0))
 
     def state(self) -> Tuple[int, ...]:
         """Tokens, phases and remaining times, from which all else follows."""
@@ -244,138 +151,3 @@ def throughput(graph: Graph, repetition: Mapping[str, int]) -> Throughput:
         if rate < found.rate:
             found = Throughput(rate, seen.begin, seen.end - seen.begin, iterations, names, repetition)
     return found
-
-
-# ---- one iteration without times
-
-
-class Lack(NamedTuple):
-    """An actor that waits on a channel for tokens, or for room, and how many it lacks."""
-
-    actor: str
-    channel: str
-    for_room: bool
-    lacks: int
-
-
-class Deadlock(NamedTuple):
-    """Actors that wait for one another: each for what the next one has to put or to free.
-
-    `tokens` has the least initial tokens, besides those that there are, with which the graph without capacities makes
-    an iteration; it is empty if only capacities are too small. `exact` is False if there may be fewer.
-    """
-
-    ring: List[Lack]
-    tokens: Dict[str, int]
-    exact: bool = True
-
-    def __str__(self) -> str:
-        waits = ', '.join(f'{it.actor} lacks {it.lacks} {"room" if it.for_room else "tokens"} on {it.channel}'
-                          for it in self.ring)
-        remedy = ', '.join(f'{count} on {name}' for name, count in self.tokens.items())
-        more = f'these more initial tokens free the graph: {remedy}' if remedy else 'larger capacities free it'
-        return f'deadlock: {waits}; {more}'
-
-
-def schedule(graph: Graph) -> List[Tuple[str, int]]:
-    """One iteration, each actor firing as often in a row as it can."""
-    plan = Plan(graph)
-    order: List[Tuple[int, int]] = []
-    if stuck(plan, set(range(len(plan.names))), [0] * len(plan.tokens), order):
-        raise KpnError(str(deadlock(graph)))
-    return [(plan.names[actor], count) for actor, count in order]
-
-
-def stuck(plan: Plan, actors: Set[int], more: Sequence[int], order: Optional[List[Tuple[int, int]]] = None
-          ) -> List[Tuple[int, int, int]]:
-    """A ring of what an iteration waits for with more tokens, as (actor, channel, how many lack); nothing if it can be
-    made. The order that was found goes to a list."""
-    tokens = [count + add for count, add in zip(plan.tokens, more)]
-    left = {it: plan.repetition[it] for it in sorted(actors)}
-    phase, lacking, moved = [0] * len(plan.names), {}, True
-    while moved:
-        moved = False
-        for actor in [it for it, count in left.items() if count]:
-            fired, lack = fire(plan, actor, left[actor], phase, tokens)
-            left[actor] -= fired
-            lacking[actor] = lack
-            moved = moved or fired > 0
-            if fired and order is not None:
-                order.append((actor, fired))
-    actor = next((it for it, count in left.items() if count), -1)
-    path: List[int] = []
-    while actor >= 0 and actor not in path:
-        path.append(actor)
-        actor = plan.writers[lacking[actor][0]]
-    return [(it, *lacking[it]) for it in path[path.index(actor):]] if path else []
-
-
-def fire(plan: Plan, actor: int, most: int, phase: List[int], tokens: List[int]) -> Tuple[int, Tuple[int, int]]:
-    """Lets an actor fire as often in a row as it can; how often it did, and what it lacks then."""
-    for fired in range(most):
-        for channel, count in plan.needs[actor][phase[actor]]:
-            if tokens[channel] < count:
-                return fired, (channel, count - tokens[channel])
-        for channel, count in plan.needs[actor][phase[actor]]:
-            tokens[channel] -= count
-        for channel, count in plan.gives[actor][phase[actor]]:
-            tokens[channel] += count
-        phase[actor] = (phase[actor] + 1) % len(plan.times[actor])
-    return most, (-1, 0)
-
-
-def deadlock(graph: Graph, limit: float = 60) -> Optional[Deadlock]:
-    """Who waits for whom, and which initial tokens free them."""
-    plan = Plan(graph)
-    ring = stuck(plan, set(range(len(plan.names))), [0] * len(plan.tokens))
-    if not ring:
-        return None
-    free = Plan(graph.without_capacities())
-    everyone = set(range(len(free.names)))
-
-    def judge(more: Tuple[int, ...]) -> Judgement:
-        found = stuck(free, everyone, more)
-        return Judgement(int(not found), {channel: lack for _, channel, lack in found})
-
-    found = search(tuple([0] * len(free.tokens)), judge, 1, limit)
-    lacks = [Lack(plan.names[actor], channel_at(plan, channel).name, channel in plan.room, lack)
-             for actor, channel, lack in ring]
-    more = {it.name: count for it, count in zip(free.channels, found.sizes) if count}
-    return Deadlock(lacks, more, found.exact)
-
-
-def channel_at(plan: Plan, number: int) -> Channel:
-    """The channel with this number, or the one whose room it is."""
-    return plan.room[number] if number in plan.room else plan.channels[number]
-
-
-def model(graph: Graph, by: str) -> Graph:
-    """The graph of one of the two models of a firing."""
-    if by not in ('firing', 'item'):
-        raise KpnError(f"`by` is {by!r}: it has to be 'firing' or 'item'")
-    return graph if by == 'firing' else by_items(graph)
-
-
-def by_items(graph: Graph) -> Graph:
-    """The graph in which each token is got, and put, in a phase of its own."""
-    made = type(graph)(graph.name)
-    puts: Dict[str, List[int]] = {name: [] for name in graph.channels}
-    gets: Dict[str, List[int]] = {name: [] for name in graph.channels}
-    for actor in graph.actors.values():
-        talks: List[Tuple[int, Optional[List[int]]]] = []
-        for phase in range(graph.phases(actor.name)):
-            for it in graph.channels.values():
-                if it.reader == actor.name:
-                    talks += [(0, gets[it.name])] * it.gets[phase % len(it.gets)]
-            talks.append((actor.times[phase % len(actor.times)], None))
-            for it in graph.channels.values():
-                if it.writer == actor.name:
-                    talks += [(0, puts[it.name])] * it.puts[phase % len(it.puts)]
-        made.actor(actor.name, [time for time, _ in talks])
-        for it in graph.channels.values():
-            for end, rates in ((it.reader, gets[it.name]), (it.writer, puts[it.name])):
-                if end == actor.name:
-                    rates += [int(side is rates) for _, side in talks]
-    for it in graph.channels.values():
-        made.channel(it.writer, it.reader, puts[it.name], gets[it.name], it.tokens, it.capacity, it.name)
-    return made
