@@ -24,6 +24,8 @@ def main():
     count, seed = [*map(int, sys.argv[1:]), *(1_000, 1)[len(sys.argv) - 1:]]
     test, found, start = unittest.TestCase(), {}, time.time()
     for number in range(seed, seed + count):
+        if (number - seed) % 100 == 99:
+            print(f'{number - seed + 1} graphs', flush=True)
         is_long = number % 7 == 0
         graph = plain_graphs.random_graph(random.Random(number), *((3, 3) if is_long else (4, 4)))
         try:

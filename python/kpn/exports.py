@@ -75,9 +75,9 @@ def vcd_of(result: Result) -> str:
 
 def figure_of(result: Result, first: Optional[int], last: Optional[int]) -> str:
     """A run in ticks as a picture of any length."""
-    begin, end = (first or 1) - 1, result.ticks if last is None else last
+    begin, end = 0 if first is None else first - 1, result.ticks if last is None else last
     if not 0 <= begin < max(end, 1):
-        raise KpnError(f'the ticks are from {first} to {last}: they have to be from 1, and not empty')
+        raise KpnError(f'the ticks are from {begin + 1} to {end}: they have to be from 1, and not empty')
     bars: List[Bar] = []
     for mark in marks_of(result):
         word, _, channel = mark['name'].partition(' ')
@@ -85,7 +85,8 @@ def figure_of(result: Result, first: Optional[int], last: Optional[int]) -> str:
             kind = word if word != 'waits' else 'full' if channel.endswith(' full') else 'empty'
             item = f": item {mark['args']['item']}" if word != 'waits' else ''
             start, stop = mark['ts'], mark['ts'] + mark['dur']
-            title = f"{mark['name']}{item}, tick{'s' * (stop > start + 1)} {start + 1} to {stop}"
+            when = f'tick {stop}' if stop == start + 1 else f'ticks {start + 1} to {stop}'
+            title = f"{mark['name']}{item}, {when}"
             bars.append(Bar(mark['tid'] - 1, start, stop, kind, channel.split()[0], title))
         elif mark['ph'] == 'i':
             bars.append(Bar(mark['tid'] - 1, mark['ts'], mark['ts'], 'grow', '', mark['name']))

@@ -4,7 +4,7 @@ import itertools
 import math
 from fractions import Fraction
 
-import support
+import support  # noqa: F401, it finds the package
 
 from kpn import sdf
 
@@ -260,5 +260,3 @@ def compare_throughput(test, graph, by, least):
         plain = plain_throughput(graph, capacities or {name: 4 * it for name, it in enough.items()}, by)
         test.assertEqual(found.rate, plain)
         test.assertEqual(graph.cycle_ratio(capacities, by).time, 1 / found.rate)
-
-
