@@ -179,6 +179,12 @@ def by_sums(graph, by):
             yield total, dict(zip(graph.channels, sizes))
 
 
+def may_count(graph, by):
+    """Whether there are few enough capacities to look at all of them."""
+    lows, enough = bounds(graph, by)
+    return math.prod(enough[name] - low + 1 for name, low in lows.items()) < 3_000
+
+
 def plain_least(graph, by):
     """The least sum of capacities without a deadlock."""
     wanted = plain_repetition(graph)
@@ -232,7 +238,7 @@ def compare(test, graph, is_long=False):
         test.assertIn('legal, exact', graph.confirm(least, by))
         if is_timed:
             compare_throughput(test, graph, by, least)
-        if is_timed and is_long:
+        if is_timed and is_long and may_count(graph, by):
             curve = graph.pareto(by)
             test.assertEqual([(it.total, it.throughput) for it in curve.points],
                              plain_pareto(graph, by, curve.most))

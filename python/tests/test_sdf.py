@@ -301,7 +301,7 @@ class Pictures(unittest.TestCase):
         self.assertLess(max(it.start for it in graph.gantt(5).firings), 5)
         long = published('cd2dat').gantt(3_000)
         self.assertGreater(len(long.firings), 10_000)
-        self.assertLess(len(long.svg()), 200_000)
+        self.assertLess(len(long.svg()), 500_000)
 
     def test_a_curve_and_a_graph_as_pictures(self):
         root = xml.etree.ElementTree.fromstring(published('three').pareto().svg())

@@ -47,11 +47,12 @@ class Plan:
         self.writers.append(writer)
         self.readers.append(reader)
 
-    def part(self, actors: Set[int]) -> Plan:
-        """The plan of some of the actors alone, with the channels between them. The others don't fire."""
+    def part(self, actors: Set[int], channels: Optional[Set[int]] = None) -> Plan:
+        """The plan of some of the actors alone, with some of the channels between them, or all of those."""
         made = Plan.__new__(Plan)
         vars(made).update(vars(self))
-        inside = {c for c, (writer, reader) in enumerate(zip(self.writers, self.readers)) if {writer, reader} <= actors}
+        inside = {c for c, (writer, reader) in enumerate(zip(self.writers, self.readers))
+                  if {writer, reader} <= actors and (channels is None or c in channels)}
         made.needs, made.gives = ([[[it for it in phase if it[0] in inside] for phase in phases] for phases in sides]
                                   for sides in (self.needs, self.gives))
         return made

@@ -93,3 +93,15 @@ def curve(start: Sizes, judge: Judge, most: Any, limit: float) -> Tuple[List[Fou
         if best >= most or is_late:
             return points, best >= most
     return points, True
+
+
+def least_number(low: int, is_enough: Callable[[int], bool]) -> int:
+    """The least number from this one on that is enough, if all larger ones are too."""
+    step = 1
+    while not is_enough(low + step - 1):
+        low, step = low + step, 2 * step
+    high = low + step - 1
+    while low < high:
+        middle = (low + high) // 2
+        low, high = (low, middle) if is_enough(middle) else (middle + 1, high)
+    return high

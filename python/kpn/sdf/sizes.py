@@ -1,14 +1,15 @@
 """The least capacities of the channels of a graph, and what more room gains."""
 from __future__ import annotations
 
+import math
 from fractions import Fraction
-from typing import TYPE_CHECKING, Any, Dict, List, NamedTuple, Tuple, Union
+from typing import TYPE_CHECKING, Any, Dict, List, NamedTuple, Set, Tuple, Union
 
 from ..errors import KpnError
 from .order import stuck
 from .pictures import pareto_svg
 from .plan import Plan, model
-from .search import Found, Judgement, curve, search
+from .search import Found, Judgement, curve, least_number, search
 from .timed import Periodic, periodic
 
 if TYPE_CHECKING:
@@ -55,24 +56,26 @@ class Judge:
 
     def __call__(self, sizes: Tuple[int, ...]) -> Judgement:
         """The throughput, or 1 if times do not count, and 0 of a deadlock."""
-        for room, size, channel in zip(self.rooms, sizes, self.plan.channels):
-            self.plan.tokens[room] = size - channel.tokens
-        worst = Judgement(float('inf') if self.is_timed else 1, {})
-        for part in self.parts:
-            seen = None
-            if self.is_timed and any(time for it in part for time in self.plan.times[it]):
-                seen = periodic(self.plan, part, keep=True)
-            if seen is None:
-                ring = stuck(self.plan, part, [0] * len(self.plan.tokens))
-                if ring:
-                    return Judgement(0, self.steps([(channel, lack) for _, channel, lack in ring]))
-                continue
-            pace = min(part)
-            rate = Fraction(seen.after[pace] - seen.before[pace],
-                            self.plan.repetition[pace] * (seen.end - seen.begin))
-            if rate < worst.value:
-                worst = Judgement(rate, self.steps(critical(seen)))
-        return worst
+        for place, size in enumerate(sizes):
+            self.set_size(place, size)
+        return min((self.judged(self.plan, part) for part in self.parts), key=lambda it: it.value,
+                   default=Judgement(math.inf, {}))
+
+    def set_size(self, place: int, size: int) -> None:
+        """Sets the room on a channel at the beginning."""
+        self.plan.tokens[self.rooms[place]] = size - self.plan.channels[place].tokens
+
+    def judged(self, plan: Plan, part: Set[int]) -> Judgement:
+        """How fast a strongly connected part is."""
+        is_timed = self.is_timed and any(time for it in part for time in plan.times[it])
+        seen = periodic(plan, part, keep=True) if is_timed else None
+        if seen is None:
+            ring = stuck(plan, part, [0] * len(plan.tokens))
+            value = 0 if ring else math.inf if self.is_timed else 1
+            return Judgement(value, self.steps([(channel, lack) for _, channel, lack in ring]))
+        pace = min(part)
+        rate = Fraction(seen.after[pace] - seen.before[pace], plan.repetition[pace] * (seen.end - seen.begin))
+        return Judgement(rate, self.steps(critical(seen)))
 
     def steps(self, lacks: List[Tuple[int, int]]) -> Dict[int, int]:
         """The channels whose room lacks, and by how much at least."""
@@ -82,6 +85,22 @@ class Judge:
                 place = channel - self.rooms[0]
                 found[place] = min(lack, found.get(place, lack))
         return found
+
+    def floor(self, wanted: Any) -> Tuple[int, ...]:
+        """For each channel the least capacity with which its two ends alone are as good as wanted: the whole graph,
+        which has more to wait for, needs as much."""
+        return tuple(self.alone(place, wanted) for place in range(len(self.start)))
+
+    def alone(self, place: int, wanted: Any) -> int:
+        """The least capacity of a channel if there were no others."""
+        ends = {self.plan.writers[place], self.plan.readers[place]}
+        plan = self.plan.part(ends, {place, self.rooms[place]})
+
+        def is_enough(size: int) -> bool:
+            self.set_size(place, size)
+            return bool(self.judged(plan, ends).value >= wanted)
+
+        return least_number(self.start[place], is_enough)
 
 
 def critical(seen: Periodic) -> List[Tuple[int, int]]:
@@ -125,7 +144,7 @@ def least_capacities(graph: Graph, throughput: Any, by: str, limit: float) -> Si
     if wanted > most:
         raise KpnError(f'no capacities give a throughput of {wanted}: the most is {most} iterations per unit of time')
     judge = Judge(graph, by, is_timed=throughput is not None)
-    return sizes_of(graph, by, search(judge.start, judge, wanted or 1, limit))
+    return sizes_of(graph, by, search(judge.floor(wanted or 1), judge, wanted or 1, limit))
 
 
 def wanted_of(throughput: Any) -> Fraction:
