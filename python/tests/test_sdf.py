@@ -389,12 +389,11 @@ class Exports(unittest.TestCase):
 class Page(unittest.TestCase):
     def test_what_the_page_shows_comes_out(self):
         names = {'__name__': 'page'}
-        with contextlib.chdir(TOP) if hasattr(contextlib, 'chdir') else contextlib.nullcontext():
-            for code in re.findall(r'```python\n(.*?)```', PAGE, re.S):
-                with contextlib.redirect_stdout(io.StringIO()) as out:
-                    exec(code.replace("'examples/", f"'{TOP}/examples/"), names)
-                wanted = [line.split('# ', 1)[1] for line in code.splitlines() if line.startswith('print(')]
-                self.assertEqual(out.getvalue().splitlines(), wanted)
+        for code in re.findall(r'```python\n(.*?)```', PAGE, re.S):
+            with contextlib.redirect_stdout(io.StringIO()) as out:
+                exec(code.replace("'examples/", f"'{TOP}/examples/"), names)
+            wanted = [line.split('# ', 1)[1] for line in code.splitlines() if line.strip().startswith('print(')]
+            self.assertEqual(out.getvalue().splitlines(), wanted)
 
 
 if __name__ == '__main__':
