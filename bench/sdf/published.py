@@ -1,7 +1,8 @@
 #!/usr/bin/env python3
 """Writes the table of published graphs in python/SDF.md: what the literature says of their least storage, what the
 search of `kpn.sdf` finds, and what runs of the proved program show at that and with one token less. It takes two
-minutes at most, and ends with 1 if a search and a run disagree, or a search and the literature.
+minutes at most, and ends with 1 if a search and a run disagree, or a search and the literature. On a busy machine the
+time for a search may be up, and then the last column says between which sums the least one is.
 
 usage: bench/sdf/published.py
 """

@@ -45,8 +45,8 @@ class Balance(unittest.TestCase):
 
     def test_channels_that_contradict_one_another(self):
         for graph, names, words in (
-                (graph_of(('a', 'b', 2, 3), ('b', 'c'), ('c', 'd'), ('d', 'b', 4, 2), ('a', 'e')), ['b_c', 'c_d', 'd_b'],
-                 '`d_b` needs 1 x b = 2 x d'),
+                (graph_of(('a', 'b', 2, 3), ('b', 'c'), ('c', 'd'), ('d', 'b', 4, 2), ('a', 'e')),
+                 ['b_c', 'c_d', 'd_b'], '`d_b` needs 1 x b = 2 x d'),
                 (graph_of(('a', 'a', 2, 1)), ['a_a'], 'the rates of 1 channel contradict'),
                 (graph_of(('a', 'b', [1, 2], 1), ('a', 'b', 1, 1)), ['a_b', 'a_b_2'], 'in cycles of phases')):
             with self.assertRaises(sdf.Inconsistent) as caught:
@@ -246,6 +246,16 @@ class Files(unittest.TestCase):
                                  (graph.repetition, graph.throughput().rate))
                 self.assertEqual([(it.tokens, it.capacity) for it in again.channels.values()],
                                  [(it.tokens, it.capacity) for it in graph.channels.values()])
+
+    def test_a_full_device_and_an_old_file(self):
+        with self.assertRaises(OSError):
+            published('three').write('/dev/full')
+        with tempfile.TemporaryDirectory() as folder:
+            path = pathlib.Path(folder, 'old.xml')
+            path.write_text('old')
+            with unittest.mock.patch('pathlib.Path.write_bytes', side_effect=OSError), self.assertRaises(OSError):
+                published('three').write(path)
+            self.assertEqual((path.read_text(), list(path.parent.iterdir())), ('old', [path]))
 
     def test_each_published_graph_says_its_source(self):
         for file in FILES.iterdir():

@@ -6,6 +6,7 @@ import xml.etree.ElementTree as ElementTree
 from typing import TYPE_CHECKING, Dict, Iterator, NoReturn, Optional, Tuple, Type, Union
 
 from ..errors import KpnError
+from ..wav import store
 
 if TYPE_CHECKING:
     from .graph import Graph
@@ -114,6 +115,11 @@ def read(make: Type[Graph], path: Union[str, os.PathLike[str]], processor: Optio
             raise
         reading.fail(str(error))
     return graph
+
+
+def write(graph: Graph, path: Union[str, os.PathLike[str]]) -> None:
+    """Stores a graph as a file of SDF3."""
+    store(path, memoryview(text_of(graph).encode()))
 
 
 def text_of(graph: Graph) -> str:

@@ -117,9 +117,9 @@ class Graph:
         return files.read(cls, path, processor)
 
     def write(self, path: Union[str, PathLike[str]]) -> None:
-        """Writes an XML file of SDF3, which `Graph.read` and SDF3 read. Raises OSError if that can't be written."""
-        with open(path, 'w', encoding='utf-8') as file:
-            file.write(files.text_of(self))
+        """Writes an XML file of SDF3, which `Graph.read` and SDF3 read. Raises OSError if that can't be written; then
+        an old file stays as it is, if its folder takes another one."""
+        files.write(self, path)
 
     @classmethod
     def of(cls, net: Network) -> Graph:
