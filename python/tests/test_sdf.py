@@ -88,14 +88,14 @@ class Computed(unittest.TestCase):
         ring = graph_of(*CYCLE).deadlock()
         self.assertEqual(ring.ring, [('a', 'c_a', False, 2), ('c', 'b_c', False, 1), ('b', 'a_b', False, 3)])
         self.assertEqual((sum(ring.tokens.values()), ring.exact), (2, True))
-        self.assertIn('a lacks 2 tokens on c_a, c lacks 1 tokens on b_c', str(ring))
+        self.assertIn('a lacks 2 tokens on c_a, c lacks 1 token on b_c', str(ring))
         with self.assertRaisesRegex(kpn.KpnError, 'more initial tokens free'):
             graph_of(*CYCLE).schedule()
         with self.assertRaisesRegex(kpn.KpnError, 'no capacities are enough'):
             graph_of(*CYCLE).least_capacities()
         tight = published('three').with_capacities({'a_b': 3})
         self.assertEqual((tight.deadlock().tokens, tight.deadlock().ring[0].for_room), ({}, True))
-        self.assertIn('larger capacities free it', str(tight.deadlock()))
+        self.assertRegex(str(tight.deadlock()), 'a lacks room for 1 token on a_b, .*larger capacities free it')
 
     def test_the_curve_of_a_published_example(self):
         curve = published('three').pareto()

@@ -32,8 +32,8 @@ class Deadlock(NamedTuple):
     exact: bool = True
 
     def __str__(self) -> str:
-        waits = ', '.join(f'{it.actor} lacks {it.lacks} {"room" if it.for_room else "tokens"} on {it.channel}'
-                          for it in self.ring)
+        waits = ', '.join(f'{it.actor} lacks {"room for " * it.for_room}{it.lacks} token{"s" * (it.lacks > 1)} '
+                          f'on {it.channel}' for it in self.ring)
         remedy = ', '.join(f'{count} on {name}' for name, count in self.tokens.items())
         more = f'these more initial tokens free the graph: {remedy}' if remedy else 'larger capacities free it'
         return f'deadlock: {waits}; {more}'
