@@ -16,8 +16,8 @@ import re
 import sys
 
 TOP = pathlib.Path(__file__).resolve().parent.parent
-OTHERS = [TOP / name for name in ('README.md', 'bench/RESULTS.md', 'python/README.md', 'editors/README.md',
-                                   'mpi/README.md')]
+OTHERS = [TOP / name for name in ('README.md', 'bench/RESULTS.md', 'python/README.md', 'python/SDF.md',
+                                   'editors/README.md', 'mpi/README.md')]
 DOCUMENTS = [*OTHERS, *sorted((TOP / 'docs').glob('*.md'))]
 COLUMNS = 120
 KINDS = ('.rt', '.antt', '.py', '.rs', '.c', '.h', '.kpn', '.edit')
@@ -58,7 +58,7 @@ def known_words(files):
 
 
 def is_path(path, paths):
-    if path in ELSEWHERE or STANDS_FOR & set(path.split('/')):
+    if path in ELSEWHERE or STANDS_FOR & set(path.split('/')) or re.fullmatch(r'\d+/\d+', path):
         return True
     path = re.sub(r'^examples/', 'check_examples/data/examples/', path.rstrip('/'))
     return any(f'/{it}'.endswith(f'/{path}') for it in paths)

@@ -5,7 +5,7 @@ usage: tools/fresh.py [--built TREE]
 
 Of README.md and of docs/GUIDE.md and docs/COMPILED.md it runs each block that begins with a command or with `import`,
 in their order. Under a `$` the lines below have to come out. Of python/README.md it runs the block that sets up the
-package, and all its Python but the lines of matplotlib. It also makes the plant as C++, and installs all below a
+package, and all Python there and in python/SDF.md but the lines of matplotlib. It also makes the plant as C++, and installs all below a
 prefix. Left out are lines that call `rt`, `tools/check.py` or `./kpn --unproved`, since they only prove or build again,
 those about a NET, and those with `dot` if it is not there.
 
@@ -140,6 +140,7 @@ class Clone:
                 for command, wanted in commands(block):
                     self.call(command, wanted)
         self.run_python('of_package.py', python_of(about_package))
+        self.run_python('of_graphs.py', python_of((TOP / 'python/SDF.md').read_text()))
         for command in SAID:
             self.call(command, [])
 

@@ -146,7 +146,7 @@ def add_licences(tree: Tree, kit: pathlib.Path) -> None:
 
 
 def add_documents(tree: Tree) -> None:
-    for file in ('README.md', 'python/README.md', 'bench/RESULTS.md'):
+    for file in ('README.md', 'python/README.md', 'python/SDF.md', 'bench/RESULTS.md'):
         tree.copy(TOP / file, f'{DOCUMENTS}/{file}')
     for file in sorted((TOP / 'docs').rglob('*')):
         if file.is_file() and file.name not in FOR_DEVELOPERS:

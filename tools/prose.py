@@ -39,6 +39,7 @@ PAGES = {
     'bench/RESULTS.md': 1_950,
     'mpi/README.md': 850,
     'python/README.md': 1_200,
+    'python/SDF.md': 1_050,
 }
 # Words that this project once used in a sense of its own, and what says the same.
 DIALECT = {

@@ -11,6 +11,7 @@ import warnings
 import weakref
 from typing import TYPE_CHECKING, Any, Dict, Iterator, List, Mapping, NamedTuple, Optional, Sequence, Tuple, Union
 
+from . import exports
 from .arrays import array_of
 from .errors import GrowthWarning, KpnError, whole
 from .faults import Fault, faults_of
@@ -355,6 +356,14 @@ class Result(collections.abc.Mapping):  # type: ignore[type-arg]
             self._tables = stats_of(os.path.join(folder, TEXT), os.path.join(folder, trace), program=self._program)
         return self._tables
 
+    def audit(self) -> str:
+        """What `kpn audit` says of the trace: `legal, exact`, or `legal` if the run has not come to its end.
+
+        Raises KpnError with its words if the trace is not legal.
+        """
+        verdict, exact = self._ask('audit').splitlines()[:2]
+        return f'{verdict}, exact' if exact == 'exact yes' else verdict
+
     def explain(self) -> str:
         """A text of `kpn explain`: which sinks are complete, and what to do about those that are not."""
         return self._ask('explain')
@@ -381,6 +390,25 @@ class Result(collections.abc.Mapping):  # type: ignore[type-arg]
                 raise
         raise KpnError('a picture has at most 2,000 ticks, and at most 2,000 gets, puts, waits and growths: give a '
                        '`first` and a `last` tick with fewer between them')
+
+    def figure(self, first: Optional[int] = None, last: Optional[int] = None) -> str:
+        """The run in ticks as a picture in SVG, of any length: what is too narrow to be seen is drawn as one mark.
+
+        Raises KpnError if there are no ticks from the first to the last one.
+        """
+        return exports.figure_of(self, first, last)
+
+    def vcd(self) -> str:
+        """The run as a Value Change Dump (IEEE 1364), for GTKWave and others; a tick is a nanosecond.
+
+        Each channel has two variables: the item last put there (of a source, last got), and how many are unread.
+        """
+        return exports.vcd_of(self)
+
+    def csv(self) -> str:
+        """The events as a table with commas between: number, kind, process, channel, value and, of gets and puts, the
+        tick."""
+        return exports.csv_of(self)
 
     def view(self) -> str:
         """A page of HTML that shows the run: the network, the run in time, items and tables. Store it in a file."""

@@ -9,10 +9,9 @@ So it is the order of a legal history.
 from __future__ import annotations
 
 import collections
-import fractions
-import math
 from typing import Dict, Iterator, List, NamedTuple, Optional, Sequence, Set, Tuple
 
+from ..balance import Link, Unbalanced, rounds_of
 from ..language import INDEX, Assign, Description, Read, Write
 from .paths import Leave, Rows, Test
 
@@ -138,24 +137,15 @@ class Finder:
 
     def balance(self, members: Set[int], inside: Set[str]) -> Optional[Dict[int, int]]:
         """The least numbers of laps after which each channel has as many items as before, if there are any."""
-        found, border = {min(members): fractions.Fraction(1)}, [min(members)]
-        while border:
-            p = border.pop()
-            for c in inside:
-                (writer, put), (reader, got) = self.writers[c], self.readers[c]
-                rates = self.loops[writer].rates.get(put, 0), self.loops[reader].rates.get(got, 0)
-                if p in (writer, reader):
-                    if 0 in rates:
-                        return None
-                    q, ratio = (reader, fractions.Fraction(*rates)) if p == writer else \
-                        (writer, fractions.Fraction(rates[1], rates[0]))
-                    border += [q] if q not in found else []
-                    if found.setdefault(q, found[p] * ratio) != found[p] * ratio:
-                        return None
-        scale = math.lcm(*(it.denominator for it in found.values()))
-        counts = {p: int(it * scale) for p, it in found.items()}
-        least = math.gcd(*counts.values())
-        return {p: count // least for p, count in sorted(counts.items())}
+        ends = [(c, *self.writers[c], *self.readers[c]) for c in inside]
+        links = [Link(c, writer, reader, self.loops[writer].rates.get(put, 0), self.loops[reader].rates.get(got, 0))
+                 for c, writer, put, reader, got in ends]
+        if not all(it.put and it.got for it in links):
+            return None
+        try:
+            return dict(sorted(rounds_of(members, links).items()))
+        except Unbalanced:
+            return None
 
     def period(self, laps: Dict[int, int], inside: Set[str]) -> Optional[Region]:
         """The region of these laps, if its members can make a period under the capacities."""

@@ -1,0 +1,41 @@
+#!/usr/bin/env python3
+"""Compares `kpn.sdf` on random graphs with plain counting (python/tests/plain_graphs.py), and each least capacity with
+runs of the proved program: one that ends, and some with a token less that deadlock. It ends with the first difference.
+
+usage: bench/sdf/random_graphs.py [COUNT] [SEED]
+
+A thousand graphs take some minutes. Each seventh also compares the whole Pareto curve.
+"""
+import pathlib
+import random
+import sys
+import time
+import unittest
+
+TOP = pathlib.Path(__file__).resolve().parents[2]
+sys.path[:0] = [str(TOP / 'python/tests')]
+
+import plain_graphs  # noqa: E402
+
+
+def main():
+    if any(not it.isdigit() for it in sys.argv[1:]):
+        sys.exit(__doc__)
+    count, seed = [*map(int, sys.argv[1:]), *(1_000, 1)[len(sys.argv) - 1:]]
+    test, found, start = unittest.TestCase(), {}, time.time()
+    for number in range(seed, seed + count):
+        if (number - seed) % 100 == 99:
+            print(f'{number - seed + 1} graphs', flush=True)
+        is_long = number % 7 == 0
+        graph = plain_graphs.random_graph(random.Random(number), *((3, 3) if is_long else (4, 4)))
+        try:
+            kind = plain_graphs.compare(test, graph, is_long)
+        except BaseException:
+            print(f'graph {number}: {list(graph.actors.values())} {list(graph.channels.values())}')
+            raise
+        found[kind] = found.get(kind, 0) + 1
+    print(f'{count} graphs, {found}, in {time.time() - start:.0f} s: no difference')
+
+
+if __name__ == '__main__':
+    main()
