@@ -59,7 +59,7 @@ void kpn_add_bytes(struct kpn_text *into, const char *at, size_t count);
 void kpn_print_to(struct kpn_text *into, const char *format, ...);
 void kpn_free_text(struct kpn_text *of);
 
-/* Writes a number where there is room for MOST_DIGITS bytes, and returns the place behind it. */
+/* Writes a number where there is room for MOST_DIGITS bytes, and returns the place after it. */
 enum { MOST_DIGITS = 20 };
 char *kpn_print_number(char *at, int64_t number);
 

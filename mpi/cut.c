@@ -46,7 +46,7 @@ static void find_loops(const struct kpn_network *net, struct loops *found) {
   }
 }
 
-/* Lays a loop into the row behind all that it reaches. The row is turned round later. */
+/* Lays a loop into the row after all that it reaches. The row is turned round later. */
 static void lay(struct loops *of, size_t loop) {
   of->is_laid[loop] = true;
   for (size_t c = 0; c < of->net->channel_count; c++) {

@@ -15,7 +15,7 @@ enum {
   FRAME_REPORT,  /* to rank 0: what the chief judges; the number is 1 if the rank is at rest */
   FRAME_ENOUGH,  /* to rank 0: each sink there has as many items as are wanted */
   FRAME_STOPPED, /* to rank 0: the last commit was made */
-  FRAME_GROW,    /* rank 0 to others: the channel gets the capacity behind */
+  FRAME_GROW,    /* rank 0 to others: the channel gets the capacity that follows */
   FRAME_STOP,    /* rank 0 to others: the number is the outcome */
   FRAME_SINK,    /* to rank 0: items of the sink with this number */
   FRAME_END,     /* each to each: the last frame; the number is the status of what was stored */

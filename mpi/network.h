@@ -53,7 +53,7 @@ void kpn_read_network(struct kpn_network *net, const char *text, size_t length);
 int kpn_find_channel(const struct kpn_network *net, const char *name, size_t length);
 int kpn_find_instance(const struct kpn_network *net, const char *name, size_t length);
 
-/* The capacity behind this one, as RUNS.md has it under "Growth". */
+/* The capacity after this one, as RUNS.md has it under "Growth". */
 size_t kpn_next_capacity(const struct kpn_network *net, size_t cap);
 
 #endif
