@@ -82,6 +82,8 @@ def print_tuned(file: str, trace: str, kind: str, steps: Optional[int]) -> int:
 def main(words: Optional[List[str]] = None) -> int:
     """Does what the words ask, and gives the status."""
     try:
+        if sys.stdout is None:
+            raise KpnError('there is no standard output')
         status = run_command(words)
         sys.stdout.flush()
         return status

@@ -153,7 +153,7 @@ class Frame:
             if value is not None:
                 yield text_of(tree, 2), value
             elif index is not None:
-                yield text_of(parts[1], 2), index
+                yield from [] if isinstance(parts[1], int) else [(text_of(parts[1], 2), index)]
                 yield f'cells of {parts[0]}', len(self.cells[str(parts[0])])
 
     def fault(self, layout: Layout, start: int, process: Process, stop: Stop) -> Fault:

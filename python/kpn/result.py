@@ -46,7 +46,8 @@ MOST_TICKS = 10**9
 # What stands between two columns of a table.
 COLUMNS = re.compile(' {2,}')
 SLICE = re.compile(r'"tid":(\d+),"ts":(\d+),"dur":1,"name":"((?:get|put) \w+)"')
-# The least capacity for speed.
+# The least capacity for speed. At 1, 64 and 1,024 a chain of eight processes took 117, 46 and 40 ms of a processor for
+# 300,000 items, compiled in long turns, and 75, 50 and 49 ms for 100,000 by one worker.
 FAST = 1024
 
 

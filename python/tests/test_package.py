@@ -121,6 +121,13 @@ class Command(unittest.TestCase):
             self.assertEqual((done.returncode, done.stderr), (141, ''))
         os.close(ours)
 
+    def test_no_standard_output(self):
+        for closed, status, told in (('>&-', 1, 'python -m kpn: there is no standard output\n'), ('>&- 2>&-', 1, ''),
+                                     ('> /dev/full', 1, 'python -m kpn: [Errno 28] No space left on device\n')):
+            done = subprocess.run(['sh', '-c', f'exec "$0" -m kpn {closed}', sys.executable], cwd=TOP / 'python',
+                                  stderr=subprocess.PIPE, text=True)
+            self.assertEqual((done.returncode, done.stderr), (status, told), closed)
+
     def test_it_prints_with_the_advised_capacities(self):
         two = TOP / 'examples/two.kpn'
         with tempfile.TemporaryDirectory() as folder:
