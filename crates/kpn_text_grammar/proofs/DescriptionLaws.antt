@@ -1,6 +1,5 @@
 -- A whole description: it is read if and only if the tokens spell it within the limits, and tokens spell one at most.
-use Rattle.std.proofs.Common.{◌≡◌, false, List, [], ◌∷◌, length, map, Ok, refl, sym, ap, subst, ◌∙◌, arith}
-use Rattle.std.specs.List.{AllByRecursion}
+use Rattle.std.proofs.Common.{◌≡◌, false, List, [], ◌∷◌, map, Ok, refl, sym, ap, subst, ◌∙◌}
 use Rattle.kpn_text_tokens.specs.declared.tokens.Language.{Language}
 use Rattle.kpn_text_tokens.specs.declared.tokens.Language.TheVariants as language
 use Rattle.kpn_text_tokens.specs.declared.tokens.Lexeme.{Lexeme}
@@ -9,16 +8,16 @@ use Rattle.kpn_text_tokens.specs.declared.tokens.Token.{Token}
 use Rattle.kpn_text_tokens.specs.declared.tokens.Keyword.TheVariants as keyword_
 use Rattle.kpn_text_grammar.specs.declared.parser.Scope.{Scope}
 use Rattle.kpn_text_grammar.specs.Syntax.{ProcessNode, Description}
-use Rattle.kpn_text_grammar.specs.Spelling.{kinds, SpellsAll, SpellsProcess, spell_all, spell_table, spell_language, spell_network, ProcessIsWithin, IsWithinLimits, IsDescription}
+use Rattle.kpn_text_grammar.specs.Spelling.{kinds, SpellsAll, SpellsProcess, spell_all, spell_table, spell_language, spell_network, IsWithinLimits, IsDescription}
 use Rattle.kpn_text_tokens.specs.Results.{and_then}
 use Rattle.kpn_text_grammar.specs.TokenTests.{is_keyword}
-use Rattle.kpn_text_grammar.specs.Reading.{keyword, language_at, mark, numbered_process, opening, shared_tables, processes, network, at_end, contents, description, two}
+use Rattle.kpn_text_grammar.specs.Reading.{keyword, language_at, mark, opening, shared_tables, processes, network, at_end, contents, description, two}
 use Rattle.kpn_text_grammar.proofs.Steps.{bind_ok, keyword_again, keyword_takes, mark_again, mark_takes, moved, ok_is, two_again, two_takes}
+use Rattle.kpn_text_grammar.proofs.Readers.{Unless, begins}
 use Rattle.kpn_text_grammar.proofs.CanonicalLaws.{by_rules, description_rules}
-use Rattle.kpn_text_grammar.proofs.ManyLaws.{TakesSpelled, begins, all_taken, all_again}
-use Rattle.kpn_text_grammar.proofs.DeclarationLaws.{shared_tables_takes, shared_tables_again}
-use Rattle.kpn_text_grammar.proofs.HeadLaws.{process_shape, process_laws}
-use Rattle.kpn_text_grammar.proofs.NetworkLaws.{network_takes, network_again}
+use Rattle.kpn_text_grammar.proofs.DeclarationLaws.{shared_reads}
+use Rattle.kpn_text_grammar.proofs.ProcessLaws.{processes_reads}
+use Rattle.kpn_text_grammar.proofs.NetworkLaws.{network_reads}
 
 at_end_takes : (ls : List Lexeme) (u : Unit {0}) → at_end ls ≡ Ok u → kinds ls ≡ []
 unfolding at_end
@@ -29,22 +28,6 @@ at_end_again : (ls : List Lexeme) → kinds ls ≡ [] → at_end ls ≡ Ok tt
 unfolding at_end
 at_end_again [] h = refl
 at_end_again (l ∷ ls) h = absurd cc
-
-processes_takes : (s : Scope) (ls : List Lexeme) (ps : List ProcessNode) (rest : List Lexeme)
-    → processes s ls ≡ Ok (ps, rest)
-    → TakesSpelled (SpellsAll (SpellsProcess s.language)) (AllByRecursion ProcessIsWithin) ls ps rest
-unfolding processes
-processes_takes s ls ps rest h = all_taken (is_keyword keyword_.Process) (SpellsProcess s.language) ProcessIsWithin
-    (numbered_process s) (process_shape s.language) (process_laws s) 0 (length ls) ls ps rest h
-
-processes_again : (s : Scope) (ls : List Lexeme) (ps : List ProcessNode) (more : List Token)
-    → AllByRecursion ProcessIsWithin ps → begins (is_keyword keyword_.Process) more ≡ false
-    → SpellsAll (SpellsProcess s.language) ps (kinds ls) more
-    → (rest : List Lexeme) × (processes s ls ≡ Ok (ps, rest)) × (kinds rest ≡ more)
-unfolding processes
-processes_again s ls ps more within ends h = all_again (is_keyword keyword_.Process) (SpellsProcess s.language)
-    ProcessIsWithin (numbered_process s) (process_shape s.language) (process_laws s) 0 (length ls) ls ps more
-    (omega arith) within ends h
 
 -- what is read behind the language
 record TakesContents (l : Language) (tokens : List Token) (d : Description) : Type 0 where
@@ -61,18 +44,22 @@ contents_takes s ls d h =
     let p = bind_ok _ _ _ t.2 in
     let n = bind_ok _ _ _ p.2 in
     let e = bind_ok _ _ _ n.2 in
-    let ts = shared_tables_takes s ls t.0.0 t.0.1 t.1 in
-    let ps = processes_takes s t.0.1 p.0.0 p.0.1 p.1 in
-    let net = network_takes s p.0.1 n.0.0 n.0.1 n.1 in
-    let ends = at_end_takes n.0.1 e.0 e.1 in
-    moved (TakesContents s.language (kinds ls)) (record { tables = t.0.0; processes = p.0.0; network = n.0.0 }) d e.2
+    let ts = (shared_reads s).takes ls t.0.0 t.0.1 t.1 in
+    let ps = (processes_reads s).takes t.0.1 p.0.0 p.0.1 p.1 in
+    let net = (network_reads s).takes p.0.1 n.0.0 n.0.1 n.1 in
+    let Inside : Description → Type 0 = λ c. TakesContents s.language (kinds ls) c in
+    moved Inside (record { tables = t.0.0; processes = p.0.0; network = n.0.0 }) d e.2
+    (subst (λ xs. Inside (record { tables = xs; processes = p.0.0; network = n.0.0 })) ts.1
+    (subst (λ xs. Inside (record { tables = ts.0; processes = xs; network = n.0.0 })) ps.1
+    (subst (λ x. Inside (record { tables = ts.0; processes = ps.0.0; network = x })) net.1
     (record {
       inside = kinds t.0.1;
-      tables = ts.spelled;
-      spelled = subst (λ (us : List Token). SpellsAll (SpellsProcess s.language) p.0.0 (kinds t.0.1) us)
-          (net ∙ ap (spell_network n.0.0) ends) ps.spelled;
-      within = record { tables = ts.within; processes = ps.within };
-    })
+      tables = ts.3;
+      spelled = subst (λ (us : List Token). SpellsAll (SpellsProcess s.language) ps.0.0 us (spell_network net.0 []))
+          (sym ps.3) (subst (λ (us : List Token). SpellsAll (SpellsProcess s.language) ps.0.0 ps.0.1 us)
+          (net.3 ∙ ap (spell_network net.0) (at_end_takes n.0.1 e.0 e.1)) ps.2.0);
+      within = record { tables = ts.2; processes = ps.2.1 };
+    }))))
 
 opening_takes : (s : Scope) (ls rest : List Lexeme) → opening s ls ≡ Ok rest
     → kinds ls ≡ spell_language language.Two (kinds rest)
@@ -116,10 +103,9 @@ contents_at s d ls a b c t p n e = rw (t, p, n, e) refl
 
 -- a process or the network begins with its word
 no_table : (l : Language) (ps : List ProcessNode) (tokens : List Token) (d : Description)
-    → SpellsAll (SpellsProcess l) ps tokens (spell_network d.network [])
-    → begins (is_keyword keyword_.Table) tokens ≡ false
-no_table l [] tokens d h = ap (begins (is_keyword keyword_.Table)) h
-no_table l (p ∷ ps) tokens d (others, first, rest) = ap (begins (is_keyword keyword_.Table)) first.head
+    → SpellsAll (SpellsProcess l) ps tokens (spell_network d.network []) → Unless (is_keyword keyword_.Table) tokens
+no_table l [] tokens d h = ap (λ ts. begins (is_keyword keyword_.Table) ts) h
+no_table l (p ∷ ps) tokens d (others, first, rest) = ap (λ ts. begins (is_keyword keyword_.Table) ts) first.head
 
 opening_at : (s : Scope) (ls a b rest : List Lexeme) → keyword s keyword_.Language ls ≡ Ok a → two s a ≡ Ok b
     → mark s mark_.Semicolon b ≡ Ok rest → opening s ls ≡ Ok rest
@@ -147,12 +133,11 @@ pub description_again : (s : Scope) (ls : List Lexeme) (d : Description) → IsD
 description_again s ls d is =
     let rules = description_rules s.language (kinds ls) d is in
     let b = language_again s s.language ls (spell_all spell_table d.tables rules.inside) rules.opening in
-    let t = shared_tables_again s b.0 d.tables rules.inside is.within.tables
+    let t = (shared_reads s).again b.0 d.tables rules.inside is.within.tables
     (no_table s.language d.processes rules.inside d rules.processes) b.2 in
-    let p = processes_again s t.0 d.processes (spell_network d.network []) is.within.processes refl
-    (subst (λ (ts : List Token). SpellsAll (SpellsProcess s.language) d.processes ts (spell_network d.network []))
-    (sym t.2) rules.processes) in
-    let n = network_again s d.network p.0 [] p.2 in
+    let p = (processes_reads s).again t.0 (d.processes, rules.inside) (spell_network d.network [])
+    (rules.processes, is.within.processes) refl t.2 in
+    let n = (network_reads s).again p.0 d.network [] tt tt p.2 in
     description_at s d ls b.0 b.1 (contents_at s d b.0 t.0 p.0 n.0 t.1 p.1 n.1 (at_end_again n.0 n.2))
 
 -- ---- tokens spell one description of a language at most

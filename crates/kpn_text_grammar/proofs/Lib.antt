@@ -3,8 +3,9 @@ pub mod CanonicalLaws
 pub mod DeclarationLaws
 pub mod DescriptionLaws
 pub mod HeadLaws
+pub mod ProcessLaws
 pub mod ListSteps
-pub mod ManyLaws
+pub mod Readers
 pub mod NetworkLaws
 pub mod StatementLaws
 pub mod Steps

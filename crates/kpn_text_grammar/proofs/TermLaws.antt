@@ -17,7 +17,7 @@ use Rattle.kpn_text_tokens.specs.Results.{and_then}
 use Rattle.kpn_text_grammar.specs.TokenTests.{is_mark}
 use Rattle.kpn_text_grammar.specs.Reading.{Read, next, mark, operator, level_fault, ReadingFails, first_is, element_behind, behind_name, binary_behind, conditional_behind, group_behind, group, operand, expression}
 use Rattle.kpn_text_grammar.proofs.Steps.{bind_ok, by_test, is_mark_same, ok_is, no_value, first_kind, kind_of, kinds_of, next_takes, next_again, mark_takes, mark_again, operator_takes, operator_again}
-use Rattle.kpn_text_grammar.proofs.ManyLaws.{begins, first_begins}
+use Rattle.kpn_text_grammar.proofs.Readers.{begins, first_begins}
 
 -- a level below, as the code counts
 pub expression_at : (s : Scope) (d : ℕ) (ls : List Lexeme) (l : Lexeme) (rest : List Lexeme) → 0 < d

@@ -16,7 +16,7 @@ use Rattle.kpn_text_tokens.specs.Results.{and_then}
 use Rattle.kpn_text_grammar.specs.TokenTests.{is_mark}
 use Rattle.kpn_text_grammar.specs.Reading.{Read, mark, operator, first_is, goes_further, sides_behind, element_behind, behind_name, conditional_behind, inside_behind, tight_operand, tight_over, tight}
 use Rattle.kpn_text_grammar.proofs.Steps.{Front, first_kind, front, is_mark_same, next_again, mark_again, operator_again}
-use Rattle.kpn_text_grammar.proofs.ManyLaws.{begins, first_begins}
+use Rattle.kpn_text_grammar.proofs.Readers.{begins, first_begins}
 use Rattle.kpn_text_grammar.proofs.TermLaws.{is_index, some_level}
 use Rattle.kpn_text_grammar.proofs.TightLaws.{right_below, left_below, left_is_tight, right_is_tighter, is_tight, first_tightness, at_bracket, at_close, at_question, at_colon, operator_first, no_index, looser_first, stops_first, goes_of}
 

@@ -17,7 +17,7 @@ use Rattle.kpn_text_tokens.specs.Results.{and_then}
 use Rattle.kpn_text_grammar.specs.TokenTests.{is_mark}
 use Rattle.kpn_text_grammar.specs.Reading.{Read, next, mark, operator, token_operator, level_fault, first_is, operator_fits, goes_further, unless_full, sides_behind, element_behind, behind_name, conditional_behind, inside_behind, tight_operand, tight_over, tight}
 use Rattle.kpn_text_grammar.proofs.Steps.{bind_ok, by_test, first_kind, moved, no_value, next_takes, mark_takes, operator_back, operator_takes}
-use Rattle.kpn_text_grammar.proofs.ManyLaws.{begins}
+use Rattle.kpn_text_grammar.proofs.Readers.{begins}
 use Rattle.kpn_text_grammar.proofs.TermLaws.{is_index, no_bracket}
 
 -- ---- the table of operators

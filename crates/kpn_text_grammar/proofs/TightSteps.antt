@@ -12,7 +12,7 @@ use Rattle.kpn_text_grammar.specs.Operators.{tightness, right_side, OPERAND}
 use Rattle.kpn_text_grammar.specs.Spelling.{term_level}
 use Rattle.kpn_text_tokens.specs.Results.{and_then}
 use Rattle.kpn_text_grammar.specs.Reading.{Read, ReadingFails, next, operator, level_fault, first_is, goes_further, sides_behind, tight_operand, tight_over, tight}
-use Rattle.kpn_text_grammar.proofs.ManyLaws.{kinds_length}
+use Rattle.kpn_text_grammar.proofs.Readers.{kinds_length}
 use Rattle.kpn_text_grammar.proofs.Steps.{operator_takes}
 use Rattle.kpn_text_grammar.proofs.TightAgain.{no_side, one_side, tight_longer}
 use Rattle.kpn_text_grammar.proofs.TightLaws.{tight_takes}

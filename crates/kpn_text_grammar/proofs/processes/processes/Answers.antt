@@ -7,7 +7,7 @@ use Rattle.kpn_text_grammar.specs.Reading.{numbered_process, processes}
 use Rattle.kpn_text_grammar.specs.View.{tokens_from, process_seen, processes_seen}
 use Rattle.kpn_text_grammar.proofs.ListSteps.{all_processes, count_is, count_fails}
 use Rattle.kpn_text_grammar.proofs.Rounds.{at_first, one_more, stops_here, fails_here, place_moves}
-use Rattle.kpn_text_grammar.proofs.HeadLaws.{process_shortens}
+use Rattle.kpn_text_grammar.proofs.ProcessLaws.{process_shortens}
 use Rattle.kpn_text_grammar.proofs.processes.processes.Goals as goal
 
 pub processes-init : goal.processes-init

@@ -1,0 +1,76 @@
+-- Processes: what is read is spelled so, and what is spelled so is read.
+use Rattle.std.proofs.Common.{◌≡◌, ℕ, ◌<◌, List, ◌∷◌, length, Ok, refl, sym, ap, arith}
+use Rattle.std.specs.List.{AllByRecursion}
+use Rattle.kpn_text_tokens.specs.declared.tokens.Language.{Language}
+use Rattle.kpn_text_tokens.specs.declared.tokens.Lexeme.{Lexeme}
+use Rattle.kpn_text_tokens.specs.declared.tokens.Token.{Token}
+use Rattle.kpn_text_tokens.specs.declared.tokens.Token.TheVariants as token
+use Rattle.kpn_text_tokens.specs.declared.tokens.Mark.TheVariants as mark_
+use Rattle.kpn_text_tokens.specs.declared.tokens.Keyword.TheVariants as keyword_
+use Rattle.kpn_text_grammar.specs.declared.parser.Scope.{Scope}
+use Rattle.kpn_text_grammar.specs.Syntax.{ProcessNode}
+use Rattle.kpn_text_grammar.specs.Spelling.{SpellsAll, SpellsProcess, spell_all, spell_declaration, ProcessIsWithin}
+use Rattle.kpn_text_grammar.specs.TokenTests.{is_keyword}
+use Rattle.kpn_text_grammar.specs.Reading.{process, numbered_process, processes}
+use Rattle.kpn_text_grammar.proofs.Readers.{ReaderBy, Anything, Unless, done, this_mark, this_keyword, behind, value, bind, mapped, reads_by, a_name, begins, Elements, each_by, shortens}
+use Rattle.kpn_text_grammar.proofs.DeclarationLaws.{declarations_reads}
+use Rattle.kpn_text_grammar.proofs.HeadLaws.{parts_reads}
+use Rattle.kpn_text_grammar.proofs.StatementLaws.{whole_body_reads, no_declaration}
+
+abbrev ProcessOf : Language → ProcessNode → List Token → List Token → Type 0
+ProcessOf l p tokens more = SpellsProcess l p tokens more × ProcessIsWithin p
+
+process_reads : (s : Scope) → ReaderBy (ProcessOf s.language) Anything (process s)
+unfolding process
+process_reads s =
+    reads_by (behind (this_keyword s keyword_.Process) (value (a_name s)
+    (λ x. behind (this_mark s mark_.LeftParen) (bind (parts_reads s)
+    (λ p. behind (this_mark s mark_.RightParen) (behind (this_mark s mark_.LeftBrace) (bind (declarations_reads s)
+    (λ ds. mapped (λ body. record {
+      name = x;
+      ins = p.ins;
+      outs = p.outs;
+      pars = p.pars;
+      declarations = ds;
+      body = body;
+    }) (whole_body_reads s) (λ more may. may))
+    (λ z more is may. no_declaration is.0))))
+    (λ z more is may. (_, refl))))))
+    (λ z more is. (record { inside = z.1.1.1.1; head = refl; body = is.1.1.1.0 },
+    record { declarations = is.1.1.0; body = is.1.1.1.1 }))
+    (λ p tokens more is. ((p.name, (record { ins = p.ins; outs = p.outs; pars = p.pars },
+    (p.declarations, (p.body, is.0.inside)))), refl,
+    (tt, (tt, (is.1.declarations, (is.0.body, is.1.body)))), sym is.0.head))
+
+process_longer : (s : Scope) (p : ProcessNode) (tokens more : List Token) → ProcessOf s.language p tokens more
+    → length more < length tokens
+process_longer s p tokens more is =
+    let declared = spell_all spell_declaration p.declarations is.0.inside in
+    let shut = token.Mark mark_.RightParen ∷ token.Mark mark_.LeftBrace ∷ declared in
+    omega (
+      arith,
+      ap length is.0.head,
+      (parts_reads s).no_gap (record { ins = p.ins; outs = p.outs; pars = p.pars }) shut tt,
+      (declarations_reads s).no_gap p.declarations is.0.inside is.1.declarations,
+      (whole_body_reads s).no_gap (p.body, is.0.inside) more (is.0.body, is.1.body),
+    )
+
+process_ones : (s : Scope) → Elements {Z = ProcessNode × List Token} (is_keyword keyword_.Process) (λ z. z.0)
+    (λ z more. z.1) (λ z more. ProcessOf s.language z.0 z.1 more) (numbered_process s)
+unfolding numbered_process
+process_ones s = record {
+  laws = λ i. process_reads (record { end = s.end; process = i; language = s.language });
+  starts = λ z more is. ap (begins (is_keyword keyword_.Process)) is.0.head;
+  longer = λ z more is. process_longer s z.0 z.1 more is;
+}
+
+-- a process takes a token or more
+pub process_shortens : (s : Scope) (i : ℕ) (ls : List Lexeme) (p : ProcessNode) (rest : List Lexeme)
+    → numbered_process s i ls ≡ Ok (p, rest) → length rest < length ls
+process_shortens s = shortens (process_ones s)
+
+pub processes_reads : (s : Scope)
+    → ReaderBy (λ ps tokens more. SpellsAll (SpellsProcess s.language) ps tokens more × AllByRecursion ProcessIsWithin ps)
+    (Unless (is_keyword keyword_.Process)) (processes s)
+unfolding processes
+processes_reads s = each_by (SpellsProcess s.language) ProcessIsWithin (process_ones s) 0

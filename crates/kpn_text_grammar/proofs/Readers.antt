@@ -1,0 +1,656 @@
+-- Readers in a row: the laws of a reader, and how the laws of its steps make them. A reader is a chain of steps, a choice
+-- by the token at the front, or a repetition, as `Reading` defines it.
+use Rattle.std.proofs.Common.{◌≡◌, ◌⊎◌, inl, inr, ℕ, zero, suc, ◌+◌, ◌<◌, ◌≤◌, Bool, true, false, cond, List, [], ◌∷◌, length, map, Option, Some, None, Result, Ok, Err, refl, sym, ap, subst, ◌∙◌, arith}
+use Rattle.std.proofs.lemmas.List.{length-map}
+use Rattle.std.specs.List.{AllByRecursion}
+use Rattle.kpn_text_tokens.specs.declared.tokens.Lexeme.{Lexeme}
+use Rattle.kpn_text_tokens.specs.declared.tokens.Token.{Token}
+use Rattle.kpn_text_tokens.specs.declared.tokens.Token.TheVariants as token
+use Rattle.kpn_text_tokens.specs.declared.tokens.Mark.{Mark}
+use Rattle.kpn_text_tokens.specs.declared.tokens.Mark.TheVariants as mark_
+use Rattle.kpn_text_tokens.specs.declared.tokens.Keyword.{Keyword}
+use Rattle.kpn_text_grammar.specs.declared.fault.GrammarFault.{GrammarFault}
+use Rattle.kpn_text_grammar.specs.declared.fault.GrammarFault.TheVariants as fault
+use Rattle.kpn_text_grammar.specs.declared.parser.Scope.{Scope}
+use Rattle.kpn_text_grammar.specs.Syntax.{NameBytes}
+use Rattle.kpn_text_grammar.specs.Spelling.{kinds, spell_all, spell_further, spell_list, spell_name, spell_number, SpellsAll}
+use Rattle.kpn_text_grammar.specs.TokenTests.{is_mark}
+use Rattle.kpn_text_tokens.specs.Results.{and_then}
+use Rattle.kpn_text_grammar.specs.Reading.{Read, first_is, next, mark, keyword, name, number, or_fault_at, many, further, separated}
+use Rattle.kpn_text_grammar.proofs.Steps.{bind_ok, by_test, found_is, kind_of, kinds_of, moved, next_takes, no_value, next_again, ok_is, mark_takes, mark_again, keyword_takes, keyword_again, name_takes, name_again, number_takes, number_again}
+
+-- ---- the laws of a reader
+
+-- What a reader returns is made of values z, which are spelled so, and what is spelled so it reads where these tokens may
+-- follow. What holds of the values may depend on the tokens behind them.
+pub record Row {Z Y : Type 0} (make : Z → Y) (spell : Z → List Token → List Token) (Within : Z → List Token → Type 0)
+    (May : List Token → Type 0) (one : List Lexeme → Read Y) : Type 0 where
+  pub takes : (ls : List Lexeme) (y : Y) (rest : List Lexeme) → one ls ≡ Ok (y, rest)
+      → (z : Z) × (make z ≡ y) × Within z (kinds rest) × (kinds ls ≡ spell z (kinds rest))
+  pub again : (ls : List Lexeme) (z : Z) (more : List Token) → Within z more → May more → kinds ls ≡ spell z more
+      → (rest : List Lexeme) × (one ls ≡ Ok (make z, rest)) × (kinds rest ≡ more)
+  pub no_gap : (z : Z) (more : List Token) → Within z more → length more ≤ length (spell z more)
+
+-- a reader whose values are what it returns
+abbrev pub Reader : {A : Type 0} → (A → List Token → List Token) → (A → Type 0) → (List Token → Type 0)
+    → (List Lexeme → Read A) → Type 0
+Reader {A} spell Within May one = Row (λ (x : A). x) spell (λ x more. Within x) May one
+
+-- a reader of things that may have many spellings: the values are a thing and its tokens
+abbrev pub ReaderBy : {A : Type 0} → (A → List Token → List Token → Type 0) → (List Token → Type 0)
+    → (List Lexeme → Read A) → Type 0
+ReaderBy {A} Spells May one = Row {Z = A × List Token} (λ z. z.0) (λ z more. z.1) (λ z more. Spells z.0 z.1 more) May one
+
+-- anything may follow; no limit
+abbrev pub Anything : List Token → Type 0
+Anything more = Unit {0}
+
+abbrev pub Free : {Z : Type 0} → Z → Type 0
+Free z = Unit {0}
+
+-- the tokens begin with one that passes this test
+abbrev pub begins : (Token → Bool) → List Token → Bool
+begins goes [] = false
+begins goes (t ∷ ts) = goes t
+
+pub first_begins : (goes : Token → Bool) (ls : List Lexeme) → first_is goes ls ≡ begins goes (kinds ls)
+first_begins goes [] = refl
+first_begins goes (l ∷ ls) = refl
+
+abbrev pub Unless : (Token → Bool) → List Token → Type 0
+Unless goes more = begins goes more ≡ false
+
+pub kinds_length : (ls : List Lexeme) → length (kinds ls) ≡ length ls
+kinds_length ls = length-map ls (λ l. l.token)
+
+-- ---- chains
+
+bound : {A B : Type 0} (r : Result A GrammarFault) (x : A) (f : A → Result B GrammarFault) (y : Result B GrammarFault)
+    → r ≡ Ok x → f x ≡ y → and_then r f ≡ y
+unfolding and_then
+bound r x f y e h = rw e h
+
+-- the end of a chain
+pub done : {Y : Type 0} {May : List Token → Type 0} (v : Y)
+    → Row {Z = Unit {0}} (λ z. v) (λ z more. more) (λ z more. Unit {0}) May (λ ls. Ok (v, ls))
+done {Y} {May} v = record {
+  takes = λ ls y rest h.
+      moved (λ (p : Y × List Lexeme). (z : Unit {0}) × (v ≡ p.0) × Unit {0} × (kinds ls ≡ kinds p.1)) (v, ls) (y, rest) h
+      (tt, refl, tt, refl);
+  again = λ ls z more within may h. (ls, refl, h);
+  no_gap = λ z more within. omega arith;
+}
+
+-- a step that passes one token
+pub record Passes (t : Token) (step : List Lexeme → Result (List Lexeme) GrammarFault) : Type 0 where
+  pub takes : (ls rest : List Lexeme) → step ls ≡ Ok rest → kinds ls ≡ t ∷ kinds rest
+  pub again : (ls : List Lexeme) (more : List Token) → kinds ls ≡ t ∷ more
+      → (rest : List Lexeme) × (step ls ≡ Ok rest) × (kinds rest ≡ more)
+
+pub this_mark : (s : Scope) (m : Mark) → Passes (token.Mark m) (mark s m)
+this_mark s m = record { takes = mark_takes s m; again = mark_again s m }
+
+pub this_keyword : (s : Scope) (k : Keyword) → Passes (token.Keyword k) (keyword s k)
+this_keyword s k = record { takes = keyword_takes s k; again = keyword_again s k }
+
+pub behind : {Z Y : Type 0} {make : Z → Y} {spell : Z → List Token → List Token} {Within : Z → List Token → Type 0}
+    {May : List Token → Type 0} {t : Token} {step : List Lexeme → Result (List Lexeme) GrammarFault}
+    {one : List Lexeme → Read Y} → Passes t step → Row make spell Within May one
+    → Row make (λ z more. t ∷ spell z more) Within May (λ ls. and_then (step ls) one)
+behind {Z} {Y} {make} {spell} {Within} {May} {t} {step} {one} first then = record {
+  takes = λ ls y rest h.
+      let b = bind_ok (step ls) one (y, rest) h in
+      let m = then.takes b.0 y rest b.2 in
+      (m.0, m.1, m.2, first.takes ls b.0 b.1 ∙ ap (λ (ts : List Token). t ∷ ts) m.3);
+  again = λ ls z more within may h.
+      let a = first.again ls (spell z more) h in
+      let b = then.again a.0 z more within may a.2 in
+      (b.0, bound (step ls) a.0 one (Ok (make z, b.0)) a.1 b.1, b.2);
+  no_gap = λ z more within. omega (arith, then.no_gap z more within);
+}
+
+-- a step that reads a value, and the others behind it
+pub bind : {A X Z Y : Type 0} {make_first : A → X} {spell_first : A → List Token → List Token}
+    {First : A → List Token → Type 0} {MayFirst : List Token → Type 0} {first : List Lexeme → Read X} {make : X → Z → Y}
+    {spell : Z → List Token → List Token} {Within : Z → List Token → Type 0} {May : List Token → Type 0}
+    {one : X → List Lexeme → Read Y}
+    → Row make_first spell_first First MayFirst first → ((x : X) → Row (make x) spell Within May (one x))
+    → ((z : Z) (more : List Token) → Within z more → May more → MayFirst (spell z more))
+    → Row {Z = A × Z} (λ z. make (make_first z.0) z.1) (λ z more. spell_first z.0 (spell z.1 more))
+    (λ z more. First z.0 (spell z.1 more) × Within z.1 more) May (λ ls. and_then (first ls) (λ x. one x.0 x.1))
+bind {A} {X} {Z} {Y} {make_first} {spell_first} {First} {MayFirst} {first} {make} {spell} {Within} {May} {one} head then
+    follows = record {
+  takes = λ ls y rest h.
+      let b = bind_ok (first ls) (λ (x : X × List Lexeme). one x.0 x.1) (y, rest) h in
+      let f = head.takes ls b.0.0 b.0.1 b.1 in
+      let m = (then b.0.0).takes b.0.1 y rest b.2 in
+      ((f.0, m.0), ap (λ (x : X). make x m.0) f.1 ∙ m.1, (subst (First f.0) m.3 f.2, m.2),
+      f.3 ∙ ap (spell_first f.0) m.3);
+  again = λ ls z more within may h.
+      let f = head.again ls z.0 (spell z.1 more) within.0 (follows z.1 more within.1 may) h in
+      let m = (then (make_first z.0)).again f.0 z.1 more within.1 may f.2 in
+      (m.0, bound (first ls) (make_first z.0, f.0) (λ (x : X × List Lexeme). one x.0 x.1)
+      (Ok (make (make_first z.0) z.1, m.0)) f.1 m.1, m.2);
+  no_gap = λ z more within.
+      omega (
+        arith,
+        head.no_gap z.0 (spell z.1 more) within.0,
+        (then (make_first z.0)).no_gap z.1 more within.1,
+      );
+}
+
+-- the same where anything may stand behind its value
+pub value : {A X Z Y : Type 0} {make_first : A → X} {spell_first : A → List Token → List Token}
+    {First : A → List Token → Type 0} {first : List Lexeme → Read X} {make : X → Z → Y}
+    {spell : Z → List Token → List Token} {Within : Z → List Token → Type 0} {May : List Token → Type 0}
+    {one : X → List Lexeme → Read Y}
+    → Row make_first spell_first First Anything first → ((x : X) → Row (make x) spell Within May (one x))
+    → Row {Z = A × Z} (λ z. make (make_first z.0) z.1) (λ z more. spell_first z.0 (spell z.1 more))
+    (λ z more. First z.0 (spell z.1 more) × Within z.1 more) May (λ ls. and_then (first ls) (λ x. one x.0 x.1))
+value head then = bind head then (λ z more within may. tt)
+
+-- ---- the same reader by other values
+
+-- values as others that make the same thing and are spelled the same
+abbrev pub As : {Z W Y : Type 0} → (Z → Y) → (Z → List Token → List Token) → (W → Y) → (W → List Token → List Token)
+    → (W → List Token → Type 0) → Z → List Token → Type 0
+As {W = W} make spell other spell_other Other z more =
+    (w : W) × (other w ≡ make z) × Other w more × (spell_other w more ≡ spell z more)
+
+pub recast : {Z W Y : Type 0} {make : Z → Y} {spell : Z → List Token → List Token} {Within : Z → List Token → Type 0}
+    {May : List Token → Type 0} {one : List Lexeme → Read Y} {other : W → Y} {spell_other : W → List Token → List Token}
+    {Other : W → List Token → Type 0} → Row make spell Within May one
+    → ((z : Z) (more : List Token) → Within z more → As make spell other spell_other Other z more)
+    → ((w : W) (more : List Token) → Other w more → As other spell_other make spell Within w more)
+    → Row other spell_other Other May one
+recast {Z} {W} {Y} {make} {spell} {Within} {May} {one} {other} {spell_other} {Other} row there back = record {
+  takes = λ ls y rest h.
+      let t = row.takes ls y rest h in
+      let w = there t.0 (kinds rest) t.2 in
+      (w.0, w.1 ∙ t.1, w.2, t.3 ∙ sym w.3);
+  again = λ ls w more within may h.
+      let z = back w more within in
+      let a = row.again ls z.0 more z.2 may (h ∙ sym z.3) in
+      (a.0, subst (λ (v : Y). one ls ≡ Ok (v, a.0)) z.1 a.1, a.2);
+  no_gap = λ w more within.
+      let z = back w more within in
+      subst (λ (ts : List Token). length more ≤ length ts) z.3 (row.no_gap z.0 more z.2);
+}
+
+-- the values as the parts of what is read
+pub reads : {Z Y : Type 0} {make : Z → Y} {spell : Z → List Token → List Token} {Within : Z → List Token → Type 0}
+    {May : List Token → Type 0} {one : List Lexeme → Read Y} {spell_made : Y → List Token → List Token} {Made : Y → Type 0}
+    → Row make spell Within May one
+    → ((z : Z) (more : List Token) → Within z more → Made (make z) × (spell z more ≡ spell_made (make z) more))
+    → ((y : Y) (more : List Token) → Made y → (z : Z) × (make z ≡ y) × Within z more)
+    → Reader spell_made Made May one
+reads {Z} {Y} {make} {spell} {Within} {May} {one} {spell_made} {Made} row back parts =
+    recast row
+    (λ z more within. let is = back z more within in (make z, refl, is.0, sym is.1))
+    (λ y more within.
+    let p = parts y more within in
+    (p.0, p.1, p.2, (back p.0 more p.2).1 ∙ ap (λ (v : Y). spell_made v more) p.1))
+
+-- the same where it may have many spellings
+pub reads_by : {Z Y : Type 0} {make : Z → Y} {spell : Z → List Token → List Token} {Within : Z → List Token → Type 0}
+    {May : List Token → Type 0} {one : List Lexeme → Read Y} {Spells : Y → List Token → List Token → Type 0}
+    → Row make spell Within May one
+    → ((z : Z) (more : List Token) → Within z more → Spells (make z) (spell z more) more)
+    → ((y : Y) (tokens more : List Token) → Spells y tokens more
+    → (z : Z) × (make z ≡ y) × Within z more × (spell z more ≡ tokens))
+    → ReaderBy Spells May one
+reads_by {Z} {Y} {make} {spell} {Within} {May} {one} {Spells} row back parts =
+    recast row (λ z more within. ((make z, spell z more), refl, back z more within, refl))
+    (λ y more within. parts y.0 y.1 more within)
+
+-- what is made of the value of one reader
+pub mapped : {Z X Y : Type 0} {make : Z → X} {spell : Z → List Token → List Token} {Within : Z → List Token → Type 0}
+    {MayFirst May : List Token → Type 0} {one : List Lexeme → Read X} (to : X → Y) → Row make spell Within MayFirst one
+    → ((more : List Token) → May more → MayFirst more)
+    → Row (λ z. to (make z)) spell Within May (λ ls. and_then (one ls) (λ x. Ok (to x.0, x.1)))
+mapped to row follows =
+    recast (bind row (λ x. done (to x)) (λ z more within may. follows more may))
+    (λ z more within. (z.0, refl, within.0, refl)) (λ z more within. ((z, tt), refl, (within, tt), refl))
+
+-- ---- one token
+
+pub a_name : (s : Scope) → Reader spell_name Free Anything (name s)
+a_name s = record {
+  takes = λ ls x rest h. (x, refl, tt, name_takes s ls x rest h);
+  again = λ ls x more within may h. name_again s ls x more h;
+  no_gap = λ x more within. omega arith;
+}
+
+pub a_number : (s : Scope) → Reader spell_number Free Anything (number s)
+a_number s = record {
+  takes = λ ls n rest h. (n, refl, tt, number_takes s ls n rest h);
+  again = λ ls n more within may h. number_again s ls n more h;
+  no_gap = λ n more within. omega arith;
+}
+
+-- a token that stands for something
+pub a_token : {A : Type 0} {Within : A → Type 0} (s : Scope) (what : Token → Option A) (spelled : A → Token)
+    → ((t : Token) (x : A) → what t ≡ Some x → (t ≡ spelled x) × Within x)
+    → ((x : A) → Within x → what (spelled x) ≡ Some x)
+    → Reader (λ x more. spelled x ∷ more) Within Anything
+    (λ ls. and_then (next s ls) (λ l. or_fault_at l.0.start l.1 (what l.0.token)))
+a_token {A} {Within} s what spelled means found = record {
+  takes = λ ls x rest h.
+      let b = bind_ok (next s ls) (λ (l : Lexeme × List Lexeme). or_fault_at l.0.start l.1 (what l.0.token)) (x, rest) h in
+      let f = found_is (what b.0.0.token) b.0.0.start b.0.1 x rest b.2 in
+      let is = means b.0.0.token x f.0 in
+      (x, refl, is.1, ap kinds (next_takes s ls b.0.0 b.0.1 b.1) ∙ ap (λ (t : Token). t ∷ kinds b.0.1) is.0
+      ∙ ap (λ (r : List Lexeme). spelled x ∷ kinds r) f.1);
+  again = again;
+  no_gap = λ x more within. omega arith;
+} where
+  again : (ls : List Lexeme) (x : A) (more : List Token) → Within x → Anything more → kinds ls ≡ spelled x ∷ more
+      → (rest : List Lexeme)
+      × (and_then (next s ls) (λ l. or_fault_at l.0.start l.1 (what l.0.token)) ≡ Ok (x, rest)) × (kinds rest ≡ more)
+  again [] x more within may h = absurd cc
+  again (l ∷ ls) x more within may h =
+      let is = ap what (kind_of l ls (spelled x) more h) ∙ found x within in
+      (ls, bound (next s (l ∷ ls)) (l, ls) (λ (k : Lexeme × List Lexeme). or_fault_at k.0.start k.1 (what k.0.token))
+      (Ok (x, ls)) (next_again s l ls) (rw is refl), kinds_of l ls (spelled x) more h)
+
+-- ---- choices
+
+-- a value of one kind or of another
+abbrev pub either : {A B C : Type 0} → (A → C) → (B → C) → A ⊎ B → C
+either f g (inl x) = f x
+either f g (inr y) = g y
+
+abbrev pub spell_either : {A B : Type 0} → (A → List Token → List Token) → (B → List Token → List Token) → A ⊎ B
+    → List Token → List Token
+spell_either f g (inl x) more = f x more
+spell_either f g (inr y) more = g y more
+
+abbrev pub Either : {A B : Type 0} → (A → List Token → Type 0) → (B → List Token → Type 0) → A ⊎ B → List Token → Type 0
+Either P Q (inl x) more = P x more
+Either P Q (inr y) more = Q y more
+
+no_test : {A : Type 0} (b : Bool) (x y z : A) → b ≡ false → y ≡ z → cond b x y ≡ z
+no_test b x y z h e = rw h e
+
+test : {A : Type 0} (b : Bool) (x y z : A) → b ≡ true → x ≡ z → cond b x y ≡ z
+test b x y z h e = rw h e
+
+-- One reader or another, by a test. What holds of the values may tell what the test found.
+pub choose : {Z W Y : Type 0} (picks : List Lexeme → Bool) {make_one : Z → Y} {spell_one : Z → List Token → List Token}
+    {One : Z → List Token → Type 0} {MayOne : List Token → Type 0} {one : List Lexeme → Read Y} {make_other : W → Y}
+    {spell_other : W → List Token → List Token} {Other : W → List Token → Type 0} {MayOther : List Token → Type 0}
+    {other : List Lexeme → Read Y} {May : List Token → Type 0} (First : Z → List Token → Type 0)
+    (Second : W → List Token → Type 0)
+    → Row make_one spell_one One MayOne one → Row make_other spell_other Other MayOther other
+    → ((ls : List Lexeme) (z : Z) (more : List Token) → picks ls ≡ true → kinds ls ≡ spell_one z more → One z more
+    → First z more)
+    → ((ls : List Lexeme) (w : W) (more : List Token) → picks ls ≡ false → kinds ls ≡ spell_other w more → Other w more
+    → Second w more)
+    → ((ls : List Lexeme) (z : Z) (more : List Token) → kinds ls ≡ spell_one z more → First z more → May more
+    → (picks ls ≡ true) × One z more × MayOne more)
+    → ((ls : List Lexeme) (w : W) (more : List Token) → kinds ls ≡ spell_other w more → Second w more → May more
+    → (picks ls ≡ false) × Other w more × MayOther more)
+    → ((z : Z) (more : List Token) → First z more → One z more)
+    → ((w : W) (more : List Token) → Second w more → Other w more)
+    → Row (either make_one make_other) (spell_either spell_one spell_other) (Either First Second) May
+    (λ ls. cond (picks ls) (one ls) (other ls))
+choose {Z} {W} {Y} picks {make_one} {spell_one} {One} {MayOne} {one} {make_other} {spell_other} {Other} {MayOther} {other}
+    {May} First Second first second picked passed pick pass as_one as_other = record {
+  takes = λ ls y rest h.
+      by_test (picks ls) (one ls) (other ls) (Ok (y, rest)) h
+      (λ b e. let t = first.takes ls y rest e in (inl t.0, t.1, picked ls t.0 (kinds rest) b t.3 t.2, t.3))
+      (λ b e. let t = second.takes ls y rest e in (inr t.0, t.1, passed ls t.0 (kinds rest) b t.3 t.2, t.3));
+  again = λ ls z more within may h. chosen ls more may z within h;
+  no_gap = λ z more within. gapless more z within;
+} where
+  chosen : (ls : List Lexeme) (more : List Token) → May more → (z : Z ⊎ W) → Either First Second z more
+      → kinds ls ≡ spell_either spell_one spell_other z more → (rest : List Lexeme)
+      × (cond (picks ls) (one ls) (other ls) ≡ Ok (either make_one make_other z, rest)) × (kinds rest ≡ more)
+  chosen ls more may (inl z) within h =
+      let at = pick ls z more h within may in
+      let a = first.again ls z more at.1 at.2 h in
+      (a.0, test (picks ls) (one ls) (other ls) (Ok (make_one z, a.0)) at.0 a.1, a.2)
+  chosen ls more may (inr w) within h =
+      let at = pass ls w more h within may in
+      let a = second.again ls w more at.1 at.2 h in
+      (a.0, no_test (picks ls) (one ls) (other ls) (Ok (make_other w, a.0)) at.0 a.1, a.2)
+
+  gapless : (more : List Token) (z : Z ⊎ W) → Either First Second z more
+      → length more ≤ length (spell_either spell_one spell_other z more)
+  gapless more (inl z) within = first.no_gap z more (as_one z more within)
+  gapless more (inr w) within = second.no_gap w more (as_other w more within)
+
+-- the same by the token at the front
+pub choice : {Z W Y : Type 0} (goes : Token → Bool) {make_one : Z → Y} {spell_one : Z → List Token → List Token}
+    {One : Z → List Token → Type 0} {MayOne : List Token → Type 0} {one : List Lexeme → Read Y} {make_other : W → Y}
+    {spell_other : W → List Token → List Token} {Other : W → List Token → Type 0} {MayOther : List Token → Type 0}
+    {other : List Lexeme → Read Y} {May : List Token → Type 0}
+    → Row make_one spell_one One MayOne one → Row make_other spell_other Other MayOther other
+    → ((z : Z) (more : List Token) → One z more → May more → MayOne more × (begins goes (spell_one z more) ≡ true))
+    → ((w : W) (more : List Token) → Other w more → May more → MayOther more × (begins goes (spell_other w more) ≡ false))
+    → Row (either make_one make_other) (spell_either spell_one spell_other) (Either One Other) May
+    (λ ls. cond (first_is goes ls) (one ls) (other ls))
+choice goes {One = One} {Other = Other} first second at_one at_other =
+    choose (first_is goes) One Other first second (λ ls z more b h is. is) (λ ls w more b h is. is)
+    (λ ls z more h is may.
+    let at = at_one z more is may in (first_begins goes ls ∙ ap (begins goes) h ∙ at.1, is, at.0))
+    (λ ls w more h is may.
+    let at = at_other w more is may in (first_begins goes ls ∙ ap (begins goes) h ∙ at.1, is, at.0))
+    (λ z more is. is) (λ w more is. is)
+
+-- the same, or nothing, which makes this
+pub optional : {Z Y : Type 0} (goes : Token → Bool) {make : Z → Y} {spell : Z → List Token → List Token}
+    {Within : Z → List Token → Type 0} {May : List Token → Type 0} {one : List Lexeme → Read Y} {Then : List Token → Type 0}
+    → (v : Y) → Row make spell Within May one → ((more : List Token) → Then more → May more × Unless goes more)
+    → ((z : Z) (more : List Token) → Within z more → begins goes (spell z more) ≡ true)
+    → Row (either make (λ (z : Unit {0}). v)) (spell_either spell (λ z more. more)) (Either Within (λ z more. Unit {0})) Then
+    (λ ls. cond (first_is goes ls) (one ls) (Ok (v, ls)))
+optional goes v row ends starts =
+    choice goes row (done v) (λ z more within then. ((ends more then).0, starts z more within))
+    (λ z more within then. (then, (ends more then).1))
+
+-- one or more, or nothing
+abbrev pub Some_of : {A : Type 0} → List A → Type 0
+Some_of xs = 0 < length xs
+
+pub maybe_some : {A Y : Type 0} (goes : Token → Bool) {make : List A → Y} {spell : List A → List Token → List Token}
+    {May : List Token → Type 0} {one : List Lexeme → Read Y} {Then : List Token → Type 0}
+    (spell_any : List A → List Token → List Token) → Row make spell (λ xs more. Some_of xs) May one
+    → ((more : List Token) → Then more → May more × Unless goes more)
+    → ((x : A) (xs : List A) (more : List Token) → begins goes (spell (x ∷ xs) more) ≡ true)
+    → ((more : List Token) → spell_any [] more ≡ more)
+    → ((x : A) (xs : List A) (more : List Token) → spell_any (x ∷ xs) more ≡ spell (x ∷ xs) more)
+    → Row make spell_any (λ xs more. Unit {0}) Then (λ ls. cond (first_is goes ls) (one ls) (Ok (make [], ls)))
+maybe_some {A} {Y} goes {make} {spell} {May} {one} {Then} spell_any row ends starts none some =
+    recast (optional goes (make []) row ends begun) there back where
+  begun : (xs : List A) (more : List Token) → Some_of xs → begins goes (spell xs more) ≡ true
+  begun [] more within = absurd (omega (arith, within))
+  begun (x ∷ xs) more within = starts x xs more
+
+  there : (z : List A ⊎ Unit {0}) (more : List Token) → Either (λ xs more. Some_of xs) (λ u more. Unit {0}) z more
+      → As (either make (λ (u : Unit {0}). make [])) (spell_either spell (λ u more. more)) make spell_any (λ xs more. Unit {0}) z more
+  there (inl []) more within = absurd (omega (arith, within))
+  there (inl (x ∷ xs)) more within = (x ∷ xs, refl, tt, some x xs more)
+  there (inr u) more within = ([], refl, tt, none more)
+
+  back : (xs : List A) (more : List Token) → Unit {0}
+      → As make spell_any (either make (λ (u : Unit {0}). make [])) (spell_either spell (λ u more. more))
+      (Either (λ xs more. Some_of xs) (λ u more. Unit {0})) xs more
+  back [] more within = (inr tt, refl, tt, sym (none more))
+  back (x ∷ xs) more within = (inl (x ∷ xs), refl, omega arith, sym (some x xs more))
+
+-- ---- by the first token
+
+-- What is read behind this token, which begins at any byte: the token and a row spell a thing.
+pub record Arm {A : Type 0} (Spells : A → List Token → List Token → Type 0) (May : List Token → Type 0) (t : Token)
+    (from : ℕ → List Lexeme → Read A) : Type 1 where
+  pub Value : Type 0
+  pub make : Value → A
+  pub spell : Value → List Token → List Token
+  pub Within : Value → List Token → Type 0
+  pub row : (start : ℕ) → Row make spell Within May (from start)
+  pub back : (z : Value) (more : List Token) → Within z more → Spells (make z) (t ∷ spell z more) more
+
+abbrev pub arm : {A Z : Type 0} {Spells : A → List Token → List Token → Type 0} {May : List Token → Type 0}
+    {t : Token} {from : ℕ → List Lexeme → Read A} {make : Z → A} {spell : Z → List Token → List Token}
+    {Within : Z → List Token → Type 0} → ((start : ℕ) → Row make spell Within May (from start))
+    → ((z : Z) (more : List Token) → Within z more → Spells (make z) (t ∷ spell z more) more)
+    → Arm Spells May t from
+arm {A} {Z} {Spells} {May} {t} {from} {make} {spell} {Within} row back =
+    record { Value = Z; make = make; spell = spell; Within = Within; row = row; back = back }
+
+-- no thing begins with this token
+abbrev pub no_arm : {A : Type 0} {Spells : A → List Token → List Token → Type 0} {May : List Token → Type 0} {t : Token}
+    → Arm {A = A} Spells May t (λ start ls. Err (fault.Grammar start))
+no_arm {A} {Spells} {May} {t} = record {
+  Value = ⊥;
+  make = λ z. absurd z;
+  spell = λ z more. more;
+  Within = λ z more. ⊥;
+  row = λ start. record {
+    takes = λ ls y rest h. absurd (no_value (fault.Grammar start) (y, rest) h);
+    again = λ ls z more within may h. absurd within;
+    no_gap = λ z more within. absurd within;
+  };
+  back = λ z more within. absurd within;
+}
+
+-- the same by another spelling
+abbrev pub rearm : {A : Type 0} {Of Spells : A → List Token → List Token → Type 0} {May : List Token → Type 0} {t : Token}
+    {from : ℕ → List Lexeme → Read A} → Arm Of May t from
+    → ((x : A) (tokens more : List Token) → Of x tokens more → Spells x tokens more) → Arm Spells May t from
+rearm {t = t} a same = record {
+  Value = a.Value;
+  make = a.make;
+  spell = a.spell;
+  Within = a.Within;
+  row = a.row;
+  back = λ z more within. same (a.make z) (t ∷ a.spell z more) more (a.back z more within);
+}
+
+module _ {A : Type 0} {Spells : A → List Token → List Token → Type 0} {May : List Token → Type 0}
+    (from : Token → ℕ → List Lexeme → Read A) (arms : (t : Token) → Arm Spells May t (from t)) where
+  -- the first token and the values behind it as the parts of a thing
+  abbrev pub Begun : A → List Token → List Token → Type 0
+  Begun x tokens more = (t : Token) × (z : (arms t).Value) × ((arms t).make z ≡ x) × (arms t).Within z more
+      × (t ∷ (arms t).spell z more ≡ tokens)
+
+  module _ (parts : (x : A) (tokens more : List Token) → Spells x tokens more → Begun x tokens more) where
+    pub token_longer : (x : A) (tokens more : List Token) → Spells x tokens more → length more < length tokens
+    token_longer x tokens more is =
+        let p = parts x tokens more is in
+        omega (arith, ap length p.4, ((arms p.0).row 0).no_gap p.1 more p.3)
+
+    pub by_token : (s : Scope) → ReaderBy Spells May (λ ls. and_then (next s ls) (λ l. from l.0.token l.0.start l.1))
+    by_token s = record {
+      takes = λ ls x rest h.
+          let f = bind_ok (next s ls) (λ (l : Lexeme × List Lexeme). from l.0.token l.0.start l.1) (x, rest) h in
+          let r = ((arms f.0.0.token).row f.0.0.start).takes f.0.1 x rest f.2 in
+          let same = ap kinds (next_takes s ls f.0.0 f.0.1 f.1) ∙ ap (λ (ts : List Token). f.0.0.token ∷ ts) r.3 in
+          ((x, kinds ls), refl, subst (λ (y : A). Spells y (kinds ls) (kinds rest)) r.1
+          (subst (λ (ts : List Token). Spells ((arms f.0.0.token).make r.0) ts (kinds rest)) (sym same)
+          ((arms f.0.0.token).back r.0 (kinds rest) r.2)), refl);
+      again = λ ls z more within may h. again ls z.0 more (subst (λ (ts : List Token). Spells z.0 ts more) (sym h) within) may;
+      no_gap = λ z more within. omega (arith, token_longer z.0 z.1 more within);
+    } where
+      again : (ls : List Lexeme) (x : A) (more : List Token) → Spells x (kinds ls) more → May more → (rest : List Lexeme)
+          × (and_then (next s ls) (λ l. from l.0.token l.0.start l.1) ≡ Ok (x, rest)) × (kinds rest ≡ more)
+      again [] x more is may = absurd (omega (arith, token_longer x [] more is))
+      again (l ∷ ls) x more is may =
+          let p = parts x (kinds (l ∷ ls)) more is in
+          let behind_it = (arms p.0).spell p.1 more in
+          let a = ((arms p.0).row l.start).again ls p.1 more p.3 may (kinds_of l ls p.0 behind_it (sym p.4)) in
+          (a.0, bound (next s (l ∷ ls)) (l, ls) (λ (k : Lexeme × List Lexeme). from k.0.token k.0.start k.1) (Ok (x, a.0))
+          (next_again s l ls)
+          (subst (λ (k : Token). from k l.start ls ≡ Ok (x, a.0)) (sym (kind_of l ls p.0 behind_it (sym p.4)))
+          (subst (λ (y : A). from p.0 l.start ls ≡ Ok (y, a.0)) p.2 a.1)), a.2)
+
+-- the same of things that have one spelling
+abbrev pub Exactly : {A : Type 0} → (A → List Token → List Token) → (A → Type 0) → A → List Token → List Token → Type 0
+Exactly spell Within x tokens more = Within x × (tokens ≡ spell x more)
+
+pub exactly : {A : Type 0} {spell : A → List Token → List Token} {Within : A → Type 0} {May : List Token → Type 0}
+    {one : List Lexeme → Read A} → ReaderBy (Exactly spell Within) May one → Reader spell Within May one
+exactly {A} {spell} {Within} row =
+    recast row (λ z more within. (z.0, refl, within.0, sym within.1))
+    (λ x more within. ((x, spell x more), refl, (within, refl), refl))
+
+-- ---- one after another
+
+-- what holds of each, with those behind it
+abbrev pub EachWithin : {Z : Type 0} → (Z → List Token → List Token) → (Z → List Token → Type 0) → List Z → List Token
+    → Type 0
+EachWithin spell Within [] more = Unit {0}
+EachWithin spell Within (z ∷ zs) more = Within z (spell_all spell zs more) × EachWithin spell Within zs more
+
+-- a reader of one by its number, whose spelling begins as this test says, and is longer than nothing
+pub record Elements {Z A : Type 0} (goes : Token → Bool) (make : Z → A) (spell : Z → List Token → List Token)
+    (Within : Z → List Token → Type 0) (one : ℕ → List Lexeme → Read A) : Type 0 where
+  pub laws : (i : ℕ) → Row make spell Within Anything (one i)
+  pub starts : (z : Z) (more : List Token) → Within z more → begins goes (spell z more) ≡ true
+  pub longer : (z : Z) (more : List Token) → Within z more → length more < length (spell z more)
+
+module _ {Z A : Type 0} {goes : Token → Bool} {make : Z → A} {spell : Z → List Token → List Token}
+    {Within : Z → List Token → Type 0} {one : ℕ → List Lexeme → Read A} (all : Elements goes make spell Within one) where
+  -- fewer tokens are left
+  pub shortens : (i : ℕ) (ls : List Lexeme) (x : A) (rest : List Lexeme) → one i ls ≡ Ok (x, rest)
+      → length rest < length ls
+  shortens i ls x rest h =
+      let t = (all.laws i).takes ls x rest h in
+      omega (arith, all.longer t.0 (kinds rest) t.2, ap length t.3, kinds_length ls, kinds_length rest)
+
+  abbrev Taken : List Lexeme → List A → List Lexeme → Type 0
+  Taken ls xs rest = (zs : List Z) × (map make zs ≡ xs) × EachWithin spell Within zs (kinds rest)
+      × (kinds ls ≡ spell_all spell zs (kinds rest))
+
+  all_taken : (i n : ℕ) (ls : List Lexeme) (xs : List A) (rest : List Lexeme) → many goes one i n ls ≡ Ok (xs, rest)
+      → Taken ls xs rest
+  unfolding many
+  all_taken i zero ls xs rest h =
+      moved (λ (p : List A × List Lexeme). Taken ls p.0 p.1) ([], ls) (xs, rest) h ([], refl, tt, refl)
+  all_taken i (suc n) ls xs rest h =
+      by_test (first_is goes ls) (and_then (one i ls) (λ x. and_then {B = List A × List Lexeme}
+      (many goes one (i + 1) n x.1) (λ ys. Ok (x.0 ∷ ys.0, ys.1)))) (Ok ([], ls)) (Ok (xs, rest)) h
+      (λ _ e.
+      let a = bind_ok _ _ _ e in
+      let b = bind_ok _ _ _ a.2 in
+      let f = (all.laws i).takes ls a.0.0 a.0.1 a.1 in
+      let r = all_taken (i + 1) n a.0.1 b.0.0 b.0.1 b.1 in
+      moved (λ (p : List A × List Lexeme). Taken ls p.0 p.1) (a.0.0 ∷ b.0.0, b.0.1) (xs, rest) b.2
+      (f.0 ∷ r.0, rw (f.1, r.1) refl, (subst (Within f.0) r.3 f.2, r.2), f.3 ∙ ap (spell f.0) r.3))
+      (λ _ e. moved (λ (p : List A × List Lexeme). Taken ls p.0 p.1) ([], ls) (xs, rest) e ([], refl, tt, refl))
+
+  stop_at : (i n : ℕ) (ls : List Lexeme) → first_is goes ls ≡ false → many goes one i n ls ≡ Ok ([], ls)
+  unfolding many
+  stop_at i zero ls f = refl
+  stop_at i (suc n) ls f = rw f refl
+
+  turn_at : (i n : ℕ) (ls : List Lexeme) (x : A) (xs : List A) (rest after : List Lexeme) → first_is goes ls ≡ true
+      → one i ls ≡ Ok (x, rest) → many goes one (i + 1) n rest ≡ Ok (xs, after)
+      → many goes one i (suc n) ls ≡ Ok (x ∷ xs, after)
+  unfolding many and_then
+  turn_at i n ls x xs rest after f o m = rw (f, o, m) refl
+
+  all_again : (i n : ℕ) (ls : List Lexeme) (zs : List Z) (more : List Token) → length ls ≤ n
+      → EachWithin spell Within zs more → Unless goes more → kinds ls ≡ spell_all spell zs more
+      → (rest : List Lexeme) × (many goes one i n ls ≡ Ok (map make zs, rest)) × (kinds rest ≡ more)
+  all_again i n ls [] more room within ends h =
+      (ls, stop_at i n ls (first_begins goes ls ∙ ap (begins goes) h ∙ ends), h)
+  all_again i zero ls (z ∷ zs) more room within ends h =
+      absurd (omega (arith, room, all.longer z (spell_all spell zs more) within.0, ap length h, kinds_length ls))
+  all_again i (suc n) ls (z ∷ zs) more room within ends h =
+      let o = (all.laws i).again ls z (spell_all spell zs more) within.0 tt h in
+      let less = shortens i ls (make z) o.0 o.1 in
+      let r = all_again (i + 1) n o.0 zs more (omega (arith, less, room)) within.1 ends o.2 in (
+        r.0,
+        turn_at i n ls (make z) (map make zs) o.0 r.0
+            (first_begins goes ls ∙ ap (begins goes) h ∙ all.starts z (spell_all spell zs more) within.0) o.1 r.1,
+        r.2,
+      )
+
+  each_gapless : (zs : List Z) (more : List Token) → EachWithin spell Within zs more
+      → length more ≤ length (spell_all spell zs more)
+  each_gapless [] more within = omega arith
+  each_gapless (z ∷ zs) more within =
+      omega (arith, all.longer z (spell_all spell zs more) within.0, each_gapless zs more within.1)
+
+  pub each : (i : ℕ) → Row {Z = List Z} (λ zs. map make zs) (spell_all spell) (EachWithin spell Within) (Unless goes)
+      (λ ls. many goes one i (length ls) ls)
+  each i = record {
+    takes = λ ls xs rest h. all_taken i (length ls) ls xs rest h;
+    again = λ ls zs more within may h. all_again i (length ls) ls zs more (omega arith) within may h;
+    no_gap = λ zs more within. each_gapless zs more within;
+  }
+
+map_same : {A : Type 0} (xs : List A) → map (λ x. x) xs ≡ xs
+map_same [] = refl
+map_same (x ∷ xs) = ap (λ ys. x ∷ ys) (map_same xs)
+
+module _ {A : Type 0} (spell : A → List Token → List Token) (Within : A → Type 0) where
+  all_of : (xs : List A) (more : List Token) → EachWithin spell (λ x more. Within x) xs more → AllByRecursion Within xs
+  all_of [] more within = tt
+  all_of (x ∷ xs) more within = (within.0, all_of xs more within.1)
+
+  of_all : (xs : List A) (more : List Token) → AllByRecursion Within xs → EachWithin spell (λ x more. Within x) xs more
+  of_all [] more within = tt
+  of_all (x ∷ xs) more within = (within.0, of_all xs more within.1)
+
+-- things that have one spelling
+pub each_of : {A : Type 0} {goes : Token → Bool} {spell : A → List Token → List Token} {Within : A → Type 0}
+    {one : ℕ → List Lexeme → Read A} → Elements goes (λ x. x) spell (λ x more. Within x) one → (i : ℕ)
+    → Reader (spell_all spell) (AllByRecursion Within) (Unless goes) (λ ls. many goes one i (length ls) ls)
+each_of {A} {goes} {spell} {Within} {one} all i =
+    reads (each all i)
+    (λ xs more within. (subst (AllByRecursion Within) (sym (map_same xs)) (all_of spell Within xs more within),
+    ap (λ ys. spell_all spell ys more) (sym (map_same xs))))
+    (λ xs more within. (xs, map_same xs, of_all spell Within xs more within))
+
+-- things that may have many
+module _ {A : Type 0} (Spells : A → List Token → List Token → Type 0) (Within : A → Type 0) where
+  abbrev Both : A → List Token → List Token → Type 0
+  Both x tokens more = Spells x tokens more × Within x
+
+  abbrev tokens_of : A × List Token → List Token → List Token
+  tokens_of z more = z.1
+
+  abbrev All : List A → List Token → List Token → Type 0
+  All xs tokens more = SpellsAll Spells xs tokens more × AllByRecursion Within xs
+
+  all_by : (zs : List (A × List Token)) (more : List Token)
+      → EachWithin tokens_of (λ z more. Both z.0 z.1 more) zs more
+      → All (map (λ z. z.0) zs) (spell_all tokens_of zs more) more
+  all_by [] more within = (refl, tt)
+  all_by (z ∷ zs) more within =
+      let r = all_by zs more within.1 in
+      ((spell_all tokens_of zs more, within.0.0, r.0), (within.0.1, r.1))
+
+  by_all : (xs : List A) (tokens more : List Token) → SpellsAll Spells xs tokens more → AllByRecursion Within xs
+      → (zs : List (A × List Token)) × (map (λ z. z.0) zs ≡ xs)
+      × EachWithin tokens_of (λ z more. Both z.0 z.1 more) zs more × (spell_all tokens_of zs more ≡ tokens)
+  by_all [] tokens more h within = ([], refl, tt, sym h)
+  by_all (x ∷ xs) tokens more (others, first, rest) within =
+      let r = by_all xs others more rest within.1 in
+      ((x, tokens) ∷ r.0, ap (λ ys. x ∷ ys) r.1,
+      ((subst (Spells x tokens) (sym r.3) first, within.0), r.2), refl)
+
+  pub each_by : {goes : Token → Bool} {one : ℕ → List Lexeme → Read A}
+      → Elements {Z = A × List Token} goes (λ z. z.0) tokens_of (λ z more. Both z.0 z.1 more) one
+      → (i : ℕ) → ReaderBy All (Unless goes) (λ ls. many goes one i (length ls) ls)
+  each_by all i = reads_by (each all i) all_by (λ xs tokens more is. by_all xs tokens more is.0 is.1)
+
+-- ---- one or more, with commas between them
+
+abbrev pub is_comma : Token → Bool
+is_comma = is_mark mark_.Comma
+
+module _ {A : Type 0} {spell : A → List Token → List Token} {Within : A → Type 0} {one : List Lexeme → Read A} (s : Scope)
+    (row : Reader spell Within Anything one) where
+  pub further_ones : Elements is_comma (λ x. x) (spell_further spell) (λ x more. Within x) (further s one)
+  unfolding further
+  further_ones = record {
+    laws = λ i. behind (this_mark s mark_.Comma) row;
+    starts = λ x more within. refl;
+    longer = λ x more within. omega (arith, row.no_gap x more within);
+  }
+
+  pub with_commas : Reader (spell_list spell) (λ xs. (0 < length xs) × AllByRecursion Within xs) (Unless is_comma)
+      (separated s one)
+  unfolding separated
+  with_commas =
+      reads (bind row (λ x. bind (each_of further_ones 1) (λ xs. done (x ∷ xs)) (λ z more within may. may))
+      (λ z more within may. tt))
+      (λ z more within. ((omega arith, (within.0, within.1.0)), refl))
+      parts where
+    parts : (xs : List A) (more : List Token) → (0 < length xs) × AllByRecursion Within xs
+        → (z : A × (List A × Unit {0})) × (z.0 ∷ z.1.0 ≡ xs)
+        × (Within z.0 × (AllByRecursion Within z.1.0 × Unit {0}))
+    parts [] more within = absurd (omega (arith, within.0))
+    parts (x ∷ xs) more within = ((x, (xs, tt)), refl, (within.1.0, (within.1.1, tt)))
+
+pub all_free : {A : Type 0} (xs : List A) → AllByRecursion Free xs
+all_free [] = tt
+all_free (x ∷ xs) = (tt, all_free xs)
+
+pub some_of : {A : Type 0} {spell : List A → List Token → List Token} {May : List Token → Type 0}
+    {one : List Lexeme → Read (List A)} → Reader spell (λ xs. (0 < length xs) × AllByRecursion Free xs) May one → Reader spell Some_of May one
+some_of row = reads row (λ xs more within. (within.0, refl)) (λ xs more within. (xs, refl, (within, all_free xs)))
