@@ -1,5 +1,5 @@
 -- Arrays and tables: what is read is spelled so, and what is spelled so is read.
-use Rattle.std.proofs.Common.{◌≡◌, ℕ, zero, suc, ◌==◌, ◌<◌, Bool, true, false, cond, List, [], ◌∷◌, length, Option, Some, None, Ok, refl, sym, ap, arith}
+use Rattle.std.proofs.Common.{◌≡◌, ℕ, zero, suc, ◌==◌, ◌<◌, Bool, true, false, cond, List, ◌∷◌, length, Some, None, Ok, refl, sym, ap, arith}
 use Rattle.std.specs.List.{AllByRecursion}
 use Rattle.std.proofs.lemmas.Bool.{ne_eqb}
 use Rattle.kpn_text_tokens.specs.declared.tokens.Lexeme.{Lexeme}
@@ -12,7 +12,8 @@ use Rattle.kpn_text_grammar.specs.Syntax.{Table, Declaration, array, table}
 use Rattle.kpn_text_grammar.specs.Spelling.{spell_all, spell_list, spell_literal, spell_number, spell_table, spell_declaration, TableIsWithin, DeclarationIsWithin}
 use Rattle.kpn_text_grammar.specs.TokenTests.{is_keyword}
 use Rattle.kpn_text_grammar.specs.Reading.{token_size, size, array_behind, table_behind, declaration_behind, declaration, declares, declarations, shared_table, shared_tables}
-use Rattle.kpn_text_grammar.proofs.Readers.{Reader, Anything, Unless, done, this_mark, this_keyword, behind, value, bind, reads, a_name, a_token, Arm, arm, no_arm, Begun, by_token, token_longer, Exactly, exactly, begins, Elements, each_of, shortens}
+use Rattle.kpn_text_grammar.proofs.Steps.{this_mark, this_keyword}
+use Rattle.kpn_text_grammar.proofs.Readers.{Reader, Anything, Unless, done, behind, value, bind, reads, a_name, a_token, Arm, arm, no_arm, Begun, by_token, token_longer, Exactly, exactly, begins, Elements, each_of, shortens}
 use Rattle.kpn_text_grammar.proofs.ValueLaws.{values_reads}
 
 -- ---- the size of an array
@@ -56,7 +57,7 @@ unfolding table_behind
 table_reads s =
     reads (value (a_name s) (λ x. behind (this_mark s mark_.Assign) (bind (values_reads s)
     (λ vs. behind (this_mark s mark_.Semicolon) (done (record { name = x; values = vs })))
-    (λ z more within may. refl))))
+    (λ x z more within may. refl))))
     (λ z more within. (within.1.0, refl)) (λ t more within. ((t.name, (t.values, tt)), refl, (tt, (within, tt))))
 
 -- the tables in front of the processes
@@ -96,8 +97,8 @@ declaration_parts : (s : Scope) (d : Declaration) (tokens more : List Token)
     → Begun (declaration_behind s) (declaration_arms s) d tokens more
 unfolding declaration_arms
 declaration_parts s (array x n) tokens more is =
-    (token.Keyword keyword_.Array, (x, (n, tt)), refl, (tt, (is.0, tt)), sym is.1)
-declaration_parts s (table t) tokens more is = (token.Keyword keyword_.Table, (t, tt), refl, (is.0, tt), sym is.1)
+    ((token.Keyword keyword_.Array, (x, (n, tt))), refl, (tt, (is.0, tt)), sym is.1)
+declaration_parts s (table t) tokens more is = ((token.Keyword keyword_.Table, (t, tt)), refl, (is.0, tt), sym is.1)
 
 declaration_reads : (s : Scope) (i : ℕ) → Reader spell_declaration DeclarationIsWithin Anything (declaration s i)
 unfolding declaration

@@ -1,5 +1,5 @@
 -- A whole description: it is read if and only if the tokens spell it within the limits, and tokens spell one at most.
-use Rattle.std.proofs.Common.{◌≡◌, false, List, [], ◌∷◌, map, Ok, refl, sym, ap, subst, ◌∙◌}
+use Rattle.std.proofs.Common.{◌≡◌, List, [], ◌∷◌, map, Ok, refl, sym, ap, subst, ◌∙◌}
 use Rattle.kpn_text_tokens.specs.declared.tokens.Language.{Language}
 use Rattle.kpn_text_tokens.specs.declared.tokens.Language.TheVariants as language
 use Rattle.kpn_text_tokens.specs.declared.tokens.Lexeme.{Lexeme}
@@ -12,7 +12,7 @@ use Rattle.kpn_text_grammar.specs.Spelling.{kinds, SpellsAll, SpellsProcess, spe
 use Rattle.kpn_text_tokens.specs.Results.{and_then}
 use Rattle.kpn_text_grammar.specs.TokenTests.{is_keyword}
 use Rattle.kpn_text_grammar.specs.Reading.{keyword, language_at, mark, opening, shared_tables, processes, network, at_end, contents, description, two}
-use Rattle.kpn_text_grammar.proofs.Steps.{bind_ok, keyword_again, keyword_takes, mark_again, mark_takes, moved, ok_is, two_again, two_takes}
+use Rattle.kpn_text_grammar.proofs.Steps.{bind_ok, moved, ok_is, this_keyword, this_mark, this_two}
 use Rattle.kpn_text_grammar.proofs.Readers.{Unless, begins}
 use Rattle.kpn_text_grammar.proofs.CanonicalLaws.{by_rules, description_rules}
 use Rattle.kpn_text_grammar.proofs.DeclarationLaws.{shared_reads}
@@ -67,9 +67,9 @@ unfolding opening
 opening_takes s ls rest h =
     let k = bind_ok _ _ _ h in
     let n = bind_ok _ _ _ k.2 in
-    let word = keyword_takes s keyword_.Language ls k.0 k.1 in
-    let number = two_takes s k.0 n.0 n.1 in
-    let close = mark_takes s mark_.Semicolon n.0 rest n.2 in
+    let word = (this_keyword s keyword_.Language).takes ls k.0 k.1 in
+    let number = (this_two s).takes k.0 n.0 n.1 in
+    let close = (this_mark s mark_.Semicolon).takes n.0 rest n.2 in
     rw (word, number, close) refl
 
 language_takes : (s : Scope) (l : Language) (ls rest : List Lexeme) → language_at s l ls ≡ Ok rest
@@ -117,9 +117,9 @@ language_again : (s : Scope) (l : Language) (ls : List Lexeme) (more : List Toke
 unfolding language_at
 language_again s language.One ls more h = (ls, refl, h)
 language_again s language.Two ls more h =
-    let k = keyword_again s keyword_.Language ls _ h in
-    let n = two_again s k.0 _ k.2 in
-    let m = mark_again s mark_.Semicolon n.0 more n.2 in
+    let k = (this_keyword s keyword_.Language).again ls _ h in
+    let n = (this_two s).again k.0 _ k.2 in
+    let m = (this_mark s mark_.Semicolon).again n.0 more n.2 in
     (m.0, opening_at s ls k.0 n.0 m.0 k.1 n.1 m.1, m.2)
 
 description_at : (s : Scope) (d : Description) (ls rest : List Lexeme) → language_at s s.language ls ≡ Ok rest

@@ -1,18 +1,18 @@
 -- Lists of names and the head of a process: what is read is spelled so, and what is spelled so is read.
-use Rattle.std.proofs.Common.{◌≡◌, ◌⊎◌, inl, inr, ℕ, ◌+◌, ◌<◌, Bool, true, false, List, [], ◌∷◌, length, Ok, refl, sym, ap, subst, ◌∙◌, arith}
+use Rattle.std.proofs.Common.{◌≡◌, ◌⊎◌, inl, inr, ℕ, ◌+◌, ◌<◌, Bool, false, List, [], ◌∷◌, length, Ok, refl, sym, ap, subst, ◌∙◌, arith}
 use Rattle.kpn_text_tokens.specs.declared.tokens.Lexeme.{Lexeme}
 use Rattle.kpn_text_tokens.specs.declared.tokens.Token.{Token}
 use Rattle.kpn_text_tokens.specs.declared.tokens.Token.TheVariants as token
 use Rattle.kpn_text_tokens.specs.declared.tokens.Mark.TheVariants as mark_
-use Rattle.kpn_text_tokens.specs.declared.tokens.Keyword.{Keyword}
 use Rattle.kpn_text_tokens.specs.declared.tokens.Keyword.TheVariants as keyword_
 use Rattle.kpn_text_grammar.specs.declared.parser.Scope.{Scope}
 use Rattle.kpn_text_grammar.specs.Syntax.{NameBytes}
-use Rattle.kpn_text_grammar.specs.Spelling.{spell_name, spell_names, spell_later_part, spell_parts}
+use Rattle.kpn_text_grammar.specs.Spelling.{spell_names, spell_later_part, spell_parts}
 use Rattle.kpn_text_grammar.specs.TokenTests.{is_mark, is_name}
 use Rattle.kpn_text_grammar.specs.Reading.{next, name, further, names, optional_names, HeadParts, after_outs, outs_or_pars, after_ins, parts_behind, parts}
 use Rattle.kpn_text_tokens.specs.Results.{and_then}
-use Rattle.kpn_text_grammar.proofs.Readers.{Row, Reader, Anything, Free, Unless, done, this_mark, this_keyword, behind, value, bind, As, recast, reads, choice, optional, mapped, maybe_some, a_name, Arm, arm, no_arm, rearm, Begun, by_token, Exactly, exactly, begins, either, spell_either, Either, Some_of, some_of, is_comma, further_ones, with_commas, shortens}
+use Rattle.kpn_text_grammar.proofs.Steps.{this_mark, this_keyword}
+use Rattle.kpn_text_grammar.proofs.Readers.{Row, Reader, Free, Unless, done, behind, bind, As, recast, reads, choice, optional, mapped, maybe_some, a_name, Arm, arm, no_arm, rearm, Begun, by_token, Exactly, exactly, begins, either, spell_either, Either, Some_of, some_of, is_comma, further_ones, with_commas, shortens}
 
 -- ---- names
 
@@ -94,7 +94,7 @@ outs_arms : (s : Scope) (ins : List NameBytes) (t : Token)
     → Arm (Exactly spell_behind (Behind ins)) Closes t (outs_or_pars s ins t)
 unfolding outs_or_pars
 outs_arms s ins (token.Keyword keyword_.Out) =
-    arm (λ start. bind (names_reads s) (after_outs_row s ins) (λ pars more within may. pars_end pars more may))
+    arm (λ start. bind (names_reads s) (after_outs_row s ins) (λ outs pars more within may. pars_end pars more may))
     (λ z more within.
     (record { same = refl; some = omega (arith, within.0) }, spell_outs z.0 z.1 more within.0))
 outs_arms s ins (token.Keyword keyword_.Par) =
@@ -106,9 +106,9 @@ outs_begin : (s : Scope) (ins outs pars : List NameBytes) (tokens more : List To
     → tokens ≡ spell_parts [] outs pars more → Begun (outs_or_pars s ins) (outs_arms s ins) (of_parts ins outs pars) tokens more
 unfolding outs_arms
 outs_begin s ins [] [] tokens more some h = absurd (omega (arith, some))
-outs_begin s ins [] (x ∷ xs) tokens more some h = (token.Keyword keyword_.Par, x ∷ xs, refl, omega arith, sym h)
+outs_begin s ins [] (x ∷ xs) tokens more some h = ((token.Keyword keyword_.Par, x ∷ xs), refl, omega arith, sym h)
 outs_begin s ins (x ∷ xs) pars tokens more some h =
-    (token.Keyword keyword_.Out, (x ∷ xs, pars), refl, (omega arith, tt), sym h)
+    ((token.Keyword keyword_.Out, (x ∷ xs, pars)), refl, (omega arith, tt), sym h)
 
 with_ins : (p : HeadParts) (ins : List NameBytes) → p.ins ≡ ins → of_parts ins p.outs p.pars ≡ p
 with_ins p ins h = ap (λ xs. of_parts xs p.outs p.pars) (sym h)
@@ -137,23 +137,23 @@ unfolding after_ins
 after_ins_row s ins =
     recast (optional semicolon (of_parts ins [] []) (behind (this_mark s mark_.Semicolon) (outs_reads s ins))
     (λ more may. (may, closes_not semicolon more may refl)) (λ p more is. refl)) there back where
-  there : (z : HeadParts ⊎ Unit {0}) (more : List Token) → Either (λ p more. Behind ins p) (λ u more. Unit {0}) z more
-      → As (either (λ p. p) (λ (u : Unit {0}). of_parts ins [] []))
-      (spell_either (λ p more. token.Mark mark_.Semicolon ∷ spell_behind p more) (λ u more. more))
-      (λ (w : List NameBytes × List NameBytes). of_parts ins w.0 w.1) spell_after_ins (λ w more. Unit {0}) z more
-  there (inl p) more is = ((p.outs, p.pars), with_ins p ins is.same, tt, later_outs p.outs p.pars more is.some)
-  there (inr u) more is = (([], []), refl, tt, refl)
+      there : (z : HeadParts ⊎ Unit {0}) (more : List Token) → Either (λ p more. Behind ins p) (λ u more. Unit {0}) z more
+          → As (either (λ p. p) (λ (u : Unit {0}). of_parts ins [] []))
+          (spell_either (λ p more. token.Mark mark_.Semicolon ∷ spell_behind p more) (λ u more. more))
+          (λ (w : List NameBytes × List NameBytes). of_parts ins w.0 w.1) spell_after_ins (λ w more. Unit {0}) z more
+      there (inl p) more is = ((p.outs, p.pars), with_ins p ins is.same, tt, later_outs p.outs p.pars more is.some)
+      there (inr u) more is = (([], []), refl, tt, refl)
 
-  back : (w : List NameBytes × List NameBytes) (more : List Token) → Unit {0}
-      → As (λ (w : List NameBytes × List NameBytes). of_parts ins w.0 w.1) spell_after_ins
-      (either (λ p. p) (λ (u : Unit {0}). of_parts ins [] []))
-      (spell_either (λ p more. token.Mark mark_.Semicolon ∷ spell_behind p more) (λ u more. more))
-      (Either (λ p more. Behind ins p) (λ u more. Unit {0})) w more
-  back ([], []) more is = (inr tt, refl, tt, refl)
-  back ([], x ∷ xs) more is =
-      (inl (of_parts ins [] (x ∷ xs)), refl, record { same = refl; some = omega arith }, refl)
-  back (x ∷ xs, pars) more is =
-      (inl (of_parts ins (x ∷ xs) pars), refl, record { same = refl; some = omega arith }, refl)
+      back : (w : List NameBytes × List NameBytes) (more : List Token) → Unit {0}
+          → As (λ (w : List NameBytes × List NameBytes). of_parts ins w.0 w.1) spell_after_ins
+          (either (λ p. p) (λ (u : Unit {0}). of_parts ins [] []))
+          (spell_either (λ p more. token.Mark mark_.Semicolon ∷ spell_behind p more) (λ u more. more))
+          (Either (λ p more. Behind ins p) (λ u more. Unit {0})) w more
+      back ([], []) more is = (inr tt, refl, tt, refl)
+      back ([], x ∷ xs) more is =
+          (inl (of_parts ins [] (x ∷ xs)), refl, record { same = refl; some = omega arith }, refl)
+      back (x ∷ xs, pars) more is =
+          (inl (of_parts ins (x ∷ xs) pars), refl, record { same = refl; some = omega arith }, refl)
 
 -- from the first token on
 abbrev spell_head_parts : HeadParts → List Token → List Token
@@ -170,7 +170,7 @@ spell_ins (x ∷ xs) outs pars more some = refl
 parts_arms : (s : Scope) (t : Token) → Arm (Exactly spell_head_parts IsSome) Closes t (parts_behind s t)
 unfolding parts_behind
 parts_arms s (token.Keyword keyword_.In) =
-    arm (λ start. bind (names_reads s) (after_ins_row s) (λ z more within may. outs_end z.0 z.1 more may))
+    arm (λ start. bind (names_reads s) (after_ins_row s) (λ x z more within may. outs_end z.0 z.1 more may))
     (λ z more within. (omega (arith, within.0), spell_ins z.0 z.1.0 z.1.1 more within.0))
 parts_arms s t =
     rearm (outs_arms s [] t) (λ p tokens more is.
@@ -181,11 +181,11 @@ parts_begin : (s : Scope) (ins outs pars : List NameBytes) (tokens more : List T
     → Begun (parts_behind s) (parts_arms s) (of_parts ins outs pars) tokens more
 unfolding parts_arms outs_arms
 parts_begin s [] [] [] tokens more some h = absurd (omega (arith, some))
-parts_begin s [] [] (x ∷ xs) tokens more some h = (token.Keyword keyword_.Par, x ∷ xs, refl, omega arith, sym h)
+parts_begin s [] [] (x ∷ xs) tokens more some h = ((token.Keyword keyword_.Par, x ∷ xs), refl, omega arith, sym h)
 parts_begin s [] (x ∷ xs) pars tokens more some h =
-    (token.Keyword keyword_.Out, (x ∷ xs, pars), refl, (omega arith, tt), sym h)
+    ((token.Keyword keyword_.Out, (x ∷ xs, pars)), refl, (omega arith, tt), sym h)
 parts_begin s (x ∷ xs) outs pars tokens more some h =
-    (token.Keyword keyword_.In, (x ∷ xs, (outs, pars)), refl, (omega arith, tt), sym h)
+    ((token.Keyword keyword_.In, (x ∷ xs, (outs, pars))), refl, (omega arith, tt), sym h)
 
 parts_open : (ins outs pars : List NameBytes) (more : List Token) → 0 < length ins + (length outs + length pars)
     → begins (is_mark mark_.RightParen) (spell_parts ins outs pars more) ≡ false
@@ -203,16 +203,16 @@ parts_reads s =
     (λ p tokens more is. parts_begin s p.ins p.outs p.pars tokens more is.0 is.1) s))
     (λ u more within may. (may, ap (begins (is_mark mark_.RightParen)) may.1))
     (λ p more some may. (may, parts_open p.ins p.outs p.pars more some))) back (λ p more free. parts_of p.ins p.outs p.pars more) where
-  back : (z : Unit {0} ⊎ HeadParts) (more : List Token) → Either (λ u more. Unit {0}) (λ p more. IsSome p) z more
-      → Unit {0} × (spell_either (λ u more. more) spell_head_parts z more
-      ≡ spell_head_parts (either (λ (u : Unit {0}). of_parts [] [] []) (λ p. p) z) more)
-  back (inl u) more within = (tt, refl)
-  back (inr p) more within = (tt, refl)
+      back : (z : Unit {0} ⊎ HeadParts) (more : List Token) → Either (λ u more. Unit {0}) (λ p more. IsSome p) z more
+          → Unit {0} × (spell_either (λ u more. more) spell_head_parts z more
+          ≡ spell_head_parts (either (λ (u : Unit {0}). of_parts [] [] []) (λ p. p) z) more)
+      back (inl u) more within = (tt, refl)
+      back (inr p) more within = (tt, refl)
 
-  parts_of : (ins outs pars : List NameBytes) (more : List Token) → (z : Unit {0} ⊎ HeadParts)
-      × (either (λ (u : Unit {0}). of_parts [] [] []) (λ p. p) z ≡ of_parts ins outs pars)
-      × Either (λ u more. Unit {0}) (λ p more. IsSome p) z more
-  parts_of [] [] [] more = (inl tt, refl, tt)
-  parts_of [] [] (x ∷ xs) more = (inr (of_parts [] [] (x ∷ xs)), refl, omega arith)
-  parts_of [] (x ∷ xs) pars more = (inr (of_parts [] (x ∷ xs) pars), refl, omega arith)
-  parts_of (x ∷ xs) outs pars more = (inr (of_parts (x ∷ xs) outs pars), refl, omega arith)
+      parts_of : (ins outs pars : List NameBytes) (more : List Token) → (z : Unit {0} ⊎ HeadParts)
+          × (either (λ (u : Unit {0}). of_parts [] [] []) (λ p. p) z ≡ of_parts ins outs pars)
+          × Either (λ u more. Unit {0}) (λ p more. IsSome p) z more
+      parts_of [] [] [] more = (inl tt, refl, tt)
+      parts_of [] [] (x ∷ xs) more = (inr (of_parts [] [] (x ∷ xs)), refl, omega arith)
+      parts_of [] (x ∷ xs) pars more = (inr (of_parts [] (x ∷ xs) pars), refl, omega arith)
+      parts_of (x ∷ xs) outs pars more = (inr (of_parts (x ∷ xs) outs pars), refl, omega arith)

@@ -10,7 +10,7 @@ pub mod NetworkLaws
 pub mod StatementLaws
 pub mod Steps
 pub mod TermLaws
-pub mod TightAgain
+pub mod TightReads
 pub mod TightLaws
 pub mod TightSteps
 pub mod ValueLaws

@@ -1,6 +1,5 @@
 -- The items of a network and the network: what is read is spelled so, and what is spelled so is read.
-use Rattle.std.proofs.Common.{◌≡◌, ◌⊎◌, inl, inr, ℕ, ◌<◌, Bool, true, false, List, [], ◌∷◌, length, Option, Some, None, Ok, refl, sym, ap, ◌∙◌, arith}
-use Rattle.std.specs.List.{AllByRecursion}
+use Rattle.std.proofs.Common.{◌≡◌, ◌⊎◌, inl, inr, ℕ, ◌<◌, Bool, true, false, List, [], ◌∷◌, length, Option, Some, None, Ok, refl, sym, ap}
 use Rattle.kpn_text_tokens.specs.declared.tokens.Lexeme.{Lexeme}
 use Rattle.kpn_text_tokens.specs.declared.tokens.Token.{Token}
 use Rattle.kpn_text_tokens.specs.declared.tokens.Token.TheVariants as token
@@ -10,13 +9,13 @@ use Rattle.kpn_text_tokens.specs.declared.tokens.Keyword.TheVariants as keyword_
 use Rattle.kpn_net.specs.declared.tables.Growth.{Growth}
 use Rattle.kpn_net.specs.declared.tables.Policy.{Policy}
 use Rattle.kpn_text_grammar.specs.declared.parser.Scope.{Scope}
-use Rattle.kpn_text_grammar.specs.Syntax.{NameBytes, Literal, InstanceNode, Item, channel, source, sink, instance, NetworkNode}
+use Rattle.kpn_text_grammar.specs.Syntax.{NameBytes, Literal, Item, channel, source, sink, instance}
 use Rattle.kpn_text_grammar.specs.Words.{growth_word, growth_spelled, policy_word, policy_spelled}
 use Rattle.kpn_text_grammar.specs.Spelling.{spell_all, spell_values, spell_call, spell_item, spell_setting, spell_number, spell_policy_word, spell_growth_word, spell_limit, spell_policy, spell_growth, spell_network}
 use Rattle.kpn_text_grammar.specs.TokenTests.{is_keyword}
 use Rattle.kpn_text_grammar.specs.Reading.{Read, number, stands_in_block, capacity, channel_behind, source_behind, sink_behind, optional_values, call, instance_behind, item_behind, item, items, token_word, word_of, setting, limit, policy, growth, network}
-use Rattle.kpn_text_grammar.proofs.Steps.{is_keyword_same, Spells, growths_spelled, policies_spelled}
-use Rattle.kpn_text_grammar.proofs.Readers.{Row, Reader, Anything, Free, Unless, done, this_mark, this_keyword, behind, value, bind, recast, reads, mapped, a_name, a_number, a_token, optional, maybe_some, either, spell_either, Either, Arm, arm, no_arm, Begun, by_token, token_longer, Exactly, exactly, begins, Elements, each_of, all_free, shortens, is_comma}
+use Rattle.kpn_text_grammar.proofs.Steps.{this_mark, this_keyword, is_keyword_same, Spells, growths_spelled, policies_spelled}
+use Rattle.kpn_text_grammar.proofs.Readers.{Reader, Anything, Free, Unless, done, behind, value, bind, reads, a_name, a_number, a_token, optional, maybe_some, either, spell_either, Either, Arm, arm, no_arm, Begun, by_token, token_longer, Exactly, exactly, begins, Elements, each_of, all_free, shortens, is_comma}
 use Rattle.kpn_text_grammar.proofs.HeadLaws.{semicolon, Closes, closes_not, optional_names_reads}
 use Rattle.kpn_text_grammar.proofs.ValueLaws.{values_reads}
 
@@ -41,13 +40,15 @@ call_reads s x =
     (λ ins. behind (this_mark s mark_.Semicolon) (bind (optional_names_reads s) (λ outs. bind (optional_values_reads s)
     (λ vs. behind (this_mark s mark_.RightParen)
     (done (record { name = x; program = f; ins = ins; outs = outs; values = vs })))
-    (λ z more within may. (more, refl)))
-    (λ z more within may. (values_begin _ z.0 _ refl (more, refl) refl, values_begin _ z.0 _ refl (more, refl) refl))))
-    (λ z more within may. (refl, refl)))))
+    (λ x z more within may. (more, refl)))
+    (λ x z more within may. (values_begin _ z.0 _ refl (more, refl) refl, values_begin _ z.0 _ refl (more, refl) refl))))
+    (λ x z more within may. (refl, refl)))))
     (λ z more within. (refl, refl))
-    (λ i more same. ((i.program, (i.ins, (i.outs, (i.values, tt)))),
-    ap (λ n. record { name = n; program = i.program; ins = i.ins; outs = i.outs; values = i.values }) (sym same),
-    (tt, (tt, (tt, (tt, tt))))))
+    (λ i more same. (
+      (i.program, (i.ins, (i.outs, (i.values, tt)))),
+      ap (λ n. record { name = n; program = i.program; ins = i.ins; outs = i.outs; values = i.values }) (sym same),
+      (tt, (tt, (tt, (tt, tt)))),
+    ))
 
 -- ---- items
 
@@ -76,18 +77,21 @@ item_arms s (token.Keyword keyword_.Sink) =
 item_arms s (token.Name x) =
     arm (λ start. behind (this_mark s mark_.Assign) (value (call_reads s x)
     (λ i. behind (this_mark s mark_.Semicolon) (done (instance i)))))
-    (λ z more within. (tt, ap (λ n. token.Name n ∷ token.Mark mark_.Assign ∷ spell_call z.0
-    (token.Mark mark_.Semicolon ∷ more)) (sym within.0)))
+    (λ z more within. (
+      tt,
+      ap (λ n. token.Name n ∷ token.Mark mark_.Assign ∷ spell_call z.0
+          (token.Mark mark_.Semicolon ∷ more)) (sym within.0),
+    ))
 item_arms s _ = no_arm
 
 item_parts : (s : Scope) (x : Item) (tokens more : List Token) → Exactly spell_item Free x tokens more
     → Begun (item_behind s) (item_arms s) x tokens more
 unfolding item_arms
 item_parts s (channel x n) tokens more is =
-    (token.Keyword keyword_.Channel, (x, (n, tt)), refl, (tt, (tt, tt)), sym is.1)
-item_parts s (source x) tokens more is = (token.Keyword keyword_.Source, (x, tt), refl, (tt, tt), sym is.1)
-item_parts s (sink x n) tokens more is = (token.Keyword keyword_.Sink, (x, (n, tt)), refl, (tt, (tt, tt)), sym is.1)
-item_parts s (instance i) tokens more is = (token.Name i.name, (i, tt), refl, (refl, tt), sym is.1)
+    ((token.Keyword keyword_.Channel, (x, (n, tt))), refl, (tt, (tt, tt)), sym is.1)
+item_parts s (source x) tokens more is = ((token.Keyword keyword_.Source, (x, tt)), refl, (tt, tt), sym is.1)
+item_parts s (sink x n) tokens more is = ((token.Keyword keyword_.Sink, (x, (n, tt))), refl, (tt, (tt, tt)), sym is.1)
+item_parts s (instance i) tokens more is = ((token.Name i.name, (i, tt)), refl, (refl, tt), sym is.1)
 
 item_reads : (s : Scope) (i : ℕ) → Reader spell_item Free Anything (item s i)
 unfolding item
@@ -126,29 +130,29 @@ setting_reads {A} k spell one s row =
     reads (optional (is_keyword k) None (behind (this_keyword s k) (value row
     (λ x. behind (this_mark s mark_.Semicolon) (done {May = Anything} (Some x)))))
     (λ more may. (tt, may)) (λ z more within. is_keyword_same k)) back parts where
-  back : (z : (A × Unit {0}) ⊎ Unit {0}) (more : List Token)
-      → Either (λ z more. Unit {0} × Unit {0}) (λ u more. Unit {0}) z more
-      → Unit {0} × (spell_either (λ z more. token.Keyword k ∷ spell z.0 (token.Mark mark_.Semicolon ∷ more))
-      (λ u more. more) z more ≡ spell_setting k spell (either (λ z. Some z.0) (λ (u : Unit {0}). None) z) more)
-  back (inl z) more within = (tt, refl)
-  back (inr u) more within = (tt, refl)
+      back : (z : (A × Unit {0}) ⊎ Unit {0}) (more : List Token)
+          → Either (λ z more. Unit {0} × Unit {0}) (λ u more. Unit {0}) z more
+          → Unit {0} × (spell_either (λ z more. token.Keyword k ∷ spell z.0 (token.Mark mark_.Semicolon ∷ more))
+          (λ u more. more) z more ≡ spell_setting k spell (either (λ z. Some z.0) (λ (u : Unit {0}). None) z) more)
+      back (inl z) more within = (tt, refl)
+      back (inr u) more within = (tt, refl)
 
-  parts : (x : Option A) (more : List Token) → Unit {0} → (z : (A × Unit {0}) ⊎ Unit {0})
-      × (either (λ z. Some z.0) (λ (u : Unit {0}). None) z ≡ x)
-      × Either (λ z more. Unit {0} × Unit {0}) (λ u more. Unit {0}) z more
-  parts None more within = (inr tt, refl, tt)
-  parts (Some x) more within = (inl (x, tt), refl, (tt, tt))
+      parts : (x : Option A) (more : List Token) → Unit {0} → (z : (A × Unit {0}) ⊎ Unit {0})
+          × (either (λ z. Some z.0) (λ (u : Unit {0}). None) z ≡ x)
+          × Either (λ z more. Unit {0} × Unit {0}) (λ u more. Unit {0}) z more
+      parts None more within = (inr tt, refl, tt)
+      parts (Some x) more within = (inl (x, tt), refl, (tt, tt))
 
 word_reads : {A : Type 0} (meant : NameBytes → Option A) (spelled : A → NameBytes) → Spells meant spelled → (s : Scope)
     → Reader (λ x more. token.Name (spelled x) ∷ more) Free Anything (word_of meant s)
 unfolding word_of
 word_reads {A} meant spelled table s =
     a_token s (token_word meant) (λ x. token.Name (spelled x)) means (λ x within. table.found x) where
-  means : (t : Token) (x : A) → token_word meant t ≡ Some x → (t ≡ token.Name (spelled x)) × Free x
-  means (token.Name n) x h = (ap token.Name (table.back n x h), tt)
-  means (token.Number n) x h = absurd cc
-  means (token.Mark m) x h = absurd cc
-  means (token.Keyword k) x h = absurd cc
+      means : (t : Token) (x : A) → token_word meant t ≡ Some x → (t ≡ token.Name (spelled x)) × Free x
+      means (token.Name n) x h = (ap token.Name (table.back n x h), tt)
+      means (token.Number n) x h = absurd cc
+      means (token.Mark m) x h = absurd cc
+      means (token.Keyword k) x h = absurd cc
 
 limit_reads : (s : Scope) → Reader spell_limit Free (Unless (is_keyword keyword_.Limit)) (limit s)
 unfolding limit
@@ -212,9 +216,9 @@ network_reads s =
     (λ n. bind (policy_reads s) (λ q. bind (growth_reads s) (λ g. bind (items_reads s)
     (λ found. behind (this_mark s mark_.RightBrace)
     (done (record { limit = n; policy = q; growth = g; items = found })))
-    (λ z more within may. refl))
-    (λ z more within may. no_growth z.0 more))
-    (λ z more within may. no_policy z.0 z.1.0 more))
-    (λ z more within may. no_limit z.0 z.1.0 z.1.1.0 more))))
+    (λ x z more within may. refl))
+    (λ x z more within may. no_growth z.0 more))
+    (λ x z more within may. no_policy z.0 z.1.0 more))
+    (λ x z more within may. no_limit z.0 z.1.0 z.1.1.0 more))))
     (λ z more within. (tt, refl))
     (λ n more within. ((n.limit, (n.policy, (n.growth, (n.items, tt)))), refl, (tt, (tt, (tt, (tt, tt))))))

@@ -12,7 +12,8 @@ use Rattle.kpn_text_grammar.specs.Syntax.{ProcessNode}
 use Rattle.kpn_text_grammar.specs.Spelling.{SpellsAll, SpellsProcess, spell_all, spell_declaration, ProcessIsWithin}
 use Rattle.kpn_text_grammar.specs.TokenTests.{is_keyword}
 use Rattle.kpn_text_grammar.specs.Reading.{process, numbered_process, processes}
-use Rattle.kpn_text_grammar.proofs.Readers.{ReaderBy, Anything, Unless, done, this_mark, this_keyword, behind, value, bind, mapped, reads_by, a_name, begins, Elements, each_by, shortens}
+use Rattle.kpn_text_grammar.proofs.Steps.{this_mark, this_keyword}
+use Rattle.kpn_text_grammar.proofs.Readers.{ReaderBy, Anything, Unless, behind, value, bind, mapped, reads_by, a_name, begins, Elements, each_by, shortens}
 use Rattle.kpn_text_grammar.proofs.DeclarationLaws.{declarations_reads}
 use Rattle.kpn_text_grammar.proofs.HeadLaws.{parts_reads}
 use Rattle.kpn_text_grammar.proofs.StatementLaws.{whole_body_reads, no_declaration}
@@ -34,13 +35,24 @@ process_reads s =
       declarations = ds;
       body = body;
     }) (whole_body_reads s) (λ more may. may))
-    (λ z more is may. no_declaration is.0))))
-    (λ z more is may. (_, refl))))))
-    (λ z more is. (record { inside = z.1.1.1.1; head = refl; body = is.1.1.1.0 },
-    record { declarations = is.1.1.0; body = is.1.1.1.1 }))
-    (λ p tokens more is. ((p.name, (record { ins = p.ins; outs = p.outs; pars = p.pars },
-    (p.declarations, (p.body, is.0.inside)))), refl,
-    (tt, (tt, (is.1.declarations, (is.0.body, is.1.body)))), sym is.0.head))
+    (λ x z more is may. no_declaration is.0))))
+    (λ x z more is may. (_, refl))))))
+    (λ z more is. (
+      record { inside = z.1.1.1.1; head = refl; body = is.1.1.1.0 },
+      record { declarations = is.1.1.0; body = is.1.1.1.1 },
+    ))
+    (λ p tokens more is. (
+      (
+        p.name,
+        (
+          record { ins = p.ins; outs = p.outs; pars = p.pars },
+          (p.declarations, (p.body, is.0.inside)),
+        ),
+      ),
+      refl,
+      (tt, (tt, (is.1.declarations, (is.0.body, is.1.body)))),
+      sym is.0.head,
+    ))
 
 process_longer : (s : Scope) (p : ProcessNode) (tokens more : List Token) → ProcessOf s.language p tokens more
     → length more < length tokens

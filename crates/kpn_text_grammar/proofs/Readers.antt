@@ -1,23 +1,21 @@
 -- Readers in a row: the laws of a reader, and how the laws of its steps make them. A reader is a chain of steps, a choice
 -- by the token at the front, or a repetition, as `Reading` defines it.
-use Rattle.std.proofs.Common.{◌≡◌, ◌⊎◌, inl, inr, ℕ, zero, suc, ◌+◌, ◌<◌, ◌≤◌, Bool, true, false, cond, List, [], ◌∷◌, length, map, Option, Some, None, Result, Ok, Err, refl, sym, ap, subst, ◌∙◌, arith}
+use Rattle.std.proofs.Common.{◌≡◌, ◌⊎◌, inl, inr, ℕ, zero, suc, ◌+◌, ◌<◌, ◌≤◌, Bool, true, false, cond, List, [], ◌∷◌, length, map, Option, Some, Result, Ok, Err, refl, sym, ap, subst, ◌∙◌, arith}
 use Rattle.std.proofs.lemmas.List.{length-map}
 use Rattle.std.specs.List.{AllByRecursion}
 use Rattle.kpn_text_tokens.specs.declared.tokens.Lexeme.{Lexeme}
 use Rattle.kpn_text_tokens.specs.declared.tokens.Token.{Token}
 use Rattle.kpn_text_tokens.specs.declared.tokens.Token.TheVariants as token
-use Rattle.kpn_text_tokens.specs.declared.tokens.Mark.{Mark}
 use Rattle.kpn_text_tokens.specs.declared.tokens.Mark.TheVariants as mark_
-use Rattle.kpn_text_tokens.specs.declared.tokens.Keyword.{Keyword}
 use Rattle.kpn_text_grammar.specs.declared.fault.GrammarFault.{GrammarFault}
 use Rattle.kpn_text_grammar.specs.declared.fault.GrammarFault.TheVariants as fault
 use Rattle.kpn_text_grammar.specs.declared.parser.Scope.{Scope}
-use Rattle.kpn_text_grammar.specs.Syntax.{NameBytes}
 use Rattle.kpn_text_grammar.specs.Spelling.{kinds, spell_all, spell_further, spell_list, spell_name, spell_number, SpellsAll}
+use Rattle.kpn_text_grammar.specs.Operators.{operator_mark}
 use Rattle.kpn_text_grammar.specs.TokenTests.{is_mark}
 use Rattle.kpn_text_tokens.specs.Results.{and_then}
-use Rattle.kpn_text_grammar.specs.Reading.{Read, first_is, next, mark, keyword, name, number, or_fault_at, many, further, separated}
-use Rattle.kpn_text_grammar.proofs.Steps.{bind_ok, by_test, found_is, kind_of, kinds_of, moved, next_takes, no_value, next_again, ok_is, mark_takes, mark_again, keyword_takes, keyword_again, name_takes, name_again, number_takes, number_again}
+use Rattle.kpn_text_grammar.specs.Reading.{Read, first_is, next, named, name, numbered, number, token_operator, operator, or_fault_at, many, further, separated}
+use Rattle.kpn_text_grammar.proofs.Steps.{bind_ok, bound, by_test, found_is, kind_of, kinds_of, moved, next_takes, next_again, no_value, Passes, this_mark, token_operator_is, operator_back}
 
 -- ---- the laws of a reader
 
@@ -65,11 +63,6 @@ kinds_length ls = length-map ls (λ l. l.token)
 
 -- ---- chains
 
-bound : {A B : Type 0} (r : Result A GrammarFault) (x : A) (f : A → Result B GrammarFault) (y : Result B GrammarFault)
-    → r ≡ Ok x → f x ≡ y → and_then r f ≡ y
-unfolding and_then
-bound r x f y e h = rw e h
-
 -- the end of a chain
 pub done : {Y : Type 0} {May : List Token → Type 0} (v : Y)
     → Row {Z = Unit {0}} (λ z. v) (λ z more. more) (λ z more. Unit {0}) May (λ ls. Ok (v, ls))
@@ -81,18 +74,7 @@ done {Y} {May} v = record {
   no_gap = λ z more within. omega arith;
 }
 
--- a step that passes one token
-pub record Passes (t : Token) (step : List Lexeme → Result (List Lexeme) GrammarFault) : Type 0 where
-  pub takes : (ls rest : List Lexeme) → step ls ≡ Ok rest → kinds ls ≡ t ∷ kinds rest
-  pub again : (ls : List Lexeme) (more : List Token) → kinds ls ≡ t ∷ more
-      → (rest : List Lexeme) × (step ls ≡ Ok rest) × (kinds rest ≡ more)
-
-pub this_mark : (s : Scope) (m : Mark) → Passes (token.Mark m) (mark s m)
-this_mark s m = record { takes = mark_takes s m; again = mark_again s m }
-
-pub this_keyword : (s : Scope) (k : Keyword) → Passes (token.Keyword k) (keyword s k)
-this_keyword s k = record { takes = keyword_takes s k; again = keyword_again s k }
-
+-- one token, and a chain behind it
 pub behind : {Z Y : Type 0} {make : Z → Y} {spell : Z → List Token → List Token} {Within : Z → List Token → Type 0}
     {May : List Token → Type 0} {t : Token} {step : List Lexeme → Result (List Lexeme) GrammarFault}
     {one : List Lexeme → Read Y} → Passes t step → Row make spell Within May one
@@ -112,32 +94,36 @@ behind {Z} {Y} {make} {spell} {Within} {May} {t} {step} {one} first then = recor
 -- a step that reads a value, and the others behind it
 pub bind : {A X Z Y : Type 0} {make_first : A → X} {spell_first : A → List Token → List Token}
     {First : A → List Token → Type 0} {MayFirst : List Token → Type 0} {first : List Lexeme → Read X} {make : X → Z → Y}
-    {spell : Z → List Token → List Token} {Within : Z → List Token → Type 0} {May : List Token → Type 0}
+    {spell : Z → List Token → List Token} {Within : X → Z → List Token → Type 0} {May : List Token → Type 0}
     {one : X → List Lexeme → Read Y}
-    → Row make_first spell_first First MayFirst first → ((x : X) → Row (make x) spell Within May (one x))
-    → ((z : Z) (more : List Token) → Within z more → May more → MayFirst (spell z more))
+    → Row make_first spell_first First MayFirst first → ((x : X) → Row (make x) spell (Within x) May (one x))
+    → ((x : X) (z : Z) (more : List Token) → Within x z more → May more → MayFirst (spell z more))
     → Row {Z = A × Z} (λ z. make (make_first z.0) z.1) (λ z more. spell_first z.0 (spell z.1 more))
-    (λ z more. First z.0 (spell z.1 more) × Within z.1 more) May (λ ls. and_then (first ls) (λ x. one x.0 x.1))
+    (λ z more. First z.0 (spell z.1 more) × Within (make_first z.0) z.1 more) May
+    (λ ls. and_then (first ls) (λ x. one x.0 x.1))
 bind {A} {X} {Z} {Y} {make_first} {spell_first} {First} {MayFirst} {first} {make} {spell} {Within} {May} {one} head then
     follows = record {
-  takes = λ ls y rest h.
-      let b = bind_ok (first ls) (λ (x : X × List Lexeme). one x.0 x.1) (y, rest) h in
-      let f = head.takes ls b.0.0 b.0.1 b.1 in
-      let m = (then b.0.0).takes b.0.1 y rest b.2 in
-      ((f.0, m.0), ap (λ (x : X). make x m.0) f.1 ∙ m.1, (subst (First f.0) m.3 f.2, m.2),
-      f.3 ∙ ap (spell_first f.0) m.3);
-  again = λ ls z more within may h.
-      let f = head.again ls z.0 (spell z.1 more) within.0 (follows z.1 more within.1 may) h in
-      let m = (then (make_first z.0)).again f.0 z.1 more within.1 may f.2 in
-      (m.0, bound (first ls) (make_first z.0, f.0) (λ (x : X × List Lexeme). one x.0 x.1)
-      (Ok (make (make_first z.0) z.1, m.0)) f.1 m.1, m.2);
-  no_gap = λ z more within.
-      omega (
-        arith,
-        head.no_gap z.0 (spell z.1 more) within.0,
-        (then (make_first z.0)).no_gap z.1 more within.1,
-      );
-}
+      takes = λ ls y rest h.
+          let b = bind_ok (first ls) (λ (x : X × List Lexeme). one x.0 x.1) (y, rest) h in
+          let f = head.takes ls b.0.0 b.0.1 b.1 in
+          let m = (then b.0.0).takes b.0.1 y rest b.2 in (
+            (f.0, m.0),
+            ap (λ (x : X). make x m.0) f.1 ∙ m.1,
+            (subst (First f.0) m.3 f.2, subst (λ (x : X). Within x m.0 (kinds rest)) (sym f.1) m.2),
+            f.3 ∙ ap (spell_first f.0) m.3,
+          );
+      again = λ ls z more within may h.
+          let x = make_first z.0 in
+          let f = head.again ls z.0 (spell z.1 more) within.0 (follows x z.1 more within.1 may) h in
+          let m = (then x).again f.0 z.1 more within.1 may f.2 in
+          (m.0, bound (first ls) (x, f.0) (λ (x : X × List Lexeme). one x.0 x.1) (Ok (make x z.1, m.0)) f.1 m.1, m.2);
+      no_gap = λ z more within.
+          omega (
+            arith,
+            head.no_gap z.0 (spell z.1 more) within.0,
+            (then (make_first z.0)).no_gap z.1 more within.1,
+          );
+    }
 
 -- the same where anything may stand behind its value
 pub value : {A X Z Y : Type 0} {make_first : A → X} {spell_first : A → List Token → List Token}
@@ -147,7 +133,7 @@ pub value : {A X Z Y : Type 0} {make_first : A → X} {spell_first : A → List 
     → Row make_first spell_first First Anything first → ((x : X) → Row (make x) spell Within May (one x))
     → Row {Z = A × Z} (λ z. make (make_first z.0) z.1) (λ z more. spell_first z.0 (spell z.1 more))
     (λ z more. First z.0 (spell z.1 more) × Within z.1 more) May (λ ls. and_then (first ls) (λ x. one x.0 x.1))
-value head then = bind head then (λ z more within may. tt)
+value head then = bind head then (λ x z more within may. tt)
 
 -- ---- the same reader by other values
 
@@ -209,24 +195,10 @@ pub mapped : {Z X Y : Type 0} {make : Z → X} {spell : Z → List Token → Lis
     → ((more : List Token) → May more → MayFirst more)
     → Row (λ z. to (make z)) spell Within May (λ ls. and_then (one ls) (λ x. Ok (to x.0, x.1)))
 mapped to row follows =
-    recast (bind row (λ x. done (to x)) (λ z more within may. follows more may))
+    recast (bind row (λ x. done (to x)) (λ x z more within may. follows more may))
     (λ z more within. (z.0, refl, within.0, refl)) (λ z more within. ((z, tt), refl, (within, tt), refl))
 
 -- ---- one token
-
-pub a_name : (s : Scope) → Reader spell_name Free Anything (name s)
-a_name s = record {
-  takes = λ ls x rest h. (x, refl, tt, name_takes s ls x rest h);
-  again = λ ls x more within may h. name_again s ls x more h;
-  no_gap = λ x more within. omega arith;
-}
-
-pub a_number : (s : Scope) → Reader spell_number Free Anything (number s)
-a_number s = record {
-  takes = λ ls n rest h. (n, refl, tt, number_takes s ls n rest h);
-  again = λ ls n more within may h. number_again s ls n more h;
-  no_gap = λ n more within. omega arith;
-}
 
 -- a token that stands for something
 pub a_token : {A : Type 0} {Within : A → Type 0} (s : Scope) (what : Token → Option A) (spelled : A → Token)
@@ -238,9 +210,13 @@ a_token {A} {Within} s what spelled means found = record {
   takes = λ ls x rest h.
       let b = bind_ok (next s ls) (λ (l : Lexeme × List Lexeme). or_fault_at l.0.start l.1 (what l.0.token)) (x, rest) h in
       let f = found_is (what b.0.0.token) b.0.0.start b.0.1 x rest b.2 in
-      let is = means b.0.0.token x f.0 in
-      (x, refl, is.1, ap kinds (next_takes s ls b.0.0 b.0.1 b.1) ∙ ap (λ (t : Token). t ∷ kinds b.0.1) is.0
-      ∙ ap (λ (r : List Lexeme). spelled x ∷ kinds r) f.1);
+      let is = means b.0.0.token x f.0 in (
+        x,
+        refl,
+        is.1,
+        ap kinds (next_takes s ls b.0.0 b.0.1 b.1) ∙ ap (λ (t : Token). t ∷ kinds b.0.1) is.0
+            ∙ ap (λ (r : List Lexeme). spelled x ∷ kinds r) f.1,
+      );
   again = again;
   no_gap = λ x more within. omega arith;
 } where
@@ -249,9 +225,12 @@ a_token {A} {Within} s what spelled means found = record {
       × (and_then (next s ls) (λ l. or_fault_at l.0.start l.1 (what l.0.token)) ≡ Ok (x, rest)) × (kinds rest ≡ more)
   again [] x more within may h = absurd cc
   again (l ∷ ls) x more within may h =
-      let is = ap what (kind_of l ls (spelled x) more h) ∙ found x within in
-      (ls, bound (next s (l ∷ ls)) (l, ls) (λ (k : Lexeme × List Lexeme). or_fault_at k.0.start k.1 (what k.0.token))
-      (Ok (x, ls)) (next_again s l ls) (rw is refl), kinds_of l ls (spelled x) more h)
+      let is = ap what (kind_of l ls (spelled x) more h) ∙ found x within in (
+        ls,
+        bound (next s (l ∷ ls)) (l, ls) (λ (k : Lexeme × List Lexeme). or_fault_at k.0.start k.1 (what k.0.token))
+            (Ok (x, ls)) (next_again s l ls) (rw is refl),
+        kinds_of l ls (spelled x) more h,
+      )
 
 -- ---- choices
 
@@ -296,29 +275,29 @@ pub choose : {Z W Y : Type 0} (picks : List Lexeme → Bool) {make_one : Z → Y
     (λ ls. cond (picks ls) (one ls) (other ls))
 choose {Z} {W} {Y} picks {make_one} {spell_one} {One} {MayOne} {one} {make_other} {spell_other} {Other} {MayOther} {other}
     {May} First Second first second picked passed pick pass as_one as_other = record {
-  takes = λ ls y rest h.
-      by_test (picks ls) (one ls) (other ls) (Ok (y, rest)) h
-      (λ b e. let t = first.takes ls y rest e in (inl t.0, t.1, picked ls t.0 (kinds rest) b t.3 t.2, t.3))
-      (λ b e. let t = second.takes ls y rest e in (inr t.0, t.1, passed ls t.0 (kinds rest) b t.3 t.2, t.3));
-  again = λ ls z more within may h. chosen ls more may z within h;
-  no_gap = λ z more within. gapless more z within;
-} where
-  chosen : (ls : List Lexeme) (more : List Token) → May more → (z : Z ⊎ W) → Either First Second z more
-      → kinds ls ≡ spell_either spell_one spell_other z more → (rest : List Lexeme)
-      × (cond (picks ls) (one ls) (other ls) ≡ Ok (either make_one make_other z, rest)) × (kinds rest ≡ more)
-  chosen ls more may (inl z) within h =
-      let at = pick ls z more h within may in
-      let a = first.again ls z more at.1 at.2 h in
-      (a.0, test (picks ls) (one ls) (other ls) (Ok (make_one z, a.0)) at.0 a.1, a.2)
-  chosen ls more may (inr w) within h =
-      let at = pass ls w more h within may in
-      let a = second.again ls w more at.1 at.2 h in
-      (a.0, no_test (picks ls) (one ls) (other ls) (Ok (make_other w, a.0)) at.0 a.1, a.2)
+      takes = λ ls y rest h.
+          by_test (picks ls) (one ls) (other ls) (Ok (y, rest)) h
+          (λ b e. let t = first.takes ls y rest e in (inl t.0, t.1, picked ls t.0 (kinds rest) b t.3 t.2, t.3))
+          (λ b e. let t = second.takes ls y rest e in (inr t.0, t.1, passed ls t.0 (kinds rest) b t.3 t.2, t.3));
+      again = λ ls z more within may h. chosen ls more may z within h;
+      no_gap = λ z more within. gapless more z within;
+    } where
+      chosen : (ls : List Lexeme) (more : List Token) → May more → (z : Z ⊎ W) → Either First Second z more
+          → kinds ls ≡ spell_either spell_one spell_other z more → (rest : List Lexeme)
+          × (cond (picks ls) (one ls) (other ls) ≡ Ok (either make_one make_other z, rest)) × (kinds rest ≡ more)
+      chosen ls more may (inl z) within h =
+          let at = pick ls z more h within may in
+          let a = first.again ls z more at.1 at.2 h in
+          (a.0, test (picks ls) (one ls) (other ls) (Ok (make_one z, a.0)) at.0 a.1, a.2)
+      chosen ls more may (inr w) within h =
+          let at = pass ls w more h within may in
+          let a = second.again ls w more at.1 at.2 h in
+          (a.0, no_test (picks ls) (one ls) (other ls) (Ok (make_other w, a.0)) at.0 a.1, a.2)
 
-  gapless : (more : List Token) (z : Z ⊎ W) → Either First Second z more
-      → length more ≤ length (spell_either spell_one spell_other z more)
-  gapless more (inl z) within = first.no_gap z more (as_one z more within)
-  gapless more (inr w) within = second.no_gap w more (as_other w more within)
+      gapless : (more : List Token) (z : Z ⊎ W) → Either First Second z more
+          → length more ≤ length (spell_either spell_one spell_other z more)
+      gapless more (inl z) within = first.no_gap z more (as_one z more within)
+      gapless more (inr w) within = second.no_gap w more (as_other w more within)
 
 -- the same by the token at the front
 pub choice : {Z W Y : Type 0} (goes : Token → Bool) {make_one : Z → Y} {spell_one : Z → List Token → List Token}
@@ -337,6 +316,21 @@ choice goes {One = One} {Other = Other} first second at_one at_other =
     (λ ls w more h is may.
     let at = at_other w more is may in (first_begins goes ls ∙ ap (begins goes) h ∙ at.1, is, at.0))
     (λ z more is. is) (λ w more is. is)
+
+-- a reader behind a test that must fail
+pub guarded : {Z Y : Type 0} (stops : Bool) (e : GrammarFault) {make : Z → Y} {spell : Z → List Token → List Token}
+    {Within : Z → List Token → Type 0} {May : List Token → Type 0} {one : List Lexeme → Read Y}
+    → Row make spell Within May one
+    → Row make spell (λ z more. (stops ≡ false) × Within z more) May (λ ls. cond stops (Err e) (one ls))
+guarded {Y = Y} stops e {make} {one = one} row = record {
+  takes = λ ls y rest h.
+      by_test stops (Err e) (one ls) (Ok (y, rest)) h (λ _ k. absurd (no_value {A = Y × List Lexeme} e (y, rest) k))
+      (λ b k. let t = row.takes ls y rest k in (t.0, t.1, (b, t.2), t.3));
+  again = λ ls z more within may h.
+      let a = row.again ls z more within.1 may h in
+      (a.0, no_test stops (Err e) (one ls) (Ok (make z, a.0)) within.0 a.1, a.2);
+  no_gap = λ z more within. row.no_gap z more within.1;
+}
 
 -- the same, or nothing, which makes this
 pub optional : {Z Y : Type 0} (goes : Token → Bool) {make : Z → Y} {spell : Z → List Token → List Token}
@@ -363,21 +357,21 @@ pub maybe_some : {A Y : Type 0} (goes : Token → Bool) {make : List A → Y} {s
     → Row make spell_any (λ xs more. Unit {0}) Then (λ ls. cond (first_is goes ls) (one ls) (Ok (make [], ls)))
 maybe_some {A} {Y} goes {make} {spell} {May} {one} {Then} spell_any row ends starts none some =
     recast (optional goes (make []) row ends begun) there back where
-  begun : (xs : List A) (more : List Token) → Some_of xs → begins goes (spell xs more) ≡ true
-  begun [] more within = absurd (omega (arith, within))
-  begun (x ∷ xs) more within = starts x xs more
+      begun : (xs : List A) (more : List Token) → Some_of xs → begins goes (spell xs more) ≡ true
+      begun [] more within = absurd (omega (arith, within))
+      begun (x ∷ xs) more within = starts x xs more
 
-  there : (z : List A ⊎ Unit {0}) (more : List Token) → Either (λ xs more. Some_of xs) (λ u more. Unit {0}) z more
-      → As (either make (λ (u : Unit {0}). make [])) (spell_either spell (λ u more. more)) make spell_any (λ xs more. Unit {0}) z more
-  there (inl []) more within = absurd (omega (arith, within))
-  there (inl (x ∷ xs)) more within = (x ∷ xs, refl, tt, some x xs more)
-  there (inr u) more within = ([], refl, tt, none more)
+      there : (z : List A ⊎ Unit {0}) (more : List Token) → Either (λ xs more. Some_of xs) (λ u more. Unit {0}) z more
+          → As (either make (λ (u : Unit {0}). make [])) (spell_either spell (λ u more. more)) make spell_any (λ xs more. Unit {0}) z more
+      there (inl []) more within = absurd (omega (arith, within))
+      there (inl (x ∷ xs)) more within = (x ∷ xs, refl, tt, some x xs more)
+      there (inr u) more within = ([], refl, tt, none more)
 
-  back : (xs : List A) (more : List Token) → Unit {0}
-      → As make spell_any (either make (λ (u : Unit {0}). make [])) (spell_either spell (λ u more. more))
-      (Either (λ xs more. Some_of xs) (λ u more. Unit {0})) xs more
-  back [] more within = (inr tt, refl, tt, sym (none more))
-  back (x ∷ xs) more within = (inl (x ∷ xs), refl, omega arith, sym (some x xs more))
+      back : (xs : List A) (more : List Token) → Unit {0}
+          → As make spell_any (either make (λ (u : Unit {0}). make [])) (spell_either spell (λ u more. more))
+          (Either (λ xs more. Some_of xs) (λ u more. Unit {0})) xs more
+      back [] more within = (inr tt, refl, tt, sym (none more))
+      back (x ∷ xs) more within = (inl (x ∷ xs), refl, omega arith, sym (some x xs more))
 
 -- ---- by the first token
 
@@ -430,40 +424,51 @@ rearm {t = t} a same = record {
 
 module _ {A : Type 0} {Spells : A → List Token → List Token → Type 0} {May : List Token → Type 0}
     (from : Token → ℕ → List Lexeme → Read A) (arms : (t : Token) → Arm Spells May t (from t)) where
-  -- the first token and the values behind it as the parts of a thing
+  -- by the first token and the values behind it
+  pub first_token : (s : Scope)
+      → Row {Z = (t : Token) × (arms t).Value} (λ z. (arms z.0).make z.1) (λ z more. z.0 ∷ (arms z.0).spell z.1 more)
+      (λ z more. (arms z.0).Within z.1 more) May
+      (λ ls. and_then (next s ls) (λ l. from l.0.token l.0.start l.1))
+  first_token s = record {
+    takes = λ ls x rest h.
+        let f = bind_ok (next s ls) (λ (l : Lexeme × List Lexeme). from l.0.token l.0.start l.1) (x, rest) h in
+        let r = ((arms f.0.0.token).row f.0.0.start).takes f.0.1 x rest f.2 in (
+          (f.0.0.token, r.0),
+          r.1,
+          r.2,
+          ap kinds (next_takes s ls f.0.0 f.0.1 f.1)
+              ∙ ap (λ (ts : List Token). f.0.0.token ∷ ts) r.3,
+        );
+    again = again;
+    no_gap = λ z more within. omega (arith, ((arms z.0).row 0).no_gap z.1 more within);
+  } where
+    again : (ls : List Lexeme) (z : (t : Token) × (arms t).Value) (more : List Token) → (arms z.0).Within z.1 more
+        → May more → kinds ls ≡ z.0 ∷ (arms z.0).spell z.1 more → (rest : List Lexeme)
+        × (and_then (next s ls) (λ l. from l.0.token l.0.start l.1) ≡ Ok ((arms z.0).make z.1, rest)) × (kinds rest ≡ more)
+    again [] z more within may h = absurd cc
+    again (l ∷ ls) z more within may h =
+        let behind_it = (arms z.0).spell z.1 more in
+        let a = ((arms z.0).row l.start).again ls z.1 more within may (kinds_of l ls z.0 behind_it h) in (
+          a.0,
+          bound (next s (l ∷ ls)) (l, ls) (λ (k : Lexeme × List Lexeme). from k.0.token k.0.start k.1)
+              (Ok ((arms z.0).make z.1, a.0)) (next_again s l ls)
+              (subst (λ (k : Token). from k l.start ls ≡ Ok ((arms z.0).make z.1, a.0)) (sym (kind_of l ls z.0 behind_it h)) a.1),
+          a.2,
+        )
+
+  -- the same as the parts of a thing
   abbrev pub Begun : A → List Token → List Token → Type 0
-  Begun x tokens more = (t : Token) × (z : (arms t).Value) × ((arms t).make z ≡ x) × (arms t).Within z more
-      × (t ∷ (arms t).spell z more ≡ tokens)
+  Begun x tokens more = (z : (t : Token) × (arms t).Value) × ((arms z.0).make z.1 ≡ x) × (arms z.0).Within z.1 more
+      × (z.0 ∷ (arms z.0).spell z.1 more ≡ tokens)
 
   module _ (parts : (x : A) (tokens more : List Token) → Spells x tokens more → Begun x tokens more) where
     pub token_longer : (x : A) (tokens more : List Token) → Spells x tokens more → length more < length tokens
     token_longer x tokens more is =
         let p = parts x tokens more is in
-        omega (arith, ap length p.4, ((arms p.0).row 0).no_gap p.1 more p.3)
+        omega (arith, ap length p.3, ((arms p.0.0).row 0).no_gap p.0.1 more p.2)
 
     pub by_token : (s : Scope) → ReaderBy Spells May (λ ls. and_then (next s ls) (λ l. from l.0.token l.0.start l.1))
-    by_token s = record {
-      takes = λ ls x rest h.
-          let f = bind_ok (next s ls) (λ (l : Lexeme × List Lexeme). from l.0.token l.0.start l.1) (x, rest) h in
-          let r = ((arms f.0.0.token).row f.0.0.start).takes f.0.1 x rest f.2 in
-          let same = ap kinds (next_takes s ls f.0.0 f.0.1 f.1) ∙ ap (λ (ts : List Token). f.0.0.token ∷ ts) r.3 in
-          ((x, kinds ls), refl, subst (λ (y : A). Spells y (kinds ls) (kinds rest)) r.1
-          (subst (λ (ts : List Token). Spells ((arms f.0.0.token).make r.0) ts (kinds rest)) (sym same)
-          ((arms f.0.0.token).back r.0 (kinds rest) r.2)), refl);
-      again = λ ls z more within may h. again ls z.0 more (subst (λ (ts : List Token). Spells z.0 ts more) (sym h) within) may;
-      no_gap = λ z more within. omega (arith, token_longer z.0 z.1 more within);
-    } where
-      again : (ls : List Lexeme) (x : A) (more : List Token) → Spells x (kinds ls) more → May more → (rest : List Lexeme)
-          × (and_then (next s ls) (λ l. from l.0.token l.0.start l.1) ≡ Ok (x, rest)) × (kinds rest ≡ more)
-      again [] x more is may = absurd (omega (arith, token_longer x [] more is))
-      again (l ∷ ls) x more is may =
-          let p = parts x (kinds (l ∷ ls)) more is in
-          let behind_it = (arms p.0).spell p.1 more in
-          let a = ((arms p.0).row l.start).again ls p.1 more p.3 may (kinds_of l ls p.0 behind_it (sym p.4)) in
-          (a.0, bound (next s (l ∷ ls)) (l, ls) (λ (k : Lexeme × List Lexeme). from k.0.token k.0.start k.1) (Ok (x, a.0))
-          (next_again s l ls)
-          (subst (λ (k : Token). from k l.start ls ≡ Ok (x, a.0)) (sym (kind_of l ls p.0 behind_it (sym p.4)))
-          (subst (λ (y : A). from p.0 l.start ls ≡ Ok (y, a.0)) p.2 a.1)), a.2)
+    by_token s = reads_by (first_token s) (λ z more within. (arms z.0).back z.1 more within) parts
 
 -- the same of things that have one spelling
 abbrev pub Exactly : {A : Type 0} → (A → List Token → List Token) → (A → Type 0) → A → List Token → List Token → Type 0
@@ -474,6 +479,28 @@ pub exactly : {A : Type 0} {spell : A → List Token → List Token} {Within : A
 exactly {A} {spell} {Within} row =
     recast row (λ z more within. (z.0, refl, within.0, sym within.1))
     (λ x more within. ((x, spell x more), refl, (within, refl), refl))
+
+name_arms : (s : Scope) (t : Token) → Arm (Exactly spell_name Free) Anything t (named t)
+name_arms s (token.Name x) = arm (λ start. done x) (λ z more within. (tt, refl))
+name_arms s _ = no_arm
+
+pub a_name : (s : Scope) → Reader spell_name Free Anything (name s)
+unfolding name name_arms
+a_name s = exactly (by_token named (name_arms s) (λ x tokens more is. ((token.Name x, tt), refl, tt, sym is.1)) s)
+
+number_arms : (s : Scope) (t : Token) → Arm (Exactly spell_number Free) Anything t (numbered t)
+number_arms s (token.Number n) = arm (λ start. done n) (λ z more within. (tt, refl))
+number_arms s _ = no_arm
+
+pub a_number : (s : Scope) → Reader spell_number Free Anything (number s)
+unfolding number number_arms
+a_number s = exactly (by_token numbered (number_arms s) (λ n tokens more is. ((token.Number n, tt), refl, tt, sym is.1)) s)
+
+pub an_operator : (s : Scope) → Reader (λ o more. token.Mark (operator_mark o) ∷ more) Free Anything (operator s)
+unfolding operator
+an_operator s =
+    a_token s token_operator (λ o. token.Mark (operator_mark o)) (λ t o h. (token_operator_is t o h, tt))
+    (λ o free. operator_back o)
 
 -- ---- one after another
 
@@ -581,8 +608,10 @@ pub each_of : {A : Type 0} {goes : Token → Bool} {spell : A → List Token →
     → Reader (spell_all spell) (AllByRecursion Within) (Unless goes) (λ ls. many goes one i (length ls) ls)
 each_of {A} {goes} {spell} {Within} {one} all i =
     reads (each all i)
-    (λ xs more within. (subst (AllByRecursion Within) (sym (map_same xs)) (all_of spell Within xs more within),
-    ap (λ ys. spell_all spell ys more) (sym (map_same xs))))
+    (λ xs more within. (
+      subst (AllByRecursion Within) (sym (map_same xs)) (all_of spell Within xs more within),
+      ap (λ ys. spell_all spell ys more) (sym (map_same xs)),
+    ))
     (λ xs more within. (xs, map_same xs, of_all spell Within xs more within))
 
 -- things that may have many
@@ -609,9 +638,12 @@ module _ {A : Type 0} (Spells : A → List Token → List Token → Type 0) (Wit
       × EachWithin tokens_of (λ z more. Both z.0 z.1 more) zs more × (spell_all tokens_of zs more ≡ tokens)
   by_all [] tokens more h within = ([], refl, tt, sym h)
   by_all (x ∷ xs) tokens more (others, first, rest) within =
-      let r = by_all xs others more rest within.1 in
-      ((x, tokens) ∷ r.0, ap (λ ys. x ∷ ys) r.1,
-      ((subst (Spells x tokens) (sym r.3) first, within.0), r.2), refl)
+      let r = by_all xs others more rest within.1 in (
+        (x, tokens) ∷ r.0,
+        ap (λ ys. x ∷ ys) r.1,
+        ((subst (Spells x tokens) (sym r.3) first, within.0), r.2),
+        refl,
+      )
 
   pub each_by : {goes : Token → Bool} {one : ℕ → List Lexeme → Read A}
       → Elements {Z = A × List Token} goes (λ z. z.0) tokens_of (λ z more. Both z.0 z.1 more) one
@@ -637,15 +669,15 @@ module _ {A : Type 0} {spell : A → List Token → List Token} {Within : A → 
       (separated s one)
   unfolding separated
   with_commas =
-      reads (bind row (λ x. bind (each_of further_ones 1) (λ xs. done (x ∷ xs)) (λ z more within may. may))
-      (λ z more within may. tt))
+      reads (bind row (λ x. bind (each_of further_ones 1) (λ xs. done (x ∷ xs)) (λ x z more within may. may))
+      (λ x z more within may. tt))
       (λ z more within. ((omega arith, (within.0, within.1.0)), refl))
       parts where
-    parts : (xs : List A) (more : List Token) → (0 < length xs) × AllByRecursion Within xs
-        → (z : A × (List A × Unit {0})) × (z.0 ∷ z.1.0 ≡ xs)
-        × (Within z.0 × (AllByRecursion Within z.1.0 × Unit {0}))
-    parts [] more within = absurd (omega (arith, within.0))
-    parts (x ∷ xs) more within = ((x, (xs, tt)), refl, (within.1.0, (within.1.1, tt)))
+        parts : (xs : List A) (more : List Token) → (0 < length xs) × AllByRecursion Within xs
+            → (z : A × (List A × Unit {0})) × (z.0 ∷ z.1.0 ≡ xs)
+            × (Within z.0 × (AllByRecursion Within z.1.0 × Unit {0}))
+        parts [] more within = absurd (omega (arith, within.0))
+        parts (x ∷ xs) more within = ((x, (xs, tt)), refl, (within.1.0, (within.1.1, tt)))
 
 pub all_free : {A : Type 0} (xs : List A) → AllByRecursion Free xs
 all_free [] = tt

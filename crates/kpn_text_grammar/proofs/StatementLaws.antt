@@ -14,13 +14,13 @@ use Rattle.kpn_text_tokens.specs.declared.tokens.Keyword.TheVariants as keyword_
 use Rattle.kpn_text_grammar.specs.declared.fault.GrammarFault.TheVariants as fault
 use Rattle.kpn_text_grammar.specs.declared.parser.Scope.{Scope}
 use Rattle.kpn_text_grammar.specs.Syntax.{NameBytes, ExpressionNode, StatementNode, assign, store, receive, send, choice, loop, Statements, no_statements, statement, as_statements}
-use Rattle.kpn_text_grammar.specs.Spelling.{kinds, SpellsTerm, SpellsAll, SpellsStatement, as_assignment, as_store, as_read, as_write, as_if, as_while, SpellsStatements, nothing, one_more, SpellsElse, left_out, behind_else, SpellsSecond, with_braces, as_branch, begins_else, term_level, inner_levels, deepest_term, BlockIsWithin}
+use Rattle.kpn_text_grammar.specs.Spelling.{kinds, SpellsAll, SpellsStatement, as_assignment, as_store, as_read, as_write, as_if, as_while, SpellsStatements, nothing, one_more, SpellsElse, left_out, behind_else, SpellsSecond, with_braces, as_branch, begins_else, inner_levels, deepest_term, BlockIsWithin}
 use Rattle.kpn_text_grammar.specs.TokenTests.{is_mark, is_keyword}
-use Rattle.kpn_text_grammar.specs.Reading.{Read, first_is, mark, is_second, whole, assignment_behind, store_behind, target_behind, receive_behind, send_behind, else_behind, choice_behind, loop_behind, statement_behind, one_statement, declares, stands_in_block, statements_at, block_behind, opened, too_deep, is_branch, branch, block, second_block, body_behind}
-use Rattle.kpn_text_grammar.proofs.Steps.{bind_ok, by_test, first_kind, is_keyword_same, no_value}
-use Rattle.kpn_text_grammar.proofs.TightLaws.{first_tightness, at_brace, at_bracket, at_semicolon}
-use Rattle.kpn_text_grammar.proofs.WholeLaws.{whole_takes, whole_again, whole_longer}
-use Rattle.kpn_text_grammar.proofs.Readers.{Row, ReaderBy, Anything, Unless, done, this_mark, this_keyword, behind, value, bind, mapped, As, recast, reads_by, a_name, choose, either, spell_either, Either, Arm, arm, no_arm, Begun, by_token, token_longer, begins, Elements, each_by, shortens}
+use Rattle.kpn_text_grammar.specs.Reading.{Read, first_is, mark, is_second, assignment_behind, store_behind, target_behind, receive_behind, send_behind, else_behind, choice_behind, loop_behind, statement_behind, one_statement, declares, stands_in_block, statements_at, block_behind, opened, too_deep, is_branch, branch, block, second_block, body_behind}
+use Rattle.kpn_text_grammar.proofs.Steps.{this_mark, this_keyword, bind_ok, by_test, first_kind, is_keyword_same, no_value}
+use Rattle.kpn_text_grammar.proofs.TightLaws.{at_brace, at_bracket, at_semicolon}
+use Rattle.kpn_text_grammar.proofs.WholeLaws.{Expression, expression_of}
+use Rattle.kpn_text_grammar.proofs.Readers.{Row, ReaderBy, Anything, Unless, done, behind, value, bind, mapped, As, recast, reads_by, a_name, choose, either, spell_either, Either, Arm, arm, no_arm, Begun, by_token, token_longer, begins, Elements, each_by, shortens}
 use Rattle.kpn_text_grammar.proofs.Readers as rows
 
 -- a statement within the limits of depth: its blocks nest at most so deep, and its expressions at most 32 levels
@@ -29,18 +29,6 @@ pub record StatementIsWithin (depth : ℕ) (s : StatementNode) : Type 0 where
   pub terms : deepest_term s ≤ MAX_LEVELS
 
 -- ---- what readers of expressions, blocks and statements read
-
-abbrev Expression : Language → ExpressionNode → List Token → List Token → Type 0
-Expression l e tokens more = SpellsTerm l e tokens more × (term_level e ≤ MAX_LEVELS)
-
-expression_reads : (s : Scope) → ReaderBy (Expression s.language) (λ more. first_tightness more ≡ 0) (whole s)
-expression_reads s = record {
-  takes = λ ls e rest h. let t = whole_takes s ls e rest h in ((e, kinds ls), refl, (t.spelled, t.level), refl);
-  again = λ ls z more is ends h.
-      let r = whole_again s ls z.0 z.1 more is.0 is.1 ends h in
-      (r.rest, r.reads, r.after);
-  no_gap = λ z more is. omega (arith, whole_longer s.language z.0 z.1 more is.0);
-}
 
 abbrev pub StatementOf : Language → ℕ → StatementNode → List Token → List Token → Type 0
 StatementOf l d st tokens more = SpellsStatement l st tokens more × StatementIsWithin d st
@@ -162,13 +150,17 @@ module _ (s : Scope) (d : ℕ) (inner second : List Lexeme → Read Statements) 
       (λ u more. (s.language ≡ language.Two) × (begins_else more ≡ false)) (λ z more. SecondOf s.language d z.0 z.1 more)
       (done {May = Anything} no_statements) (behind (this_keyword s keyword_.Else) seconds)
       (λ ls u more picked h is.
-      let b = and_parts (is_second s.language) (not (first_is (is_keyword keyword_.Else) ls)) picked in
-      (second_is_two s.language b.0,
-      ap begins_else (sym h) ∙ first_else ls ∙ not_false (first_is (is_keyword keyword_.Else) ls) b.1))
+      let b = and_parts (is_second s.language) (not (first_is (is_keyword keyword_.Else) ls)) picked in (
+        second_is_two s.language b.0,
+        ap begins_else (sym h) ∙ first_else ls ∙ not_false (first_is (is_keyword keyword_.Else) ls) b.1,
+      ))
       (λ ls z more passed h is. is)
-      (λ ls u more h is may.
-      (and_from _ _ (ap is_second is.0)
-      (not_true (first_is (is_keyword keyword_.Else) ls) (sym (first_else ls) ∙ ap begins_else h ∙ is.1)), tt, tt))
+      (λ ls u more h is may. (
+        and_from _ _ (ap is_second is.0)
+            (not_true (first_is (is_keyword keyword_.Else) ls) (sym (first_else ls) ∙ ap begins_else h ∙ is.1)),
+        tt,
+        tt,
+      ))
       (λ ls z more h is may.
       (and_false _ _ (ap not (first_kind (is_keyword keyword_.Else) ls (token.Keyword keyword_.Else) z.1 h)), is, tt))
       (λ u more is. tt) (λ z more is. is)
@@ -200,35 +192,60 @@ module _ (s : Scope) (d : ℕ) (inner second : List Lexeme → Read Statements) 
   choice_row : Row the_choice (λ z more. z.1) ChoiceOf Anything (choice_behind s inner second)
   unfolding choice_behind
   choice_row =
-      recast (bind (expression_reads s) (λ e. value blocks
-      (λ a. mapped (λ b. choice e a b) else_row (λ more may. may))) (λ z more is may. at_brace z.0.1))
+      recast (bind (expression_of s) (λ e. value blocks
+      (λ a. mapped (λ b. choice e a b) else_row (λ more may. may))) (λ x z more is may. omega (arith, at_brace z.0.1)))
       there back where
-    there : (z : ChoiceParts) (more : List Token) → ArePartsOf z more
-        → As parts_choice parts_tokens the_choice (λ z more. z.1) ChoiceOf z more
-    there ((e, at_e), ((a, at_a), inl u)) more (he, (ha, hb)) =
-        (((e, (a, no_statements)), at_e), refl, (as_if he.0 ha.0 (left_out hb.0 hb.1), record {
-          blocks = omega (arith, ha.1.blocks);
-          terms = omega (arith, he.1, ha.1.terms);
-        }), refl)
-    there ((e, at_e), ((a, at_a), inr (b, at_b))) more (he, (ha, hb)) =
-        (((e, (a, b)), at_e), refl, (as_if he.0 ha.0 (behind_else hb.0), record {
-          blocks = omega (arith, ha.1.blocks, hb.1.blocks);
-          terms = omega (arith, he.1, ha.1.terms, hb.1.terms);
-        }), refl)
+        there : (z : ChoiceParts) (more : List Token) → ArePartsOf z more
+            → As parts_choice parts_tokens the_choice (λ z more. z.1) ChoiceOf z more
+        there ((e, at_e), ((a, at_a), inl u)) more (he, (ha, hb)) = (
+          ((e, (a, no_statements)), at_e),
+          refl,
+          (
+            as_if he.0 ha.0 (left_out hb.0 hb.1),
+            record {
+              blocks = omega (arith, ha.1.blocks);
+              terms = omega (arith, he.1, ha.1.terms);
+            },
+          ),
+          refl,
+        )
+        there ((e, at_e), ((a, at_a), inr (b, at_b))) more (he, (ha, hb)) = (
+          ((e, (a, b)), at_e),
+          refl,
+          (
+            as_if he.0 ha.0 (behind_else hb.0),
+            record {
+              blocks = omega (arith, ha.1.blocks, hb.1.blocks);
+              terms = omega (arith, he.1, ha.1.terms, hb.1.terms);
+            },
+          ),
+          refl,
+        )
 
-    within_else : {b : Statements} {tokens more : List Token} → SpellsElse s.language b tokens more → BlockIsWithin d b
-        → (z : Unit {0} ⊎ (Statements × List Token)) × (else_block z ≡ b) × ElseOf s.language d z more
-        × (else_tokens z more ≡ tokens)
-    within_else (left_out two ends) within = (inl tt, refl, (two, ends), refl)
-    within_else (behind_else {b = b} {tokens = tokens} h) within = (inr (b, tokens), refl, (h, within), refl)
+        within_else : {b : Statements} {tokens more : List Token} → SpellsElse s.language b tokens more → BlockIsWithin d b
+            → (z : Unit {0} ⊎ (Statements × List Token)) × (else_block z ≡ b) × ElseOf s.language d z more
+            × (else_tokens z more ≡ tokens)
+        within_else (left_out two ends) within = (inl tt, refl, (two, ends), refl)
+        within_else (behind_else {b = b} {tokens = tokens} h) within = (inr (b, tokens), refl, (h, within), refl)
 
-    back : (z : Choice) (more : List Token) → ChoiceOf z more
-        → As the_choice (λ z more. z.1) parts_choice parts_tokens ArePartsOf z more
-    back ((e, (a, b)), at_e) more (as_if {at_a = at_a} he ha hb, within) =
-        let z = within_else hb (record { blocks = omega (arith, within.blocks); terms = omega (arith, within.terms) }) in
-        (((e, at_e), ((a, at_a), z.0)), ap (λ c. choice e a c) z.1, ((he, omega (arith, within.terms)),
-        ((subst (λ (ts : List Token). SpellsStatements s.language a at_a (token.Mark mark_.RightBrace ∷ ts)) (sym z.3) ha,
-        record { blocks = omega (arith, within.blocks); terms = omega (arith, within.terms) }), z.2)), refl)
+        back : (z : Choice) (more : List Token) → ChoiceOf z more
+            → As the_choice (λ z more. z.1) parts_choice parts_tokens ArePartsOf z more
+        back ((e, (a, b)), at_e) more (as_if {at_a = at_a} he ha hb, within) =
+            let z = within_else hb (record { blocks = omega (arith, within.blocks); terms = omega (arith, within.terms) }) in (
+              ((e, at_e), ((a, at_a), z.0)),
+              ap (λ c. choice e a c) z.1,
+              (
+                (he, omega (arith, within.terms)),
+                (
+                  (
+                    subst (λ (ts : List Token). SpellsStatements s.language a at_a (token.Mark mark_.RightBrace ∷ ts)) (sym z.3) ha,
+                    record { blocks = omega (arith, within.blocks); terms = omega (arith, within.terms) },
+                  ),
+                  z.2,
+                ),
+              ),
+              refl,
+            )
 
   -- behind a name: the brackets of a store, or the sign of an assignment
   abbrev Target : Type 0
@@ -257,49 +274,61 @@ module _ (s : Scope) (d : ℕ) (inner second : List Lexeme → Read Statements) 
   unfolding statement_behind target_behind store_behind assignment_behind receive_behind send_behind loop_behind
   statement_arms (token.Name x) =
       arm (λ start. rows.choice (is_mark mark_.LeftBracket)
-      (behind (this_mark s mark_.LeftBracket) (bind (expression_reads s) (λ i. behind (this_mark s mark_.RightBracket)
-      (behind (this_mark s mark_.Assign) (bind (expression_reads s)
+      (behind (this_mark s mark_.LeftBracket) (bind (expression_of s) (λ i. behind (this_mark s mark_.RightBracket)
+      (behind (this_mark s mark_.Assign) (bind (expression_of s)
       (λ e. behind (this_mark s mark_.Semicolon) (done {May = Anything} (store x i e)))
-      (λ z more is may. at_semicolon more))))
-      (λ z more is may. at_bracket (token.Mark mark_.Assign ∷ z.0.1))))
-      (behind (this_mark s mark_.Assign) (bind (expression_reads s)
+      (λ x z more is may. omega (arith, at_semicolon more)))))
+      (λ x z more is may. omega (arith, at_bracket (token.Mark mark_.Assign ∷ z.0.1)))))
+      (behind (this_mark s mark_.Assign) (bind (expression_of s)
       (λ e. behind (this_mark s mark_.Semicolon) (done {May = Anything} (assign x e)))
-      (λ z more is may. at_semicolon more)))
+      (λ x z more is may. omega (arith, at_semicolon more))))
       (λ z more is may. (tt, refl)) (λ z more is may. (tt, refl)))
       (target_back x)
   statement_arms (token.Keyword keyword_.Read) =
       arm (λ start. value (a_name s) (λ i. value (a_name s) (λ x. behind (this_mark s mark_.Semicolon)
       (done (receive i x))))) (λ z more is. (as_read, record { blocks = omega arith; terms = omega arith }))
   statement_arms (token.Keyword keyword_.Write) =
-      arm (λ start. value (a_name s) (λ o. bind (expression_reads s)
-      (λ e. behind (this_mark s mark_.Semicolon) (done (send o e))) (λ z more is may. at_semicolon more)))
+      arm (λ start. value (a_name s) (λ o. bind (expression_of s)
+      (λ e. behind (this_mark s mark_.Semicolon) (done (send o e))) (λ x z more is may. omega (arith, at_semicolon more))))
       (λ z more is. (as_write is.1.0.0, record { blocks = omega arith; terms = is.1.0.1 }))
   statement_arms (token.Keyword keyword_.If) = arm (λ start. choice_row) (λ z more is. is)
   statement_arms (token.Keyword keyword_.While) =
-      arm (λ start. bind (expression_reads s) (λ e. mapped (λ b. loop e b) blocks (λ more may. may))
-      (λ z more is may. at_brace z.1))
-      (λ z more is. (as_while is.0.0 is.1.0, record {
-        blocks = omega (arith, is.1.1.blocks);
-        terms = omega (arith, is.0.1, is.1.1.terms);
-      }))
+      arm (λ start. bind (expression_of s) (λ e. mapped (λ b. loop e b) blocks (λ more may. may))
+      (λ x z more is may. omega (arith, at_brace z.1)))
+      (λ z more is. (
+        as_while is.0.0 is.1.0,
+        record {
+          blocks = omega (arith, is.1.1.blocks);
+          terms = omega (arith, is.0.1, is.1.1.terms);
+        },
+      ))
   statement_arms _ = no_arm
 
   begun : {st : StatementNode} {tokens more : List Token} → SpellsStatement s.language st tokens more
       → StatementIsWithin d st → Begun (statement_behind s inner second) statement_arms st tokens more
   unfolding statement_arms
   begun (as_assignment {x = x} {e = e} {tokens = ts} h) within =
-      (token.Name x, inr ((e, ts), tt), refl, ((h, within.terms), tt), refl)
-  begun (as_store {x = x} {i = i} {e = e} {at_i = at_i} at_e hi he) within =
-      (token.Name x, inl ((i, at_i), ((e, at_e), tt)), refl,
-      ((hi, omega (arith, within.terms)), ((he, omega (arith, within.terms)), tt)), refl)
-  begun (as_read {i = i} {x = x}) within = (token.Keyword keyword_.Read, (i, (x, tt)), refl, (tt, (tt, tt)), refl)
+      ((token.Name x, inr ((e, ts), tt)), refl, ((h, within.terms), tt), refl)
+  begun (as_store {x = x} {i = i} {e = e} {at_i = at_i} at_e hi he) within = (
+    (token.Name x, inl ((i, at_i), ((e, at_e), tt))),
+    refl,
+    ((hi, omega (arith, within.terms)), ((he, omega (arith, within.terms)), tt)),
+    refl,
+  )
+  begun (as_read {i = i} {x = x}) within = ((token.Keyword keyword_.Read, (i, (x, tt))), refl, (tt, (tt, tt)), refl)
   begun (as_write {o = o} {e = e} {tokens = ts} h) within =
-      (token.Keyword keyword_.Write, (o, ((e, ts), tt)), refl, (tt, ((h, within.terms), tt)), refl)
+      ((token.Keyword keyword_.Write, (o, ((e, ts), tt))), refl, (tt, ((h, within.terms), tt)), refl)
   begun (as_if {e = e} {a = a} {b = b} {at_e = at_e} he ha hb) within =
-      (token.Keyword keyword_.If, ((e, (a, b)), at_e), refl, (as_if he ha hb, within), refl)
-  begun (as_while {e = e} {b = b} {at_e = at_e} {at_b = at_b} he hb) within =
-      (token.Keyword keyword_.While, ((e, at_e), (b, at_b)), refl, ((he, omega (arith, within.terms)),
-      (hb, record { blocks = omega (arith, within.blocks); terms = omega (arith, within.terms) })), refl)
+      ((token.Keyword keyword_.If, ((e, (a, b)), at_e)), refl, (as_if he ha hb, within), refl)
+  begun (as_while {e = e} {b = b} {at_e = at_e} {at_b = at_b} he hb) within = (
+    (token.Keyword keyword_.While, ((e, at_e), (b, at_b))),
+    refl,
+    (
+      (he, omega (arith, within.terms)),
+      (hb, record { blocks = omega (arith, within.blocks); terms = omega (arith, within.terms) }),
+    ),
+    refl,
+  )
 
   statement_parts : (st : StatementNode) (tokens more : List Token) → StatementOf s.language d st tokens more
       → Begun (statement_behind s inner second) statement_arms st tokens more
@@ -326,11 +355,17 @@ module _ (s : Scope) (d : ℕ) (inner second : List Lexeme → Read Statements) 
   body_reads =
       reads_by (bind (each_by (SpellsStatement s.language) (StatementIsWithin d) statement_ones 0)
       (λ ss. behind (this_mark s mark_.RightBrace) (done {May = Anything} (as_statements ss)))
-      (λ z more is may. refl))
-      (λ z more is. (all_spelled s.language z.0.0 z.0.1 (token.Mark mark_.RightBrace ∷ more) is.0.0,
-      all_are_within d z.0.0 is.0.1))
-      (λ b tokens more is. (((list_of b, tokens), tt), list_back b,
-      ((each_spelled is.0, each_is_within d b is.1), tt), refl))
+      (λ x z more is may. refl))
+      (λ z more is. (
+        all_spelled s.language z.0.0 z.0.1 (token.Mark mark_.RightBrace ∷ more) is.0.0,
+        all_are_within d z.0.0 is.0.1,
+      ))
+      (λ b tokens more is. (
+        ((list_of b, tokens), tt),
+        list_back b,
+        ((each_spelled is.0, each_is_within d b is.1), tt),
+        refl,
+      ))
 
   opened_reads : ReadsBlocks s.language (suc d) (opened s inner second)
   unfolding opened
@@ -351,41 +386,60 @@ module _ (s : Scope) (d : ℕ) (inner second : List Lexeme → Read Statements) 
   second_reads =
       reads_by (choose (is_branch s) (λ z more. (s.language ≡ language.Two) × ChoiceOf z more)
       (λ z more. BodyOf s.language (suc d) z.0 z.1 more) branch_row opened_reads
-      (λ ls z more there h is. (second_is_two s.language
-      (and_parts (is_second s.language) (first_is (is_keyword keyword_.If) ls) there).0, is))
+      (λ ls z more there h is. (
+        second_is_two s.language
+            (and_parts (is_second s.language) (first_is (is_keyword keyword_.If) ls) there).0,
+        is,
+      ))
       (λ ls z more there h is. is)
-      (λ ls z more h is may.
-      (and_from _ _ (ap is_second is.0) (first_kind (is_keyword keyword_.If) ls (token.Keyword keyword_.If) z.1 h
-      ∙ is_keyword_same keyword_.If), is.1, tt))
+      (λ ls z more h is may. (
+        and_from _ _ (ap is_second is.0) (first_kind (is_keyword keyword_.If) ls (token.Keyword keyword_.If) z.1 h
+            ∙ is_keyword_same keyword_.If),
+        is.1,
+        tt,
+      ))
       (λ ls z more h is may.
       (and_false _ _ (first_kind (is_keyword keyword_.If) ls (token.Mark mark_.LeftBrace) z.1 h), is, tt))
       (λ z more is. is.1) (λ z more is. is)) there (λ b tokens more is. found is.0 is.1) where
-    there : (z : Choice ⊎ (Statements × List Token)) (more : List Token)
-        → Either (λ z more. (s.language ≡ language.Two) × ChoiceOf z more)
-        (λ z more. BodyOf s.language (suc d) z.0 z.1 more) z more
-        → SecondOf s.language (suc d)
-        (either (λ z. statement (the_choice z) no_statements) (λ (z : Statements × List Token). z.0) z)
-        (spell_either (λ z more. token.Keyword keyword_.If ∷ z.1)
-        (λ (z : Statements × List Token) more. token.Mark mark_.LeftBrace ∷ z.1) z more) more
-    there (inl z) more is = (as_branch is.0 is.1.0, record {
-      blocks = omega (arith, is.1.1.blocks);
-      terms = omega (arith, is.1.1.terms);
-    })
-    there (inr z) more is = (with_braces is.0, is.1)
+        there : (z : Choice ⊎ (Statements × List Token)) (more : List Token)
+            → Either (λ z more. (s.language ≡ language.Two) × ChoiceOf z more)
+            (λ z more. BodyOf s.language (suc d) z.0 z.1 more) z more
+            → SecondOf s.language (suc d)
+            (either (λ z. statement (the_choice z) no_statements) (λ (z : Statements × List Token). z.0) z)
+            (spell_either (λ z more. token.Keyword keyword_.If ∷ z.1)
+            (λ (z : Statements × List Token) more. token.Mark mark_.LeftBrace ∷ z.1) z more) more
+        there (inl z) more is = (
+          as_branch is.0 is.1.0,
+          record {
+            blocks = omega (arith, is.1.1.blocks);
+            terms = omega (arith, is.1.1.terms);
+          },
+        )
+        there (inr z) more is = (with_braces is.0, is.1)
 
-    found : {b : Statements} {tokens more : List Token} → SpellsSecond s.language b tokens more
-        → BlockIsWithin (suc d) b → (z : Choice ⊎ (Statements × List Token))
-        × (either (λ z. statement (the_choice z) no_statements) (λ (z : Statements × List Token). z.0) z ≡ b)
-        × Either (λ z more. (s.language ≡ language.Two) × ChoiceOf z more)
-        (λ z more. BodyOf s.language (suc d) z.0 z.1 more) z more
-        × (spell_either (λ z more. token.Keyword keyword_.If ∷ z.1)
-        (λ (z : Statements × List Token) more. token.Mark mark_.LeftBrace ∷ z.1) z more ≡ tokens)
-    found (with_braces {b = b} {tokens = tokens} h) within = (inr (b, tokens), refl, (h, within), refl)
-    found (as_branch two (as_if {e = e} {a = a} {b = b} {at_e = at_e} he ha hb)) within =
-        (inl ((e, (a, b)), at_e), refl, (two, (as_if he ha hb, record {
-          blocks = omega (arith, within.blocks);
-          terms = omega (arith, within.terms);
-        })), refl)
+        found : {b : Statements} {tokens more : List Token} → SpellsSecond s.language b tokens more
+            → BlockIsWithin (suc d) b → (z : Choice ⊎ (Statements × List Token))
+            × (either (λ z. statement (the_choice z) no_statements) (λ (z : Statements × List Token). z.0) z ≡ b)
+            × Either (λ z more. (s.language ≡ language.Two) × ChoiceOf z more)
+            (λ z more. BodyOf s.language (suc d) z.0 z.1 more) z more
+            × (spell_either (λ z more. token.Keyword keyword_.If ∷ z.1)
+            (λ (z : Statements × List Token) more. token.Mark mark_.LeftBrace ∷ z.1) z more ≡ tokens)
+        found (with_braces {b = b} {tokens = tokens} h) within = (inr (b, tokens), refl, (h, within), refl)
+        found (as_branch two (as_if {e = e} {a = a} {b = b} {at_e = at_e} he ha hb)) within = (
+          inl ((e, (a, b)), at_e),
+          refl,
+          (
+            two,
+            (
+              as_if he ha hb,
+              record {
+                blocks = omega (arith, within.blocks);
+                terms = omega (arith, within.terms);
+              },
+            ),
+          ),
+          refl,
+        )
 
 -- ---- blocks by their levels
 
@@ -406,6 +460,7 @@ deep_second s ls b rest h =
 
 mutual
   unfolding block second_block branch_or_braces
+
   pub block_reads : (s : Scope) (d : ℕ) → ReadsBlocks s.language d (block s d)
   block_reads s zero = record {
     takes = λ ls b rest h. absurd (deep_takes s ls b rest h);

@@ -26,7 +26,7 @@ use Rattle.kpn_text_grammar.specs.Words.{growth_word, growths, growth_spelled, p
 use Rattle.kpn_text_grammar.specs.Spelling.{kinds}
 use Rattle.kpn_text_tokens.specs.Results.{and_then, OkOr}
 use Rattle.kpn_text_grammar.specs.TokenTests.{same_mark, same_keyword, is_mark, is_keyword, is_number_two}
-use Rattle.kpn_text_grammar.specs.Reading.{ReadingFails, ReadingGives, first_is, next, mark, keyword, named, name, numbered, number, token_operator, or_fault_at, operator, token_word, word_of, two}
+use Rattle.kpn_text_grammar.specs.Reading.{ReadingFails, ReadingGives, first_is, next, mark, keyword, token_operator, or_fault_at, two}
 use Rattle.kpn_text_tokens.proofs.Pieces.{find_passes}
 
 -- the value of a step that had no fault
@@ -63,6 +63,12 @@ moved P x y h holds = subst P (ok_is x y h) holds
 -- a fault is no value
 pub no_value : {A : Type 0} (d : GrammarFault) (y : A) → ◌≡◌ {A = Result A GrammarFault} (Err d) (Ok y) → ⊥
 no_value d y e = cc
+
+-- what follows from the first token
+pub bound : {A B : Type 0} (r : Result A GrammarFault) (x : A) (f : A → Result B GrammarFault) (y : Result B GrammarFault)
+    → r ≡ Ok x → f x ≡ y → and_then r f ≡ y
+unfolding and_then
+bound r x f y e h = rw e h
 
 -- ---- marks and reserved words are distinct
 
@@ -138,73 +144,52 @@ pub next_again : (s : Scope) (l : Lexeme) (rest : List Lexeme) → next s (l ∷
 unfolding next
 next_again s l rest = refl
 
--- ---- a mark, a reserved word, a name, an operator
+-- ---- a mark, a reserved word, the number 2
 
-pub mark_takes : (s : Scope) (m : Mark) (ls rest : List Lexeme) → mark s m ls ≡ Ok rest → kinds ls ≡ token.Mark m
-    ∷ kinds rest
+-- the step that passes one token
+pub record Passes (t : Token) (step : List Lexeme → Result (List Lexeme) GrammarFault) : Type 0 where
+  pub takes : (ls rest : List Lexeme) → step ls ≡ Ok rest → kinds ls ≡ t ∷ kinds rest
+  pub again : (ls : List Lexeme) (more : List Token) → kinds ls ≡ t ∷ more
+      → (rest : List Lexeme) × (step ls ≡ Ok rest) × (kinds rest ≡ more)
+
+passes : (s : Scope) (goes : Token → Bool) (t : Token) → ((u : Token) → goes u ≡ true → u ≡ t) → goes t ≡ true
+    → Passes t (λ ls. and_then (next s ls) (λ x. cond (goes x.0.token) (Ok x.1) (Err (fault.Grammar x.0.start))))
+passes s goes t only here = record {
+  takes = λ ls rest h.
+      let b = bind_ok (next s ls) (λ (x : Lexeme × List Lexeme). cond (goes x.0.token) (Ok x.1)
+      (Err (fault.Grammar x.0.start))) rest h in
+      let found = test_ok (goes b.0.0.token) b.0.1 rest (fault.Grammar b.0.0.start) b.2 in
+      ap kinds (next_takes s ls b.0.0 b.0.1 b.1) ∙ ap (λ (k : Token). k ∷ kinds b.0.1) (only b.0.0.token found.0)
+      ∙ ap (λ (r : List Lexeme). t ∷ kinds r) found.1;
+  again = λ ls more h.
+      let f = front ls t more h in
+      (f.rest, at ls f.lexeme f.rest f.whole (ap goes f.kind ∙ here), f.after);
+} where
+  at : (ls : List Lexeme) (l : Lexeme) (rest : List Lexeme) → ls ≡ l ∷ rest → goes l.token ≡ true
+      → and_then (next s ls) (λ x. cond (goes x.0.token) (Ok x.1) (Err (fault.Grammar x.0.start))) ≡ Ok rest
+  at ls l rest e h =
+      bound (next s ls) (l, rest) (λ (x : Lexeme × List Lexeme). cond (goes x.0.token) (Ok x.1)
+      (Err (fault.Grammar x.0.start))) (Ok rest) (rw (e, next_again s l rest) refl) (rw h refl)
+
+pub this_mark : (s : Scope) (m : Mark) → Passes (token.Mark m) (mark s m)
 unfolding mark
-mark_takes s m ls rest h =
-    let b = bind_ok (next s ls) (λ x. cond (is_mark m x.0.token) (Ok x.1) (Err (fault.Grammar x.0.start))) rest h in
-    let t = test_ok (is_mark m b.0.0.token) b.0.1 rest (fault.Grammar b.0.0.start) b.2 in
-    ap kinds (next_takes s ls b.0.0 b.0.1 b.1) ∙ ap (λ (k : Token). k ∷ kinds b.0.1) (is_mark_true m b.0.0.token t.0)
-    ∙ ap (λ (r : List Lexeme). token.Mark m ∷ kinds r) t.1
+this_mark s m = passes s (is_mark m) (token.Mark m) (is_mark_true m) (is_mark_same m)
 
-mark_at : (s : Scope) (m : Mark) (ls : List Lexeme) (l : Lexeme) (rest : List Lexeme) → ls ≡ l ∷ rest
-    → is_mark m l.token ≡ true → mark s m ls ≡ Ok rest
-unfolding mark and_then
-mark_at s m ls l rest e t = rw (e, next_again s l rest, t) refl
-
-pub mark_again : (s : Scope) (m : Mark) (ls : List Lexeme) (more : List Token) → kinds ls ≡ token.Mark m ∷ more
-    → (rest : List Lexeme) × (mark s m ls ≡ Ok rest) × (kinds rest ≡ more)
-mark_again s m ls more h =
-    let f = front ls (token.Mark m) more h in
-    (f.rest, mark_at s m ls f.lexeme f.rest f.whole (ap (is_mark m) f.kind ∙ is_mark_same m), f.after)
-
-pub keyword_takes : (s : Scope) (k : Keyword) (ls rest : List Lexeme) → keyword s k ls ≡ Ok rest
-    → kinds ls ≡ token.Keyword k ∷ kinds rest
+pub this_keyword : (s : Scope) (k : Keyword) → Passes (token.Keyword k) (keyword s k)
 unfolding keyword
-keyword_takes s k ls rest h =
-    let b = bind_ok (next s ls) (λ x. cond (is_keyword k x.0.token) (Ok x.1) (Err (fault.Grammar x.0.start))) rest h in
-    let t = test_ok (is_keyword k b.0.0.token) b.0.1 rest (fault.Grammar b.0.0.start) b.2 in
-    ap kinds (next_takes s ls b.0.0 b.0.1 b.1) ∙ ap (λ (u : Token). u ∷ kinds b.0.1) (is_keyword_true k b.0.0.token t.0)
-    ∙ ap (λ (r : List Lexeme). token.Keyword k ∷ kinds r) t.1
+this_keyword s k = passes s (is_keyword k) (token.Keyword k) (is_keyword_true k) (is_keyword_same k)
 
-keyword_at : (s : Scope) (k : Keyword) (ls : List Lexeme) (l : Lexeme) (rest : List Lexeme) → ls ≡ l ∷ rest
-    → is_keyword k l.token ≡ true → keyword s k ls ≡ Ok rest
-unfolding keyword and_then
-keyword_at s k ls l rest e t = rw (e, next_again s l rest, t) refl
+is_two_true : (t : Token) → is_number_two t ≡ true → t ≡ token.Number 2
+is_two_true (token.Number n) h = ap token.Number (eqb-true n 2 h)
+is_two_true (token.Name x) h = absurd cc
+is_two_true (token.Mark m) h = absurd cc
+is_two_true (token.Keyword k) h = absurd cc
 
-pub keyword_again : (s : Scope) (k : Keyword) (ls : List Lexeme) (more : List Token) → kinds ls ≡ token.Keyword k ∷ more
-    → (rest : List Lexeme) × (keyword s k ls ≡ Ok rest) × (kinds rest ≡ more)
-keyword_again s k ls more h =
-    let f = front ls (token.Keyword k) more h in
-    (f.rest, keyword_at s k ls f.lexeme f.rest f.whole (ap (is_keyword k) f.kind ∙ is_keyword_same k), f.after)
+pub this_two : (s : Scope) → Passes (token.Number 2) (two s)
+unfolding two
+this_two s = passes s is_number_two (token.Number 2) is_two_true refl
 
-named_takes : (t : Token) (start : ℕ) (ls : List Lexeme) (x : List ℕ) (rest : List Lexeme)
-    → named t start ls ≡ Ok (x, rest) → t ∷ kinds ls ≡ token.Name x ∷ kinds rest
-named_takes (token.Name y) start ls x rest h = ap (λ (p : List ℕ × List Lexeme). token.Name p.0 ∷ kinds p.1)
-    (ok_is (y, ls) (x, rest) h)
-named_takes (token.Number n) start ls x rest h = absurd cc
-named_takes (token.Mark m) start ls x rest h = absurd cc
-named_takes (token.Keyword k) start ls x rest h = absurd cc
-
-pub name_takes : (s : Scope) (ls : List Lexeme) (x : List ℕ) (rest : List Lexeme) → name s ls ≡ Ok (x, rest)
-    → kinds ls ≡ token.Name x ∷ kinds rest
-unfolding name
-name_takes s ls x rest h =
-    let b = bind_ok (next s ls) (λ f. named f.0.token f.0.start f.1) (x, rest) h in
-    ap kinds (next_takes s ls b.0.0 b.0.1 b.1) ∙ named_takes b.0.0.token b.0.0.start b.0.1 x rest b.2
-
-name_at : (s : Scope) (x : List ℕ) (ls : List Lexeme) (l : Lexeme) (rest : List Lexeme) → ls ≡ l ∷ rest
-    → l.token ≡ token.Name x → name s ls ≡ Ok (x, rest)
-unfolding name and_then
-name_at s x ls l rest e t = rw (e, next_again s l rest, t) refl
-
-pub name_again : (s : Scope) (ls : List Lexeme) (x : List ℕ) (more : List Token) → kinds ls ≡ token.Name x ∷ more
-    → (rest : List Lexeme) × (name s ls ≡ Ok (x, rest)) × (kinds rest ≡ more)
-name_again s ls x more h =
-    let f = front ls (token.Name x) more h in
-    (f.rest, name_at s x ls f.lexeme f.rest f.whole f.kind, f.after)
+-- ---- operators and words
 
 operator_is : (m : Mark) (o : Op) → operator_of m ≡ Some o → m ≡ operator_mark o
 unfolding operator_of
@@ -241,32 +226,11 @@ found_is {A} (Some y) start ls x rest h = (
 )
 found_is None start ls x rest h = absurd cc
 
-token_operator_is : (t : Token) (o : Op) → token_operator t ≡ Some o → t ≡ token.Mark (operator_mark o)
+pub token_operator_is : (t : Token) (o : Op) → token_operator t ≡ Some o → t ≡ token.Mark (operator_mark o)
 token_operator_is (token.Mark m) o h = ap token.Mark (operator_is m o h)
 token_operator_is (token.Name x) o h = absurd cc
 token_operator_is (token.Number n) o h = absurd cc
 token_operator_is (token.Keyword k) o h = absurd cc
-
-pub operator_takes : (s : Scope) (ls : List Lexeme) (o : Op) (rest : List Lexeme) → operator s ls ≡ Ok (o, rest)
-    → kinds ls ≡ token.Mark (operator_mark o) ∷ kinds rest
-unfolding operator
-operator_takes s ls o rest h =
-    let b = bind_ok (next s ls) (λ x. or_fault_at x.0.start x.1 (token_operator x.0.token)) (o, rest) h in
-    let f = found_is (token_operator b.0.0.token) b.0.0.start b.0.1 o rest b.2 in
-    ap kinds (next_takes s ls b.0.0 b.0.1 b.1) ∙ ap (λ (t : Token). t ∷ kinds b.0.1)
-    (token_operator_is b.0.0.token o f.0) ∙ ap (λ (r : List Lexeme). token.Mark (operator_mark o) ∷ kinds r) f.1
-
-operator_at : (s : Scope) (o : Op) (ls : List Lexeme) (l : Lexeme) (rest : List Lexeme) → ls ≡ l ∷ rest
-    → l.token ≡ token.Mark (operator_mark o) → operator s ls ≡ Ok (o, rest)
-unfolding operator and_then
-operator_at s o ls l rest e t = rw (e, next_again s l rest, t, operator_back o) refl
-
-pub operator_again : (s : Scope) (ls : List Lexeme) (o : Op) (more : List Token)
-    → kinds ls ≡ token.Mark (operator_mark o) ∷ more → (rest : List Lexeme) × (operator s ls ≡ Ok (o, rest))
-    × (kinds rest ≡ more)
-operator_again s ls o more h =
-    let f = front ls (token.Mark (operator_mark o)) more h in
-    (f.rest, operator_at s o ls f.lexeme f.rest f.whole f.kind, f.after)
 
 -- ---- a name that stands for something
 
@@ -274,34 +238,6 @@ operator_again s ls o more h =
 pub record Spells {A : Type 0} (meant : NameBytes → Option A) (spelled : A → NameBytes) : Type 0 where
   pub back : (n : NameBytes) (x : A) → meant n ≡ Some x → n ≡ spelled x
   pub found : (x : A) → meant (spelled x) ≡ Some x
-
-module _ {A : Type 0} (meant : NameBytes → Option A) (spelled : A → NameBytes) (table : Spells meant spelled) where
-  meant_takes : (t : Token) (x : A) → token_word meant t ≡ Some x → t ≡ token.Name (spelled x)
-  meant_takes (token.Name n) x h = ap token.Name (table.back n x h)
-  meant_takes (token.Number n) x h = absurd cc
-  meant_takes (token.Mark m) x h = absurd cc
-  meant_takes (token.Keyword k) x h = absurd cc
-
-  pub word_takes : (s : Scope) (ls : List Lexeme) (x : A) (rest : List Lexeme) → word_of meant s ls ≡ Ok (x, rest)
-      → kinds ls ≡ token.Name (spelled x) ∷ kinds rest
-  unfolding word_of
-  word_takes s ls x rest h =
-      let b = bind_ok (next s ls) (λ y. or_fault_at y.0.start y.1 (token_word meant y.0.token)) (x, rest) h in
-      let f = found_is (token_word meant b.0.0.token) b.0.0.start b.0.1 x rest b.2 in
-      ap kinds (next_takes s ls b.0.0 b.0.1 b.1) ∙ ap (λ (t : Token). t ∷ kinds b.0.1) (meant_takes b.0.0.token x f.0)
-      ∙ ap (λ (r : List Lexeme). token.Name (spelled x) ∷ kinds r) f.1
-
-  word_at : (s : Scope) (x : A) (ls : List Lexeme) (l : Lexeme) (rest : List Lexeme) → ls ≡ l ∷ rest
-      → l.token ≡ token.Name (spelled x) → word_of meant s ls ≡ Ok (x, rest)
-  unfolding word_of and_then
-  word_at s x ls l rest e t = rw (e, next_again s l rest, t, table.found x) refl
-
-  pub word_again : (s : Scope) (ls : List Lexeme) (x : A) (more : List Token)
-      → kinds ls ≡ token.Name (spelled x) ∷ more
-      → (rest : List Lexeme) × (word_of meant s ls ≡ Ok (x, rest)) × (kinds rest ≡ more)
-  word_again s ls x more h =
-      let f = front ls (token.Name (spelled x)) more h in
-      (f.rest, word_at s x ls f.lexeme f.rest f.whole f.kind, f.after)
 
 policy_found : (q : Policy) → policy_spelled (policy_word q) ≡ Some q
 unfolding policy_spelled
@@ -328,61 +264,6 @@ growth_back n g h =
 
 pub growths_spelled : Spells growth_spelled growth_word
 growths_spelled = record { back = growth_back; found = growth_found }
-
--- ---- a number
-
-numbered_takes : (t : Token) (start : ℕ) (ls : List Lexeme) (n : ℕ) (rest : List Lexeme)
-    → numbered t start ls ≡ Ok (n, rest) → t ∷ kinds ls ≡ token.Number n ∷ kinds rest
-numbered_takes (token.Number m) start ls n rest h = ap (λ (p : ℕ × List Lexeme). token.Number p.0 ∷ kinds p.1)
-    (ok_is (m, ls) (n, rest) h)
-numbered_takes (token.Name x) start ls n rest h = absurd cc
-numbered_takes (token.Mark m) start ls n rest h = absurd cc
-numbered_takes (token.Keyword k) start ls n rest h = absurd cc
-
-pub number_takes : (s : Scope) (ls : List Lexeme) (n : ℕ) (rest : List Lexeme) → number s ls ≡ Ok (n, rest)
-    → kinds ls ≡ token.Number n ∷ kinds rest
-unfolding number
-number_takes s ls n rest h =
-    let b = bind_ok (next s ls) (λ f. numbered f.0.token f.0.start f.1) (n, rest) h in
-    ap kinds (next_takes s ls b.0.0 b.0.1 b.1) ∙ numbered_takes b.0.0.token b.0.0.start b.0.1 n rest b.2
-
-number_at : (s : Scope) (n : ℕ) (ls : List Lexeme) (l : Lexeme) (rest : List Lexeme) → ls ≡ l ∷ rest
-    → l.token ≡ token.Number n → number s ls ≡ Ok (n, rest)
-unfolding number and_then
-number_at s n ls l rest e t = rw (e, next_again s l rest, t) refl
-
-pub number_again : (s : Scope) (ls : List Lexeme) (n : ℕ) (more : List Token) → kinds ls ≡ token.Number n ∷ more
-    → (rest : List Lexeme) × (number s ls ≡ Ok (n, rest)) × (kinds rest ≡ more)
-number_again s ls n more h =
-    let f = front ls (token.Number n) more h in
-    (f.rest, number_at s n ls f.lexeme f.rest f.whole f.kind, f.after)
-
--- ---- the number 2
-
-is_two_true : (t : Token) → is_number_two t ≡ true → t ≡ token.Number 2
-is_two_true (token.Number n) h = ap token.Number (eqb-true n 2 h)
-is_two_true (token.Name x) h = absurd cc
-is_two_true (token.Mark m) h = absurd cc
-is_two_true (token.Keyword k) h = absurd cc
-
-pub two_takes : (s : Scope) (ls rest : List Lexeme) → two s ls ≡ Ok rest → kinds ls ≡ token.Number 2 ∷ kinds rest
-unfolding two
-two_takes s ls rest h =
-    let b = bind_ok (next s ls) (λ x. cond (is_number_two x.0.token) (Ok x.1) (Err (fault.Grammar x.0.start))) rest h in
-    let t = test_ok (is_number_two b.0.0.token) b.0.1 rest (fault.Grammar b.0.0.start) b.2 in
-    ap kinds (next_takes s ls b.0.0 b.0.1 b.1) ∙ ap (λ (u : Token). u ∷ kinds b.0.1) (is_two_true b.0.0.token t.0)
-    ∙ ap (λ (r : List Lexeme). token.Number 2 ∷ kinds r) t.1
-
-two_at : (s : Scope) (ls : List Lexeme) (l : Lexeme) (rest : List Lexeme) → ls ≡ l ∷ rest
-    → is_number_two l.token ≡ true → two s ls ≡ Ok rest
-unfolding two and_then
-two_at s ls l rest e t = rw (e, next_again s l rest, t) refl
-
-pub two_again : (s : Scope) (ls : List Lexeme) (more : List Token) → kinds ls ≡ token.Number 2 ∷ more
-    → (rest : List Lexeme) × (two s ls ≡ Ok rest) × (kinds rest ≡ more)
-two_again s ls more h =
-    let f = front ls (token.Number 2) more h in
-    (f.rest, two_at s ls f.lexeme f.rest f.whole (ap is_number_two f.kind), f.after)
 
 -- ---- calls beside what reading returns
 

@@ -13,9 +13,8 @@ use Rattle.kpn_text_grammar.specs.Spelling.{term_level}
 use Rattle.kpn_text_tokens.specs.Results.{and_then}
 use Rattle.kpn_text_grammar.specs.Reading.{Read, ReadingFails, next, operator, level_fault, first_is, goes_further, sides_behind, tight_operand, tight_over, tight}
 use Rattle.kpn_text_grammar.proofs.Readers.{kinds_length}
-use Rattle.kpn_text_grammar.proofs.Steps.{operator_takes}
-use Rattle.kpn_text_grammar.proofs.TightAgain.{no_side, one_side, tight_longer}
-use Rattle.kpn_text_grammar.proofs.TightLaws.{tight_takes}
+use Rattle.kpn_text_grammar.proofs.TightReads.{no_side, one_side, tight_longer, tight_takes}
+use Rattle.kpn_text_grammar.proofs.TightLaws.{operator_takes}
 
 -- How far the loop is: its left side has so many levels, no more than there are.
 pub record GoesOn (s : Scope) (depth levels n bound left_levels : ℕ) (left : ExpressionNode) (ls : List Lexeme)
@@ -48,7 +47,7 @@ side_shortens s depth levels n ls o after b rest small sign side =
     omega (
       arith,
       ap length (operator_takes s ls o after sign),
-      tight_longer (tight_takes s depth levels n after b rest small side).spelled,
+      tight_longer (tight_takes s depth levels n after b rest small side).0,
       kinds_length ls,
       kinds_length after,
       kinds_length rest,

@@ -1,6 +1,5 @@
 -- Values with commas between them.
-use Rattle.std.proofs.Common.{◌≡◌, ℕ, ◌<◌, List, [], ◌∷◌, length, Ok, refl, sym}
-use Rattle.std.specs.List.{AllByRecursion}
+use Rattle.std.proofs.Common.{◌≡◌, ℕ, ◌<◌, List, length, Ok, refl, sym}
 use Rattle.kpn_text_tokens.specs.declared.tokens.Lexeme.{Lexeme}
 use Rattle.kpn_text_tokens.specs.declared.tokens.Token.{Token}
 use Rattle.kpn_text_tokens.specs.declared.tokens.Token.TheVariants as token
@@ -21,8 +20,8 @@ literal_arms s _ = no_arm
 literal_parts : (s : Scope) (v : Literal) (tokens more : List Token) → Exactly spell_literal Free v tokens more
     → Begun (literal_behind s) (literal_arms s) v tokens more
 unfolding literal_arms
-literal_parts s (plain n) tokens more is = (token.Number n, tt, refl, tt, sym is.1)
-literal_parts s (negated n) tokens more is = (token.Mark mark_.Minus, (n, tt), refl, (tt, tt), sym is.1)
+literal_parts s (plain n) tokens more is = ((token.Number n, tt), refl, tt, sym is.1)
+literal_parts s (negated n) tokens more is = ((token.Mark mark_.Minus, (n, tt)), refl, (tt, tt), sym is.1)
 
 literal_reads : (s : Scope) → Reader spell_literal Free Anything (literal s)
 unfolding literal

@@ -1,0 +1,460 @@
+-- What is read as an expression of language 2 follows the rules and has no more levels than it may, and what follows
+-- the rules is read, whatever stands behind it: to read it is to go on behind it. The canonical spelling follows them.
+use Rattle.std.proofs.Common.{◌≡◌, ◌⊎◌, inl, inr, ℕ, zero, suc, ◌+◌, ◌<◌, ◌≤◌, true, false, nat_le, cond, List, ◌∷◌, length, Result, Ok, Err, refl, sym, subst, ◌∙◌, arith}
+use Rattle.std.proofs.lemmas.Bool.{cond_both, leb-false, leb-true, le-leb, lt-leb}
+use Rattle.kpn_text_tokens.specs.declared.tokens.Lexeme.{Lexeme}
+use Rattle.kpn_text_tokens.specs.declared.tokens.Token.{Token}
+use Rattle.kpn_text_tokens.specs.declared.tokens.Token.TheVariants as token
+use Rattle.kpn_text_tokens.specs.declared.tokens.Mark.TheVariants as mark_
+use Rattle.kpn_text_grammar.specs.declared.fault.GrammarFault.{GrammarFault}
+use Rattle.kpn_text_grammar.specs.declared.fault.GrammarFault.TheVariants as fault
+use Rattle.kpn_text_grammar.specs.declared.parser.Scope.{Scope}
+use Rattle.kpn_lang.specs.declared.syntax.Op.{Op}
+use Rattle.kpn_text_grammar.specs.Syntax.{NameBytes, ExpressionNode, numeral, variable, element, minus, negation, complement, binary, conditional}
+use Rattle.kpn_text_grammar.specs.Operators.{operator_mark, tightness, left_side, right_side, LOOSEST, OPERAND}
+use Rattle.kpn_text_grammar.specs.Spelling.{kinds, term_level, spell_tight, SpellsTight, as_number, as_name, as_element, as_minus, as_negation, as_complement, in_parentheses, as_conditional, as_binary}
+use Rattle.kpn_text_tokens.specs.Results.{and_then}
+use Rattle.kpn_text_grammar.specs.TokenTests.{is_mark}
+use Rattle.kpn_text_grammar.specs.Reading.{Read, next, operator, level_fault, first_is, goes_further, unless_full, sides_behind, element_behind, behind_name, conditional_behind, inside_behind, tight_operand, tight_over, tight}
+use Rattle.kpn_text_grammar.proofs.Steps.{bind_ok, bound, by_test, moved, no_value, this_mark}
+use Rattle.kpn_text_grammar.proofs.Readers.{ReaderBy, Anything, done, behind, bind, mapped, guarded, an_operator, either, spell_either, Either, choice, optional, Arm, arm, no_arm, first_token}
+use Rattle.kpn_text_grammar.proofs.TermLaws.{is_index, some_level}
+use Rattle.kpn_text_grammar.proofs.TightLaws.{operator_takes, right_below, left_below, left_is_tight, right_is_tighter, is_tight, first_tightness, at_bracket, at_close, at_question, at_colon, operator_first, no_index, looser_first, stops_first, Fits, fits_of, goes_of}
+
+-- ---- operators behind a left side
+
+module _ (s : Scope) (side : ℕ → List Lexeme → Read ExpressionNode) (levels n : ℕ) where
+  -- as many steps as there are levels suffice
+  pub same_steps : (i j bound : ℕ) (left : ExpressionNode) (ls : List Lexeme) → levels ≤ term_level left + i
+      → levels ≤ term_level left + j
+      → sides_behind s side levels n i bound left ls ≡ sides_behind s side levels n j bound left ls
+  unfolding sides_behind
+  same_steps zero zero bound left ls a b = refl
+  same_steps zero (suc j) bound left ls a b =
+      let full : nat_le levels (term_level left) ≡ true = le-leb levels (term_level left) (omega arith) in
+      rw full refl
+  same_steps (suc i) zero bound left ls a b =
+      let full : nat_le levels (term_level left) ≡ true = le-leb levels (term_level left) (omega arith) in
+      rw full refl
+  same_steps (suc i) (suc j) bound left ls a b =
+      λ x. cond (first_is (goes_further n bound) ls)
+      (cond (nat_le levels (term_level left)) (Err (fault.TooDeep s.process))
+      (and_then (operator s ls) (λ o. and_then (side (right_side o.0) o.1)
+      (λ right. same_steps i j (tightness o.0) (binary o.0 left right.0) right.1 (omega (arith, a)) (omega (arith, b)) x))))
+      (Ok (left, ls))
+
+  one_step : (i bound : ℕ) (left : ExpressionNode) (ls : List Lexeme) (o : Op) (after : List Lexeme) (b : ExpressionNode)
+      (rest : List Lexeme) → first_is (goes_further n bound) ls ≡ true → term_level left < levels
+      → operator s ls ≡ Ok (o, after) → side (right_side o) after ≡ Ok (b, rest)
+      → sides_behind s side levels n (suc i) bound left ls
+      ≡ sides_behind s side levels n i (tightness o) (binary o left b) rest
+  unfolding sides_behind and_then
+  one_step i bound left ls o after b rest goes room sign right =
+      let some : nat_le levels (term_level left) ≡ false = lt-leb levels (term_level left) room in
+      rw (goes, some, sign, right) refl
+
+  -- an operator that goes further, and its right side
+  pub one_side : (bound : ℕ) (left : ExpressionNode) (ls : List Lexeme) (o : Op) (after : List Lexeme) (b : ExpressionNode)
+      (rest : List Lexeme) → first_is (goes_further n bound) ls ≡ true → term_level left < levels
+      → operator s ls ≡ Ok (o, after) → side (right_side o) after ≡ Ok (b, rest)
+      → sides_behind s side levels n levels bound left ls
+      ≡ sides_behind s side levels n levels (tightness o) (binary o left b) rest
+  one_side bound left ls o after b rest goes room sign right =
+      same_steps levels (suc levels) bound left ls (omega arith) (omega arith)
+      ∙ one_step levels bound left ls o after b rest goes room sign right
+
+  no_step : (i bound : ℕ) (left : ExpressionNode) (ls : List Lexeme) → first_is (goes_further n bound) ls ≡ false
+      → sides_behind s side levels n i bound left ls ≡ Ok (left, ls)
+  unfolding sides_behind
+  no_step zero bound left ls stops = rw stops refl
+  no_step (suc i) bound left ls stops = rw stops refl
+
+  -- no operator goes further
+  pub no_side : (bound : ℕ) (left : ExpressionNode) (ls : List Lexeme) → first_is (goes_further n bound) ls ≡ false
+      → sides_behind s side levels n levels bound left ls ≡ Ok (left, ls)
+  no_side = no_step levels
+
+-- Tokens are read as an expression and the operators behind it.
+pub record ReadsOn (s : Scope) (depth d n k : ℕ) (e : ExpressionNode) (more : List Token) (ls : List Lexeme) : Type 0 where
+  pub bound : ℕ
+  pub rest : List Lexeme
+  pub binds : k ≤ bound
+  pub reads : tight s depth (suc d) n ls
+      ≡ sides_behind s (tight s depth d) (suc d) n (suc d) bound e rest
+  pub after : kinds rest ≡ more
+
+in_turn : {A B C : Type 0} (r : Result A GrammarFault) (f : A → Result B GrammarFault) (g : B → Result C GrammarFault)
+    → and_then r (λ x. and_then (f x) g) ≡ and_then (and_then r f) g
+unfolding and_then
+in_turn (Ok x) f g = refl
+in_turn (Err e) f g = refl
+
+-- ---- spellings are no gaps
+
+pub tight_longer : {depth n : ℕ} {e : ExpressionNode} {tokens more : List Token} → SpellsTight depth n e tokens more
+    → length more < length tokens
+tight_longer as_number = omega arith
+tight_longer as_name = omega arith
+tight_longer (as_element h) = omega (arith, tight_longer h)
+tight_longer (as_minus h) = omega (arith, tight_longer h)
+tight_longer (as_negation h) = omega (arith, tight_longer h)
+tight_longer (as_complement h) = omega (arith, tight_longer h)
+tight_longer (in_parentheses h) = omega (arith, tight_longer h)
+tight_longer (as_conditional hc ha hb) = omega (arith, tight_longer hc, tight_longer ha, tight_longer hb)
+tight_longer (as_binary fits ha hb) = omega (arith, tight_longer ha, tight_longer hb)
+
+-- ---- what is read is spelled so
+
+-- what was read as an expression
+record TakesTight (depth levels n : ℕ) (tokens : List Token) (e : ExpressionNode) (rest : List Lexeme) : Type 0 where
+  spelled : SpellsTight depth n e tokens (kinds rest)
+  level : term_level e ≤ levels
+
+-- what was read as an operand or a left side: it binds as tight as this
+record TakesBound (depth levels bound : ℕ) (tokens : List Token) (e : ExpressionNode) (rest : List Lexeme) : Type 0 where
+  spelled : (n : ℕ) → n ≤ bound → SpellsTight depth n e tokens (kinds rest)
+  level : term_level e ≤ levels
+
+-- a right side, by the number of its levels
+abbrev Sides : (depth levels : ℕ) → (ℕ → List Lexeme → Read ExpressionNode) → Type 0
+Sides depth levels side = (n : ℕ) (ls : List Lexeme) (e : ExpressionNode) (rest : List Lexeme) → n ≤ OPERAND
+    → side n ls ≡ Ok (e, rest) → TakesTight depth levels n (kinds ls) e rest
+
+module _ (s : Scope) (depth d n : ℕ) (side : ℕ → List Lexeme → Read ExpressionNode) (laws : Sides depth d side) where
+  bound_left : (bound : ℕ) (tokens : List Token) (left : ExpressionNode) (ls : List Lexeme) (e : ExpressionNode) (rest : List Lexeme)
+      → n ≤ bound → TakesBound depth (suc d) bound tokens left ls → ◌≡◌ {A = Read ExpressionNode} (Ok (left, ls)) (Ok (e, rest))
+      → TakesTight depth (suc d) n tokens e rest
+  bound_left bound tokens left ls e rest tight_enough t h =
+      moved (λ (p : ExpressionNode × List Lexeme). TakesTight depth (suc d) n tokens p.0 p.1) (left, ls) (e, rest) h
+      (record { spelled = t.spelled n tight_enough; level = t.level })
+
+  -- an operator and its right side more
+  one_more : (bound : ℕ) (tokens : List Token) (left : ExpressionNode) (ls : List Lexeme) (o : Op) (after : List Lexeme) (b : ExpressionNode)
+      (rest : List Lexeme) → Fits n bound o → TakesBound depth (suc d) bound tokens left ls
+      → kinds ls ≡ token.Mark (operator_mark o) ∷ kinds after → term_level left < suc d
+      → TakesTight depth d (right_side o) (kinds after) b rest
+      → TakesBound depth (suc d) (tightness o) tokens (binary o left b) rest
+  one_more bound tokens left ls o after b rest fits t sign room right = record {
+    spelled = λ k le. as_binary le (subst (λ (ts : List Token). SpellsTight depth (left_side o) left tokens ts) sign
+        (t.spelled (left_side o) fits.left)) right.spelled;
+    level = omega (arith, room, right.level);
+  }
+
+  abbrev others : (steps : ℕ) → ExpressionNode → List Lexeme → Read ExpressionNode
+  others steps left ls =
+      and_then (operator s ls) (λ o. and_then (side (right_side o.0) o.1)
+      (λ right. sides_behind s side (suc d) n steps (tightness o.0) (binary o.0 left right.0) right.1))
+
+  sides_take : (steps bound : ℕ) (tokens : List Token) (left : ExpressionNode) (ls : List Lexeme) (e : ExpressionNode) (rest : List Lexeme)
+      → n ≤ bound → TakesBound depth (suc d) bound tokens left ls
+      → sides_behind s side (suc d) n steps bound left ls ≡ Ok (e, rest) → TakesTight depth (suc d) n tokens e rest
+  unfolding sides_behind
+  sides_take zero bound tokens left ls e rest tight_enough t h =
+      by_test (first_is (goes_further n bound) ls) (Err (fault.TooDeep s.process)) (Ok (left, ls)) (Ok (e, rest)) h
+      (λ _ k. absurd (no_value (fault.TooDeep s.process) (e, rest) k))
+      (λ _ k. bound_left bound tokens left ls e rest tight_enough t k)
+  sides_take (suc steps) bound tokens left ls e rest tight_enough t h =
+      by_test (first_is (goes_further n bound) ls) (unless_full s (suc d) left (others steps left ls)) (Ok (left, ls))
+      (Ok (e, rest)) h
+      (λ there k. by_test (nat_le (suc d) (term_level left)) (Err (fault.TooDeep s.process)) (others steps left ls)
+      (Ok (e, rest)) k (λ _ full. absurd (no_value (fault.TooDeep s.process) (e, rest) full))
+      (λ room m.
+      let o = bind_ok (operator s ls) _ (e, rest) m in
+      let b = bind_ok (side (right_side o.0.0) o.0.1) _ (e, rest) o.2 in
+      let sign = operator_takes s ls o.0.0 o.0.1 o.1 in
+      let fits = fits_of n bound ls o.0.0 (kinds o.0.1) sign there in
+      sides_take steps (tightness o.0.0) tokens (binary o.0.0 left b.0.0) b.0.1 e rest fits.tight_enough
+      (one_more bound tokens left ls o.0.0 o.0.1 b.0.0 b.0.1 fits t sign
+      (leb-false (suc d) (term_level left) room)
+      (laws (right_side o.0.0) o.0.1 b.0.0 b.0.1 (right_below o.0.0) b.1)) b.2))
+      (λ _ k. bound_left bound tokens left ls e rest tight_enough t k)
+
+-- ---- operands, by readers of what stands in them
+
+-- an expression as tight as this, of at most so many levels
+abbrev pub Tight : (depth levels n : ℕ) → ExpressionNode → List Token → List Token → Type 0
+Tight depth levels n e tokens more = SpellsTight depth n e tokens more × (term_level e ≤ levels)
+
+-- what follows binds looser
+abbrev pub Looser : ℕ → List Token → Type 0
+Looser n more = first_tightness more < n
+
+abbrev ReadsTight : ℕ → (ℕ → ℕ → List Lexeme → Read ExpressionNode) → Type 0
+ReadsTight depth inner =
+    (levels n : ℕ) → n ≤ OPERAND → ReaderBy (Tight depth levels n) (Looser n) (inner levels n)
+
+abbrev OperandOf : (depth levels : ℕ) → ExpressionNode → List Token → List Token → Type 0
+OperandOf depth levels e tokens more =
+    ((n : ℕ) → n ≤ OPERAND → SpellsTight depth n e tokens more) × (term_level e ≤ levels)
+
+-- no operand and no `[` follows
+abbrev Ends : List Token → Type 0
+Ends more = first_tightness more ≤ OPERAND
+
+abbrev Spelled : Type 0
+Spelled = ExpressionNode × List Token
+
+module _ (s : Scope) (depth d : ℕ) (laws : ReadsTight depth (tight s depth)) where
+  name_back : (x : NameBytes) (z : (Spelled × Unit {0}) ⊎ Unit {0}) (more : List Token)
+      → Either (λ (z : Spelled × Unit {0}) more. Tight depth d LOOSEST z.0.0 z.0.1 (token.Mark mark_.RightBracket ∷ more)
+      × Unit {0}) (λ (u : Unit {0}) more. Unit {0}) z more
+      → OperandOf (suc depth) (suc d) (either (λ (z : Spelled × Unit {0}). element x z.0.0) (λ (u : Unit {0}). variable x) z)
+      (token.Name x ∷ spell_either (λ (z : Spelled × Unit {0}) more. token.Mark mark_.LeftBracket ∷ z.0.1)
+      (λ (u : Unit {0}) more. more) z more) more
+  name_back x (inl z) more is = ((λ n small. as_element is.0.0), omega (arith, is.0.1))
+  name_back x (inr u) more is = ((λ n small. as_name), omega arith)
+
+  -- behind the first expression in parentheses: `?` and two more, or the end
+  abbrev Inside : Type 0
+  Inside = (Spelled × (Spelled × Unit {0})) ⊎ Unit {0}
+
+  abbrev inside_tokens : Inside → List Token → List Token
+  inside_tokens = spell_either (λ (z : Spelled × (Spelled × Unit {0})) more. token.Mark mark_.Question ∷ z.0.1)
+      (λ (u : Unit {0}) more. token.Mark mark_.RightParen ∷ more)
+
+  abbrev InsideOf : ExpressionNode → Inside → List Token → Type 0
+  InsideOf c = Either (λ (z : Spelled × (Spelled × Unit {0})) more. (nat_le (suc d) (term_level c) ≡ false)
+      × (Tight depth d LOOSEST z.0.0 z.0.1 (token.Mark mark_.Colon ∷ z.1.0.1)
+      × (Tight depth d LOOSEST z.1.0.0 z.1.0.1 (token.Mark mark_.RightParen ∷ more) × Unit {0})))
+      (λ (u : Unit {0}) more. Unit {0})
+
+  inside_looser : (c : ExpressionNode) (z : Inside) (more : List Token) → InsideOf c z more
+      → Looser LOOSEST (inside_tokens z more)
+  inside_looser c (inl z) more is = omega (arith, at_question z.0.1)
+  inside_looser c (inr u) more is = omega (arith, at_close more)
+
+  inside_back : (c : Spelled) (z : Inside) (more : List Token)
+      → Tight depth (suc d) LOOSEST c.0 c.1 (inside_tokens z more) → InsideOf c.0 z more
+      → OperandOf (suc depth) (suc d)
+      (either (λ (z : Spelled × (Spelled × Unit {0})). conditional c.0 z.0.0 z.1.0.0) (λ (u : Unit {0}). c.0) z)
+      (token.Mark mark_.LeftParen ∷ c.1) more
+  inside_back c (inl z) more first is = (
+    (λ n small. as_conditional first.0 is.1.0.0 is.1.1.0.0),
+    omega (arith, leb-false (suc d) (term_level c.0) is.0, is.1.0.1, is.1.1.0.1),
+  )
+  inside_back c (inr u) more first is = ((λ n small. in_parentheses first.0), first.1)
+
+  operand_arms : (t : Token) → Arm (OperandOf (suc depth) (suc d)) Ends t (tight_operand s (tight s depth) d t)
+  unfolding tight_operand behind_name element_behind inside_behind conditional_behind
+  operand_arms (token.Number k) =
+      arm (λ start. done (numeral k)) (λ z more is. ((λ n small. as_number), omega arith))
+  operand_arms (token.Name x) =
+      arm (λ start. optional is_index (variable x) (behind (this_mark s mark_.LeftBracket)
+      (bind (laws d LOOSEST (omega arith))
+      (λ e. behind (this_mark s mark_.RightBracket) (done {May = Anything} (element x e)))
+      (λ x z more is may. omega (arith, at_bracket more))))
+      (λ more may. (tt, no_index more may)) (λ z more is. refl)) (name_back x)
+  operand_arms (token.Mark mark_.Minus) =
+      arm (λ start. mapped (λ e. minus e) (laws d OPERAND (omega arith)) looser_first)
+      (λ z more is. ((λ n small. as_minus is.0), omega (arith, is.1)))
+  operand_arms (token.Mark mark_.Not) =
+      arm (λ start. mapped (λ e. negation e) (laws d OPERAND (omega arith)) looser_first)
+      (λ z more is. ((λ n small. as_negation is.0), omega (arith, is.1)))
+  operand_arms (token.Mark mark_.BitNot) =
+      arm (λ start. mapped (λ e. complement e) (laws d OPERAND (omega arith)) looser_first)
+      (λ z more is. ((λ n small. as_complement is.0), omega (arith, is.1)))
+  operand_arms (token.Mark mark_.LeftParen) =
+      arm (λ start. bind (laws (suc d) LOOSEST (omega arith)) (λ c. choice (is_mark mark_.Question)
+      (guarded (nat_le (suc d) (term_level c)) (fault.TooDeep s.process) (behind (this_mark s mark_.Question)
+      (bind (laws d LOOSEST (omega arith)) (λ a. behind (this_mark s mark_.Colon) (bind (laws d LOOSEST (omega arith))
+      (λ b. behind (this_mark s mark_.RightParen) (done {May = Anything} (conditional c a b)))
+      (λ x z more is may. omega (arith, at_close more)))) (λ x z more is may. omega (arith, at_colon z.0.1)))))
+      (behind (this_mark s mark_.RightParen) (done {May = Anything} c))
+      (λ z more is may. (tt, refl)) (λ u more is may. (tt, refl)))
+      (λ c z more is may. inside_looser c z more is))
+      (λ z more is. inside_back z.0 z.1 more is.0 is.1)
+  operand_arms _ = no_arm
+
+  abbrev an_operand : List Lexeme → Read ExpressionNode
+  an_operand ls = and_then (next s ls) (λ l. tight_operand s (tight s depth) d l.0.token l.0.start l.1)
+
+  operand_takes : (ls : List Lexeme) (e : ExpressionNode) (rest : List Lexeme) → an_operand ls ≡ Ok (e, rest)
+      → TakesBound (suc depth) (suc d) OPERAND (kinds ls) e rest
+  operand_takes ls e rest h =
+      let t = (first_token (tight_operand s (tight s depth) d) operand_arms s).takes ls e rest h in
+      let is = subst (λ (ts : List Token). OperandOf (suc depth) (suc d) ((operand_arms t.0.0).make t.0.1) ts (kinds rest))
+      (sym t.3) ((operand_arms t.0.0).back t.0.1 (kinds rest) t.2) in
+      subst (λ (x : ExpressionNode). TakesBound (suc depth) (suc d) OPERAND (kinds ls) x rest) t.1
+      (record { spelled = is.0; level = is.1 })
+
+  operand_at : (n : ℕ) (ls : List Lexeme) (e : ExpressionNode) (rest : List Lexeme) → an_operand ls ≡ Ok (e, rest)
+      → tight s (suc depth) (suc d) n ls ≡ sides_behind s (tight s (suc depth) d) (suc d) n (suc d) OPERAND e rest
+  unfolding tight tight_over
+  operand_at n ls e rest h =
+      in_turn (next s ls) (λ (l : Lexeme × List Lexeme). tight_operand s (tight s depth) d l.0.token l.0.start l.1)
+      (λ (left : ExpressionNode × List Lexeme).
+      sides_behind s (tight_over s (tight s depth) d) (suc d) n (suc d) OPERAND left.0 left.1)
+      ∙ bound (an_operand ls) (e, rest) (λ (left : ExpressionNode × List Lexeme).
+      sides_behind s (tight_over s (tight s depth) d) (suc d) n (suc d) OPERAND left.0 left.1) _ h refl
+
+  -- an operand by its first token and what stands behind that
+  operand_on : (n k : ℕ) (z : (t : Token) × (operand_arms t).Value) (more : List Token) (ls : List Lexeme)
+      → k ≤ OPERAND → (operand_arms z.0).Within z.1 more → Ends more → kinds ls ≡ z.0 ∷ (operand_arms z.0).spell z.1 more
+      → ReadsOn s (suc depth) d n k ((operand_arms z.0).make z.1) more ls
+  operand_on n k z more ls small is ends h =
+      let r = (first_token (tight_operand s (tight s depth) d) operand_arms s).again ls z more is ends h in
+      record {
+        bound = OPERAND;
+        rest = r.0;
+        binds = small;
+        reads = operand_at n ls ((operand_arms z.0).make z.1) r.0 r.1;
+        after = r.2;
+      }
+
+  -- ---- the lemma of reading, by a reader of right sides
+
+  module _ (sides : (n : ℕ) → n ≤ OPERAND → ReaderBy (Tight (suc depth) d n) (Looser n) (tight s (suc depth) d n)) where
+    reads_on : {k : ℕ} {e : ExpressionNode} {tokens more : List Token} → SpellsTight (suc depth) k e tokens more → (n : ℕ)
+        (ls : List Lexeme) → k ≤ OPERAND → n ≤ k → term_level e ≤ suc d → first_tightness more ≤ k → kinds ls ≡ tokens
+        → ReadsOn s (suc depth) d n k e more ls
+    unfolding operand_arms
+    reads_on (as_number {n = k} {k = value} {more}) n ls small tight_enough level ends h =
+        operand_on n k (token.Number value, tt) more ls small tt (omega (arith, small, ends)) h
+    reads_on (as_name {n = k} {x} {more}) n ls small tight_enough level ends h =
+        operand_on n k (token.Name x, inr tt) more ls small tt (omega (arith, small, ends)) h
+    reads_on (as_element {n = k} {x} {e} {tokens} {more} he) n ls small tight_enough level ends h =
+        operand_on n k (token.Name x, inl ((e, tokens), tt)) more ls small ((he, omega (arith, level)), tt)
+        (omega (arith, small, ends)) h
+    reads_on (as_minus {n = k} {e} {tokens} {more} he) n ls small tight_enough level ends h =
+        operand_on n k (token.Mark mark_.Minus, (e, tokens)) more ls small (he, omega (arith, level))
+        (omega (arith, small, ends)) h
+    reads_on (as_negation {n = k} {e} {tokens} {more} he) n ls small tight_enough level ends h =
+        operand_on n k (token.Mark mark_.Not, (e, tokens)) more ls small (he, omega (arith, level))
+        (omega (arith, small, ends)) h
+    reads_on (as_complement {n = k} {e} {tokens} {more} he) n ls small tight_enough level ends h =
+        operand_on n k (token.Mark mark_.BitNot, (e, tokens)) more ls small (he, omega (arith, level))
+        (omega (arith, small, ends)) h
+    reads_on (in_parentheses {n = k} {e} {tokens} {more} he) n ls small tight_enough level ends h =
+        operand_on n k (token.Mark mark_.LeftParen, ((e, tokens), inr tt)) more ls small ((he, level), tt)
+        (omega (arith, small, ends)) h
+    reads_on (as_conditional {n = k} {c} {a} {b} {at_c} {at_a} {at_b} {more} hc ha hb) n ls small tight_enough level ends
+        h =
+        operand_on n k (token.Mark mark_.LeftParen, ((c, at_c), inl ((a, at_a), ((b, at_b), tt)))) more ls small (
+          (hc, omega (arith, level)),
+          (
+            lt-leb (suc d) (term_level c) (omega (arith, level)),
+            ((ha, omega (arith, level)), ((hb, omega (arith, level)), tt)),
+          ),
+        ) (omega (arith, small, ends)) h
+    reads_on (as_binary {n = k} {op = o} {a} {b} {at_a} {at_b} {more} fits ha hb) n ls small tight_enough level ends h =
+        let beside : first_tightness (token.Mark (operator_mark o) ∷ at_b) ≡ tightness o = operator_first o at_b in
+        let ra = reads_on ha n ls (left_below o) (omega (arith, left_is_tight o)) (omega (arith, level))
+        (omega (arith, beside, left_is_tight o)) h in
+        let sign = (an_operator s).again ra.rest o at_b tt tt ra.after in
+        let rb = (sides (right_side o) (right_below o)).again sign.0 (b, at_b) more (hb, omega (arith, level))
+        (omega (arith, ends, right_is_tighter o)) sign.2 in
+        let goes = goes_of n ra.bound ra.rest o at_b ra.after (record { tight_enough = omega arith; left = ra.binds }) in
+        record {
+          bound = tightness o;
+          rest = rb.0;
+          binds = fits;
+          reads = ra.reads ∙ one_side s (tight s (suc depth) d) (suc d) n ra.bound a ra.rest o sign.0 b rb.0 goes
+              (omega (arith, level)) sign.1 rb.1;
+          after = rb.2;
+        }
+
+-- ---- expressions by their depth and their levels
+
+no_depth : {n : ℕ} {e : ExpressionNode} {tokens more : List Token} → SpellsTight 0 n e tokens more → ⊥
+no_depth (as_binary fits ha hb) = no_depth ha
+
+deep_takes : (s : Scope) (ls : List Lexeme) (e : ExpressionNode) (rest : List Lexeme)
+    → and_then {B = ExpressionNode × List Lexeme} (next s ls) (λ x. Err (level_fault s x.0)) ≡ Ok (e, rest) → ⊥
+deep_takes s ls e rest h =
+    let b = bind_ok {B = ExpressionNode × List Lexeme} (next s ls) (λ x. Err (level_fault s x.0)) (e, rest) h in
+    no_value {A = ExpressionNode × List Lexeme} (level_fault s b.0.0) (e, rest) b.2
+
+module _ (s : Scope) (depth : ℕ) (laws : ReadsTight depth (tight s depth)) where
+  module _ (d : ℕ) (sides : (n : ℕ) → n ≤ OPERAND → ReaderBy (Tight (suc depth) d n) (Looser n) (tight s (suc depth) d n)) where
+    side_takes : Sides (suc depth) d (tight s (suc depth) d)
+    side_takes k ls e rest le h =
+        let t = (sides k le).takes ls e rest h in
+        subst (λ (x : ExpressionNode). TakesTight (suc depth) d k (kinds ls) x rest) t.1 (record {
+          spelled = subst (λ (ts : List Token). SpellsTight (suc depth) k t.0.0 ts (kinds rest)) (sym t.3) t.2.0;
+          level = t.2.1;
+        })
+
+    over_takes : (n : ℕ) (ls : List Lexeme) (e : ExpressionNode) (rest : List Lexeme) → n ≤ OPERAND
+        → tight s (suc depth) (suc d) n ls ≡ Ok (e, rest) → TakesTight (suc depth) (suc d) n (kinds ls) e rest
+    unfolding tight tight_over
+    over_takes n ls e rest small h =
+        let x = bind_ok (next s ls) _ (e, rest) h in
+        let a = bind_ok (tight_operand s (tight s depth) d x.0.0.token x.0.0.start x.0.1) _ (e, rest) x.2 in
+        let operand = operand_takes s depth d laws ls a.0.0 a.0.1 (bound (next s ls) x.0
+        (λ (l : Lexeme × List Lexeme). tight_operand s (tight s depth) d l.0.token l.0.start l.1) (Ok a.0) x.1 a.1) in
+        sides_take s (suc depth) d n (tight s (suc depth) d) side_takes (suc d) OPERAND (kinds ls) a.0.0 a.0.1 e rest
+        small operand a.2
+
+  over_reads : ReadsTight (suc depth) (tight s (suc depth))
+  unfolding tight tight_over
+  over_reads zero n small = record {
+    takes = λ ls e rest h. absurd (deep_takes s ls e rest h);
+    again = λ ls z more is may h. absurd (some_level z.0 is.1);
+    no_gap = λ z more is. absurd (some_level z.0 is.1);
+  }
+  over_reads (suc d) n small = record {
+    takes = λ ls e rest h.
+        let t = over_takes d (over_reads d) n ls e rest small h in
+        ((e, kinds ls), refl, (t.spelled, t.level), refl);
+    again = λ ls z more is may h.
+        let r = reads_on s depth d laws (over_reads d) is.0 n ls small (omega arith) is.1 (omega (arith, may)) h in
+        let last : first_tightness (kinds r.rest) < n = subst (λ (ts : List Token). first_tightness ts < n) (sym r.after) may in (
+          r.rest,
+          r.reads ∙ no_side s (tight s (suc depth) d) (suc d) n r.bound z.0 r.rest
+              (stops_first n r.bound r.rest last),
+          r.after,
+        );
+    no_gap = λ z more is. omega (arith, tight_longer is.0);
+  }
+
+pub tight_reads : (s : Scope) (depth : ℕ) → ReadsTight depth (tight s depth)
+unfolding tight
+tight_reads s zero levels n small = record {
+  takes = λ ls e rest h. absurd (deep_takes s ls e rest h);
+  again = λ ls z more is may h. absurd (no_depth is.0);
+  no_gap = λ z more is. absurd (no_depth is.0);
+}
+tight_reads s (suc depth) levels n small = over_reads s depth (tight_reads s depth) levels n small
+
+pub tight_takes : (s : Scope) (depth levels n : ℕ) (ls : List Lexeme) (e : ExpressionNode) (rest : List Lexeme)
+    → n ≤ OPERAND → tight s depth levels n ls ≡ Ok (e, rest) → Tight depth levels n e (kinds ls) (kinds rest)
+tight_takes s depth levels n ls e rest small h =
+    let t = (tight_reads s depth levels n small).takes ls e rest h in
+    subst (λ (x : ExpressionNode). Tight depth levels n x (kinds ls) (kinds rest)) t.1
+    (subst (λ (ts : List Token). Tight depth levels n t.0.0 ts (kinds rest)) (sym t.3) t.2)
+
+-- ---- the canonical spelling
+
+spell_binary : (depth n : ℕ) (o : Op) (a b : ExpressionNode) (at_a inside_a more : List Token)
+    → (n ≤ tightness o → SpellsTight depth n (binary o a b) at_a more)
+    → SpellsTight depth n (binary o a b) (token.Mark mark_.LeftParen ∷ inside_a) more
+    → SpellsTight depth n (binary o a b)
+    (cond (nat_le n (tightness o)) at_a (token.Mark mark_.LeftParen ∷ inside_a)) more
+spell_binary depth n o a b at_a inside_a more bare inside =
+    cond_both (nat_le n (tightness o)) at_a (token.Mark mark_.LeftParen ∷ inside_a)
+    (λ (ts : List Token). SpellsTight depth n (binary o a b) ts more)
+    (λ e. bare (leb-true n (tightness o) e)) (λ _. inside)
+
+pub canonical_tight : (e : ExpressionNode) (depth n : ℕ) (more : List Token) → term_level e ≤ depth
+    → SpellsTight depth n e (spell_tight n e more) more
+canonical_tight e zero n more level = absurd (some_level e level)
+canonical_tight (numeral k) (suc depth) n more level = as_number
+canonical_tight (variable x) (suc depth) n more level = as_name
+canonical_tight (element x e) (suc depth) n more level =
+    as_element (canonical_tight e depth LOOSEST _ (omega (arith, level)))
+canonical_tight (minus e) (suc depth) n more level =
+    as_minus (canonical_tight e depth OPERAND more (omega (arith, level)))
+canonical_tight (negation e) (suc depth) n more level =
+    as_negation (canonical_tight e depth OPERAND more (omega (arith, level)))
+canonical_tight (complement e) (suc depth) n more level =
+    as_complement (canonical_tight e depth OPERAND more (omega (arith, level)))
+canonical_tight (binary o a b) (suc depth) n more level =
+    spell_binary (suc depth) n o a b _ _ more
+    (λ fits. as_binary fits (canonical_tight a (suc depth) (left_side o) _ (omega (arith, level)))
+    (canonical_tight b (suc depth) (right_side o) more (omega (arith, level))))
+    (in_parentheses (as_binary (is_tight o) (canonical_tight a depth (left_side o) _ (omega (arith, level)))
+    (canonical_tight b depth (right_side o) (token.Mark mark_.RightParen ∷ more) (omega (arith, level)))))
+canonical_tight (conditional c a b) (suc depth) n more level =
+    as_conditional (canonical_tight c depth LOOSEST _ (omega (arith, level)))
+    (canonical_tight a depth LOOSEST _ (omega (arith, level)))
+    (canonical_tight b depth LOOSEST _ (omega (arith, level)))
