@@ -113,26 +113,33 @@ else_if : (is : Bool) (before after other : Chunk) → ((if is then before else 
 else_if true before after other told same = same told
 else_if false before after other told same = refl
 
-chunk_of_again : (us ds : List ℕ) (at : ℕ) (sample : Option SampleFormat) (name size : ℕ)
-    → (chunk_of us at sample name size ≡ Told Open → ⊥)
-    → chunk_of (us ++ ds) at sample name size ≡ chunk_of us at sample name size
-chunk_of_again us ds at sample name size told =
-    within_if (nat_eq name (chunk_name (codes "data"))) (Told (data_of at size sample)) _ _ told
+chunk_of_again : (us ds : List ℕ) (whole at : ℕ) (sample : Option SampleFormat) (name size : ℕ)
+    → (chunk_of us whole at sample name size ≡ Told Open → ⊥)
+    → chunk_of (us ++ ds) whole at sample name size ≡ chunk_of us whole at sample name size
+chunk_of_again us ds whole at sample name size told =
+    within_if (nat_eq name (chunk_name (codes "data"))) (Told (data_of whole at size sample)) _ _ told
     (λ other told. within_if (nat_lt most_bytes (next_chunk at size)) (Told (Bad (at + 4))) _ _ told
     (λ within told. else_if (nat_eq name (chunk_name (codes "fmt "))) (format_of us at size) (format_of (us ++ ds) at size)
     (Next (next_chunk at size) sample) told (format_again us ds at size)))
 
+-- a chunk by what its bytes and the head say
+abbrev chunk_by : (at : ℕ) → Option SampleFormat → (bytes : List ℕ) (whole name size : ℕ) → Chunk
+chunk_by at sample bytes whole name size = chunk_of bytes whole at sample name size
+
 chunk_again : (us ds : List ℕ) (at : ℕ) (sample : Option SampleFormat) → (chunk_at us at sample ≡ Told Open → ⊥)
     → chunk_at (us ++ ds) at sample ≡ chunk_at us at sample
 chunk_again us ds at sample told =
-    same_of us ds (at + 8) (chunk_of us at sample (number_at 4 at us) (number_at 4 (at + 4) us))
-    (chunk_of (us ++ ds) at sample (number_at 4 at (us ++ ds)) (number_at 4 (at + 4) (us ++ ds))) told
+    same_of us ds (at + 8) (chunk_by at sample us (number_at 4 4 us) (number_at 4 at us) (number_at 4 (at + 4) us))
+    (chunk_by at sample (us ++ ds) (number_at 4 4 (us ++ ds)) (number_at 4 at (us ++ ds)) (number_at 4 (at + 4) (us ++ ds))) told
     (λ least.
-    ap (λ (n : ℕ). chunk_of (us ++ ds) at sample n (number_at 4 (at + 4) (us ++ ds))) (number_again 4 at us ds (omega (arith, least)))
-    ∙ ap (λ (n : ℕ). chunk_of (us ++ ds) at sample (number_at 4 at us) n) (number_again 4 (at + 4) us ds (omega (arith, least)))
-    ∙ chunk_of_again us ds at sample (number_at 4 at us) (number_at 4 (at + 4) us)
-    (λ early. told (ap (λ b. if b then Told Open else chunk_of us at sample (number_at 4 at us) (number_at 4 (at + 4) us))
-    (le-ltb (length us) (at + 8) least) ∙ early)))
+    ap (λ (n : ℕ). chunk_by at sample (us ++ ds) n (number_at 4 at (us ++ ds)) (number_at 4 (at + 4) (us ++ ds)))
+    (number_again 4 4 us ds (omega (arith, least)))
+    ∙ ap (λ (n : ℕ). chunk_by at sample (us ++ ds) (number_at 4 4 us) n (number_at 4 (at + 4) (us ++ ds)))
+    (number_again 4 at us ds (omega (arith, least)))
+    ∙ ap (chunk_by at sample (us ++ ds) (number_at 4 4 us) (number_at 4 at us)) (number_again 4 (at + 4) us ds (omega (arith, least)))
+    ∙ chunk_of_again us ds (number_at 4 4 us) at sample (number_at 4 at us) (number_at 4 (at + 4) us)
+    (λ early. told (ap (λ b. if b then Told Open else chunk_by at sample us (number_at 4 4 us) (number_at 4 at us)
+    (number_at 4 (at + 4) us)) (le-ltb (length us) (at + 8) least) ∙ early)))
 
 after_again : (next_chunk again : (at : ℕ) → Option SampleFormat → Head) (chunk : Chunk)
     → ((at : ℕ) (sample : Option SampleFormat) → (next_chunk at sample ≡ Open → ⊥)

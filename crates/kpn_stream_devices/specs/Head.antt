@@ -80,16 +80,22 @@ format_of bytes at size =
     else if nat_lt (length bytes) (next_chunk at size) then Told Open
     else told_by (described bytes (at + 8) size) (next_chunk at size)
 
--- the chunk `data`: so many bytes follow, or any number, as behind a pipe
-abbrev pub data_of : (at size : ℕ) → Option SampleFormat → Head
-data_of at size None = Bad at
-data_of at size (Some sample) =
-    Whole (at + 8) (record { sample = sample; left = if nat_eq size 0 || nat_le 2147475456 size then 2 ^ 64 - 1 else size })
+-- How many bytes of samples follow a chunk `data` at a place: as many as it says; or any number, as behind a pipe, by a
+-- large number, or by 0 if the whole file, from byte 8 on, does not end behind this chunk.
+abbrev pub left_of : (whole at size : ℕ) → ℕ
+left_of whole at size =
+    if nat_eq size 0 && nat_lt at whole && nat_lt whole 2147475456 then 0
+    else if nat_eq size 0 || nat_le 2147475456 size then 2 ^ 64 - 1 else size
 
--- a chunk of this name and this size
-abbrev pub chunk_of : (bytes : List ℕ) (at : ℕ) → Option SampleFormat → (name size : ℕ) → Chunk
-chunk_of bytes at sample name size =
-    if nat_eq name (chunk_name (codes "data")) then Told (data_of at size sample)
+-- the chunk `data`
+abbrev pub data_of : (whole at size : ℕ) → Option SampleFormat → Head
+data_of whole at size None = Bad at
+data_of whole at size (Some sample) = Whole (at + 8) (record { sample = sample; left = left_of whole at size })
+
+-- a chunk of this name and this size, in a file of so many bytes from byte 8 on
+abbrev pub chunk_of : (bytes : List ℕ) (whole at : ℕ) → Option SampleFormat → (name size : ℕ) → Chunk
+chunk_of bytes whole at sample name size =
+    if nat_eq name (chunk_name (codes "data")) then Told (data_of whole at size sample)
     else if nat_lt most_bytes (next_chunk at size) then Told (Bad (at + 4))
     else if nat_eq name (chunk_name (codes "fmt ")) then format_of bytes at size
     else Next (next_chunk at size) sample
@@ -98,7 +104,7 @@ chunk_of bytes at sample name size =
 abbrev pub chunk_at : (bytes : List ℕ) (at : ℕ) → Option SampleFormat → Chunk
 chunk_at bytes at sample =
     if nat_lt (length bytes) (at + 8) then Told Open
-    else chunk_of bytes at sample (number_at 4 at bytes) (number_at 4 (at + 4) bytes)
+    else chunk_of bytes (number_at 4 4 bytes) at sample (number_at 4 at bytes) (number_at 4 (at + 4) bytes)
 
 -- what a chunk and those behind it tell
 abbrev pub chunks_after : (next_chunk : (at : ℕ) → Option SampleFormat → Head) → Chunk → Head

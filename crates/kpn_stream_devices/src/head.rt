@@ -1,7 +1,7 @@
 //! The head of a WAV file: where its samples begin, and how they are written.
 ghost use Rattle.std.specs.Prelude.{◌≡◌, ◌+◌, ◌%◌, ◌≤◌, ◌<◌, length, drop};
 ghost use Rattle.byteorder.specs.Endian.{little_number};
-ghost use Rattle.kpn_stream_devices.specs.Head.{chunk_at, chunks_from, data_of, described, format_of, head_of, is_whole, sample_of, most_bytes, number_at, HasHead, IsHeadWithin, is_extended};
+ghost use Rattle.kpn_stream_devices.specs.Head.{chunk_at, chunks_from, data_of, described, format_of, head_of, is_whole, left_of, sample_of, most_bytes, number_at, HasHead, IsHeadWithin, is_extended};
 
 use crate::formats::SampleFormat;
 use byteorder::{ByteOrder, LittleEndian};
@@ -104,7 +104,7 @@ fn chunk_at(bytes: &[u8], at: usize, sample: Option<SampleFormat>) -> Chunk
     let name = word_at(bytes, at);
     let size = word_at(bytes, at + 4) as usize;
     if name == DATA {
-        return Chunk::Told(data_of(at, size, sample));
+        return Chunk::Told(data_of(word_at(bytes, 4) as usize, at, size, sample));
     }
     let next = at + 8 + size + size % 2;
     if next > MOST_HEAD_BYTES {
@@ -117,21 +117,31 @@ fn chunk_at(bytes: &[u8], at: usize, sample: Option<SampleFormat>) -> Chunk
     }
 }
 
-/// What the chunk `data` tells, which says that so many bytes follow.
-fn data_of(at: usize, size: usize, sample: Option<SampleFormat>) -> Head
+/// What the chunk `data` tells, which says that so many bytes follow. The head says how many bytes the whole file has.
+fn data_of(whole: usize, at: usize, size: usize, sample: Option<SampleFormat>) -> Head
     requires { at ≤ most_bytes }
-    ensures is { result ≡ data_of at size sample }
+    ensures is { result ≡ data_of whole at size sample }
     ensures within { HasHead result (at + 8) }
 {
-    let left = if size == 0 || size >= UNKNOWN {
-        u64::MAX
-    } else {
-        size as u64
-    };
+    let left = left_of(whole, at, size);
     match sample {
         Some(sample) => Head::Whole(at + 8, Wav { sample, left }),
         None => Head::Bad(at),
     }
+}
+
+/// How many bytes of samples follow. A program that writes to a pipe says 0 or a large number. By 0 there are none if
+/// the whole file, from byte 8 on, ends behind this chunk.
+fn left_of(whole: usize, at: usize, size: usize) -> u64
+    ensures { result ≡ left_of whole at size }
+{
+    if size == 0 && at < whole && whole < UNKNOWN {
+        return 0;
+    }
+    if size == 0 || size >= UNKNOWN {
+        return u64::MAX;
+    }
+    size as u64
 }
 
 /// What the chunk `fmt ` at this place tells, which has so many bytes.

@@ -12,7 +12,6 @@ use byteorder::{ByteOrder, LittleEndian};
 use itoa::Buffer;
 use kpn_stream::{SinkFault, Sinks};
 use std::alloc::{AllocError, Global};
-use std::io;
 use std::io::{ErrorKind, Write};
 
 /// With so many bytes an output hands on what it kept.
@@ -264,14 +263,18 @@ fn write_whole<W: Write>(writer: &mut W, bytes: &[u8]) -> Result<(), SinkFault>
         (Appends (W.contents writer.old) (W.contents writer.new) bytes.now) }
     ensures fault { IfErr result IsOfDevice }
 {
-    writer.write_all(bytes).map_err(|error| fault_of(&error))?;
-    writer.flush().map_err(|error| fault_of(&error))
+    writer
+        .write_all(bytes)
+        .map_err(|error| fault_of(error.kind()))?;
+    writer.flush().map_err(|error| fault_of(error.kind()))
 }
 
-fn fault_of(error: &io::Error) -> SinkFault
-    ensures { IsOfDevice result }
+/// The fault of a device that fails so. Only a broken pipe says that its reader has gone.
+fn fault_of(kind: ErrorKind) -> SinkFault
+    ensures device { IsOfDevice result }
+    ensures gone { result ≡ SinkFault.Gone → kind ≡ ErrorKind.BrokenPipe }
 {
-    match error.kind() {
+    match kind {
         ErrorKind::BrokenPipe => SinkFault::Gone,
         _ => SinkFault::Write,
     }
