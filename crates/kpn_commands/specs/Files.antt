@@ -1,11 +1,15 @@
 -- The files that a run stores: the trace, and what the sinks received.
-use Rattle.std.specs.Prelude.{ℕ, suc, ℤ, List, [], ◌∷◌, ◌++◌, Option, Some, None}
+use Rattle.std.specs.Prelude.{ℕ, suc, ◌<◌, ℤ, List, [], ◌∷◌, ◌++◌, length, Option, Some, None, ⊤}
+use Rattle.kpn_limits.specs.declared.TheConstants.{MAX_INPUT_BYTES}
 use Rattle.kpn_net.specs.Tables.{Tables}
 use Rattle.kpn_history.specs.declared.event.Event.{Event}
 use Rattle.kpn_history.specs.declared.stored.Version.TheVariants.{Two}
 use Rattle.kpn_trace.specs.TraceText.{trace_text}
 use Rattle.kpn_text_items.specs.ItemFile.{item_text}
+use Rattle.kpn_text_items.specs.declared.fault.WriteFault.TheVariants.{Write}
 use Rattle.kpn_book.specs.Reports.{events_of}
+use Rattle.kpn_command_base.specs.declared.refusal.Refusal.{Refusal}
+use Rattle.kpn_command_base.specs.declared.refusal.Refusal.TheVariants.{NoMemory, Output}
 use Rattle.kpn_command_base.specs.declared.sources.NamedEnd.{NamedEnd}
 use Rattle.kpn_command_base.specs.Sources.{file_for}
 use Rattle.kpn_command_base.specs.Conclusion.{StoredFile}
@@ -35,3 +39,10 @@ abbrev pub files_of : (trace : Option (List ℕ)) (wanted : Option ℕ) → Repo
 files_of trace wanted reported =
     trace_files trace reported.inputs.document.tables (events_of reported.report)
     ++ sink_files reported.sinks.items wanted 0 reported.report.taken
+
+-- why there are no files: there is no memory, or the trace has more bytes than are read of a file
+abbrev pub IsRefusalOfFiles : (trace : Option (List ℕ)) → Tables → List Event → Refusal → Type 0
+IsRefusalOfFiles trace t events NoMemory = ⊤
+IsRefusalOfFiles (Some name) t events (Output Write) =
+    MAX_INPUT_BYTES < length (trace_text Two t.policy t.growth events)
+IsRefusalOfFiles trace t events other = ⊥

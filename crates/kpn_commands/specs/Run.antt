@@ -8,7 +8,8 @@ use Rattle.kpn_shelf.specs.Shelf.{Loads, Aliases}
 use Rattle.kpn_commands.specs.declared.reporting.Reported.{Reported}
 use Rattle.kpn_command_base.specs.ReportText.{report_text, outcome_status}
 use Rattle.kpn_commands.specs.Reported.{IsRunReported, IsRefusalOfReport}
-use Rattle.kpn_commands.specs.Files.{files_of}
+use Rattle.kpn_book.specs.Reports.{events_of}
+use Rattle.kpn_commands.specs.Files.{files_of, IsRefusalOfFiles}
 use Rattle.kpn_command_base.specs.Outputs.{AreOutputsApart, IsUnprepared}
 
 -- the files of a run, the text of its report, and its status
@@ -24,7 +25,14 @@ pub record IsRunAnswer (may_give : Loads) (request : RunRequest) (made : Conclus
   pub apart : AreOutputsApart request
   pub concluded : IsRunConcluded request reported made
 
--- why nothing is concluded: the run is not begun, or it gives no report, or there is no memory for the texts
+-- there is a report on a run of what was asked for, and no files of it
+pub record IsUnstored (may_give : Loads) (request : RunRequest) (cause : Refusal) : Type 0 where
+  pub reported : Reported
+  pub is_reported : IsRunReported may_give request reported
+  pub refused : IsRefusalOfFiles request.trace reported.inputs.document.tables (events_of reported.report) cause
+
+-- why nothing is concluded: the run is not begun, or it gives no report, or there are no files of it
 abbrev pub IsNoRun : (may_give : Loads) (may_alias : Aliases) → RunRequest → Refusal → Type 0
 IsNoRun may_give may_alias request refusal =
-    IsUnprepared may_give may_alias request refusal ⊎ IsRefusalOfReport request.workers refusal
+    IsUnprepared may_give may_alias request refusal
+    ⊎ (IsRefusalOfReport request.workers refusal ⊎ IsUnstored may_give request refusal)

@@ -2,14 +2,16 @@
 ghost use Rattle.std.specs.Prelude.{◌≡◌, ◌++◌, ◌∷◌, [], map, option_map, IfOk, IfErr, OnOk};
 ghost use Rattle.kpn_text_items.specs.ItemFile.{item_text};
 ghost use Rattle.kpn_command_base.specs.Conclusion.{stored_as};
-ghost use Rattle.kpn_commands.specs.Files.{trace_files, sink_file, sink_files, files_of};
+ghost use Rattle.kpn_commands.specs.Files.{trace_files, sink_file, sink_files, files_of, IsRefusalOfFiles};
+ghost use Rattle.kpn_book.specs.Reports.{events_of};
 
 use crate::reporting::Reported;
 use kpn_command_base::{NamedEnd, OutputFile, Refusal, file_for, trace_of, wanted_of};
 use kpn_history::History;
 use kpn_lang::Sequence;
+use kpn_limits::MAX_INPUT_BYTES;
 use kpn_net::Network;
-use kpn_text_items::write_items;
+use kpn_text_items::{WriteFault, write_items};
 use std::alloc::Global;
 
 /// The files that a run stores, in the order in which it stores them. Of each sink it stores as many items as are
@@ -22,7 +24,9 @@ pub(crate) fn files_of(
 ) -> Result<Vec<OutputFile>, Refusal>
     ensures ok { IfOk result (λ files. map stored_as files.items
         ≡ files_of (option_map (λ name. name.now) trace.entry) wanted reported.now) }
-    ensures refused { IfErr result (λ refusal. refusal ≡ Refusal.NoMemory) }
+    ensures refused { let r = reported.now in IfErr result
+        (IsRefusalOfFiles (option_map (λ name. name.now) trace.entry)
+        r.inputs.document.tables (events_of r.report)) }
 {
     let network = reported.inputs.document.network();
     let history = &reported.report.history;
@@ -33,7 +37,7 @@ pub(crate) fn files_of(
     Ok(files)
 }
 
-// The file of the trace, if one was asked for.
+// The file of the trace, if one was asked for. One that nobody could read again is refused.
 fn push_trace(
     alloc: Global,
     files: &mut Vec<OutputFile>,
@@ -44,12 +48,16 @@ fn push_trace(
     ensures ok { OnOk result (map stored_as files.new.items ≡ map stored_as files.old.items
         ++ trace_files (option_map (λ name. name.now) trace.entry) network.now
         history.now.events) }
-    ensures refused { IfErr result (λ refusal. refusal ≡ Refusal.NoMemory) }
+    ensures refused { IfErr result (IsRefusalOfFiles (option_map (λ name. name.now) trace.entry)
+        network.now history.now.events) }
 {
     let Some(name) = trace else {
         return Ok(());
     };
     let bytes = trace_of(alloc, network, history)?;
+    if bytes.len() > MAX_INPUT_BYTES {
+        return Err(Refusal::Output(WriteFault::Write));
+    }
     push_file(alloc, files, name, bytes)
 }
 

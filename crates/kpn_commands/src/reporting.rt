@@ -1,14 +1,14 @@
 //! A network is run: by the calling thread, or by workers on threads of their own.
-ghost use Rattle.std.specs.Prelude.{◌≡◌, length, Some, IfOk, IfErr};
+ghost use Rattle.std.specs.Prelude.{◌≡◌, length, option_map, Some, IfOk, IfErr};
 ghost use Rattle.kpn_net.specs.Iteration.{sources};
 ghost use Rattle.kpn_book.specs.Reports.{IsReport};
-ghost use Rattle.kpn_commands.specs.Limits.{run_limits_of};
+ghost use Rattle.kpn_commands.specs.Limits.{commits_with, run_limits_of};
 ghost use Rattle.kpn_commands.specs.Reported.{IsRefusalOfReport};
 
 use kpn_book::{Keeping, Limits, Report};
 use kpn_command_base::{Inputs, NamedEnd, QUOTA, Refusal, RunRequest};
 use kpn_lang::Sequence;
-use kpn_limits::MAX_WORKERS;
+use kpn_limits::{MAX_INPUT_BYTES, MAX_WORKERS};
 use kpn_net::Network;
 use kpn_pool::{RunFault, run_keeping};
 use kpn_pool_desk::CommitsAll;
@@ -25,14 +25,27 @@ pub(crate) struct Reported<'a> {
     pub(crate) report: Report,
 }
 
+/// A run that stores a trace has so many commits at most. The line of a get, a put, a wait or an end has at
+/// least 10 bytes.
+const MOST_TRACED: u64 = MAX_INPUT_BYTES as u64 / 10;
+
 /// The limits of a run that is asked for.
 pub(crate) fn limits_of(request: &RunRequest<'_>) -> Limits
     ensures { result ≡ run_limits_of request.now }
 {
     Limits {
-        commits: request.commits,
+        commits: commits_with(request.trace, request.commits),
         take: request.take,
         quota: QUOTA,
+    }
+}
+
+fn commits_with(trace: Option<&str>, asked: u64) -> u64
+    ensures { result ≡ commits_with (option_map (λ name. name.now) trace.entry) asked }
+{
+    match trace {
+        Some(_) => asked.min(MOST_TRACED),
+        None => asked,
     }
 }
 

@@ -2,6 +2,8 @@
 //! store and a report.
 ghost use Rattle.std.specs.Prelude.{◌≡◌, IfOk, IfErr};
 ghost use Rattle.kpn_commands.specs.Run.{IsRunConcluded, IsRunAnswer, IsNoRun};
+ghost use Rattle.kpn_commands.specs.Files.{IsRefusalOfFiles};
+ghost use Rattle.kpn_book.specs.Reports.{events_of};
 
 use crate::files::files_of;
 use crate::reporting::{Reported, keeping_of, limits_of, run_by_workers};
@@ -95,7 +97,8 @@ fn conclusion_of(
     reported: &Reported<'_>,
 ) -> Result<Conclusion, Refusal>
     ensures ok { IfOk result (IsRunConcluded request.now reported.now) }
-    ensures refused { IfErr result (λ refusal. refusal ≡ Refusal.NoMemory) }
+    ensures refused { let r = reported.now in IfErr result
+        (IsRefusalOfFiles request.now.trace r.inputs.document.tables (events_of r.report)) }
 {
     let files = files_of(alloc, request.trace, request.take, reported)?;
     let document = &reported.inputs.document;
