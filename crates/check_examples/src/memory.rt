@@ -2,7 +2,7 @@
 
 use crate::files::{bytes_of, make_file};
 use anyhow::Result;
-use kpn_cli::{NonblockingRead, MemoryShelf, Ports};
+use kpn_cli::{MemoryShelf, NonblockingRead, Ports};
 use std::alloc::Global;
 use std::io::Write;
 
