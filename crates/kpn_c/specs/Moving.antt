@@ -1,5 +1,5 @@
 -- What one call does that feeds, steps and takes.
-use Rattle.std.specs.Prelude.{◌≡◌, ℕ, ◌<◌, ◌-◌, ◌^◌, Bool, true, false, ◌||◌, if◌then◌else◌, is_some, ℤ, pos, List, [], ◌∷◌, ◌++◌, length, map, take, drop, get_or, Option, Some, None}
+use Rattle.std.specs.Prelude.{◌≡◌, ℕ, ◌<◌, ◌-◌, ◌^◌, Bool, true, false, if◌then◌else◌, is_some, ℤ, pos, List, [], ◌∷◌, ◌++◌, length, map, take, drop, get_or, Option, Some, None}
 use Rattle.kpn_history.specs.declared.event.Event.{Event}
 use Rattle.kpn_history.specs.declared.event.Event.TheVariants as event
 use Rattle.kpn_book.specs.declared.answers.Refused.{Refused}
@@ -38,12 +38,12 @@ pub record FeedsItems (items : List SourceItem) (fed : FedCount) (before after :
 -- ---- taking
 
 abbrev pub wanted_at : List Wanted → ℕ → Wanted
-wanted_at places k = get_or places k (record { channel = 0; item = pos 0; has_item = false })
+wanted_at places k = get_or places k (record { channel = 0; item = pos 0; has_item = 0 })
 
 -- a place with this item, or with the note that none was there
 abbrev pub filled : Option ℤ → Wanted → Wanted
-filled None w = record { channel = w.channel; item = w.item; has_item = false }
-filled (Some v) w = record { channel = w.channel; item = v; has_item = true }
+filled None w = record { channel = w.channel; item = w.item; has_item = 0 }
+filled (Some v) w = record { channel = w.channel; item = v; has_item = 1 }
 
 -- for each place in order the next item of its sink was taken, or nothing was unread there
 pub data TakesForEach (first : Book) : (asked kept : List Wanted) → Book → Type 0 where
