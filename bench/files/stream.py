@@ -581,7 +581,7 @@ def the_part_file_of_an_output_is_no_input(folder):
     expect((folder / 'out.kpn-part').read_bytes(), b'1\n2\n')
 
 
-@case('compiled', quick=True)
+@case(quick=True)
 def standard_output_is_no_input(folder):
     signal_file = folder / 'signal'
     signal_file.write_bytes(b'1\n2\n')

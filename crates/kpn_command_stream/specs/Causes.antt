@@ -1,5 +1,5 @@
 -- Why a stream is not begun.
-use Rattle.std.specs.Prelude.{◌≡◌, ◌⊎◌, ℕ, List, map, length, All, Some, None, Err, Ok, ⊤}
+use Rattle.std.specs.Prelude.{◌≡◌, ◌⊎◌, ℕ, List, map, length, All, Some, None, Err, Ok, codes, ⊤}
 use Rattle.std.specs.List.{Any}
 use Rattle.kpn_text.specs.Document.{Document}
 use Rattle.kpn_shelf.specs.Shelf.{Loads, Aliases, IsRefusalOfLoad}
@@ -51,6 +51,10 @@ IsUnplaced ends d names SharedInput = ⊥
 
 -- ---- the network
 
+-- an input may be the file that standard output writes
+abbrev pub MayWriteInto : Aliases → Type 0
+MayWriteInto may_alias = (input : List ℕ) × may_alias (codes "/dev/stdout") input
+
 -- an input or an output can't be opened, made ready or emptied, or memory ran out: nothing is known of devices
 abbrev pub IsDeviceRefusal : Refusal → Type 0
 IsDeviceRefusal (refusal.Input fault) = ⊤
@@ -59,42 +63,45 @@ IsDeviceRefusal refusal.NoMemory = ⊤
 IsDeviceRefusal other = ⊥
 
 -- A network is not streamed, by the names of its sources and sinks in the options: of either some have no places; or
--- two sources have one input, or words behind `--format` are for no end or for the same, of which nothing is said; or a
--- device is not ready.
-abbrev pub IsUnstreamed : Document → (sources sinks : List (List ℕ)) → StreamRefusal → Type 0
-IsUnstreamed d sources sinks (Common (refusal.Names fault)) =
+-- two sources have one input, or words behind `--format` are for no end or for the same, of which nothing is said; or
+-- standard output may be an input; or a device is not ready.
+abbrev pub IsUnstreamed : (may_alias : Aliases) → Document → (sources sinks : List (List ℕ)) → StreamRefusal → Type 0
+IsUnstreamed may_alias d sources sinks (Common (refusal.Names fault)) =
     (ends_named Sources d sources ≡ Err fault) ⊎ (ends_named Sinks d sinks ≡ Err fault)
-IsUnstreamed d sources sinks (Common other) = IsDeviceRefusal other
-IsUnstreamed d sources sinks (Unnamed Sources name) = LacksName Sources d sources
-IsUnstreamed d sources sinks (Unnamed Sinks name) = LacksName Sinks d sinks
-IsUnstreamed d sources sinks SharedInput = ⊤
-IsUnstreamed d sources sinks FormatWord = ⊤
+IsUnstreamed may_alias d sources sinks (Common refusal.SinkWord) = MayWriteInto may_alias
+IsUnstreamed may_alias d sources sinks (Common other) = IsDeviceRefusal other
+IsUnstreamed may_alias d sources sinks (Unnamed Sources name) = LacksName Sources d sources
+IsUnstreamed may_alias d sources sinks (Unnamed Sinks name) = LacksName Sinks d sinks
+IsUnstreamed may_alias d sources sinks SharedInput = ⊤
+IsUnstreamed may_alias d sources sinks FormatWord = ⊤
 
 -- ---- the whole
 
 -- the file describes a network that is not streamed
-pub record IsOfNetwork (may_give : Loads) (request : StreamRequest) (cause : StreamRefusal) : Type 0 where
+pub record IsOfNetwork (may_give : Loads) (may_alias : Aliases) (request : StreamRequest) (cause : StreamRefusal)
+    : Type 0 where
   pub document : Document
   pub described : IsDescribed may_give request.file document
-  pub unstreamed : IsUnstreamed document (map name_in request.sources) (map name_in request.sinks) cause
+  pub unstreamed : IsUnstreamed may_alias document (map name_in request.sources) (map name_in request.sinks) cause
 
 -- Why a stream is not begun. The formats are looked at first, then the words that name files, then the description is
 -- loaded, and then its network is looked at.
 abbrev pub IsUnbegun : (may_give : Loads) (may_alias : Aliases) → StreamRequest → StreamRefusal → Type 0
 IsUnbegun may_give may_alias request FormatWord =
-    (¬ All SaysFormat request.formats) ⊎ IsOfNetwork may_give request FormatWord
+    (¬ All SaysFormat request.formats) ⊎ IsOfNetwork may_give may_alias request FormatWord
 IsUnbegun may_give may_alias request (Common refusal.TraceWord) =
     AreWordsRefused may_alias request refusal.TraceWord
 IsUnbegun may_give may_alias request (Common refusal.SourceWord) =
     AreWordsRefused may_alias request refusal.SourceWord
 IsUnbegun may_give may_alias request (Common refusal.SinkWord) =
     AreWordsRefused may_alias request refusal.SinkWord
+    ⊎ IsOfNetwork may_give may_alias request (Common refusal.SinkWord)
 IsUnbegun may_give may_alias request (Common refusal.NoMemory) = ⊤
 IsUnbegun may_give may_alias request (Common (refusal.Description fault)) =
     IsRefusedDescription may_give request.file fault
 IsUnbegun may_give may_alias request (Common (refusal.Input fault)) =
-    IsRefusalOfLoad may_give request.file fault ⊎ IsOfNetwork may_give request (Common (refusal.Input fault))
-IsUnbegun may_give may_alias request cause = IsOfNetwork may_give request cause
+    IsRefusalOfLoad may_give request.file fault ⊎ IsOfNetwork may_give may_alias request (Common (refusal.Input fault))
+IsUnbegun may_give may_alias request cause = IsOfNetwork may_give may_alias request cause
 
 -- ---- scaffolding
 

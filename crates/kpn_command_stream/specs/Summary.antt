@@ -1,5 +1,5 @@
 -- What is told of a stream that has ended, and its status.
-use Rattle.std.specs.Prelude.{◌≡◌, ◌↔◌, ℕ, Bool, true, false, ◌||◌, if◌then◌else◌, List, [], ◌++◌, length, Option, Some, None, IsTrue, codes}
+use Rattle.std.specs.Prelude.{◌≡◌, ◌↔◌, ℕ, nat_lt, Bool, true, false, ◌&&◌, ◌||◌, if◌then◌else◌, List, [], ◌++◌, length, Option, Some, None, IsTrue, codes}
 use Rattle.std.specs.List.{AllZip, list_any, list_all, flat_map}
 use Rattle.std.specs.Fmt.{decimal}
 use Rattle.kpn_net.specs.Tables.{is_sink}
@@ -44,16 +44,20 @@ abbrev pub has_fault : List State → Bool
 has_fault states = list_any is_faulted states
 
 -- each sink is complete or was left
+abbrev pub are_all_done : List SinkEnd → Bool
+are_all_done sinks = list_all (λ sink. sink.is_complete || sink.is_left) sinks
+
+-- there are sinks, and each is
 abbrev pub are_done : List SinkEnd → Bool
-are_done sinks = list_all (λ sink. sink.is_complete || sink.is_left) sinks
+are_done sinks = nat_lt 0 (length sinks) && are_all_done sinks
 
 -- the status of an outcome, and without one that of a run that has stopped
 abbrev pub status_at : Option Outcome → ℕ
 status_at (Some outcome) = outcome_status outcome
 status_at None = outcome_status Stopped
 
--- 8 if a process has faulted; else 9 if there is a ring; else 0 if each sink is complete or was left; else that of the
--- outcome
+-- 8 if a process has faulted; else 9 if there is a ring; else 0 if there are sinks and each is complete or was left; else
+-- that of the outcome
 abbrev pub stream_status : List SinkEnd → List State → (rings : List (List ℕ)) → Option Outcome → ℕ
 stream_status sinks states rings outcome =
     if has_fault states then 8 else (if are_some rings then 9 else (if are_done sinks then 0 else status_at outcome))

@@ -12,7 +12,7 @@ ghost use Rattle.kpn_command_stream.specs.Command.{AreWordsOf, IsStreamed, IsStr
 
 use crate::concluding::conclude;
 use crate::formats::{are_for_ends, are_formats};
-use crate::places::{EndPlaces, is_dash, places_of, share_an_input};
+use crate::places::{EndPlaces, is_dash, places_of, share_an_input, writes_an_input};
 use crate::refusal::StreamRefusal;
 use crate::running::run;
 use kpn_command_base::{
@@ -92,7 +92,7 @@ fn stream_document<S: Shelf + Ports, I: NonblockingRead, O: Write, E: Write>(
         document.now shelf.old shelf.new input.old input.new out.old out.new) }
     ensures refused { OnErr result
         (NothingBegun shelf.old shelf.new input.old input.new out.old out.new) }
-    ensures cause { IfErr result (IsUnstreamed document.now
+    ensures cause { IfErr result (IsUnstreamed (S.may_alias shelf.old) document.now
         (map name_in request.now.sources) (map name_in request.now.sinks)) }
 {
     let places = places_for(alloc, document, request, words, shelf)?;
@@ -201,7 +201,7 @@ fn is_standard(word: &str) -> bool
 }
 
 /// The inputs of all sources, and the outputs of all sinks.
-fn places_for<'a, S: Ports>(
+fn places_for<'a, S: Shelf + Ports>(
     alloc: Global,
     document: &Document,
     request: &StreamRequest<'a>,
@@ -218,7 +218,7 @@ fn places_for<'a, S: Ports>(
     ensures own_inputs { IfOk result (λ places.
         HaveOwnInputs (S.are_two_inputs shelf.now) places.sources.items) }
     ensures formats { IfOk result (λ _. AreForEnds document.now request.now.formats) }
-    ensures cause { IfErr result (IsUnstreamed document.now
+    ensures cause { IfErr result (IsUnstreamed (S.may_alias shelf.now) document.now
         (map (λ o. o.name.now) words.now.sources.items)
         (map (λ o. o.name.now) words.now.sinks.items)) }
 {
@@ -231,7 +231,12 @@ fn places_for<'a, S: Ports>(
     if !are_for_ends(formats, document) {
         return Err(StreamRefusal::FormatWord);
     }
-    Ok(EndPlaces { sources, sinks })
+    let places = EndPlaces { sources, sinks };
+    let writes = writes_an_input(shelf, request.file, &places)?;
+    if writes {
+        return Err(StreamRefusal::Common(Refusal::SinkWord));
+    }
+    Ok(places)
 }
 
 /// Makes ready for the trace, if there is to be one.

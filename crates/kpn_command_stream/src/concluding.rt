@@ -10,7 +10,7 @@ use crate::places::{EndPlaces, place_of};
 use crate::refusal::{report_memory, report_sink, report_source};
 use crate::running::{Lost, limits_of};
 use crate::stats::tables_of;
-use crate::summary::{stream_status, summary_of};
+use crate::summary::{SinkEnd, stream_status, summary_of};
 use kpn_command_base::{Refusal, StreamRequest, store_trace};
 use kpn_net::Network;
 use kpn_shelf::Shelf;
@@ -61,7 +61,8 @@ fn conclude_over<S: Shelf, E: Write>(
         × IsTraceKept S.may_give request.now.trace t over.now shelf.old shelf.new stored
         × (result ≡ end_status ending lost.now stored is_told over.now) }
 {
-    let is_told = tell(alloc, request, document, over, err, unsaid);
+    let ends = ends_told(alloc, over, ending, lost);
+    let is_told = tell(alloc, request, document, over, ends, err, unsaid);
     let failed = report_failed(ending, document, lost, places, err);
     let stored = keep_trace(alloc, request, document.network(), over, shelf);
     let unstored = report_trace(&stored, err);
@@ -111,6 +112,33 @@ fn keep_trace<S: Shelf>(
     store_trace(alloc, name, network, &over.history, shelf)
 }
 
+/// What is told of the sinks: one whose output has failed is not complete.
+fn ends_told(
+    alloc: Global,
+    over: &Over,
+    ending: StreamEnding,
+    lost: &[Lost],
+) -> Result<Vec<SinkEnd>, AllocError> {
+    let mut ends = Vec::new(alloc);
+    for end in &over.sinks {
+        let has_failed = has_failed(ending, end.channel)
+            || lost.iter().any(|one| one.sink == end.channel);
+        ends.push(SinkEnd {
+            is_complete: end.is_complete && !has_failed,
+            ..*end
+        })?;
+    }
+    Ok(ends)
+}
+
+/// Whether the output of a sink has ended the stream.
+fn has_failed(ending: StreamEnding, sink: usize) -> bool {
+    match ending {
+        StreamEnding::SinkFailed(c, _) => c == sink,
+        _ => false,
+    }
+}
+
 /// Tells how the stream has ended, and the tables, if they are asked for. If it can't, memory ran out. If the stream is
 /// to be quiet, how it has ended is only kept.
 fn tell<E: Write>(
@@ -118,12 +146,16 @@ fn tell<E: Write>(
     request: &StreamRequest<'_>,
     document: &Document,
     over: &Over,
+    ends: Result<Vec<SinkEnd>, AllocError>,
     err: &mut E,
     unsaid: &mut Vec<u8>,
 ) -> bool {
     let states = over.states.as_slice();
     let rings = over.rings.as_slice();
-    let summary = summary_of(alloc, document, &over.sinks, states, rings, over.outcome);
+    let summary = match ends {
+        Ok(ends) => summary_of(alloc, document, &ends, states, rings, over.outcome),
+        Err(error) => Err(error),
+    };
     let is_told = if request.quiet {
         keep_text(summary, unsaid);
         true

@@ -1,18 +1,18 @@
 //! Which input and which output each end of a network gets.
-ghost use Rattle.std.specs.Prelude.{◌≡◌, ◌↔◌, false, length, map, option_map, All, IfOk, IfErr, IsTrue};
+ghost use Rattle.std.specs.Prelude.{◌≡◌, ◌↔◌, false, true, length, map, option_map, All, IfOk, IfErr, IsTrue};
 ghost use Rattle.kpn_command_base.specs.Sources.{is_end};
 ghost use Rattle.kpn_stream.specs.Ending.{end_numbers};
-ghost use Rattle.kpn_command_stream.specs.Causes.{IsUnnamed, IsUnplaced, IsUnplacedBy};
+ghost use Rattle.kpn_command_stream.specs.Causes.{IsUnnamed, IsUnplaced, IsUnplacedBy, MayWriteInto};
 ghost use Rattle.kpn_command_stream.specs.EndPlaces.{AllPlaced, ArePlacesOfEnds, HaveOwnInputs, name_for, standard};
 
 use crate::formats::format_for;
 use crate::refusal::StreamRefusal;
 use kpn_command_base::{EndKind, FileOption, NamedEnd, ends_of, file_for};
-use kpn_shelf::{Ports, STANDARD};
+use kpn_shelf::{Ports, STANDARD, Shelf};
 use kpn_stream::end_numbers_of;
 use kpn_stream_devices::ItemFormat;
 use kpn_text::Document;
-use std::alloc::Global;
+use std::alloc::{AllocError, Global};
 
 /// Whether this is the name of standard input and of standard output.
 pub(crate) fn is_dash(name: &str) -> bool
@@ -141,6 +141,45 @@ pub(crate) fn place_of<'a>(places: &[EndPlace<'a>], channel: usize) -> EndPlace<
         name: STANDARD,
         format: ItemFormat::Lines,
     }
+}
+
+// Paths of standard input and standard output.
+const INPUT_PATH: &str = "/dev/stdin";
+
+const OUTPUT_PATH: &str = "/dev/stdout";
+
+/// Whether standard output is that of a sink, and is the plain file of the description or of a source.
+pub(crate) fn writes_an_input<S: Shelf>(
+    shelf: &S,
+    file: &str,
+    places: &EndPlaces<'_>,
+) -> Result<bool, AllocError>
+    ensures { IfOk result (λ writes. writes ≡ true → MayWriteInto (S.may_alias shelf.now)) }
+{
+    if !has_standard(&places.sinks) {
+        return Ok(false);
+    }
+    for source in &places.sources {
+        if is_written(shelf, path_of(source.name))? {
+            return Ok(true);
+        }
+    }
+    is_written(shelf, file)
+}
+
+fn has_standard(places: &[EndPlace<'_>]) -> bool {
+    places.iter().any(|place| place.name == STANDARD)
+}
+
+fn path_of(name: &str) -> &str {
+    if name == STANDARD { INPUT_PATH } else { name }
+}
+
+/// Whether standard output is the plain file of this path.
+fn is_written<S: Shelf>(shelf: &S, path: &str) -> Result<bool, AllocError>
+    ensures { IfOk result (λ is. is ≡ true → MayWriteInto (S.may_alias shelf.now)) }
+{
+    shelf.is_same_file(OUTPUT_PATH, path)
 }
 
 /// Whether two sources have one input that is no plain file.

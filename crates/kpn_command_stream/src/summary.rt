@@ -6,7 +6,7 @@ ghost use Rattle.kpn_net.specs.Tables.{is_sink};
 ghost use Rattle.kpn_command_base.specs.Added.{Adds};
 ghost use Rattle.kpn_deadlock.specs.Told.{are_some};
 ghost use Rattle.kpn_stream.specs.Ending.{end_numbers};
-ghost use Rattle.kpn_command_stream.specs.Summary.{IsSinkEnd, AreSinkEnds, are_done, has_fault, is_faulted, members_text, outcome_text, ring_text, rings_text, sink_text, sink_ends_text, status_at, stream_status, stream_summary_text};
+ghost use Rattle.kpn_command_stream.specs.Summary.{IsSinkEnd, AreSinkEnds, are_all_done, are_done, has_fault, is_faulted, members_text, outcome_text, ring_text, rings_text, sink_text, sink_ends_text, status_at, stream_status, stream_summary_text};
 
 use kpn_book::Book;
 use kpn_command_base::{Pushed, push_faults, push_waits, status_of, word_of};
@@ -104,9 +104,15 @@ fn has_ring(rings: &[Sequence<usize>]) -> bool
     0 < rings.len()
 }
 
-/// Whether each sink is complete or was left.
+/// Whether there are sinks, and each is complete or was left.
 fn are_done(sinks: &[SinkEnd]) -> bool
     ensures { result ≡ are_done sinks.now }
+{
+    0 < sinks.len() && are_all_done(sinks)
+}
+
+fn are_all_done(sinks: &[SinkEnd]) -> bool
+    ensures { result ≡ are_all_done sinks.now }
 {
     sinks.iter().all(|sink| sink.is_complete || sink.is_left)
 }
