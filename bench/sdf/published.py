@@ -3,9 +3,8 @@
 search of `kpn.sdf` finds, and what runs of the proved program show at that and with one token less. It takes two
 minutes at most, and ends with 1 if a search and a run disagree, or a search and the literature. On a busy machine the
 time for a search may be up, and then the last column says between which sums the least one is.
-
-usage: bench/sdf/published.py
 """
+import argparse
 import pathlib
 import sys
 import time
@@ -40,8 +39,7 @@ def row_of(graph):
 
 
 def main():
-    if sys.argv[1:]:
-        sys.exit(__doc__)
+    argparse.ArgumentParser(description=__doc__, formatter_class=argparse.RawDescriptionHelpFormatter).parse_args()
     start = time.time()
     print('| ' + ' | '.join(HEAD) + ' |\n|' + '---|' * len(HEAD))
     for file in sorted((TOP / 'examples/sdf').glob('*.xml')):

@@ -2,10 +2,9 @@
 """Compares `kpn.sdf` on random graphs with plain counting (python/tests/plain_graphs.py), and each least capacity with
 runs of the proved program: one that ends, and some with a token less that deadlock. It ends with the first difference.
 
-usage: bench/sdf/random_graphs.py [COUNT] [SEED]
-
 A thousand graphs take some minutes. Each seventh also compares the whole Pareto curve.
 """
+import argparse
 import pathlib
 import random
 import sys
@@ -19,9 +18,11 @@ import plain_graphs  # noqa: E402
 
 
 def main():
-    if any(not it.isdigit() for it in sys.argv[1:]):
-        sys.exit(__doc__)
-    count, seed = [*map(int, sys.argv[1:]), *(1_000, 1)[len(sys.argv) - 1:]]
+    reads = argparse.ArgumentParser(description=__doc__, formatter_class=argparse.RawDescriptionHelpFormatter)
+    reads.add_argument('count', nargs='?', type=int, default=1_000)
+    reads.add_argument('seed', nargs='?', type=int, default=1)
+    asked = reads.parse_args()
+    count, seed = asked.count, asked.seed
     test, found, start = unittest.TestCase(), {}, time.time()
     for number in range(seed, seed + count):
         if (number - seed) % 100 == 99:
