@@ -8,7 +8,7 @@ rules of docs/STREAMS.md, "Options and ends":
 
     stream      `kpn stream`; PROGRAM is `kpn`, by default crates/kpn/out/kpn
     compiled    the program that `kpn compile` makes of each network, by PROGRAM
-    mpi         `kpn-mpi` on one rank, which reads and writes whole files; PROGRAM is it, or its simulator
+    mpi         `kpn-mpi` on one rank, which reads and writes whole files; PROGRAM is its simulator
 
 Only the cases for that kind are tried. It is no part of the gate, but python/tests/test_ends.py runs its quick cases.
 """

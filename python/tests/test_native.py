@@ -678,7 +678,8 @@ int main(void) {
         self.assertEqual((status, 'multiple definition of `kpn_open' in told), (1, True), told)
         if shutil.which('nm'):
             for name in ('one', 'two'):
-                defined = [it.split()[-1] for it in self.call('nm', '-g', '--defined-only', f'{name}.a')[1].splitlines()]
+                lines = self.call('nm', '-g', '--defined-only', f'{name}.a')[1].splitlines()
+                defined = [it.split()[-1] for it in lines]
                 self.assertEqual([it for it in defined if not it.startswith(f'{name}_')], [])
         for prefix in ('', '1x', 'kpn_x', 'a-b'):
             self.assertEqual(compiled(self.MEAN, self.folder, '--library', '--prefix', prefix).returncode, 2)
