@@ -1,7 +1,9 @@
-"""The ends of streams: the quick cases of bench/files/stream.py, for `kpn stream` and for compiled programs."""
+"""The ends of streams: the quick cases of bench/files/stream.py, for `kpn stream`, for compiled programs and, where the
+library for C is built, for `kpn-mpi`."""
 import importlib.util
 import os
 import shutil
+import subprocess
 import unittest
 
 from support import PROGRAM, TOP
@@ -13,8 +15,8 @@ spec.loader.exec_module(ends)
 
 
 class Ends(unittest.TestCase):
-    def try_all(self, kind):
-        for case in ends.use(PROGRAM, kind):
+    def try_all(self, kind, program=PROGRAM):
+        for case in ends.use(program, kind):
             if case in ends.quick_ones:
                 with self.subTest(case=case.__name__):
                     self.assertEqual(ends.attempt(case), '')
@@ -25,6 +27,11 @@ class Ends(unittest.TestCase):
     @unittest.skipUnless(shutil.which('cc'), 'there is no C compiler')
     def test_compiled(self):
         self.try_all('compiled')
+
+    @unittest.skipUnless((TOP / 'out/c/libkpn.a').exists() and shutil.which('make'), 'tools/clib.py build was not run')
+    def test_kpn_mpi(self):
+        subprocess.run(['make', '-s', '-C', TOP / 'mpi', 'simulator'], check=True)
+        self.try_all('mpi', TOP / 'out/mpi/kpn-mpi-simulator')
 
 
 if __name__ == '__main__':
