@@ -110,7 +110,7 @@ def compare(text):
     """How the package and `kpn print` differ on a text, '' if they do not; and whether the package refuses it."""
     with tempfile.TemporaryDirectory() as folder:
         pathlib.Path(folder, 'text').write_bytes(as_bytes(text))
-        done = call(['print', 'text'], None, folder)
+        done = call(['print', 'text'], None, folder, is_kpn=False)
     wanted = done.stderr.strip()[len('kpn: '):] or None
     printed, error, is_of_text = read(text)
     is_refused = error is not None
