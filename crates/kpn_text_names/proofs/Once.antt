@@ -1,5 +1,5 @@
 -- No name is twice in a table of names: each step adds a name that is new, or none.
-use Rattle.std.proofs.Common.{◌≡◌, ℕ, zero, suc, ◌<◌, Bool, true, false, cond, not, ◌||◌, List, [], ◌∷◌, ◌++◌, length, map, Ok, refl, sym, ap, subst, ◌∙◌, append_assoc, append-nil, length-append, inl, inr, arith}
+use Rattle.std.proofs.Common.{◌≡◌, ℕ, zero, suc, ◌<◌, Bool, true, false, cond, not, ◌||◌, List, [], ◌∷◌, ◌++◌, length, map, Option, Some, None, Ok, refl, sym, ap, subst, ◌∙◌, append_assoc, append-nil, length-append, inl, inr, arith}
 use Rattle.std.specs.List.{All, position_or_len}
 use Rattle.std.specs.Str.{bytes_eq}
 use Rattle.std.specs.Cmp.Lexicographic.{bytes_decides}
@@ -13,20 +13,21 @@ use Rattle.kpn_lang.specs.Tree.{Tree}
 use Rattle.kpn_net.specs.declared.tables.ChannelSpec.{ChannelSpec}
 use Rattle.kpn_net.specs.declared.tables.ChannelSpec.TheVariants.{Inner, Source, Sink}
 use Rattle.kpn_text_grammar.specs.Syntax as grammar
-use Rattle.kpn_text_grammar.specs.Syntax.{NameBytes, StatementNode, assign, store, receive, send, choice, loop, Statements, no_statements, statement, Declaration, ProcessNode, Item, channel, source, sink, instance, Description}
+use Rattle.kpn_text_grammar.specs.Syntax.{NameBytes, ExpressionNode, numeral, variable, element, minus, negation, complement, binary, conditional, Table, StatementNode, assign, store, receive, send, choice, loop, Statements, no_statements, statement, Declaration, ProcessNode, Item, channel, source, sink, instance, Description}
 use Rattle.kpn_text_names.specs.declared.scope.NameScope.{NameScope}
 use Rattle.kpn_text_tokens.specs.Results.{and_then}
-use Rattle.kpn_text_names.specs.Names.{name_at, has, declared, with_name}
+use Rattle.kpn_text_names.specs.Names.{name_at, has, declared, number_of, with_name}
 use Rattle.kpn_text_names.specs.declared.tables.SharedTables.{SharedTables}
+use Rattle.kpn_text_names.specs.declared.tables.KnownTables.{KnownTables}
 use Rattle.kpn_text_names.specs.Fault.{each}
-use Rattle.kpn_text_names.specs.Scope.{are_new, scope_with, head_scope, is_port, is_row, is_taken, declared_name, with_declaration, declare, target}
-use Rattle.kpn_text_names.specs.Shared.{shared_of}
+use Rattle.kpn_text_names.specs.Scope.{are_new, scope_with, head_scope, is_port, is_row, is_taken, declared_name, with_declaration, declare, table_values, behind_arrays, target}
+use Rattle.kpn_text_names.specs.Shared.{no_shared, with_shared, shared_of, with_use, with_use_if, with_name_used, used_in_term, used_in_statement, used_in}
 use Rattle.kpn_text_names.specs.Body.{statement_in, tree_in}
 use Rattle.kpn_text_names.specs.Blocks.{WrittenBody, body_blocks, body_of}
 use Rattle.kpn_text_names.specs.Network.{Settings, settings_of, Wiring, within_32_bits, with_wired_channel, with_instance, with_wired_item, instance_of, all_channels, wiring}
 use Rattle.kpn_text_names.specs.Named.{NamedProgram, program_with, with_uses, named_program, Programs, with_named_process, programs_of, Named, named_with, resolve}
-use Rattle.kpn_text_names.specs.NetworkNames.{paired, process_names_in, names_in}
-use Rattle.kpn_text_names.specs.Once.{StandOnce, names_inside, EachStandsOnce}
+use Rattle.kpn_text_names.specs.NetworkNames.{named_row, named_table, paired, process_names_in, names_in}
+use Rattle.kpn_text_names.specs.Once.{StandOnce, InsideOnce, EachStandsOnce}
 use Rattle.kpn_text_names.proofs.Chains.{ok_is, went}
 use Rattle.kpn_text_names.proofs.Steps.{keeps}
 use Rattle.kpn_text_names.proofs.KnownNames.{if_not, if_so, declared_is}
@@ -84,8 +85,11 @@ none_apart i j before here = absurd (omega arith)
 abbrev known_in : NameScope → List NameBytes
 known_in s = s.ins ++ s.outs ++ s.vars
 
-abbrev ScopeApart : NameScope → Type 0
-ScopeApart s = Apart (known_in s)
+-- the ports and variables are apart, and so are the arrays and the tables
+record ScopeApart (s : NameScope) : Type 0 where
+  names : Apart (known_in s)
+  arrays : Apart s.arrays.names
+  tables : Apart s.tables.rows.names
 
 is_false : (b : Bool) → not b ≡ true → b ≡ false
 is_false true h = absurd (cc)
@@ -115,18 +119,11 @@ head_apart shared p s e =
     let given = if_so (are_new shared (p.ins ++ p.outs ++ p.pars)) made s e in
     let new = new_beside shared [] (p.ins ++ p.outs ++ p.pars)
     (subst (λ (l : List NameBytes). are_new l (p.ins ++ p.outs ++ p.pars) ≡ true) (sym (append-nil shared)) given.0) in
-    subst ScopeApart given.1 (new_apart [] (p.ins ++ p.outs ++ p.pars) new none_apart)
-
--- an array or a table is no port and no variable
-same_names : (s : NameScope) (d : Declaration) → known_in (with_declaration s d) ≡ known_in s
-same_names s (grammar.array x n) = refl
-same_names s (grammar.table t) = refl
-
-declare_apart : (shared : List NameBytes) (s t : NameScope) (d : Declaration) → declare shared s d ≡ Ok t → ScopeApart s
-    → ScopeApart t
-declare_apart shared s t d e apart =
-    let given = if_not (is_taken shared s (declared_name d)) (with_declaration s d) t e in
-    subst ScopeApart given.1 (subst Apart (sym (same_names s d)) apart)
+    subst ScopeApart given.1 (record {
+      names = new_apart [] (p.ins ++ p.outs ++ p.pars) new none_apart;
+      arrays = none_apart;
+      tables = none_apart;
+    })
 
 -- a variable, which is none of the ports
 with_name_apart : (ports vars : List NameBytes) (x : NameBytes) (b : Bool) → has vars x ≡ b → has ports x ≡ false
@@ -136,14 +133,84 @@ with_name_apart ports vars x false stands free apart =
     let new : has (ports ++ vars) x ≡ false = rw (list_any-append (bytes_eq x) ports vars, free) stands in
     subst Apart (append_assoc ports vars (x ∷ [])) (one_more (ports ++ vars) x new apart)
 
+-- a row more, or the same
+row_apart : (names : List NameBytes) (x : NameBytes) → Apart names → Apart (with_name names x)
+row_apart names x apart = with_name_apart [] names x (has names x) refl refl apart
+
+declaration_apart : (s : NameScope) (d : Declaration) → ScopeApart s → ScopeApart (with_declaration s d)
+declaration_apart s (grammar.array x n) apart = record {
+  names = apart.names;
+  arrays = row_apart s.arrays.names x apart.arrays;
+  tables = apart.tables;
+}
+declaration_apart s (grammar.table t) apart = record {
+  names = apart.names;
+  arrays = apart.arrays;
+  tables = row_apart s.tables.rows.names t.name apart.tables;
+}
+
+declare_apart : (shared : List NameBytes) (s t : NameScope) (d : Declaration) → declare shared s d ≡ Ok t → ScopeApart s
+    → ScopeApart t
+declare_apart shared s t d e apart =
+    let given = if_not (is_taken shared s (declared_name d)) (with_declaration s d) t e in
+    subst ScopeApart given.1 (declaration_apart s d apart)
+
+-- ---- the shared tables that a process names
+
+abbrev KnownApart : KnownTables → Type 0
+KnownApart ts = Apart ts.rows.names
+
+use_apart : (s : SharedTables) (ts : KnownTables) (x : NameBytes) (k : ℕ) (b : Bool) → KnownApart ts
+    → KnownApart (cond b ts (with_use s ts x k))
+use_apart s ts x k true apart = apart
+use_apart s ts x k false apart = row_apart ts.rows.names x apart
+
+name_apart : (s : SharedTables) (ts : KnownTables) (x : NameBytes) (found : Option ℕ) → KnownApart ts
+    → KnownApart (with_use_if s ts x found)
+name_apart s ts x None apart = apart
+name_apart s ts x (Some k) apart = use_apart s ts x k (has ts.rows.names x) apart
+
+term_apart : (s : SharedTables) (ts : KnownTables) (e : ExpressionNode) → KnownApart ts → KnownApart (used_in_term s ts e)
+term_apart s ts (numeral n) apart = apart
+term_apart s ts (variable x) apart = apart
+term_apart s ts (element x e) apart =
+    term_apart s (with_name_used s ts x) e (name_apart s ts x (number_of s.names x) apart)
+term_apart s ts (minus e) apart = term_apart s ts e apart
+term_apart s ts (negation e) apart = term_apart s ts e apart
+term_apart s ts (complement e) apart = term_apart s ts e apart
+term_apart s ts (binary o a b) apart = term_apart s (used_in_term s ts a) b (term_apart s ts a apart)
+term_apart s ts (conditional c a b) apart =
+    term_apart s (used_in_term s (used_in_term s ts c) a) b
+    (term_apart s (used_in_term s ts c) a (term_apart s ts c apart))
+
+mutual
+  uses_apart : (s : SharedTables) (ts : KnownTables) (b : Statements) → KnownApart ts → KnownApart (used_in s ts b)
+  uses_apart s ts no_statements apart = apart
+  uses_apart s ts (statement x xs) apart =
+      uses_apart s (used_in_statement s ts x) xs (used_apart s ts x apart)
+
+  used_apart : (s : SharedTables) (ts : KnownTables) (x : StatementNode) → KnownApart ts
+      → KnownApart (used_in_statement s ts x)
+  used_apart s ts (assign x e) apart = term_apart s ts e apart
+  used_apart s ts (store x i e) apart = term_apart s (used_in_term s ts i) e (term_apart s ts i apart)
+  used_apart s ts (receive i x) apart = apart
+  used_apart s ts (send o e) apart = term_apart s ts e apart
+  used_apart s ts (choice e a b) apart =
+      uses_apart s (used_in s (used_in_term s ts e) a) b
+      (uses_apart s (used_in_term s ts e) a (term_apart s ts e apart))
+  used_apart s ts (loop e b) apart = uses_apart s (used_in_term s ts e) b (term_apart s ts e apart)
+
 target_apart : (shared : List NameBytes) (s : NameScope) (x : NameBytes) (r : NameScope × ℕ) → target shared s x ≡ Ok r → ScopeApart s → ScopeApart r.0
 target_apart shared s x r e apart =
     let made : NameScope × ℕ = (record s { vars = with_name s.vars x }, position_or_len (bytes_eq x) s.vars) in
     let given = if_not (is_port s x || is_row shared s x) made r e in
     let free : has (s.ins ++ s.outs) x ≡ false = list_any-append (bytes_eq x) s.ins s.outs
     ∙ (or_parts (is_port s x) (is_row shared s x) given.0).0 in
-    subst (λ q. ScopeApart q.0) given.1
-    (with_name_apart (s.ins ++ s.outs) s.vars x (has s.vars x) refl free apart)
+    subst (λ q. ScopeApart q.0) given.1 (record {
+      names = with_name_apart (s.ins ++ s.outs) s.vars x (has s.vars x) refl free apart.names;
+      arrays = apart.arrays;
+      tables = apart.tables;
+    })
 
 mutual
   unfolding statement_in tree_in
@@ -201,7 +268,11 @@ program_apart shared p q e =
     let declared : ScopeApart s.value = keeps (declare shared.names) ScopeApart (declare_apart shared.names) p.declarations
     h.value s.value s.first (head_apart shared.names p h.value h.first) in
     subst (λ made. ScopeApart made.names) (ok_is (program_with shared s.value body.value) q body.rest)
-    (body_apart shared.names (with_uses shared s.value p.body) p.body body.value body.first declared)
+    (body_apart shared.names (with_uses shared s.value p.body) p.body body.value body.first (record {
+      names = declared.names;
+      arrays = declared.arrays;
+      tables = uses_apart shared s.value.tables p.body declared.tables;
+    }))
 
 -- ---- processes
 
@@ -277,21 +348,56 @@ paired_names [] ss e = refl
 paired_names (x ∷ xs) [] e = absurd (omega arith)
 paired_names (x ∷ xs) (s ∷ ss) e = ap (λ l. x ∷ l) (paired_names xs ss (omega arith))
 
+-- some of the first names, with something beside each
+module _ {A B : Type 0} (f : NameBytes → A → B) (name : B → NameBytes) (named : (x : NameBytes) (a : A) → name (f x a) ≡ x) where
+  paired_at : (xs : List NameBytes) (things : List A) (k : ℕ) → k < length (map name (paired f xs things))
+      → (name_at (map name (paired f xs things)) k ≡ name_at xs k) × (k < length xs)
+  paired_at [] things k here = absurd (omega (arith, here))
+  paired_at (x ∷ xs) [] k here = absurd (omega (arith, here))
+  paired_at (x ∷ xs) (a ∷ things) zero here = (named x a, omega arith)
+  paired_at (x ∷ xs) (a ∷ things) (suc k) here =
+      let p = paired_at xs things k (omega (arith, here)) in
+      (p.0, omega (arith, p.1))
+
+  paired_apart : (xs : List NameBytes) (things : List A) → Apart xs → Apart (map name (paired f xs things))
+  paired_apart xs things apart i j before here =
+      let second = paired_at xs things j here in
+      let first = paired_at xs things i (omega (arith, before, here)) in
+      rw (second.0, first.0) (apart i j before second.1)
+
+inside_once : (x : NameBytes) (s : NameScope) → ScopeApart s → InsideOnce (process_names_in x s)
+inside_once x s apart = record {
+  names = stand_once (known_in s) apart.names;
+  arrays = stand_once _ (paired_apart named_row (λ r. r.name) (λ n r. refl) s.arrays.names s.arrays.rows apart.arrays);
+  tables = stand_once _ (paired_apart named_row (λ r. r.name) (λ n r. refl) s.tables.rows.names
+      (map (behind_arrays s) s.tables.rows.rows) apart.tables);
+}
+
 paired_inside : (xs : List NameBytes) (ps : List NamedProgram) → All (λ q. ScopeApart q.names) ps
-    → All (λ p. StandOnce (names_inside p)) (paired process_names_in xs (map (λ q. q.names) ps))
+    → All InsideOnce (paired process_names_in xs (map (λ q. q.names) ps))
 paired_inside [] ps apart k d here = absurd (omega arith)
 paired_inside (x ∷ xs) [] apart k d here = absurd (omega arith)
-paired_inside (x ∷ xs) (p ∷ ps) apart zero d here = stand_once (known_in p.names) (apart zero p (omega arith))
+paired_inside (x ∷ xs) (p ∷ ps) apart zero d here = inside_once x p.names (apart zero p (omega arith))
 paired_inside (x ∷ xs) (p ∷ ps) apart (suc k) d here =
     paired_inside xs ps (λ i e below. apart (suc i) e (omega arith)) k d (omega arith)
 
-named_once : (shared : SharedTables) (s : Settings) (p : Programs) (w : Wiring) → ProgramsApart p → WiringApart w
+shared_apart : (s t : SharedTables) (x : Table) → with_shared s x ≡ Ok t → Apart s.names → Apart t.names
+shared_apart s t x e apart =
+    let made : List NameBytes → SharedTables =
+    λ names. record { names = names; values = s.values ++ table_values x ∷ [] } in
+    let names = went (declared s.names x.name) (λ names. Ok (made names)) t e in
+    subst (λ v. Apart v.names) (ok_is (made names.value) t names.rest)
+    (declared_apart s.names names.value x.name names.first apart)
+
+named_once : (shared : SharedTables) (s : Settings) (p : Programs) (w : Wiring) → Apart shared.names → ProgramsApart p
+    → WiringApart w
     → length p.names ≡ length p.programs
     → EachStandsOnce (names_in (named_with shared s p w))
-named_once shared s p w programs wires match =
+named_once shared s p w tables programs wires match =
     let same : length p.names ≡ length (map (λ q. q.names) p.programs) =
     match ∙ sym (length-map p.programs (λ q. q.names)) in
     record {
+      tables = stand_once _ (paired_apart named_table (λ t. t.name) (λ n v. refl) shared.names shared.values tables);
       processes = rw (paired_names p.names (map (λ q. q.names) p.programs) same) (stand_once p.names programs.names);
       instances = stand_once w.instance_names wires.instances;
       channels = stand_once w.channel_names wires.channels;
@@ -306,6 +412,7 @@ names_stand_once d n e =
     subst (λ m. EachStandsOnce (names_in m))
     (ok_is (named_with shared.value (settings_of d.network) p.value w.value) n w.rest)
     (named_once shared.value (settings_of d.network) p.value w.value
+    (keeps with_shared (λ v. Apart v.names) shared_apart d.tables no_shared shared.value shared.first none_apart)
     (programs_apart shared.value d.processes p.value p.first)
     (wiring_apart p.value.names d.network.items w.value w.first)
     (programs_match shared.value d.processes p.value p.first))
