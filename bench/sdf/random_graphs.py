@@ -14,14 +14,13 @@ import unittest
 TOP = pathlib.Path(__file__).resolve().parents[2]
 sys.path[:0] = [str(TOP / 'python/tests')]
 
-import plain_graphs  # noqa: E402
-
 
 def main():
     reads = argparse.ArgumentParser(description=__doc__, formatter_class=argparse.RawDescriptionHelpFormatter)
     reads.add_argument('count', nargs='?', type=int, default=1_000)
     reads.add_argument('seed', nargs='?', type=int, default=1)
     asked = reads.parse_args()
+    import plain_graphs  # it needs the program
     count, seed = asked.count, asked.seed
     test, found, start = unittest.TestCase(), {}, time.time()
     for number in range(seed, seed + count):
