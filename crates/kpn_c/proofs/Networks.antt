@@ -2,7 +2,7 @@
 use Rattle.std.proofs.Common.{◌≡◌, ℕ, Bool, true, false, ℤ, Option, Some, None, List, [], ◌∷◌, map, take, Result, Ok, Err, refl, ap, ◌∙◌}
 use Rattle.std.specs.Prelude.{OnOk, OnErr}
 use Rattle.kpn_history.specs.declared.event.Event.{Event}
-use Rattle.kpn_history.specs.declared.event.Event.TheVariants.{Close, Take, Leave}
+use Rattle.kpn_history.specs.declared.event.Event.TheVariants.{Feed, Close, Take, Leave}
 use Rattle.kpn_machine.specs.Machine.{channel_in, closed_in}
 use Rattle.kpn_book.specs.declared.answers.Done.{Done}
 use Rattle.kpn_book.specs.declared.answers.Refused.{Refused}
@@ -11,7 +11,8 @@ use Rattle.kpn_book.specs.Appending.{Happens, AllHappen}
 use Rattle.kpn_book.specs.Refusals.{closes_by, Closes, leaves_by, Leaves, takes_item}
 use Rattle.kpn_book.specs.Stepping.{StepsNext, StepsInVain}
 use Rattle.kpn_book.proofs.Appended.{tables_stay, commit_tables}
-use Rattle.kpn_c.specs.Calls.{TurnsFrom, no_turn, one_turn_more, stops_by, StepsEach}
+use Rattle.kpn_c.specs.Calls.{TurnsFrom, no_turn, one_turn_more, stops_by, FeedsEach, StepsEach, TakesEach}
+use Rattle.kpn_c.specs.declared.feeding.FedCount.{FedCount}
 use Rattle.kpn_c.specs.declared.stepping.StepCount.{StepCount}
 use Rattle.kpn_c.specs.declared.taking.Taken.{Taken}
 use Rattle.kpn_c.specs.declared.moving.SourceItem.{SourceItem}
@@ -27,6 +28,16 @@ pub all_tables : (events : List Event) (before after : Book) → AllHappen event
 all_tables [] before after same = ap (λ b. b.tables) same
 all_tables (e ∷ events) before after happen =
     all_tables events happen.0 after happen.2 ∙ happens_tables e before happen.0 happen.1
+
+pub feeds_tables : (source : ℕ) (items : List ℤ) (fed : FedCount) (before after : Book)
+    → FeedsEach source items fed before after → after.tables ≡ before.tables
+feeds_tables source items fed before after feeds =
+    all_tables (map (Feed source) (take fed.count items)) before after feeds.feeds
+
+pub take_tables : (sink : ℕ) (taken : Taken) (room kept : List ℤ) (before after : Book)
+    → TakesEach sink taken room kept before after → after.tables ≡ before.tables
+take_tables sink taken room kept before after takes =
+    all_tables (map (Take sink) (take taken.count kept)) before after takes.takes
 
 closes_tables : (was_closed : Bool) (c : ℕ) (before after : Book) → closes_by was_closed c before after
     → after.tables ≡ before.tables

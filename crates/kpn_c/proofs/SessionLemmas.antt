@@ -17,15 +17,13 @@ module _ (d : Document) (before : Detached) (opened last : Book) (after : Detach
   pub book_after : IsBook (book_on last.tables after) → IsBook (book_on d.tables after)
   book_after book = subst (λ t. IsBook (book_on t after)) tables_are book
 
-  detached_is : book_on d.tables after ≡ last
+  pub detached_is : book_on d.tables after ≡ last
   detached_is = ap (λ t. book_on t after) (sym tables_are) ∙ same
 
-  -- what holds of the two books holds of those of the session
-  pub of_session : {keeps : Bool} (session : Session) → session_of d before keeps ≡ session
-      → (R : Book → Book → Type 0) → R opened last → R session.book (book_on d.tables after)
-  of_session session view R holds =
-      subst (λ s. R s.book (book_on d.tables after)) view
-      (subst (λ b. R b (book_on d.tables after)) is (subst (R opened) (sym detached_is) holds))
+-- a book that was opened for a session, and stays on its network
+pub stays_open : {opened last : Book} {session : Session} → opened ≡ session.book
+    → last.tables ≡ session.book.tables → last.tables ≡ opened.tables
+stays_open is stays = stays ∙ ap (λ b. b.tables) (sym is)
 
 -- nothing has happened in between
 pub session_same : {keeps : Bool} (d : Document) (before : Detached) (opened : Book) (after : Detached)
@@ -34,3 +32,10 @@ pub session_same : {keeps : Bool} (d : Document) (before : Detached) (opened : B
 session_same {keeps} d before opened after is same session view =
     ap (λ b. record { document = d; book = b; keeps = keeps })
     (detached_is d before opened opened after is refl same ∙ is) ∙ view
+
+-- a session is what it shows
+pub same_session : (before after : Session) → after.document ≡ before.document → after.keeps ≡ before.keeps
+    → after.book ≡ before.book → after ≡ before
+same_session before after document keeps book =
+    ap (λ d. record after { document = d }) document ∙ ap (λ b. record before { book = b; keeps = after.keeps }) book
+    ∙ ap (λ k. record before { keeps = k }) keeps

@@ -1,5 +1,7 @@
--- A box with a session, and what a session keeps.
-use Rattle.std.specs.Prelude.{◌≡◌, ◌<◌, ℕ, Bool, length, Option, Some, None, IsSome}
+-- A box with a session, what a session keeps, and what a call gives that is lent its book.
+use Rattle.std.specs.Prelude.{◌≡◌, ◌<◌, ℕ, Bool, List, length, Option, Some, None, IsSome}
+use Rattle.std.specs.Borrow.{MutBor}
+use Rattle.std.specs.Fn.{Once}
 use Rattle.kpn_machine.specs.Machine.{channel_in}
 use Rattle.kpn_book.specs.Book.{Book}
 use Rattle.kpn_c.specs.Session.{Session}
@@ -18,3 +20,20 @@ slot_with session = Some (record { session = Some session })
 abbrev pub KeepsAllOrNothing : Bool → Book → Type 0
 KeepsAllOrNothing keeps b =
     (c : ℕ) → c < length b.machine.channels → (channel_in b.machine c).is_kept ≡ keeps
+
+-- what a call that is lent a book and a slice asks for and gives back
+abbrev pub Lent : Type 0 → Type 0
+Lent I = MutBor Book × (MutBor (List I) × Unit {0})
+
+-- a call that is lent this book and this slice may give this, and leave them so
+pub record GivesWithRoom {F I T : Type 0} (calls : Once F (Lent I) (T × Lent I)) (call : F) (before : Book)
+    (room : List I) (told : T) (after : Book) (kept : List I) : Type 0 where
+  pub book : MutBor Book
+  pub slice : MutBor (List I)
+  pub book_is : book.now ≡ before
+  pub slice_is : slice.now ≡ room
+  pub book_then : MutBor Book
+  pub slice_then : MutBor (List I)
+  pub gives : calls.post call (book, (slice, tt)) (told, (book_then, (slice_then, tt)))
+  pub book_was : book_then.now ≡ after
+  pub slice_was : slice_then.now ≡ kept

@@ -15,20 +15,20 @@ pub struct ProcessState {
     pub channel: usize,
 }
 
-/// Puts the states of all processes to the front of a slice if they fit there, and tells how many they are.
-pub(crate) fn put_states(book: &Book<'_>, room: &mut [ProcessState], count: &mut usize) -> u32
-    ensures { PutsToFront (map state_as book.now.schedule.states) result count.new room.old room.new }
+/// Puts the states of all processes to the front of a slice if they fit there. Returns the number that says whether they
+/// do, and how many they are.
+pub(crate) fn put_states(book: &Book<'_>, room: &mut [ProcessState]) -> (u32, usize)
+    ensures { PutsToFront (map state_as book.now.schedule.states) result.0 result.1 room.old room.new }
 {
     book.known();
     let processes = book.network().instances();
-    *count = processes;
     if room.len() < processes {
-        return TOO_SMALL;
+        return (TOO_SMALL, processes);
     }
     'processes: for p in 0..processes {
         room[p] = state_as(book.state(p));
     }
-    OK
+    (OK, processes)
 }
 
 fn state_as(state: State) -> ProcessState

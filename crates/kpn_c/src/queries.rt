@@ -119,9 +119,10 @@ pub extern "C" fn kpn_c_tell_processes(
         held.slot back.new.slot }
 {
     let (boxed, session) = taken(held);
-    let (session, told) = session.put_states(states, count);
+    let (session, (code, processes)) = session.put_states(states);
     *back = put_back(boxed, session);
-    told
+    *count = processes;
+    code
 }
 
 /// Copies unread items of a channel.

@@ -1,5 +1,6 @@
 //! A run that its owner feeds, steps and takes from.
-ghost use Rattle.std.specs.Prelude.{◌≡◌, ℕ, ◌<◌, ◌↔◌, length, map, IsTrue, IfOk, IfErr, OnOk, None};
+ghost use Rattle.std.specs.Prelude.{◌≡◌, ℕ, ◌<◌, ◌↔◌, List, length, map, IsTrue, IfOk, IfErr, OnOk, None};
+ghost use Rattle.std.specs.Fn.{FnOnceReturnsAt, FnOnceReturnsAtMut};
 ghost use Rattle.std.specs.Str.{IsUtf8};
 ghost use Rattle.kpn_text_names.specs.Names.{number_of};
 ghost use Rattle.kpn_history.specs.Ends.{IsVerdict};
@@ -9,13 +10,14 @@ ghost use Rattle.kpn_history.specs.declared.stored.Version.TheVariants.{Two};
 ghost use Rattle.kpn_trace.specs.TraceText.{trace_text};
 ghost use Rattle.kpn_text.specs.Spells.{SpellsDocument};
 ghost use Rattle.kpn_text.specs.Phases.{Refuses};
+ghost use Rattle.kpn_book.specs.Book.{Book as Run};
 ghost use Rattle.kpn_book.specs.Kept.{IsBook};
 ghost use Rattle.kpn_book.specs.Detached.{book_on};
 ghost use Rattle.kpn_book.specs.Refusals.{Closes, RefusesClose, Leaves, RefusesLeave};
 ghost use Rattle.kpn_book.specs.RunHere.{IsNewBook};
 ghost use Rattle.kpn_c.specs.Calls.{FeedsEach, StepsEach, TakesEach, TellsCompleteness};
 ghost use Rattle.kpn_c.specs.Moving.{Moves};
-ghost use Rattle.kpn_c.specs.Sessions.{KeepsAllOrNothing};
+ghost use Rattle.kpn_c.specs.Sessions.{KeepsAllOrNothing, GivesWithRoom};
 ghost use Rattle.kpn_c.specs.Slices.{PutsToFront};
 ghost use Rattle.kpn_c.specs.States.{state_as, LooksInto};
 ghost use Rattle.kpn_c.specs.Telling.{TellsState, PutsChannelName, PutsProcessName, counts_of};
@@ -94,11 +96,14 @@ impl Session {
         let _ = &self.detached;
     }
 
-    /// Feeds items to a source, on which any number may be unread.
-    pub fn feed(self, source: usize, items: &[i64]) -> (Session, FedCount)
+    /// Does this with the book, which is attached to its network meanwhile. Returns what it gives.
+    fn with<T, F: FnOnce(&mut Book<'_>) -> T>(self, call: F) -> (Session, T)
+        requires call { F.IsAlwaysCallable call }
+        requires stays { (told : T) (after : Run) → FnOnceReturnsAtMut F.FnOnce call self.book told after
+            → after.tables ≡ self.book.tables }
         ensures document { result.0.document ≡ self.document }
         ensures keeps { result.0.keeps ≡ self.keeps }
-        ensures fed { FeedsEach source items.now result.1 self.book result.0.book }
+        ensures gives { FnOnceReturnsAtMut F.FnOnce call self.book result.1 result.0.book }
     {
         let Session {
             document,
@@ -106,19 +111,80 @@ impl Session {
             keeps,
         } = self;
         let mut book = attached(&document, detached);
-        let fed = feed_each(&mut book, source, items);
+        let told = call(&mut book);
         let detached = book.detach();
-        (
-            Session {
-                document,
-                detached,
-                keeps,
-            },
-            fed,
-        )
+        let session = Session {
+            document,
+            detached,
+            keeps,
+        };
+        (session, told)
+    }
+
+    /// The same with a slice of the caller.
+    fn with_room<I, T, F: FnOnce(&mut Book<'_>, &mut [I]) -> T>(
+        self,
+        room: &mut [I],
+        call: F,
+    ) -> (Session, T)
+        requires call { F.IsAlwaysCallable call }
+        requires stays { (told : T) (after : Run) (kept : List I)
+            → GivesWithRoom F.FnOnce call self.book room.old told after kept
+            → after.tables ≡ self.book.tables }
+        ensures document { result.0.document ≡ self.document }
+        ensures keeps { result.0.keeps ≡ self.keeps }
+        ensures gives { GivesWithRoom F.FnOnce call self.book room.old result.1 result.0.book room.new }
+    {
+        let Session {
+            document,
+            detached,
+            keeps,
+        } = self;
+        let mut book = attached(&document, detached);
+        let told = call(&mut book, room);
+        let detached = book.detach();
+        let session = Session {
+            document,
+            detached,
+            keeps,
+        };
+        (session, told)
+    }
+
+    /// Asks this of the book, and returns its answer.
+    fn ask<T, F: FnOnce(&Book<'_>) -> T>(self, question: F) -> (Session, T)
+        requires { F.IsAlwaysCallable question }
+        ensures same { result.0 ≡ self }
+        ensures answers { FnOnceReturnsAt F.FnOnce question self.book result.1 }
+    {
+        let Session {
+            document,
+            detached,
+            keeps,
+        } = self;
+        let book = attached(&document, detached);
+        let told = question(&book);
+        let detached = book.detach();
+        let session = Session {
+            document,
+            detached,
+            keeps,
+        };
+        (session, told)
+    }
+
+    /// Feeds items to a source, on which any number may be unread.
+    #[tactic(auto, using(crate::proofs::Networks::feeds_tables))]
+    pub fn feed(self, source: usize, items: &[i64]) -> (Session, FedCount)
+        ensures document { result.0.document ≡ self.document }
+        ensures keeps { result.0.keeps ≡ self.keeps }
+        ensures fed { FeedsEach source items.now result.1 self.book result.0.book }
+    {
+        self.with(|book| feed_each(book, source, items))
     }
 
     /// Closes a source. A second call changes nothing.
+    #[tactic(auto, using(crate::proofs::Networks::close_tables))]
     pub fn close_source(self, source: usize) -> (Session, Result<(), Refused>)
         ensures document { result.0.document ≡ self.document }
         ensures keeps { result.0.keeps ≡ self.keeps }
@@ -126,25 +192,11 @@ impl Session {
         ensures refused { IfErr result.1 (λ cause. RefusesClose source self.book cause) }
         ensures as_before { IfErr result.1 (λ _. result.0.book ≡ self.book) }
     {
-        let Session {
-            document,
-            detached,
-            keeps,
-        } = self;
-        let mut book = attached(&document, detached);
-        let closed = book.close_source(source);
-        let detached = book.detach();
-        (
-            Session {
-                document,
-                detached,
-                keeps,
-            },
-            closed,
-        )
+        self.with(|book| book.close_source(source))
     }
 
     /// Leaves a sink: it is never full then, and nothing is taken from it any more. A second call changes nothing.
+    #[tactic(auto, using(crate::proofs::Networks::leave_tables))]
     pub fn leave_sink(self, sink: usize) -> (Session, Result<(), Refused>)
         ensures document { result.0.document ≡ self.document }
         ensures keeps { result.0.keeps ≡ self.keeps }
@@ -152,75 +204,33 @@ impl Session {
         ensures refused { IfErr result.1 (λ cause. RefusesLeave sink self.book cause) }
         ensures as_before { IfErr result.1 (λ _. result.0.book ≡ self.book) }
     {
-        let Session {
-            document,
-            detached,
-            keeps,
-        } = self;
-        let mut book = attached(&document, detached);
-        let left = book.leave_sink(sink);
-        let detached = book.detach();
-        (
-            Session {
-                document,
-                detached,
-                keeps,
-            },
-            left,
-        )
+        self.with(|book| book.leave_sink(sink))
     }
 
     /// Makes turns of processes: `most` commits, or fewer if no process is ready. If memory runs out, the process of
     /// the next turn has made its steps and is ready again, and nothing else has happened.
+    #[tactic(auto, using(crate::proofs::Networks::steps_tables))]
     pub fn step(self, most: u64) -> (Session, StepCount)
         ensures document { result.0.document ≡ self.document }
         ensures keeps { result.0.keeps ≡ self.keeps }
         ensures stepped { StepsEach STEPS_PER_TURN most result.1 self.book result.0.book }
     {
-        let Session {
-            document,
-            detached,
-            keeps,
-        } = self;
-        let mut book = attached(&document, detached);
-        let stepped = step_each(&mut book, STEPS_PER_TURN, most);
-        let detached = book.detach();
-        (
-            Session {
-                document,
-                detached,
-                keeps,
-            },
-            stepped,
-        )
+        self.with(|book| step_each(book, STEPS_PER_TURN, most))
     }
 
     /// Takes items from a sink, until there is no more room for them or nothing is unread.
+    #[tactic(auto, using(crate::proofs::Networks::take_tables))]
     pub fn take(self, sink: usize, room: &mut [i64]) -> (Session, Taken)
         ensures document { result.0.document ≡ self.document }
         ensures keeps { result.0.keeps ≡ self.keeps }
         ensures taken { TakesEach sink result.1 room.old room.new self.book result.0.book }
     {
-        let Session {
-            document,
-            detached,
-            keeps,
-        } = self;
-        let mut book = attached(&document, detached);
-        let taken = take_each(&mut book, sink, room);
-        let detached = book.detach();
-        (
-            Session {
-                document,
-                detached,
-                keeps,
-            },
-            taken,
-        )
+        self.with_room(room, |book, room| take_each(book, sink, room))
     }
 
     /// Feeds items, makes turns and takes what is wanted, as the calls above do one after the other. What is refused
     /// ends the call, and what was done before stays.
+    #[tactic(auto, using(crate::proofs::Networks::moves_tables))]
     pub fn move_items(
         self,
         items: &[SourceItem],
@@ -232,22 +242,9 @@ impl Session {
         ensures moved { Moves items.now STEPS_PER_TURN most result.1 places.old places.new
             self.book result.0.book }
     {
-        let Session {
-            document,
-            detached,
-            keeps,
-        } = self;
-        let mut book = attached(&document, detached);
-        let moved = move_items(&mut book, items, STEPS_PER_TURN, most, places);
-        let detached = book.detach();
-        (
-            Session {
-                document,
-                detached,
-                keeps,
-            },
-            moved,
-        )
+        self.with_room(places, |book, places| {
+            move_items(book, items, STEPS_PER_TURN, most, places)
+        })
     }
 
     /// Whether a channel is complete: nothing more is ever put there. `None` if no channel has this number.
@@ -255,22 +252,7 @@ impl Session {
         ensures same { result.0 ≡ self }
         ensures complete { TellsCompleteness channel result.1 self.book }
     {
-        let Session {
-            document,
-            detached,
-            keeps,
-        } = self;
-        let book = attached(&document, detached);
-        let told = is_complete(&book, channel);
-        let detached = book.detach();
-        (
-            Session {
-                document,
-                detached,
-                keeps,
-            },
-            told,
-        )
+        self.ask(|book| is_complete(book, channel))
     }
 
     /// How the run has come to a stop, if it has.
@@ -278,22 +260,7 @@ impl Session {
         ensures same { result.0 ≡ self }
         ensures verdict { let b = self.book in IsVerdict b.tables b.history result.1 }
     {
-        let Session {
-            document,
-            detached,
-            keeps,
-        } = self;
-        let book = attached(&document, detached);
-        let verdict = book.verdict();
-        let detached = book.detach();
-        (
-            Session {
-                document,
-                detached,
-                keeps,
-            },
-            verdict,
-        )
+        self.ask(|book| book.verdict())
     }
 
     /// The state of a channel. `None` if no channel has this number.
@@ -301,70 +268,28 @@ impl Session {
         ensures same { result.0 ≡ self }
         ensures told { TellsState channel result.1 self.book }
     {
-        let Session {
-            document,
-            detached,
-            keeps,
-        } = self;
-        let book = attached(&document, detached);
-        let told = channel_state(&book, channel);
-        let detached = book.detach();
-        (
-            Session {
-                document,
-                detached,
-                keeps,
-            },
-            told,
-        )
+        self.ask(|book| channel_state(book, channel))
     }
 
-    /// Puts the states of all processes to the front of a slice if they fit there, and tells how many they are.
-    pub fn put_states(self, room: &mut [ProcessState], count: &mut usize) -> (Session, u32)
+    /// Puts the states of all processes to the front of a slice if they fit there. Returns the number that says whether
+    /// they do, and how many they are.
+    #[tactic(auto, using(crate::proofs::SessionLemmas::same_session))]
+    pub fn put_states(self, room: &mut [ProcessState]) -> (Session, (u32, usize))
         ensures same { result.0 ≡ self }
-        ensures told { PutsToFront (map state_as self.book.schedule.states) result.1
-            count.new room.old room.new }
+        ensures told { PutsToFront (map state_as self.book.schedule.states) result.1.0
+            result.1.1 room.old room.new }
     {
-        let Session {
-            document,
-            detached,
-            keeps,
-        } = self;
-        let book = attached(&document, detached);
-        let told = put_states(&book, room, count);
-        let detached = book.detach();
-        (
-            Session {
-                document,
-                detached,
-                keeps,
-            },
-            told,
-        )
+        self.with_room(room, |book, room| put_states(book, room))
     }
 
     /// Copies the unread items of a channel to the front of a slice, as many as there is room for, and returns how
     /// many. They stay unread. `None` if no channel has this number.
+    #[tactic(auto, using(crate::proofs::SessionLemmas::same_session))]
     pub fn look(self, channel: usize, room: &mut [i64]) -> (Session, Option<usize>)
         ensures same { result.0 ≡ self }
         ensures told { LooksInto channel result.1 room.old room.new self.book }
     {
-        let Session {
-            document,
-            detached,
-            keeps,
-        } = self;
-        let book = attached(&document, detached);
-        let told = look(&book, channel, room);
-        let detached = book.detach();
-        (
-            Session {
-                document,
-                detached,
-                keeps,
-            },
-            told,
-        )
+        self.with_room(room, |book, room| look(book, channel, room))
     }
 
     /// Whether it keeps what has happened.
@@ -415,22 +340,7 @@ impl Session {
         ensures trace { let b = self.book in IfOk result.1 (λ text.
             text.items ≡ trace_text Two b.tables.policy b.tables.growth b.history) }
     {
-        let Session {
-            document,
-            detached,
-            keeps,
-        } = self;
-        let book = attached(&document, detached);
-        let text = trace_of(alloc, book.network(), book.history());
-        let detached = book.detach();
-        (
-            Session {
-                document,
-                detached,
-                keeps,
-            },
-            text,
-        )
+        self.ask(|book| trace_of(alloc, book.network(), book.history()))
     }
 
     /// The number of the channel with this name, or `None` if there is none.

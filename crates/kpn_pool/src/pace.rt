@@ -1,9 +1,6 @@
 //! What a worker measures of its turns and of the times for which it has the lock.
+use kpn_pool_desk::tuning::BATCHES_PER_MEASURED;
 use std::time::{Clock, Duration, Instant};
-
-// One of so many batches is measured, since a look at the clock costs as much as a short turn. An even number would
-// always meet the same processes of 8 or 16.
-const MEASURED: u32 = 31;
 
 /// What a worker knows of its turn.
 #[derive(Clone, Copy)]
@@ -34,7 +31,7 @@ impl Pace {
     pub(crate) fn begin<R: Clock>(&mut self, rt: &R, commits: u64) {
         self.commits = commits;
         self.begun = None;
-        if self.turns % MEASURED == 0 {
+        if self.turns % BATCHES_PER_MEASURED == 0 {
             self.begun = Instant::now(rt).ok();
         }
         self.turns = self.turns.wrapping_add(1);

@@ -5,13 +5,13 @@ ghost use Rattle.kpn_pool_desk.specs.HeldTurns.{InTurn, Claims, ClaimsInVain, Co
 ghost use Rattle.kpn_pool_desk.specs.Gate.{LetsThrough, LetsAll};
 ghost use Rattle.kpn_pool_desk.specs.Desk.{share_in, with_book, with_total};
 
-use crate::crew::TURNS_PER_BATCH;
 use crate::desk::Desk;
 use crate::gate::{Gate, Go};
 use crate::job::Job;
 use crate::phases::NextMove;
 use crate::rows::go_in_rows;
 use crate::seat::{Why, WorkerSeat};
+use crate::tuning::TURNS_PER_BATCH;
 use crate::turn::Turn;
 use crate::watch::{ClockWatch, NoWatch, Watch};
 use arrayvec::ArrayVec;

@@ -18,6 +18,7 @@ mod region_turn;
 mod regions;
 mod rows;
 mod seat;
+pub mod tuning;
 mod turn;
 mod watch;
 

@@ -1,17 +1,9 @@
 //! The regions of a network: a worker claims the processes of one together. Any cut is right; this one is to be fast.
 
 use crate::cut::{Cut, Flow, is_wide};
+use crate::tuning::{BY_TURNS_NANOSECONDS, NARROW_NANOSECONDS, WIDE_NANOSECONDS};
 use kpn_net::{End, Network};
 use std::alloc::{AllocError, Allocator};
-
-// So many nanoseconds a get or put takes beside the steps of its process, by turns: each keeps the lock from others, and
-// waits for it.
-const BY_TURNS_NANOSECONDS: u64 = 1_500;
-
-// In a region, on a wide channel, where many come without a wait, and on a narrow one.
-const WIDE_NANOSECONDS: u64 = 10;
-
-const NARROW_NANOSECONDS: u64 = 45;
 
 /// Regions, of which each process is in one.
 #[derive(Drop)]

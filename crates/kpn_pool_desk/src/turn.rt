@@ -7,15 +7,13 @@ ghost use Rattle.kpn_pool_desk.specs.HeldTurns.{Claims, MayCommitTurn, CommitsOr
 use crate::desk::Desk;
 use crate::job::Job;
 use crate::seat::WorkerSeat;
+use crate::tuning::SHORTEST_TURN_NANOSECONDS;
 use crate::watch::Watch;
 use kpn_book::{Claim, Refused};
 use kpn_step::{Frame, Stop};
 use std::alloc::{AllocError, Allocator};
 use std::marker::{Model, PhantomData};
 use std::time::Instant;
-
-// No turn takes fewer nanoseconds.
-const SHORTEST: u64 = 20;
 
 /// A process that was claimed, and where it came to from the frame of its claim.
 #[derive(Drop)]
@@ -129,7 +127,7 @@ impl<'n, J: Job> Turn<'n, J> {
         let clock = between(ended, watch.read());
         self.nanos = match between(begun, ended) {
             0 => 0,
-            nanos => nanos.saturating_sub(clock).max(SHORTEST),
+            nanos => nanos.saturating_sub(clock).max(SHORTEST_TURN_NANOSECONDS),
         };
         process
     }

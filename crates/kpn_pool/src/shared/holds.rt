@@ -4,16 +4,16 @@ ghost use Rattle.std.specs.Prelude.{◌≡◌, ◌+◌, ◌<◌, ◌≤◌, fals
 ghost use Rattle.kpn_pool_desk.specs.Gate.{LetsAll};
 ghost use Rattle.kpn_pool_desk.specs.Seat.{ended};
 
-use super::{MOMENT, REGION_MOMENT, Shared, TRIES, TRIES_OUTSIDE};
+use super::Shared;
 use crate::pace::Pace;
+use kpn_pool_desk::tuning::{
+    LOCK_TRIES, LOCK_TRIES_OUTSIDE, LOOK_ON_MICROSECONDS, LOOK_ON_REGIONS_MICROSECONDS,
+    ROWS_MICROSECONDS,
+};
 use kpn_pool_desk::{Desk, Gate, HeldTurns, Job, NextMove, RegionTurn, Stay, Why, WorkerSeat};
 use std::alloc::{Allocator, Global};
 use std::sync::{MutexGuard, Wait};
 use std::time::{Clock, Duration, Instant};
-
-// For how many microseconds a worker makes turns in a row before it lets the lock go, for which the outside may have to
-// wait.
-const ROWS_MICROSECONDS: u64 = 100;
 
 impl<'n, J: Job, A: Allocator> Shared<'n, J, A> {
     /// Commits what a worker has in hand, its batch of turns or the region that it holds, and makes turns in a row.
@@ -43,9 +43,9 @@ impl<'n, J: Job, A: Allocator> Shared<'n, J, A> {
         let turns = if region.is_held() { 1 } else { batch.len() };
         // others may have the lock for as long as a region takes to be committed
         let tries = if region.is_held() {
-            TRIES_OUTSIDE
+            LOCK_TRIES_OUTSIDE
         } else {
-            TRIES
+            LOCK_TRIES
         };
         let mut desk = self.lock_after(rt, tries);
         pace.hold(rt);
@@ -176,9 +176,9 @@ impl<'n, J: Job, A: Allocator> Shared<'n, J, A> {
         stay: Stay,
     ) -> (MutexGuard<'l, Desk<'n, J, A>>, NextMove) {
         let moment = if desk.goes_by_regions() {
-            REGION_MOMENT
+            LOOK_ON_REGIONS_MICROSECONDS
         } else {
-            MOMENT
+            LOOK_ON_MICROSECONDS
         };
         drop(desk);
         if stay.calls {
