@@ -37,8 +37,8 @@
      - A buffer that is too small is a fault. The call then changes no buffer, and tells the sizes that are needed.
      - Memory that is refused is a fault. `kpn_feed`, `kpn_step`, `kpn_take` and `kpn_move` tell how much they had done
        before; all other calls leave the session as it was. A process whose commit was refused is ready again.
-     - No call waits, starts a thread or writes anywhere but to its buffers. No call takes longer than its work: a
-       process makes at most 1,000 steps in a commit.
+     - No call waits, starts a thread or writes anywhere but to its buffers. No call takes longer than its work: in a
+       session a process makes at most 1,000 steps in a commit, and in `kpn_run` at most the quota of its limits.
 
    What you owe
 
@@ -95,7 +95,8 @@ uint32_t kpn_check(const char *text, size_t length, kpn_place *place);
 
 /* Writes in words why a text is no description: the fault, its name, and where it is, as
    `22 UnknownName at byte 145, line 7, column 12` or `13 NoWriter at channel 0`. It tells their length, also if there
-   is no room for them: 0 if the text is a description. Lines and columns count from 1, all else from 0. */
+   is no room for them: 0 if the text is a description. Lines and columns count from 1, all else from 0. If memory is
+   refused, it tells no words, and returns KPN_TEXT_NO_MEMORY or KPN_NO_MEMORY. */
 uint32_t kpn_explain(const char *text, size_t length, char *words, size_t room, size_t *count);
 
 /* ---- a run on whole lists */

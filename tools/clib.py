@@ -106,7 +106,8 @@ TYPES = {
     '&mut Held': ['kpn_session *'], '&mut PartCounts': ['kpn_counts *'], '&mut ChannelStatus': ['kpn_channel_state *'],
     '&mut [ProcessState]': ['kpn_process_state *', 'size_t '],
 }
-FIELDS = {'u32': 'uint32_t', 'i64': 'int64_t', 'u64': 'uint64_t', 'usize': 'size_t', 'bool': 'bool',
+# A `bool` that C need not have set before a call is a byte to us.
+FIELDS = {'u32': 'uint32_t', 'i64': 'int64_t', 'u64': 'uint64_t', 'usize': 'size_t', 'bool': 'bool', 'u8': 'bool',
           '*mut u8': 'void *'}
 STRUCTS = {'GivenLimits': 'kpn_limits', 'RunSizes': 'kpn_ran', 'FaultPlace': 'kpn_place', 'Held': 'kpn_session',
            'SourceItem': 'kpn_item', 'Wanted': 'kpn_wanted', 'Amounts': 'kpn_amounts', 'PartCounts': 'kpn_counts',

@@ -1,5 +1,5 @@
 -- One more item is fed or taken in a call that moves items.
-use Rattle.std.proofs.Common.{◌≡◌, ℕ, false, ◌+◌, ◌<◌, ℤ, pos, List, [], ◌∷◌, ◌++◌, length, map, take, drop, get_or, set, Option, refl, sym, ap, ◌∙◌, subst, arith}
+use Rattle.std.proofs.Common.{◌≡◌, ℕ, ◌+◌, ◌<◌, ℤ, pos, List, [], ◌∷◌, ◌++◌, length, map, take, drop, get_or, set, Option, refl, sym, ap, ◌∙◌, subst, arith}
 use Rattle.std.proofs.lemmas.List.{take_more, take_more_set, get_or-drop}
 use Rattle.kpn_book.specs.Book.{Book}
 use Rattle.kpn_book.specs.Appending.{Happens, AllHappen}
@@ -20,7 +20,7 @@ feeds_more items count a b c below so_far next =
 place_is : (asked places : List Wanted) (count : ℕ) → drop count places ≡ drop count asked
     → wanted_at places count ≡ wanted_at asked count
 place_is asked places count rest =
-    let d : Wanted = record { channel = 0; item = pos 0; has_item = false } in
+    let d : Wanted = record { channel = 0; item = pos 0; has_item = 0 } in
     let left : get_or (drop count places) 0 d ≡ get_or places (count + 0) d = get_or-drop count places 0 d in
     let right : get_or (drop count asked) 0 d ≡ get_or asked (count + 0) d = get_or-drop count asked 0 d in
     let zero : count + 0 ≡ count = omega arith in

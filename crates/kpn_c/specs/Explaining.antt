@@ -1,5 +1,5 @@
 -- Why a text is no description, in words.
-use Rattle.std.specs.Prelude.{◌≡◌, ◌⊎◌, ◌+◌, ◌==◌, ℕ, if◌then◌else◌, List, [], ◌++◌, take, fold, codes, Option, Some, None, Result, OnOk, String, string_bytes}
+use Rattle.std.specs.Prelude.{◌≡◌, ◌≢◌, ◌⊎◌, ◌+◌, ◌==◌, ℕ, if◌then◌else◌, List, [], ◌++◌, take, fold, codes, Option, Some, None, Result, OnOk, String, string_bytes}
 use Rattle.std.specs.Fmt.{decimal}
 use Rattle.kpn_lang.specs.declared.program.ProgramFault.{ProgramFault}
 use Rattle.kpn_lang.specs.declared.program.ProgramFault.TheVariants as program
@@ -110,8 +110,11 @@ abbrev pub ExplainsTextFault : (text : List ℕ) → TextFault → (code told : 
 ExplainsTextFault text fault code told room kept =
     PutsToFront (fault_words text fault) code told room kept ⊎ ((code ≡ 42) × (kept ≡ room))
 
--- the text is a description, and there are no words; or it is refused, and they are those of the fault
+-- the text is a description, and there are no words; or memory for it ran out, and nothing is told; or it is refused
+-- for another fault, and the words are those of this
 abbrev pub ExplainsText : (text : List ℕ) → (code told : ℕ) → (room kept : List ℕ) → Type 0
 ExplainsText text code told room kept =
     (IsText text × PutsToFront [] code told room kept)
-    ⊎ ((fault : TextFault) × Refuses text fault × ExplainsTextFault text fault code told room kept)
+    ⊎ ((code ≡ 28) × (kept ≡ room))
+    ⊎ ((fault : TextFault) × (fault ≢ of_text.NoMemory) × Refuses text fault
+    × ExplainsTextFault text fault code told room kept)

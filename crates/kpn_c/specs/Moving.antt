@@ -38,12 +38,12 @@ pub record FeedsItems (items : List SourceItem) (fed : FedCount) (before after :
 -- ---- taking
 
 abbrev pub wanted_at : List Wanted → ℕ → Wanted
-wanted_at places k = get_or places k (record { channel = 0; item = pos 0; has_item = false })
+wanted_at places k = get_or places k (record { channel = 0; item = pos 0; has_item = 0 })
 
 -- a place with this item, or with the note that none was there
 abbrev pub filled : Option ℤ → Wanted → Wanted
-filled None w = record { channel = w.channel; item = w.item; has_item = false }
-filled (Some v) w = record { channel = w.channel; item = v; has_item = true }
+filled None w = record { channel = w.channel; item = w.item; has_item = 0 }
+filled (Some v) w = record { channel = w.channel; item = v; has_item = 1 }
 
 -- for each place in order the next item of its sink was taken, or nothing was unread there
 pub data TakesForEach (first : Book) : (asked kept : List Wanted) → Book → Type 0 where

@@ -9,6 +9,9 @@ use kpn_book::{Outcome, Refused, Verdict};
 
 pub(crate) const OK: u32 = 0;
 
+/// No memory for a description.
+pub(crate) const TEXT_NO_MEMORY: u32 = 28;
+
 pub(crate) const NO_MEMORY: u32 = 42;
 
 pub(crate) const LISTS: u32 = 60;

@@ -2,7 +2,7 @@
 ghost use Rattle.std.specs.Prelude.{◌≡◌, IfOk, string_bytes};
 ghost use Rattle.kpn_c.specs.Explaining.{AppendsWords, ExplainsText, ExplainsTextFault, fault_words, place_words, place_words_if, name_of_text, name_of_program, name_of_net, kind_of_text, kind_of_net};
 
-use crate::codes::NO_MEMORY;
+use crate::codes::{NO_MEMORY, TEXT_NO_MEMORY};
 use crate::fault::fault_of;
 use crate::positions::position_at;
 use crate::slices::put_text;
@@ -21,7 +21,7 @@ pub enum PlaceKind {
     Channel,
 }
 
-/// Tells in words why a text is no description. A text that is one has no words.
+/// Tells in words why a text is no description. A text that is one has no words, nor has one for which memory ran out.
 #[unsafe(no_mangle)]
 pub extern "C" fn kpn_c_explain(
     alloc: Global,
@@ -33,6 +33,7 @@ pub extern "C" fn kpn_c_explain(
 {
     match check(alloc, text) {
         Ok(()) => put_text(room, length, b""),
+        Err(TextFault::NoMemory) => TEXT_NO_MEMORY,
         Err(fault) => put_words(alloc, text, fault, room, length),
     }
 }

@@ -17,13 +17,14 @@ pub struct SourceItem {
     pub item: i64,
 }
 
-/// A place for an item that is wanted of a sink, and whether one was there.
+/// A place for an item that is wanted of a sink, and whether one was there: 1 or 0. Before a call C need not have set it,
+/// so it is no `bool`.
 #[repr(C)]
 #[derive(Clone, Copy)]
 pub struct Wanted {
     pub channel: usize,
     pub item: i64,
-    pub has_item: bool,
+    pub has_item: u8,
 }
 
 /// Nothing was stepped.
@@ -95,9 +96,9 @@ fn fill(place: &mut Wanted, item: Option<i64>)
     match item {
         Some(item) => {
             place.item = item;
-            place.has_item = true;
+            place.has_item = 1;
         }
-        None => place.has_item = false,
+        None => place.has_item = 0,
     }
 }
 

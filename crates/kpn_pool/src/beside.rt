@@ -65,8 +65,9 @@ pub struct EndedRun<'n, C: Drop> {
 /// no source is left do nothing.
 ///
 /// The workers end once nothing more can happen, or the client has returned, or there are as many commits as the limit
-/// or up to 127 more. The gate is asked before each commit, unless it lets all through. A quota of 0 counts as 1. How many items are wanted of each
-/// sink is the matter of the client. The run keeps what it is told to keep of what happens.
+/// or up to 127 more. The gate is asked before each commit, unless it lets all through. A quota of 0 counts as 1. How
+/// many items are wanted of each sink is the matter of the client. The run keeps what it is told to keep of what
+/// happens.
 ///
 /// If a thread cannot be started, the workers have to end. The error is that memory ran out before a thread was
 /// started.

@@ -2,6 +2,7 @@
 ghost use Rattle.std.specs.Prelude.{◌≡◌, ◌<◌, ◌≤◌, length, IfOk};
 ghost use Rattle.kpn_net.specs.Iteration.{sources};
 ghost use Rattle.kpn_book.specs.Reports.{AreSupplied, IsReport, events_of};
+ghost use Rattle.kpn_pool.specs.Causes.{AreMadeBy};
 
 use crate::beside::{EndedRun, run_beside};
 use crate::ending::conclude;
@@ -21,10 +22,10 @@ use std::time::Clock;
 /// limits. The processes are stepped by 1 to `MAX_WORKERS` workers, each on a thread of its own.
 ///
 /// The calling thread feeds each source its whole list, closes it, and takes from the sinks what is put on them, while
-/// the workers run. The gate is asked before each commit, unless it lets all through. The report keeps the promise of `kpn_book::run_here`: the
-/// lists were fed whole and the sources closed, under every outcome. Which capacities and which prefixes of the
-/// journals of other channels it shows depends on the schedule. The workers may make up to 127 commits more than the
-/// limit. A quota of 0 counts as 1.
+/// the workers run. The gate is asked before each commit, unless it lets all through. The report keeps the promise of
+/// `kpn_book::run_here`: the lists were fed whole and the sources closed, under every outcome. Which capacities and which
+/// prefixes of the journals of other channels it shows depends on the schedule. The commits are those of the workers,
+/// who may make up to 127 more than the limit. A quota of 0 counts as 1.
 ///
 /// The error is the first of these: a thread could not be started; memory ran out; the gate made every worker end
 /// before there was an outcome; a source was fed something else than its list or not closed, or a call of the outside
@@ -43,6 +44,7 @@ pub fn run<R: Threads + Wait + Clock + Sync, G: Gate>(
     ensures report { IfOk result (λ report. IsReport network.now lists.now limits.now report) }
     ensures supplied { IfOk result (λ report.
         AreSupplied network.now lists.now (events_of report)) }
+    ensures commits { IfOk result (λ report. AreMadeBy workers report.commits) }
 {
     run_keeping(
         rt,
@@ -73,6 +75,7 @@ pub fn run_keeping<R: Threads + Wait + Clock + Sync, G: Gate>(
     ensures report { IfOk result (λ report. IsReport network.now lists.now limits.now report) }
     ensures supplied { IfOk result (λ report.
         AreSupplied network.now lists.now (events_of report)) }
+    ensures commits { IfOk result (λ report. AreMadeBy workers report.commits) }
 {
     let serving = Serving::new(lists, limits.take, gate.lets_all());
     let nobody: &[Nobody] = &[];
