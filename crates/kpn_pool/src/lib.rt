@@ -9,7 +9,6 @@ mod ending;
 mod fault;
 mod fed;
 mod outside_calls;
-mod pace;
 mod serving;
 mod shared;
 mod threads;
