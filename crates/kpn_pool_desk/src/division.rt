@@ -17,7 +17,7 @@ ghost use Rattle.kpn_pool_desk.specs.RegionTurn.{DrainsFor, ClaimsFor};
 
 use crate::desk::Desk;
 use crate::job::Job;
-use crate::regions::Regions;
+use crate::regions::{Regions, Times};
 use crate::rows::Takers;
 use crate::tuning::{
     COMMITS_BEFORE_CUT, COMMITS_FACTOR_OF_NEXT_CUT, EVENTS_PER_REGION, LONGEST_TURN_NANOSECONDS,
@@ -133,6 +133,10 @@ impl<A: Allocator> Division<A> {
     where
         A: Copy,
     {
+        let times = Times {
+            taken: self.taken.as_slice(),
+            turns: self.turns.as_slice(),
+        };
         let network = book.network();
         let mut carried = Vec::with_capacity(self.alloc, network.channels())?;
         for c in 0..network.channels() {
@@ -142,8 +146,7 @@ impl<A: Allocator> Division<A> {
             self.alloc,
             network,
             carried.as_slice(),
-            self.taken.as_slice(),
-            self.turns.as_slice(),
+            times,
             drains,
             workers,
         )

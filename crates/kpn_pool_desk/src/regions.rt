@@ -15,20 +15,17 @@ pub(crate) struct Regions<A: Allocator> {
 }
 
 impl<A: Allocator + Copy> Regions<A> {
-    /// Cuts a network for so many workers, by how many items each of its channels has carried, and how many nanoseconds
-    /// so many turns of each of its processes took that were timed: into one region, or several. `None` if turns are
-    /// faster. The error is that memory ran out.
+    /// Cuts a network for so many workers, by how many items each of its channels has carried and how long its turns
+    /// took: into one region, or several. `None` if turns are faster. The error is that memory ran out.
     pub(crate) fn cut(
         alloc: A,
         network: &Network,
         carried: &[u64],
-        taken: &[u64],
-        turns: &[u64],
+        times: Times<'_>,
         drains: bool,
         workers: usize,
     ) -> Result<Option<Self>, AllocError> {
         let flows = flows(alloc, network, carried)?;
-        let times = Times { taken, turns };
         let by_turns = time_by_turns(alloc, network, carried, times, workers)?;
         let in_regions = loads(alloc, network, carried, times, Way::Regions { drains })?;
         match Cut::best(alloc, &in_regions, &flows, workers, by_turns)? {
@@ -105,11 +102,11 @@ fn flows<A: Allocator + Copy>(
     Ok(flows)
 }
 
-/// How many nanoseconds so many turns of each process took.
+/// How many nanoseconds so many turns of each process took that were timed.
 #[derive(Clone, Copy)]
-struct Times<'t> {
-    taken: &'t [u64],
-    turns: &'t [u64],
+pub(crate) struct Times<'t> {
+    pub taken: &'t [u64],
+    pub turns: &'t [u64],
 }
 
 impl Times<'_> {
