@@ -4,7 +4,7 @@ ghost use Rattle.kpn_net.specs.Iteration.{sources};
 ghost use Rattle.kpn_book.specs.Reports.{AreSupplied, IsReport, events_of};
 ghost use Rattle.kpn_pool.specs.Causes.{AreMadeBy};
 
-use crate::beside::{EndedRun, run_beside};
+use crate::beside::{EndedRun, WorkPlan, run_beside};
 use crate::ending::conclude;
 use crate::fault::RunFault;
 use crate::serving::{Nobody, Serving};
@@ -46,42 +46,35 @@ pub fn run<R: Threads + Wait + Clock + Sync, G: Gate>(
         AreSupplied network.now lists.now (events_of report)) }
     ensures commits { IfOk result (λ report. AreMadeBy workers report.commits) }
 {
-    run_keeping(
-        rt,
-        alloc,
-        network,
-        lists,
+    let plan = WorkPlan {
         workers,
         gate,
-        limits,
-        Keeping::All,
-    )
+        limits: *limits,
+        keeping: Keeping::All,
+    };
+    run_keeping(rt, alloc, network, lists, &plan)
 }
 
-/// The same run, which keeps what it is told to keep: the items of the sources and of the sinks at least, by which the
-/// report is checked and made.
+/// The same run as it is planned, which keeps the items of the sources and of the sinks at least, by which the report is
+/// checked and made.
 pub fn run_keeping<R: Threads + Wait + Clock + Sync, G: Gate>(
     rt: &R,
     alloc: Global,
     network: &Network,
     lists: &[Sequence<i64>],
-    workers: usize,
-    gate: &G,
-    limits: &Limits,
-    keeping: Keeping,
+    plan: &WorkPlan<'_, G>,
 ) -> Result<Report, RunFault>
     requires lists { length lists.now ≡ sources network.now }
-    requires workers { (0 < workers) × (workers ≤ MAX_WORKERS) }
-    ensures report { IfOk result (λ report. IsReport network.now lists.now limits.now report) }
+    requires workers { (0 < plan.now.workers) × (plan.now.workers ≤ MAX_WORKERS) }
+    ensures report { IfOk result (λ report.
+        IsReport network.now lists.now plan.now.limits report) }
     ensures supplied { IfOk result (λ report.
         AreSupplied network.now lists.now (events_of report)) }
-    ensures commits { IfOk result (λ report. AreMadeBy workers report.commits) }
+    ensures commits { IfOk result (λ report. AreMadeBy plan.now.workers report.commits) }
 {
-    let serving = Serving::new(lists, limits.take, gate.lets_all());
+    let serving = Serving::new(lists, plan.limits.take, plan.gate.lets_all());
     let nobody: &[Nobody] = &[];
-    let ran = run_beside(
-        rt, alloc, network, workers, gate, limits, keeping, serving, nobody,
-    )?;
+    let ran = run_beside(rt, alloc, network, plan, serving, nobody)?;
     let EndedRun {
         book,
         client,
@@ -97,5 +90,5 @@ pub fn run_keeping<R: Threads + Wait + Clock + Sync, G: Gate>(
     if matches!(served, Err(Refused::NoMemory)) {
         return Err(RunFault::NoMemory);
     }
-    conclude(alloc, book, lists, limits, abandoned, served)
+    conclude(alloc, book, lists, &plan.limits, abandoned, served)
 }
