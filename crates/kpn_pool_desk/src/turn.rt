@@ -1,5 +1,5 @@
 //! What a worker does with one process between two holds of the lock: its claim, its steps, and their commit.
-ghost use Rattle.std.specs.Prelude.{◌≡◌, ◌+◌, ◌≤◌, ◌⊎◌, true, false, None, IfOk, OnErr};
+ghost use Rattle.std.specs.Prelude.{◌≡◌, ◌≢◌, ◌+◌, ◌≤◌, ◌⊎◌, true, false, None, IfOk, OnErr};
 ghost use Rattle.kpn_book.specs.Stepping.{ClaimsNobody};
 ghost use Rattle.kpn_pool_desk.specs.Desk.{with_book, with_total};
 ghost use Rattle.kpn_pool_desk.specs.HeldTurns.{Claims, MayCommitTurn, CommitsOrDrops, PutsBack};
@@ -170,8 +170,7 @@ impl<'n, J: Job> Turn<'n, J> {
                 desk.note(done);
                 true
             }
-            Err(Refused::NoMemory) => false,
-            Err(_) => true,
+            Err(cause) => are_foreign(cause),
         }
     }
 
@@ -184,6 +183,14 @@ impl<'n, J: Job> Turn<'n, J> {
         let _ = desk.book.put_back(self.process);
         desk.book.known();
     }
+}
+
+/// Whether steps are refused since they are foreign, and not for want of memory.
+fn are_foreign(cause: Refused) -> bool
+    ensures foreign { (result ≡ true) → cause ≢ Refused.NoMemory }
+    ensures memory { (result ≡ false) → cause ≡ Refused.NoMemory }
+{
+    !matches!(cause, Refused::NoMemory)
 }
 
 /// How many nanoseconds lie between two times, if both are known.

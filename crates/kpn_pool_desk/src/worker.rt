@@ -43,7 +43,7 @@ impl<'n, J: Job, A: Allocator> Worker<'n, J, A> {
 
     /// The seat of a worker that ends.
     pub fn into_seat(self) -> WorkerSeat<J>
-        ensures { result ≡ self.seat }
+        ensures { result ≡ self.entry.seat }
     {
         let Worker { seat, .. } = self;
         seat
