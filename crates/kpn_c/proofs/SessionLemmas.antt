@@ -21,9 +21,8 @@ module _ (d : Document) (before : Detached) (opened last : Book) (after : Detach
   detached_is = ap (λ t. book_on t after) (sym tables_are) ∙ same
 
 -- a book that was opened for a session, and stays on its network
-pub stays_open : {opened last : Book} {session : Session} → opened ≡ session.book
-    → last.tables ≡ session.book.tables → last.tables ≡ opened.tables
-stays_open is stays = stays ∙ ap (λ b. b.tables) (sym is)
+pub stays_open : (opened last now : Book) → opened ≡ now → last.tables ≡ now.tables → last.tables ≡ opened.tables
+stays_open opened last now is stays = stays ∙ ap (λ b. b.tables) (sym is)
 
 -- nothing has happened in between
 pub session_same : {keeps : Bool} (d : Document) (before : Detached) (opened : Book) (after : Detached)

@@ -1,6 +1,6 @@
 -- What an export of a session tells C, by the number that it returns, and the session that it hands back.
 use Rattle.std.specs.Str.{IsUtf8}
-use Rattle.std.specs.Prelude.{◌≡◌, ◌⊎◌, ℕ, Bool, true, false, if◌then◌else◌, ℤ, List, length, map, Option, Some, None}
+use Rattle.std.specs.Prelude.{◌≡◌, ◌⊎◌, ℕ, Bool, true, false, if◌then◌else◌, ℤ, List, map, Option, Some, None}
 use Rattle.kpn_history.specs.declared.state.Verdict.{Verdict}
 use Rattle.kpn_history.specs.declared.state.Verdict.TheVariants.{Ended, Clogged, Jammed}
 use Rattle.kpn_history.specs.Ends.{IsVerdict}

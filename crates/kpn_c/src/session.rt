@@ -209,13 +209,22 @@ impl Session {
 
     /// Makes turns of processes: `most` commits, or fewer if no process is ready. If memory runs out, the process of
     /// the next turn has made its steps and is ready again, and nothing else has happened.
-    #[tactic(auto, using(crate::proofs::Networks::steps_tables))]
     pub fn step(self, most: u64) -> (Session, StepCount)
         ensures document { result.0.document ≡ self.document }
         ensures keeps { result.0.keeps ≡ self.keeps }
         ensures stepped { StepsEach STEPS_PER_TURN most result.1 self.book result.0.book }
     {
-        self.with(|book| step_each(book, STEPS_PER_TURN, most))
+        self.step_by(STEPS_PER_TURN, most)
+    }
+
+    /// The same with this quota.
+    #[tactic(auto, using(crate::proofs::Networks::steps_tables))]
+    fn step_by(self, quota: u32, most: u64) -> (Session, StepCount)
+        ensures document { result.0.document ≡ self.document }
+        ensures keeps { result.0.keeps ≡ self.keeps }
+        ensures stepped { StepsEach quota most result.1 self.book result.0.book }
+    {
+        self.with(|book| step_each(book, quota, most))
     }
 
     /// Takes items from a sink, until there is no more room for them or nothing is unread.
@@ -230,7 +239,6 @@ impl Session {
 
     /// Feeds items, makes turns and takes what is wanted, as the calls above do one after the other. What is refused
     /// ends the call, and what was done before stays.
-    #[tactic(auto, using(crate::proofs::Networks::moves_tables))]
     pub fn move_items(
         self,
         items: &[SourceItem],
@@ -242,8 +250,25 @@ impl Session {
         ensures moved { Moves items.now STEPS_PER_TURN most result.1 places.old places.new
             self.book result.0.book }
     {
+        self.move_by(items, STEPS_PER_TURN, most, places)
+    }
+
+    /// The same with this quota.
+    #[tactic(auto, using(crate::proofs::Networks::moves_tables))]
+    fn move_by(
+        self,
+        items: &[SourceItem],
+        quota: u32,
+        most: u64,
+        places: &mut [Wanted],
+    ) -> (Session, Moved)
+        ensures document { result.0.document ≡ self.document }
+        ensures keeps { result.0.keeps ≡ self.keeps }
+        ensures moved { Moves items.now quota most result.1 places.old places.new
+            self.book result.0.book }
+    {
         self.with_room(places, |book, places| {
-            move_items(book, items, STEPS_PER_TURN, most, places)
+            move_items(book, items, quota, most, places)
         })
     }
 

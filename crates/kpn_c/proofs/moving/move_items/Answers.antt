@@ -1,4 +1,4 @@
-use Rattle.std.proofs.Common.{refl, rules}
+use Rattle.std.proofs.Common.{rules}
 use Rattle.kpn_c.proofs.moving.move_items.Goals as goal
 
 pub returns-then-is_some : goal.returns-then-is_some

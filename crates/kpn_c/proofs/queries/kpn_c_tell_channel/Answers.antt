@@ -1,4 +1,4 @@
-use Rattle.std.proofs.Common.{refl, subst, inl, inr}
+use Rattle.std.proofs.Common.{refl, subst, inl}
 use Rattle.kpn_c.specs.Telling.{TellsState}
 use Rattle.kpn_c.specs.Exports.{Asks, TellsChannel}
 use Rattle.kpn_c.proofs.Leading.{leads}

@@ -1,4 +1,4 @@
-use Rattle.std.proofs.Common.{◌≡◌, ◌<◌, length, sym, ap, ◌∙◌, subst}
+use Rattle.std.proofs.Common.{◌<◌, length, ap, ◌∙◌, subst}
 use Rattle.kpn_machine.specs.Machine.{channel_in}
 use Rattle.kpn_c.proofs.session.first_book.Goals as goal
 
