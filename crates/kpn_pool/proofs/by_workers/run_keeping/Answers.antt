@@ -1,8 +1,0 @@
-use Rattle.std.proofs.Common.{◌∙◌}
-use Rattle.std.proofs.lemmas.Result.{IfOk-weaker}
-use Rattle.kpn_pool.proofs.by_workers.run_keeping.Goals as goal
-
-pub returns-clause-commits : goal.returns-clause-commits
-returns-clause-commits g c =
-    IfOk-weaker c.conclude.result _ _ (λ report is. (_, c.in_ok-ran.ensures.count, is ∙ c.in_ok-ran.ensures.commits))
-    c.conclude.ensures.commits
