@@ -3,9 +3,10 @@
 
 usage: tools/wrong_bodies.py [NAME ..]
 
-Each stands in a file CRATE/must-fail/NAME.md: lines `file:`, `old:` and `new:` as in an edit, and a line `refused by:`
-that begins with the crate whose run or tests refuse it. The gate runs these as they are. This puts a wrong body into a
-copy and runs them unproved: what comes out has to differ. With a NAME it tries those whose names contain one.
+Each stands in a file CRATE/must-fail/NAME.md. Its first line says whether a clause refuses it too. Then come lines
+`file:`, `old:` and `new:` as in an edit, and a line `refused by:` that begins with the crate whose run or tests refuse
+it, if any do. The gate runs these as they are. This puts a wrong body into a copy and runs them unproved: what comes
+out has to differ. With a NAME it tries those whose names contain one.
 """
 import pathlib
 import shutil
@@ -17,6 +18,8 @@ import prover
 from check import TOP, edited
 
 REFUSED_BY = 'refused by: '
+# So begins the first line of one that a clause refuses, whether or not a run does.
+BY_CLAUSE = 'Refused by '
 
 
 def copy_of(crate, wrong_body, top):
@@ -63,7 +66,10 @@ def run_on(crate):
 
 
 def verdict_on(crate, wrong_body):
-    tellers = [line for line in wrong_body.read_text().splitlines() if line.startswith(REFUSED_BY)]
+    lines = wrong_body.read_text().splitlines()
+    tellers = [line for line in lines if line.startswith(REFUSED_BY)]
+    if not tellers and lines[0].startswith(BY_CLAUSE):
+        return f'refused by a clause alone: rename it to .edit, and try tools/check.py {crate.name} --edits'
     if not tellers:
         return f'NOT TRIED: it has no line `{REFUSED_BY}`'
     teller = tellers[0].removeprefix(REFUSED_BY).split()[0].rstrip(',:')
