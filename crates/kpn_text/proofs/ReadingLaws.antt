@@ -28,7 +28,7 @@ use Rattle.kpn_text_grammar.proofs.DescriptionLaws.{description_takes, descripti
 use Rattle.kpn_text_names.specs.Fault.{NameError}
 use Rattle.kpn_text_names.specs.Named.{Named, resolve}
 use Rattle.kpn_text.specs.Document.{Document, document_named}
-use Rattle.kpn_text.specs.Spells.{SpellsDocument, HasText}
+use Rattle.kpn_text.specs.Spells.{SpellsDocument, IsOfSomeText}
 use Rattle.kpn_text_names.specs.NetworkNames.{AreNamed}
 use Rattle.kpn_text.specs.Phases.{Cause, in_tokens, in_grammar, in_names, phase, unless, programs_cause, program_or, network_cause, or_cause, tables_cause, document_in, document_of}
 use Rattle.kpn_text_tokens.specs.Results.{and_then}
@@ -239,11 +239,11 @@ reads_spelled text d e =
 -- ---- what is known of a document that some text spells
 
 -- it has as many names as parts
-pub spelled_named : (d : Document) → HasText d → AreNamed d.names d.tables
+pub spelled_named : (d : Document) → IsOfSomeText d → AreNamed d.names d.tables
 spelled_named d (text, s) =
     subst (λ (x : Document). AreNamed x.names x.tables) s.is
     (are_named s.named (resolved_each s.tree s.named s.resolved))
 
 -- the same of what contracts see of a document
-pub seen_named : (d now : Document) → d ≡ now → HasText d → AreNamed now.names now.tables
+pub seen_named : (d now : Document) → d ≡ now → IsOfSomeText d → AreNamed now.names now.tables
 seen_named d now e spelled = subst (λ (x : Document). AreNamed x.names x.tables) e (spelled_named d spelled)

@@ -30,7 +30,7 @@ use Rattle.kpn_text.specs.Proper.{IsProperTable, IsProperDeclaration, IsProperPr
 use Rattle.kpn_text.specs.Text.{description_text}
 use Rattle.kpn_text_names.specs.NetworkNames.{names_in}
 use Rattle.kpn_text.specs.Document.{Document, canonical_text}
-use Rattle.kpn_text.specs.Spells.{SpellsDocument, HasText}
+use Rattle.kpn_text.specs.Spells.{SpellsDocument, IsOfSomeText}
 use Rattle.kpn_text.specs.Again.{PrintedTextSpells}
 use Rattle.kpn_text_names.proofs.Chains.{ok_is, went, then_ok}
 use Rattle.kpn_text.proofs.KeptNames.{names_back}
@@ -286,7 +286,7 @@ printed_spells flat limits spells is_read is_told are_proper d h short =
     }
 
 -- what a call that printed the document, by its language, tables and names, returned is read again
-pub text_reads_again : {V E : Type 0} (items : V → List ℕ) → PrintedTextSpells → (d : Document) → HasText d
+pub text_reads_again : {V E : Type 0} (items : V → List ℕ) → PrintedTextSpells → (d : Document) → IsOfSomeText d
     → (l : Language) (names : NetworkNames) (tables : Tables) → l ≡ d.language → names ≡ d.names → tables ≡ d.tables
     → (r : Result V E) → IfOk r (λ v. items v ≡ description_text l (description_named names tables))
     → IfOk r (λ v. length (items v) ≤ MAX_TEXT_BYTES → SpellsDocument (items v) d)

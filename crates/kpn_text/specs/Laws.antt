@@ -6,7 +6,7 @@ use Rattle.kpn_text_names.specs.Names.{name_at}
 use Rattle.kpn_text_names.specs.NetworkNames.{process_names}
 use Rattle.kpn_text_names.specs.Once.{EachStandsOnce}
 use Rattle.kpn_text.specs.Document.{Document}
-use Rattle.kpn_text.specs.Spells.{SpellsDocument, HasText}
+use Rattle.kpn_text.specs.Spells.{SpellsDocument, IsOfSomeText}
 use Rattle.kpn_text.specs.Phases.{document_of}
 
 -- The phases return a document if and only if the text spells it.
@@ -19,7 +19,7 @@ TextSpellsOnce = (text : List ℕ) (d e : Document) → SpellsDocument text d �
 
 -- No name is twice in a table of names of a document.
 abbrev pub DocumentNamesStandOnce : Type 0
-DocumentNamesStandOnce = (d : Document) → HasText d → EachStandsOnce d.names
+DocumentNamesStandOnce = (d : Document) → IsOfSomeText d → EachStandsOnce d.names
 
 -- the names of each kind are text
 pub record AreText (names : NetworkNames) : Type 0 where
@@ -29,4 +29,4 @@ pub record AreText (names : NetworkNames) : Type 0 where
 
 -- the names of a document are text
 abbrev pub NamesAreText : Type 0
-NamesAreText = (d : Document) → HasText d → AreText d.names
+NamesAreText = (d : Document) → IsOfSomeText d → AreText d.names

@@ -26,5 +26,5 @@ pub record SpellsDocument (text : List ℕ) (d : Document) : Type 0 where
   pub keeps : IsNetwork d.tables
 
 -- some text spells the document
-abbrev pub HasText : Document → Type 0
-HasText d = (text : List ℕ) × SpellsDocument text d
+abbrev pub IsOfSomeText : Document → Type 0
+IsOfSomeText d = (text : List ℕ) × SpellsDocument text d

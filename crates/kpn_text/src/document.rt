@@ -5,7 +5,7 @@ ghost use Rattle.std.specs.Str.{IsUtf8};
 ghost use Rattle.kpn_text_names.specs.NetworkNames.{AreNamed, process_names};
 ghost use Rattle.kpn_text_names.specs.Names.{number_of, name_at};
 ghost use Rattle.kpn_text.specs.Document as spec;
-ghost use Rattle.kpn_text.specs.Spells.{HasText};
+ghost use Rattle.kpn_text.specs.Spells.{IsOfSomeText};
 
 use crate::laws::names_are_text;
 use kpn_lang::Sequence;
@@ -40,7 +40,7 @@ impl Model for Document {
     ghost use Rattle.std.specs.Coded.{codes};
     ghost use Rattle.kpn_lang.specs.Codes.{parts_code};
     ghost use Rattle.kpn_text.specs.Document as spec;
-    ghost use Rattle.kpn_text.specs.Spells.{HasText};
+    ghost use Rattle.kpn_text.specs.Spells.{IsOfSomeText};
 
     ghost Value = { spec.Document };
 
@@ -48,13 +48,13 @@ impl Model for Document {
 
     ghost view = { λ d. spec.document_with d.language d.network d.names };
 
-    ghost invariant = { λ d. HasText (spec.document_with d.language d.network d.names) };
+    ghost invariant = { λ d. IsOfSomeText (spec.document_with d.language d.network d.names) };
 }
 
 impl Document {
     /// The document of a network with these names, which some text of this language spells.
     pub(crate) fn new(language: Language, network: Network, names: NetworkNames) -> Document
-        requires { HasText (spec.document_with language network names) }
+        requires { IsOfSomeText (spec.document_with language network names) }
         ensures { result ≡ spec.document_with language network names }
     {
         Document {
@@ -80,7 +80,7 @@ impl Document {
 
     /// Does nothing. A caller's proof learns from it that some text spells the document.
     pub fn known(&self)
-        ensures { HasText self.now }
+        ensures { IsOfSomeText self.now }
     {
         let _ = &self.network;
     }
