@@ -714,7 +714,7 @@ class LockStep(WithFolder):
             edited.write_text(edited.read_text().replace(old, new))
             path = os.pathsep.join(map(str, (package, TOP / 'bench/stress')))
             done = subprocess.run([sys.executable, '-c', self.TRY, text_of_example('loop')], capture_output=True,
-                                  text=True, env=environment(path))
+                                  text=True, cwd=package, env=environment(path))
             self.assertIn('native.Difference: ', done.stderr, old)
 
 
