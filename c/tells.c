@@ -150,10 +150,7 @@ static void explain(const char *text, size_t length) {
   char words[100];
   size_t count;
   uint32_t fault;
-  do {
-    UNREFUSED(fault, kpn_explain(text, length, words, sizeof words, &count));
-    // The words may be that memory has run out.
-  } while (count >= 11 && memcmp(words + 3, "NoMemory", 8) == 0);
+  UNREFUSED(fault, kpn_explain(text, length, words, sizeof words, &count));
   printf("explain %" PRIu32 " %.*s\n", fault, (int)count, words);
 }
 
