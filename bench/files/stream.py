@@ -740,6 +740,26 @@ def a_file_that_may_not_grow(folder):
     expect((out, err.splitlines()[-2:], status), (b'', [b'kpn: 27 Write', b'at --sink z=out'], 1))
 
 
+@case('stream')
+def a_file_that_fails_has_whole_items(folder):
+    (folder / 'items').write_bytes(lines(range(777_000, 787_000)))
+    few = lambda: resource.setrlimit(resource.RLIMIT_FSIZE, (20_000, 20_000))
+    err = stream(folder, '--source=s=items', '--sink=z=out', preexec_fn=few, restore_signals=False)[1]
+    expect(err.splitlines()[-2:], [b'kpn: 27 Write', b'at --sink z=out'])
+    expect(b'not complete' in err.splitlines()[0], True)
+    found = (folder / 'out').read_bytes()
+    expect((0 < len(found), found), (True, lines(range(777_000, 777_000 + len(found) // 7))))
+
+
+@case('stream', quick=True)
+def a_refused_stream_leaves_no_new_file(folder):
+    (folder / 'old').write_bytes(b'old\n')
+    for name in ('old', 'new'):
+        given = ('--sink', f'y={name}', '--sink', 'z=no/such')
+        expect(stream(folder, *given, net='splits.kpn', input=b''), (b'', b'kpn: 27 Write\n', 1))
+    expect(((folder / 'old').read_bytes(), (folder / 'new').exists()), (b'old\n', False))
+
+
 @case('compiled')
 def what_is_counted_was_taken_whole(folder):
     (folder / 'items').write_bytes(lines(range(777_000, 778_000)))
@@ -750,7 +770,7 @@ def what_is_counted_was_taken_whole(folder):
         expect((folder / 'out').stat().st_size // width, 1_000 // width)
 
 
-@case('compiled')
+@case()
 def a_trace_to_a_fifo(folder):
     """It waits for no other end, and no other end for it."""
     for name in ('trace', 'in'):

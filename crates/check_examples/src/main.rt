@@ -35,21 +35,21 @@ use crate::memory::keep;
 use crate::refusals::tell_refusals;
 use crate::stage::{Stage, fail, run};
 use anyhow::Result;
-use kpn_cli::{FileShelf, Ports};
+use kpn_cli::{FileShelf, Ports, System};
 use std::alloc::Global;
-use std::fs::File;
 use std::io::{ErrorKind, Write};
-use std::rt::Files;
 use std::sync::Wait;
 use std::thread::Threads;
 use std::time::Clock;
 
 /// Runs the command line of `COUNT kpn WORDS`, and writes the first lines of what it wrote.
-fn run_first<
-    R: Threads + Wait + Clock + Sync + Files<File = File> + AllocGlobal,
-    S: Ports,
-    O: Write,
->(rt: &R, alloc: Global, stage: &mut Stage<S>, out: &mut O, rest: &str) -> Result<()> {
+fn run_first<R: Threads + Wait + Clock + Sync + System + AllocGlobal, S: Ports, O: Write>(
+    rt: &R,
+    alloc: Global,
+    stage: &mut Stage<S>,
+    out: &mut O,
+    rest: &str,
+) -> Result<()> {
     let Some((count, line)) = rest.split_once(' ') else {
         return Ok(());
     };
@@ -62,7 +62,7 @@ fn run_first<
 }
 
 /// Does what a line says, and writes what follows.
-fn happen<R: Threads + Wait + Clock + Sync + Files<File = File> + AllocGlobal, S: Ports, O: Write>(
+fn happen<R: Threads + Wait + Clock + Sync + System + AllocGlobal, S: Ports, O: Write>(
     rt: &R,
     alloc: Global,
     stage: &mut Stage<S>,

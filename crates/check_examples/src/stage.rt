@@ -4,11 +4,9 @@ use crate::devices::{Failure, Input, NONE, Output};
 use crate::files::bytes_of;
 use crate::shelf::{Call, Troubled};
 use anyhow::{Result, bail};
-use kpn_cli::{Ports, SeenBytes, command, words_for};
+use kpn_cli::{Ports, SeenBytes, System, command, words_for};
 use std::alloc::Global;
-use std::fs::File;
 use std::io::{ErrorKind, Write};
-use std::rt::Files;
 use std::sync::Wait;
 use std::thread::Threads;
 use std::time::Clock;
@@ -106,7 +104,7 @@ const WITH_WORDS: &str = "--words always ";
 
 /// Runs a command line, and returns what it wrote and, if it failed, its error lines and its status. If a call may
 /// fail, the error lines follow in any case, apart from the rest. Words for a person follow, if they are wanted.
-pub(crate) fn run<R: Threads + Wait + Clock + Sync + Files<File = File> + AllocGlobal, S: Ports>(
+pub(crate) fn run<R: Threads + Wait + Clock + Sync + System + AllocGlobal, S: Ports>(
     rt: &R,
     alloc: Global,
     stage: &mut Stage<S>,

@@ -342,8 +342,16 @@ fn push_full(
         "standard"
     };
     push(text, standard)?;
-    push(text, OUTPUT_FULL)
+    push(text, OUTPUT_FULL)?;
+    match named.stored {
+        Some(_) => push(text, MOST_TRACE),
+        None => Ok(()),
+    }
 }
+
+const MOST_TRACE: &str = "\
+A trace has 268,435,456 bytes at most: `--max-commits N` makes it shorter.
+";
 
 const OUTPUT_FULL: &str =
     " output takes no more: is it closed, locked by another run, or its disk full?\n";

@@ -20,6 +20,6 @@ mod words;
 
 pub use here::{Progress, answer_here};
 pub use keeping::{BeginningKeeper, EndKeeper};
-pub use kpn_shelf::{FileShelf, MemoryShelf, NonblockingRead, Ports, Shelf};
+pub use kpn_shelf::{FileShelf, MemoryShelf, NonblockingRead, Ports, Shelf, System};
 pub use program::command;
 pub use words::{SeenBytes, WordsWanted, words_for};

@@ -1,4 +1,5 @@
 //! Pieces of words, and what options, files and networks say for them.
+ghost use Rattle.std.specs.Prelude.{◌<◌};
 
 use kpn_command_base::EndKind;
 use kpn_text::Document;
@@ -29,9 +30,42 @@ pub(crate) fn push_name(
 ) -> Result<(), AllocError> {
     push(text, before)?;
     push(text, "`")?;
-    push(text, name)?;
+    push_visible(text, name)?;
     push(text, "`")?;
     push(text, behind)
+}
+
+/// Adds a name in which each control character is shown by its number, as `\x1b`: a terminal would obey it.
+fn push_visible(text: &mut Vec<u8>, name: &str) -> Result<(), AllocError> {
+    let mut before = 0;
+    for byte in name.as_bytes() {
+        let is_late = before == LATE_CONTROLS && *byte < 0xa0;
+        if is_late {
+            text.pop();
+        }
+        if is_late || *byte < 0x20 || *byte == 0x7f {
+            push(text, "\\x")?;
+            text.push(hex_digit(*byte / 16))?;
+            text.push(hex_digit(*byte % 16))?;
+        } else {
+            text.push(*byte)?;
+        }
+        before = *byte;
+    }
+    Ok(())
+}
+
+// The byte with which the characters from 0x80 to 0xbf begin: those up to 0x9f are control characters.
+const LATE_CONTROLS: u8 = 0xc2;
+
+fn hex_digit(number: u8) -> u8
+    requires { number < 16 }
+{
+    if number < 10 {
+        b'0' + number
+    } else {
+        b'a' + (number - 10)
+    }
 }
 
 /// A text that was kept. Nothing is read of one that is not UTF-8.

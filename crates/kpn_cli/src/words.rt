@@ -7,11 +7,11 @@ use crate::advice::push_advice;
 use crate::causes::push_causes;
 use crate::options::{push_unclear, push_wrong_format};
 use kpn_command_line::{Request, read_words};
-use kpn_shelf::FileShelf;
+use kpn_shelf::{FileShelf, System};
 use std::alloc::AllocError;
 use std::fs;
-use std::fs::File;
 use std::rt::Files;
+use std::thread::Threads;
 
 /// When words follow the fixed line.
 #[derive(Clone, Copy, PartialEq, Eq)]
@@ -69,7 +69,7 @@ pub struct SeenBytes<'k> {
 
 /// The words behind what a command has told that came to this status. There are none if there is nothing to say, or no
 /// memory to say it.
-pub fn words_for<R: Files<File = File> + AllocGlobal>(
+pub fn words_for<R: System + AllocGlobal + Threads>(
     rt: &R,
     words: &[String],
     status: u8,
@@ -82,7 +82,7 @@ pub fn words_for<R: Files<File = File> + AllocGlobal>(
     }
 }
 
-fn push_words<R: Files<File = File> + AllocGlobal>(
+fn push_words<R: System + AllocGlobal + Threads>(
     text: &mut Vec<u8>,
     rt: &R,
     words: &[String],

@@ -6,10 +6,10 @@ use crate::job::System;
 use crate::opening::Opening;
 use crate::place::is_pipe;
 use std::fs::{File, OpenOptions, TryLockError};
-use std::io;
 use std::io::{ErrorKind, Write};
 use std::rt::Files;
 use std::thread::Threads;
+use std::{fs, io};
 
 /// A file that is written piece by piece.
 pub struct FileOutput<'a, R: Files<File = File> + Threads> {
@@ -18,8 +18,12 @@ pub struct FileOutput<'a, R: Files<File = File> + Threads> {
     // Until a FIFO is open it has no file, and none if it can't be opened.
     file: Option<File>,
     opening: Option<Opening>,
-    // Whether all outputs were opened.
+    // Whether all outputs were opened, and whether the file was made for this one.
     is_begun: bool,
+    is_new: bool,
+    // How many bytes were written, and how many of them up to the last flush.
+    written: u64,
+    flushed: u64,
 }
 
 impl<'a, R: System + AllocGlobal + Threads> FileOutput<'a, R> {
@@ -30,9 +34,12 @@ impl<'a, R: System + AllocGlobal + Threads> FileOutput<'a, R> {
     {
         let word = String::from_str(rt.alloc(), name)?;
         let opening = open_apart(rt, word.as_str());
-        let file = match opening {
-            Some(_) => None,
-            None => Some(open_locked(rt, word.as_str())?),
+        let (file, is_new) = match opening {
+            Some(_) => (None, false),
+            None => {
+                let (file, is_new) = open_locked(rt, word.as_str())?;
+                (Some(file), is_new)
+            }
         };
         Ok(FileOutput {
             rt,
@@ -40,12 +47,15 @@ impl<'a, R: System + AllocGlobal + Threads> FileOutput<'a, R> {
             file,
             opening,
             is_begun: false,
+            is_new,
+            written: 0,
+            flushed: 0,
         })
     }
 }
 
-// Begins to open a FIFO.
-fn open_apart<R: System + AllocGlobal + Threads>(rt: &R, name: &str) -> Option<Opening> {
+/// Begins to open a FIFO.
+pub(crate) fn open_apart<R: System + AllocGlobal + Threads>(rt: &R, name: &str) -> Option<Opening> {
     if !is_pipe(rt, name) {
         return None;
     }
@@ -54,15 +64,24 @@ fn open_apart<R: System + AllocGlobal + Threads>(rt: &R, name: &str) -> Option<O
     Opening::start(rt, name, options).ok()
 }
 
-// Opens a file. Another program that writes a plain file so keeps it locked. Some file systems have no locks.
-fn open_locked<R: Files<File = File>>(rt: &R, name: &str) -> io::Result<File> {
-    let file = OpenOptions::new().write(true).create(true).open(rt, name)?;
+// Opens a file, and tells whether it was made. Another program that writes a plain file so keeps it locked. Some file
+// systems have no locks.
+fn open_locked<R: Files<File = File>>(rt: &R, name: &str) -> io::Result<(File, bool)> {
+    let made = OpenOptions::new()
+        .write(true)
+        .create_new(true)
+        .open(rt, name);
+    let is_new = made.is_ok();
+    let file = match made {
+        Ok(file) => file,
+        Err(_) => OpenOptions::new().write(true).create(true).open(rt, name)?,
+    };
     if file.metadata()?.is_file() {
         if let Err(TryLockError::WouldBlock) = file.try_lock() {
             return Err(io::Error::from(ErrorKind::WouldBlock));
         }
     }
-    Ok(file)
+    Ok((file, is_new))
 }
 
 impl<R: Files<File = File> + Threads> FileOutput<'_, R> {
@@ -74,6 +93,15 @@ impl<R: Files<File = File> + Threads> FileOutput<'_, R> {
         match &self.file {
             Some(file) if file.metadata()?.is_file() => file.set_len(0),
             _ => Ok(()),
+        }
+    }
+
+    // Removes from a plain file what was written since the last flush: it may end within an item.
+    fn cut_back(&self) {
+        if let Some(file) = &self.file {
+            if file.metadata().is_ok_and(|found| found.is_file()) {
+                let _ = file.set_len(self.flushed);
+            }
         }
     }
 
@@ -89,20 +117,27 @@ impl<R: Files<File = File> + Threads> FileOutput<'_, R> {
 impl<R: Files<File = File> + Threads> Write for FileOutput<'_, R> {
     fn write(&mut self, buf: &[u8]) -> io::Result<usize> {
         self.wait_until_open()?;
-        match &mut self.file {
+        let answer = match &mut self.file {
             Some(file) => file.write(buf),
             None => Err(io::Error::from(ErrorKind::Other)),
+        };
+        match &answer {
+            Ok(count) => self.written = self.written.saturating_add(*count as u64),
+            Err(error) if error.kind() == ErrorKind::Interrupted => {}
+            Err(_) => self.cut_back(),
         }
+        answer
     }
 
     fn flush(&mut self) -> io::Result<()> {
+        self.flushed = self.written;
         Ok(())
     }
 }
 
 impl<R: Files<File = File> + Threads> Drop for FileOutput<'_, R> {
     /// Waits until somebody reads a FIFO to which nothing was written, so that its reader comes to an end. If not all
-    /// outputs could be opened, nobody is waited for.
+    /// outputs could be opened, nobody is waited for, and no new file stays.
     fn drop(self) {
         let FileOutput {
             rt,
@@ -110,12 +145,18 @@ impl<R: Files<File = File> + Threads> Drop for FileOutput<'_, R> {
             file: _,
             opening,
             is_begun,
+            is_new,
+            written: _,
+            flushed: _,
         } = self;
         match opening {
             Some(opening) if is_begun => {
                 let _ = opening.finish(rt);
             }
             Some(opening) => opening.give_up(rt, name.as_str()),
+            None if is_new && !is_begun => {
+                let _ = fs::remove_file(rt, name.as_str());
+            }
             None => {}
         }
     }

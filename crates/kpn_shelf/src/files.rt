@@ -2,6 +2,7 @@
 ghost use Rattle.std.specs.Prelude.{⊤};
 
 use crate::Shelf;
+use crate::job::System;
 use crate::target::Target;
 use crate::written::WrittenPaths;
 use kpn_limits::MAX_INPUT_BYTES;
@@ -9,23 +10,23 @@ use kpn_text_items::{ItemFault, WriteFault, read_up_to};
 use std::alloc::{AllocError, Global};
 use std::cell::Cell;
 use std::collections::BTreeMap;
-use std::fs::File;
 use std::io::ErrorKind;
 use std::rt::Files;
+use std::thread::Threads;
 use std::{fs, io};
 
 // What is written for names.
 type Looks = BTreeMap<String, WrittenPaths>;
 
 /// The files that a runtime reaches, by their paths. Nothing is known of what they hold.
-pub struct FileShelf<'a, R: Files<File = File> + AllocGlobal> {
+pub struct FileShelf<'a, R: System + AllocGlobal + Threads> {
     pub(crate) rt: &'a R,
     ready: Cell<Option<Vec<Target>>>,
     // Since files were changed. Each name is looked at once: outputs are compared in pairs, and may be many.
     looks: Cell<Option<Looks>>,
 }
 
-impl<'a, R: Files<File = File> + AllocGlobal> FileShelf<'a, R> {
+impl<'a, R: System + AllocGlobal + Threads> FileShelf<'a, R> {
     /// The files of this runtime.
     pub fn new(rt: &'a R) -> FileShelf<'a, R> {
         FileShelf {
@@ -94,7 +95,7 @@ fn look_at<R: Files + AllocGlobal>(
     Ok(())
 }
 
-impl<R: Files<File = File> + AllocGlobal> Drop for FileShelf<'_, R> {
+impl<R: System + AllocGlobal + Threads> Drop for FileShelf<'_, R> {
     fn drop(self) {
         let FileShelf {
             rt,
@@ -117,7 +118,7 @@ pub(crate) fn fault_of(error: io::Error) -> WriteFault {
     }
 }
 
-impl<R: Files<File = File> + AllocGlobal> Shelf for FileShelf<'_, R> {
+impl<R: System + AllocGlobal + Threads> Shelf for FileShelf<'_, R> {
     ghost may_give = { λ _ _ _. ⊤ };
 
     ghost may_alias = { λ _ _ _. ⊤ };

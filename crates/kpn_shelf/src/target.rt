@@ -2,12 +2,16 @@
 //! its part file, takes its place once it holds everything. The program that makes a part file keeps it locked. Until
 //! then each target has one open file.
 
+use crate::file_output::open_apart;
+use crate::job::System;
+use crate::opening::Opening;
 use crate::place::{Node, behind_links, split};
 use crate::written::part_of;
 use std::fs::{File, Metadata, OpenOptions, Permissions};
 use std::io::{ErrorKind, Write};
 use std::os::unix::fs::{OpenOptionsExt, PermissionsExt};
 use std::rt::Files;
+use std::thread::Threads;
 use std::{fs, io};
 
 // How often an old part file is removed that stands in the way of a new one.
@@ -20,7 +24,9 @@ const RIGHTS: u32 = 0o666;
 #[derive(Drop)]
 pub(super) struct Target {
     name: String,
-    file: File,
+    // Until a FIFO is open it has no file.
+    file: Option<File>,
+    opening: Option<Opening>,
     part: Option<PartFile>,
 }
 
@@ -39,7 +45,7 @@ impl Target {
 
     /// Opens the file for a name: a part file for a plain file, which is there or not yet and which links may lead to,
     /// and else what is there itself, as a device or a pipe.
-    pub(super) fn open<R: Files<File = File> + AllocGlobal>(
+    pub(super) fn open<R: System + AllocGlobal + Threads>(
         rt: &R,
         name: &str,
     ) -> io::Result<Target> {
@@ -50,37 +56,63 @@ impl Target {
                 let file = open_part(rt, part.as_str(), place.as_str())?;
                 Ok(Target {
                     name: word,
-                    file,
+                    file: Some(file),
+                    opening: None,
                     part: Some(PartFile { path: part, place }),
                 })
             }
-            None => Ok(Target {
-                name: word,
-                file: open_to_write(rt, name)?,
-                part: None,
-            }),
+            None => Target::itself(rt, word),
         }
     }
 
-    /// Removes the part file, if there is one: nothing is stored.
-    pub(super) fn give_up<R: Files>(self, rt: &R) {
+    // What is there is written itself. A FIFO is open when it is written.
+    fn itself<R: System + AllocGlobal + Threads>(rt: &R, name: String) -> io::Result<Target> {
+        let opening = open_apart(rt, name.as_str());
+        let file = match opening {
+            Some(_) => None,
+            None => Some(open_to_write(rt, name.as_str())?),
+        };
+        Ok(Target {
+            name,
+            file,
+            opening,
+            part: None,
+        })
+    }
+
+    /// Removes the part file, if there is one: nothing is stored. Who waits to read a FIFO comes to an end.
+    pub(super) fn give_up<R: Files<File = File> + Threads>(self, rt: &R) {
         let Target {
-            name: _,
+            name,
             file: _,
+            opening,
             part,
         } = self;
         if let Some(part) = part {
             let _ = fs::remove_file(rt, part.path.as_str());
         }
+        if let Some(opening) = opening {
+            opening.give_up(rt, name.as_str());
+        }
     }
 
     /// Stores bytes under the name.
-    pub(super) fn fill<R: Files<File = File>>(self, rt: &R, bytes: &[u8]) -> io::Result<()> {
+    pub(super) fn fill<R: Files<File = File> + Threads>(
+        self,
+        rt: &R,
+        bytes: &[u8],
+    ) -> io::Result<()> {
         let Target {
             name: _,
-            mut file,
+            file,
+            opening,
             part,
         } = self;
+        let mut file = match (file, opening) {
+            (Some(file), _) => file,
+            (None, Some(opening)) => opening.finish(rt)?,
+            (None, None) => return Err(io::Error::from(ErrorKind::Other)),
+        };
         match part {
             Some(part) => {
                 take_place(rt, file, &part, bytes)?;
