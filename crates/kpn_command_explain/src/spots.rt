@@ -128,7 +128,7 @@ fn behind_mark(now: TokenSpot, mark: Mark) -> TokenSpot
 
 /// Where the token behind this one stands.
 pub(crate) fn behind(now: TokenSpot, token: &Token<'_>) -> TokenSpot
-    ensures { result ≡ spec.behind now token.now }
+    ensures { result ≡ spec.next_spot now token.now }
 {
     match token {
         Token::Name(_) => behind_name(now),
