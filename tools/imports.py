@@ -15,6 +15,7 @@ import sys
 TOP = pathlib.Path(__file__).resolve().parent.parent
 CRATES = TOP / 'crates'
 IMPORT = re.compile(r'^\s*(?:pub )?(?:ghost )?use Rattle\.(\w+)\.(specs|proofs)\.([\w.]+?)\.\{([^}]*)\}', re.M)
+WHOLE = re.compile(r'^\s*(?:ghost )?use Rattle\.(\w+)\.(specs|proofs)\.(\w+) as (\w+);?$', re.M)
 ALIAS = re.compile(r'^\s*(?:ghost )?use Rattle\.\w+\.specs\.declared\.[\w.]+\.([A-Z]\w*) as (\w+)', re.M)
 TYPE = r'\b(?:struct|enum|trait|type)\s+{}\b'
 IMPL = re.compile(r'^\s*(?:unsafe )?impl(?:<[^{]*?>)?\s+(?:([\w:]+)(?:<[^{]*?>)?\s+for\s+)?([\w:]+)', re.M)
@@ -22,7 +23,8 @@ IMPL = re.compile(r'^\s*(?:unsafe )?impl(?:<[^{]*?>)?\s+(?:([\w:]+)(?:<[^{]*?>)?
 
 @functools.cache
 def text_of(file):
-    return file.read_text() if file.exists() else None
+    """The text of a file without the comments of definitions."""
+    return re.sub(r'(?m)(?:^| )-- .*$', '', file.read_text()) if file.exists() else None
 
 
 def names_in(words):
@@ -53,6 +55,12 @@ def wrong_imports():
         for name, part, path, words in IMPORT.findall(text):
             crate = CRATES / name
             why = missing_in(crate, part, path, names_in(words)) if crate.is_dir() else None
+            if why:
+                yield f'{file.relative_to(TOP)}: {why} of {name}'
+        for name, part, path, alias in WHOLE.findall(text):
+            used = ', '.join(set(re.findall(rf"(?<![\w.]){alias}\.([A-Za-z_][\w']*)", text)))
+            crate = CRATES / name
+            why = missing_in(crate, part, path, names_in(used)) if crate.is_dir() else None
             if why:
                 yield f'{file.relative_to(TOP)}: {why} of {name}'
         for name, alias in ALIAS.findall(text):
