@@ -7,6 +7,7 @@ It reads each import of this repository's definitions, lemmas, types and constan
 named for a type. It prints those that name nothing, and ends with 1 then. Goals are not looked at: they are named for
 functions, clauses, variables and constants.
 """
+import argparse
 import functools
 import pathlib
 import re
@@ -83,6 +84,7 @@ def wrong_folders():
 
 
 def main():
+    argparse.ArgumentParser(description=__doc__, formatter_class=argparse.RawDescriptionHelpFormatter).parse_args()
     wrong = [*wrong_imports(), *wrong_folders()]
     print('\n'.join(wrong) or 'each import and each folder of proofs names something')
     return 1 if wrong else 0

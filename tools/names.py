@@ -6,6 +6,7 @@ usage: tools/names.py
 It reads the sources and the definitions of all crates `kpn..`. A name that stands twice on purpose is in SHARED, with
 the reason. It prints the other names, each with its places, and ends with 1 if there is one.
 """
+import argparse
 import collections
 import pathlib
 import re
@@ -46,6 +47,7 @@ def places():
 
 
 def main():
+    argparse.ArgumentParser(description=__doc__, formatter_class=argparse.RawDescriptionHelpFormatter).parse_args()
     twice = {name: crates for name, crates in places().items() if len(crates) > 1 and name not in SHARED}
     for name, crates in sorted(twice.items()):
         print(f'{name}:', ', '.join(f'{crate} ({" ".join(sorted(files))})' for crate, files in crates.items()))
