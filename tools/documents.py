@@ -108,11 +108,14 @@ def wrong_links(document):
 
 
 def sections_of(document):
-    """The crates that a heading names, and what carries each claim in the tables below it."""
+    """The crates that a heading names, and what carries each claim in the tables below it. A point of a list is there
+    too, since a claim belongs into a table.
+    """
     parts = re.split(r'^## (.*)$', document.read_text(), flags=re.M)
     for heading, body in zip(parts[1::2], parts[2::2]):
+        crates = [it for it in re.findall(r'\w+', heading) if is_crate(it)]
         cells = [it for it in ROW.findall(body) if it != 'By' and set(it) != {'-'}]
-        yield [it for it in re.findall(r'\w+', heading) if is_crate(it)], cells
+        yield crates, cells + re.findall(r'^- .*', body, re.M) if crates else cells
 
 
 def is_crate(name):
@@ -135,16 +138,16 @@ def clauses_in(crates):
 def wrong_claims(sections):
     """What is said to carry a claim and is not there."""
     for crates, cells in sections:
-        yield from ('a claim without a function' for cell in cells if not PLAIN.search(cell))
-        for part in (part for cell in cells for part in cell.split(';')):
+        carried = [it for it in cells if PLAIN.search(it) and not it.startswith('- ')]
+        yield from (f'a claim without a function beside it: {it}' for it in cells if it not in carried)
+        for part in (part for cell in carried for part in cell.split(';')):
             owners, _, named = part.partition(': ')
             paths = [it.split('::') for it in PLAIN.findall(owners)]
             inside = tuple(it[0] for it in paths if len(it) > 1 and is_crate(it[0])) or tuple(crates)
             clauses, owners = clauses_in(inside), [it[-1] for it in paths]
             known = set().union(*(clauses.get(it, ()) for it in owners))
             yield from (f'no function {it} in {", ".join(inside)}' for it in owners if it not in clauses)
-            yield from (f'no clause {it} of {", ".join(owners)}' for it in PLAIN.findall(named)
-                        if it not in known)
+            yield from (f'no clause {it} of {", ".join(owners)}' for it in PLAIN.findall(named) if it not in known)
 
 
 def wrong_counts(document):
