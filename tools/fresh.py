@@ -5,9 +5,9 @@ usage: tools/fresh.py [--built TREE]
 
 Of README.md and of docs/GUIDE.md and docs/COMPILED.md it runs each block that begins with a command or with `import`,
 in their order. Under a `$` the lines below have to come out. Of python/README.md it runs the block that sets up the
-package, and all Python there and in python/SDF.md but the lines of matplotlib. It also makes the plant as C++, and installs all below a
-prefix. Left out are lines that call `rt`, `tools/check.py` or `./kpn --unproved`, since they only prove or build again,
-those about a NET, and those with `dot` if it is not there.
+package, and all Python there and in python/SDF.md but the lines of matplotlib. It also makes the plant as C++, and
+installs all below a prefix. Left out are lines that call `rt`, `tools/check.py` or `./kpn --unproved`, since they only
+prove or build again, those about a NET, and those with `dot` if it is not there.
 
 It needs git, the kit, `cc` and `c++`, `pkg-config`, and Python with `venv` and `pip`; no network. It is run by hand,
 and no part of the gate. The program is proved first, and then the library for C, which takes as long as README says.
