@@ -110,7 +110,7 @@ def show(document, asked):
     lengths = [length for length, _ in sentences if length] or [0]
     over, mean = sum(it > LONG for it in lengths) / len(lengths), sum(lengths) / len(lengths)
     dialect = list(dialect_in(name, text))
-    words = len(text.split())
+    words = len(WORD.findall(text))
     print(f'{name:<24}{words:>7,}{len(lengths):>11,}{max(lengths):>9}{mean:>7.1f}{over:>9.1%}'
           f'{share_of_code(paragraphs):>8.0%}{len(dialect):>9}')
     if asked.long is not None:
