@@ -1,10 +1,9 @@
 -- What a book keeps, it keeps through all calls.
-use Rattle.std.proofs.Common.{◌≡◌, ℕ, ◌+◌, ◌<◌, Bool, true, false, List, [], ◌∷◌, length, Option, Some, None, max, refl, sym, ap, ◌∙◌, subst, inl, inr}
+use Rattle.std.proofs.Common.{◌≡◌, ℕ, ◌<◌, Bool, true, false, List, [], ◌∷◌, length, Option, Some, None, max, sym, ap, ◌∙◌, subst, inl, inr}
 use Rattle.kpn_step.specs.Stops.{Advanced}
 use Rattle.kpn_step.specs.declared.stop.Stop.{Stop}
 use Rattle.kpn_history.specs.declared.event.Event.{Event}
 use Rattle.kpn_history.specs.Keeping.{keeps_items}
-use Rattle.kpn_machine.specs.Machine.{channel_in}
 use Rattle.kpn_region.specs.Batch.{Batch, stop_in}
 use Rattle.kpn_book.specs.declared.answers.Done.{Done}
 use Rattle.kpn_book.specs.declared.answers.Done.TheVariants as done
@@ -12,8 +11,8 @@ use Rattle.kpn_book.specs.declared.outcome.Limits.{Limits}
 use Rattle.kpn_book.specs.Book.{Book, IsClaimed, standing_at, put_back, with_one_commit}
 use Rattle.kpn_book.specs.Appending.{Appends, AppendsAll, Happens, AllHappen}
 use Rattle.kpn_book.specs.Commits.{ready_if_paused, HandlesStop, Commits}
-use Rattle.kpn_book.specs.Stepping.{StepsNext, IsStep, StepsInVain}
-use Rattle.kpn_book.specs.InARow.{IsStepInRow, StepsInRow, no_step, one_step_more, ends_row, RunsInRow, StepsUncommitted, RunsInVain}
+use Rattle.kpn_book.specs.Stepping.{StepsNext, StepsInVain}
+use Rattle.kpn_book.specs.InARow.{StepsInRow, no_step, one_step_more, ends_row, RunsInRow, RunsInVain}
 use Rattle.kpn_book.specs.RunHere.{IsTurn, Turns, no_turn, one_turn_more, takes_from_sinks}
 use Rattle.kpn_book.specs.Regions.{SettleBelow, none_yet, one_more, Settles, settles_if, goes_to, commits_or_not, has_part}
 use Rattle.kpn_book.specs.RegionClaims.{IsSameBook, ClaimsRegion}

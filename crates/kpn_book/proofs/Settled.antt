@@ -8,8 +8,7 @@ use Rattle.kpn_step.specs.declared.stop.Stop.{Stop}
 use Rattle.kpn_history.specs.declared.event.Event.{Event}
 use Rattle.kpn_history.specs.declared.event.Event.TheVariants as event
 use Rattle.kpn_history.specs.declared.state.State.{State}
-use Rattle.kpn_history.specs.declared.state.State.TheVariants.{Ready, Held, WaitsEmpty, WaitsFull, Ended}
-use Rattle.kpn_history.specs.Talks.{process_events}
+use Rattle.kpn_history.specs.declared.state.State.TheVariants.{Ready, WaitsEmpty, WaitsFull, Ended}
 use Rattle.kpn_history.specs.Views.{is_held}
 use Rattle.kpn_history.specs.Legal.{growth_after}
 use Rattle.kpn_region.specs.Local.{is_in_region}
@@ -17,10 +16,10 @@ use Rattle.kpn_region.specs.Batch.{Batch, stop_in}
 use Rattle.kpn_book.specs.declared.answers.Done.{Done}
 use Rattle.kpn_book.specs.declared.answers.Done.TheVariants as done
 use Rattle.kpn_book.specs.Schedule.{Schedule, state_at, made_ready}
-use Rattle.kpn_book.specs.Book.{Book, IsHeld, put_back, with_one_commit}
+use Rattle.kpn_book.specs.Book.{Book, put_back, with_one_commit}
 use Rattle.kpn_book.specs.Kept.{IsBook}
 use Rattle.kpn_book.specs.Appending.{own_part, woken_by, all_made_ready, Appends, AppendsAll, IsGrowthOwed}
-use Rattle.kpn_book.specs.Commits.{HasToWait, IsAnswer, ready_if_paused, HandlesStop}
+use Rattle.kpn_book.specs.Commits.{HasToWait, IsAnswer, ready_if_paused}
 use Rattle.kpn_book.specs.Regions.{commits_or_not, goes_to, has_part, settles_if, Settles, SettleBelow, none_yet, one_more}
 use Rattle.kpn_book.specs.RegionCalls.{is_at_stop, CommitsAtStops, CommitsRegion}
 use Rattle.kpn_book.specs.BatchCommits.{with_batch}

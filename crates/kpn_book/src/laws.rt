@@ -1,5 +1,5 @@
 //! What holds of every book, as contracts of functions that do nothing. The layers above cite them.
-ghost use Rattle.std.specs.Prelude.{◌≡◌, ◌≢◌, ℕ, ◌+◌, ◌<◌, ◌≤◌, Bool, false, List, [], ◌∷◌, ◌++◌, length, map, count_by, Option, Some};
+ghost use Rattle.std.specs.Prelude.{◌≡◌, ℕ, ◌+◌, ◌<◌, ◌≤◌, Bool, false, List, [], ◌∷◌, ◌++◌, length, map, count_by, Option, Some};
 ghost use Rattle.kpn_lang.specs.declared.talk.Said.{Said};
 ghost use Rattle.kpn_lang.specs.Alone.{alone};
 ghost use Rattle.kpn_net.specs.declared.tables.Policy.TheVariants.{All};
