@@ -16,9 +16,8 @@ use Rattle.kpn_text_tokens.specs.Rules.{IsName}
 use Rattle.kpn_text_tokens.specs.Spelling.{has_keyword, has_mark}
 use Rattle.kpn_text_grammar.specs.Operators.{operator_mark}
 use Rattle.kpn_text_tokens.proofs.WithoutPlaces.{read_spelled}
-use Rattle.kpn_text_grammar.proofs.CanonicalLaws.{description_rules}
 use Rattle.kpn_text_grammar.specs.Syntax.{NameBytes, ExpressionNode, numeral, variable, element, minus, negation, complement, binary, conditional, StatementNode, assign, store, receive, send, choice, loop, Statements, no_statements, statement, Table, Declaration, array, table, ProcessNode, Literal, plain, negated, Item, channel, source, sink, instance, NetworkNode, Description}
-use Rattle.kpn_text_grammar.specs.Spelling.{spell_term, SpellsTight, as_number, as_name, as_element, as_minus, as_negation, as_complement, in_parentheses, as_conditional, as_binary, SpellsTerm, SpellsStatement, as_assignment, as_store, as_read, as_write, as_if, as_while, SpellsStatements, nothing, one_more, SpellsElse, left_out, behind_else, SpellsSecond, with_braces, as_branch, SpellsProcess, SpellsAll, IsDescription, spell_all, spell_further, spell_list, spell_name, spell_names, spell_table, spell_declaration, spell_part, spell_later_part, spell_parts, spell_literal, spell_values, spell_item, spell_limit, spell_policy, spell_growth, spell_network, spell_language}
+use Rattle.kpn_text_grammar.specs.Spelling.{SpellsTight, as_number, as_name, as_element, as_minus, as_negation, as_complement, in_parentheses, as_sides, as_conditional, as_binary, SpellsStatement, as_assignment, as_store, as_read, as_write, as_if, as_while, SpellsStatements, nothing, one_more, SpellsElse, left_out, behind_else, SpellsSecond, with_braces, as_branch, SpellsProcess, SpellsAll, IsDescription, spell_all, spell_further, spell_list, spell_name, spell_names, spell_table, spell_declaration, spell_part, spell_later_part, spell_parts, spell_literal, spell_values, spell_item, spell_limit, spell_policy, spell_growth, spell_network, spell_language}
 use Rattle.kpn_text.specs.Proper.{IsProperTerm, IsProperStatement, AreProper, AreNames, IsProperTable, IsProperDeclaration, IsProperProcess, IsProperLiteral, IsProperItem, IsProperLimit, IsProperNetwork, IsProper}
 
 -- each of the tokens can be spelled
@@ -42,12 +41,13 @@ has_this l m h = h.1.0
 has_word : (l : Language) (k : Keyword) → HasSpelling l (token.Keyword k) → has_keyword l k ≡ true
 has_word l k h = h.1.0
 
-term_is : (l : Language) (e : ExpressionNode) (more : List Token) → AreSpelled l (spell_term e more)
-    → And l (IsProperTerm l e) more
-term_is l (numeral n) more h = record { is = number_small l n h.0; rest = h.1 }
-term_is l (variable x) more h = record { is = is_name l x h.0; rest = h.1 }
-term_is l (element x e) more h =
-    let inner = term_is l e _ h.1.1 in
+-- an expression, by the rules
+tight_is : {l : Language} {depth n : ℕ} (e : ExpressionNode) {tokens more : List Token} → SpellsTight l depth n e tokens more
+    → AreSpelled l tokens → And l (IsProperTerm l e) more
+tight_is {l} (numeral n) as_number h = record { is = number_small l n h.0; rest = h.1 }
+tight_is {l} (variable x) as_name h = record { is = is_name l x h.0; rest = h.1 }
+tight_is {l} (element x e) (as_element s) h =
+    let inner = tight_is e s h.1.1 in
     record {
       is = (
         is_name l x h.0,
@@ -56,23 +56,26 @@ term_is l (element x e) more h =
       );
       rest = inner.rest.1;
     }
-term_is l (minus e) more h =
-    let inner = term_is l e more h.1 in
+tight_is (minus e) (as_minus s) h =
+    let inner = tight_is e s h.1 in
     record { is = inner.is; rest = inner.rest }
-term_is l (negation e) more h =
-    let inner = term_is l e more h.1 in
+tight_is (negation e) (as_negation s) h =
+    let inner = tight_is e s h.1 in
     record { is = inner.is; rest = inner.rest }
-term_is l (complement e) more h =
-    let inner = term_is l e more h.1 in
+tight_is {l} (complement e) (as_complement s) h =
+    let inner = tight_is e s h.1 in
     record { is = (has_this l mark.BitNot h.0, inner.is); rest = inner.rest }
-term_is l (binary op a b) more h =
-    let left = term_is l a _ h.1 in
-    let right = term_is l b _ left.rest.1 in
+tight_is e (in_parentheses two s) h =
+    let inner = tight_is e s h.1 in
+    record { is = inner.is; rest = inner.rest.1 }
+tight_is {l} (binary op a b) (as_sides one s t) h =
+    let left = tight_is a s h.1 in
+    let right = tight_is b t left.rest.1 in
     record { is = (has_this l (operator_mark op) left.rest.0, left.is, right.is); rest = right.rest.1 }
-term_is l (conditional e a b) more h =
-    let test = term_is l e _ h.1 in
-    let first = term_is l a _ test.rest.1 in
-    let second = term_is l b _ first.rest.1 in
+tight_is {l} (conditional e a b) (as_conditional s t u) h =
+    let test = tight_is e s h.1 in
+    let first = tight_is a t test.rest.1 in
+    let second = tight_is b u first.rest.1 in
     record {
       is = (
         has_this l mark.Question test.rest.0,
@@ -83,67 +86,20 @@ term_is l (conditional e a b) more h =
       );
       rest = second.rest.1;
     }
-
--- the same by the rules of language 2
-tight_is : {depth n : ℕ} (e : ExpressionNode) {tokens more : List Token} → SpellsTight depth n e tokens more
-    → AreSpelled language.Two tokens → And language.Two (IsProperTerm language.Two e) more
-tight_is (numeral n) as_number h = record { is = number_small language.Two n h.0; rest = h.1 }
-tight_is (variable x) as_name h = record { is = is_name language.Two x h.0; rest = h.1 }
-tight_is (element x e) (as_element s) h =
-    let inner = tight_is e s h.1.1 in
-    record {
-      is = (
-        is_name language.Two x h.0,
-        record {
-          left = has_this language.Two mark.LeftBracket h.1.0;
-          right = has_this language.Two mark.RightBracket inner.rest.0;
-        },
-        inner.is,
-      );
-      rest = inner.rest.1;
-    }
-tight_is (minus e) (as_minus s) h = tight_is e s h.1
-tight_is (negation e) (as_negation s) h = tight_is e s h.1
-tight_is (complement e) (as_complement s) h =
-    let inner = tight_is e s h.1 in
-    record { is = (has_this language.Two mark.BitNot h.0, inner.is); rest = inner.rest }
-tight_is e (in_parentheses s) h =
-    let inner = tight_is e s h.1 in
-    record { is = inner.is; rest = inner.rest.1 }
-tight_is (conditional e a b) (as_conditional s t u) h =
-    let test = tight_is e s h.1 in
-    let first = tight_is a t test.rest.1 in
-    let second = tight_is b u first.rest.1 in
-    record {
-      is = (
-        has_this language.Two mark.Question test.rest.0,
-        has_this language.Two mark.Colon first.rest.0,
-        test.is,
-        first.is,
-        second.is,
-      );
-      rest = second.rest.1;
-    }
-tight_is (binary op a b) (as_binary fits s t) h =
+tight_is {l} (binary op a b) (as_binary fits s t) h =
     let left = tight_is a s h in
     let right = tight_is b t left.rest.1 in
-    record { is = (has_this language.Two (operator_mark op) left.rest.0, left.is, right.is); rest = right.rest }
-
--- an expression of a statement
-whole_is : (l : Language) (e : ExpressionNode) (tokens more : List Token) → SpellsTerm l e tokens more → AreSpelled l tokens
-    → And l (IsProperTerm l e) more
-whole_is language.One e tokens more s h = term_is language.One e more (subst (λ ts. AreSpelled language.One ts) s h)
-whole_is language.Two e tokens more s h = tight_is e s h
+    record { is = (has_this l (operator_mark op) left.rest.0, left.is, right.is); rest = right.rest }
 
 mutual
   statement_is : (l : Language) (s : StatementNode) {tokens more : List Token} → SpellsStatement l s tokens more
       → AreSpelled l tokens → And l (IsProperStatement l s) more
   statement_is l (assign x e) (as_assignment s) h =
-      let value = whole_is l e _ _ s h.1.1 in
+      let value = tight_is e s h.1.1 in
       record { is = (is_name l x h.0, value.is); rest = value.rest.1 }
   statement_is l (store x i e) (as_store at_e s t) h =
-      let index = whole_is l i _ _ s h.1.1 in
-      let value = whole_is l e _ _ t index.rest.1.1 in
+      let index = tight_is i s h.1.1 in
+      let value = tight_is e t index.rest.1.1 in
       record {
         is = (
           is_name l x h.0,
@@ -155,15 +111,15 @@ mutual
       }
   statement_is l (receive i x) as_read h = record { is = (is_name l i h.1.0, is_name l x h.1.1.0); rest = h.1.1.1.1 }
   statement_is l (send o e) (as_write s) h =
-      let value = whole_is l e _ _ s h.1.1 in
+      let value = tight_is e s h.1.1 in
       record { is = (is_name l o h.1.0, value.is); rest = value.rest.1 }
   statement_is l (choice e a b) (as_if s t u) h =
-      let test = whole_is l e _ _ s h.1 in
+      let test = tight_is e s h.1 in
       let first = statements_are l a t test.rest.1 in
       let second = else_is l b u first.rest.1 in
       record { is = (test.is, first.is, second.is); rest = second.rest }
   statement_is l (loop e b) (as_while s t) h =
-      let test = whole_is l e _ _ s h.1 in
+      let test = tight_is e s h.1 in
       let body = statements_are l b t test.rest.1 in
       record { is = (test.is, body.is); rest = body.rest.1 }
 
@@ -378,7 +334,7 @@ language_is language.Two more h = h.1.1.1
 pub description_is : (l : Language) (text : List ℕ) (tokens : List Token) (d : Description)
     → tokens_of l text ≡ Some tokens → IsDescription l tokens d → IsProper l d
 description_is l text tokens d read s =
-    let rules = description_rules l tokens d s in
+    let rules = s.spelled in
     let spelled = subst (λ ts. AreSpelled l ts) rules.opening (read_spelled l text tokens read) in
     let tables = all_are l spell_table (IsProperTable l) (table_is l) d.tables _ (language_is l _ spelled) in
     let processes = processes_are l d.processes _ _ rules.processes tables.rest in

@@ -1,13 +1,12 @@
--- A block and its statements as the code takes them: by the level that is left, and whatever the number of a statement.
-use Rattle.std.proofs.Common.{◌≡◌, ℕ, zero, suc, ◌-◌, ◌<◌, true, false, List, length, Ok, Err, refl, arith}
+-- A block and its statements as the code takes them: by the level that is left.
+use Rattle.std.proofs.Common.{◌≡◌, ℕ, zero, suc, ◌-◌, ◌<◌, true, false, List, Ok, Err, refl, arith}
 use Rattle.kpn_text_tokens.specs.declared.tokens.Lexeme.{Lexeme}
 use Rattle.kpn_text_tokens.specs.declared.tokens.Mark.TheVariants as mark_
 use Rattle.kpn_text_grammar.specs.declared.fault.GrammarFault.{GrammarFault}
 use Rattle.kpn_text_grammar.specs.declared.fault.GrammarFault.TheVariants as fault
 use Rattle.kpn_text_grammar.specs.declared.parser.Scope.{Scope}
-use Rattle.kpn_text_grammar.specs.Syntax.{Statements}
 use Rattle.kpn_text_tokens.specs.Results.{and_then}
-use Rattle.kpn_text_grammar.specs.Reading.{Read, ReadingFails, mark, many, stands_in_block, one_statement, statements_at, block_behind, opened, too_deep, is_branch, branch, block, second_block}
+use Rattle.kpn_text_grammar.specs.Reading.{Read, ReadingFails, mark, block_behind, opened, too_deep, is_branch, branch, block, second_block}
 
 pub block_below : (s : Scope) (d : ℕ) (ls inside : List Lexeme) → 0 < d → mark s mark_.LeftBrace ls ≡ Ok inside
     → block s d ls ≡ block_behind s (block s (d - 1)) (second_block s (d - 1)) inside
@@ -52,18 +51,3 @@ second_below s zero ls some there = absurd (omega arith)
 second_below s (suc d) ls some there =
     let less : suc d - 1 ≡ d = omega arith in
     rw (there, less) refl
-
-pub any_number : (s : Scope) (inner second : List Lexeme → Read Statements) (i : ℕ) (ls : List Lexeme)
-    → one_statement s inner second i ls ≡ one_statement s inner second 0 ls
-unfolding one_statement
-any_number s inner second i ls = refl
-
-pub fails_at_any : (s : Scope) (inner second : List Lexeme → Read Statements) (i : ℕ) (ls : List Lexeme)
-    (e : GrammarFault) → ReadingFails e (one_statement s inner second 0 ls) → ReadingFails e (one_statement s inner second i ls)
-unfolding one_statement
-fails_at_any s inner second i ls e h = h
-
-pub all_statements : (s : Scope) (inner second : List Lexeme → Read Statements) (ls : List Lexeme)
-    → statements_at s inner second ls ≡ many stands_in_block (one_statement s inner second) 0 (length ls) ls
-unfolding statements_at
-all_statements s inner second ls = refl

@@ -1,5 +1,5 @@
--- The canonical spelling follows the rules, and in language 1 no other does.
-use Rattle.std.proofs.Common.{◌≡◌, ◌≤◌, false, List, [], ◌∷◌, refl, sym, ap, subst, ◌∙◌, arith}
+-- The canonical spelling follows the rules.
+use Rattle.std.proofs.Common.{◌≡◌, ◌≤◌, false, List, [], ◌∷◌, refl, arith}
 use Rattle.std.specs.List.{AllByRecursion}
 use Rattle.kpn_limits.specs.declared.TheConstants.{MAX_LEVELS}
 use Rattle.kpn_text_tokens.specs.declared.tokens.Language.{Language}
@@ -9,10 +9,8 @@ use Rattle.kpn_text_tokens.specs.declared.tokens.Token.TheVariants as token
 use Rattle.kpn_text_tokens.specs.declared.tokens.Mark.TheVariants as mark_
 use Rattle.kpn_text_tokens.specs.declared.tokens.Keyword.TheVariants as keyword_
 use Rattle.kpn_text_grammar.specs.Syntax.{StatementNode, assign, store, receive, send, choice, loop, Statements, no_statements, statement, ProcessNode, Description}
-use Rattle.kpn_text_grammar.specs.Spelling.{spell_term, spell_statement, spell_statements, spell_else, spell_all, spell_expression, spell_head, spell_table, spell_process, spell_network, spell_description, SpellsAll, SpellsStatement, as_assignment, as_store, as_read, as_write, as_if, as_while, SpellsStatements, nothing, one_more, SpellsElse, left_out, behind_else, SpellsSecond, with_braces, as_branch, SpellsProcess, SpellsByRules, SpellsDescription, IsDescription, begins_else, deepest_term, deepest_term_of_all, ProcessIsWithin, IsWithinLimits}
+use Rattle.kpn_text_grammar.specs.Spelling.{spell_statement, spell_statements, spell_else, spell_all, spell_expression, spell_process, spell_network, spell_description, SpellsAll, SpellsStatement, as_assignment, as_store, as_read, as_write, as_if, as_while, SpellsStatements, nothing, one_more, SpellsElse, left_out, behind_else, SpellsSecond, with_braces, as_branch, SpellsProcess, IsDescription, begins_else, deepest_term, deepest_term_of_all, ProcessIsWithin, IsWithinLimits}
 use Rattle.kpn_text_grammar.proofs.WholeLaws.{canonical_expression}
-
--- ---- the canonical spelling follows the rules
 
 no_else : (l : Language) (ss : Statements) (more : List Token) → begins_else more ≡ false
     → begins_else (spell_statements l ss more) ≡ false
@@ -87,85 +85,14 @@ canonical_processes l (p ∷ ps) more within = (
   canonical_processes l ps more within.1,
 )
 
-canonical_rules : (l : Language) (d : Description) → IsWithinLimits d
-    → SpellsByRules l d (spell_description l d)
-canonical_rules l d within = record {
-  inside = spell_all (spell_process l) d.processes (spell_network d.network []);
-  opening = refl;
-  processes = canonical_processes l d.processes (spell_network d.network []) within.processes;
-}
-
-canonical_by : (l : Language) (d : Description) → IsWithinLimits d
-    → SpellsDescription l d (spell_description l d)
-canonical_by language.One d within = refl
-canonical_by language.Two d within = canonical_rules language.Two d within
-
 pub canonical_description : (l : Language) (d : Description) → IsWithinLimits d
     → IsDescription l (spell_description l d) d
-canonical_description l d within = record { spelled = canonical_by l d within; within = within }
-
--- ---- in language 1 nothing else does
-
-mutual
-  one_statement : {s : StatementNode} {tokens more : List Token} → SpellsStatement language.One s tokens more
-      → tokens ≡ spell_statement language.One s more
-  one_statement (as_assignment {x = x} h) =
-      ap (λ (ts : List Token). token.Name x ∷ token.Mark mark_.Assign ∷ ts) h
-  one_statement (as_store {x = x} {i = i} at_e hi he) =
-      ap (λ (ts : List Token). token.Name x ∷ token.Mark mark_.LeftBracket ∷ ts) (hi
-      ∙ ap (λ (ts : List Token). spell_term i (token.Mark mark_.RightBracket ∷ token.Mark mark_.Assign ∷ ts)) he)
-  one_statement as_read = refl
-  one_statement (as_write {o = o} h) = ap (λ (ts : List Token). token.Keyword keyword_.Write ∷ token.Name o ∷ ts) h
-  one_statement (as_if {e = e} {a = a} he ha hb) =
-      ap (λ (ts : List Token). token.Keyword keyword_.If ∷ ts) (he
-      ∙ ap (λ (ts : List Token). spell_term e (token.Mark mark_.LeftBrace ∷ ts)) (one_statements ha
-      ∙ ap (λ (ts : List Token). spell_statements language.One a (token.Mark mark_.RightBrace ∷ ts)) (one_else hb)))
-  one_statement (as_while {e = e} he hb) =
-      ap (λ (ts : List Token). token.Keyword keyword_.While ∷ ts) (he
-      ∙ ap (λ (ts : List Token). spell_term e (token.Mark mark_.LeftBrace ∷ ts)) (one_statements hb))
-
-  one_statements : {ss : Statements} {tokens more : List Token} → SpellsStatements language.One ss tokens more
-      → tokens ≡ spell_statements language.One ss more
-  one_statements nothing = refl
-  one_statements (one_more {s = s} h hs) = one_statement h ∙ ap (spell_statement language.One s) (one_statements hs)
-
-  one_else : {b : Statements} {tokens more : List Token} → SpellsElse language.One b tokens more
-      → tokens ≡ spell_else language.One b (spell_statements language.One b) more
-  one_else (left_out two ends) = absurd cc
-  one_else (behind_else h) = ap (λ (ts : List Token). token.Keyword keyword_.Else ∷ ts) (one_second h)
-
-  one_second : {b : Statements} {tokens more : List Token} → SpellsSecond language.One b tokens more
-      → tokens ≡ token.Mark mark_.LeftBrace ∷ spell_statements language.One b (token.Mark mark_.RightBrace ∷ more)
-  one_second (with_braces h) = ap (λ (ts : List Token). token.Mark mark_.LeftBrace ∷ ts) (one_statements h)
-  one_second (as_branch two h) = absurd cc
-
-one_process : (p : ProcessNode) (tokens more : List Token) → SpellsProcess language.One p tokens more
-    → tokens ≡ spell_process language.One p more
-one_process p tokens more h =
-    h.head ∙ ap (spell_head p) (one_statements h.body)
-
-one_processes : (ps : List ProcessNode) (tokens more : List Token)
-    → SpellsAll (SpellsProcess language.One) ps tokens more
-    → tokens ≡ spell_all (spell_process language.One) ps more
-one_processes [] tokens more h = h
-one_processes (p ∷ ps) tokens more (others, first, rest) =
-    one_process p tokens others first ∙ ap (spell_process language.One p) (one_processes ps others more rest)
-
--- ---- what the rules say is what a description is
-
-pub by_rules : (l : Language) (tokens : List Token) (d : Description) → SpellsByRules l d tokens
-    → SpellsDescription l d tokens
-by_rules language.One tokens d h =
-    h.opening ∙ ap (λ (ts : List Token). spell_all spell_table d.tables ts)
-    (one_processes d.processes h.inside (spell_network d.network []) h.processes)
-by_rules language.Two tokens d h = h
-
-rules_by : (l : Language) (tokens : List Token) (d : Description) → SpellsDescription l d tokens
-    → IsWithinLimits d → SpellsByRules l d tokens
-rules_by language.One tokens d h within =
-    subst (λ (ts : List Token). SpellsByRules language.One d ts) (sym h) (canonical_rules language.One d within)
-rules_by language.Two tokens d h within = h
-
-pub description_rules : (l : Language) (tokens : List Token) (d : Description) → IsDescription l tokens d
-    → SpellsByRules l d tokens
-description_rules l tokens d is = rules_by l tokens d is.spelled is.within
+canonical_description l d within = record {
+  spelled =
+      record {
+        inside = spell_all (spell_process l) d.processes (spell_network d.network []);
+        opening = refl;
+        processes = canonical_processes l d.processes (spell_network d.network []) within.processes;
+      };
+  within = within;
+}

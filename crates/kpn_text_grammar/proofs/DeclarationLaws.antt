@@ -9,11 +9,11 @@ use Rattle.kpn_text_tokens.specs.declared.tokens.Mark.TheVariants as mark_
 use Rattle.kpn_text_tokens.specs.declared.tokens.Keyword.TheVariants as keyword_
 use Rattle.kpn_text_grammar.specs.declared.parser.Scope.{Scope}
 use Rattle.kpn_text_grammar.specs.Syntax.{Table, Declaration, array, table}
-use Rattle.kpn_text_grammar.specs.Spelling.{spell_all, spell_list, spell_literal, spell_number, spell_table, spell_declaration, TableIsWithin, DeclarationIsWithin}
+use Rattle.kpn_text_grammar.specs.Spelling.{spell_all, spell_list, spell_literal, spell_table, spell_declaration, TableIsWithin, DeclarationIsWithin}
 use Rattle.kpn_text_grammar.specs.TokenTests.{is_keyword}
-use Rattle.kpn_text_grammar.specs.Reading.{token_size, size, array_behind, table_behind, declaration_behind, declaration, declares, declarations, shared_table, shared_tables}
+use Rattle.kpn_text_grammar.specs.Reading.{all_of, token_size, read_as, array_behind, table_behind, declaration_behind, declaration, declares, shared_table}
 use Rattle.kpn_text_grammar.proofs.Steps.{this_mark, this_keyword}
-use Rattle.kpn_text_grammar.proofs.Readers.{Reader, Anything, Unless, done, behind, value, bind, reads, a_name, a_token, Arm, arm, no_arm, Begun, by_token, token_longer, Exactly, exactly, begins, Elements, each_of, shortens}
+use Rattle.kpn_text_grammar.proofs.Readers.{Reader, spell_number, Anything, Unless, done, behind, value, bind, reads, a_name, a_token, Arm, arm, no_arm, Begun, by_token, token_longer, Exactly, exactly, begins, Elements, each_of}
 use Rattle.kpn_text_grammar.proofs.ValueLaws.{values_reads}
 
 -- ---- the size of an array
@@ -41,8 +41,7 @@ sized (suc n) some =
     let differs : (suc n == 0) ≡ false = ne_eqb (suc n) 0 (λ e. absurd (omega (arith, e))) in
     rw differs refl
 
-size_reads : (s : Scope) → Reader spell_number (λ n. 0 < n) Anything (size s)
-unfolding size
+size_reads : (s : Scope) → Reader spell_number (λ n. 0 < n) Anything (read_as token_size s)
 size_reads s = a_token s token_size token.Number token_size_is sized
 
 -- ---- tables
@@ -61,8 +60,8 @@ table_reads s =
     (λ z more within. (within.1.0, refl)) (λ t more within. ((t.name, (t.values, tt)), refl, (tt, (within, tt))))
 
 -- the tables in front of the processes
-shared_ones : (s : Scope)
-    → Elements (is_keyword keyword_.Table) (λ t. t) spell_table (λ t more. TableIsWithin t) (shared_table s)
+pub shared_ones : (s : Scope)
+    → Elements (is_keyword keyword_.Table) (λ t. t) spell_table (λ t more. TableIsWithin t) (λ i. shared_table s)
 unfolding shared_table
 shared_ones s = record {
   laws = λ i. behind (this_keyword s keyword_.Table) (table_reads s);
@@ -70,13 +69,9 @@ shared_ones s = record {
   longer = λ t more within. omega (arith, (table_reads s).no_gap t more within);
 }
 
-pub shared_shortens : (s : Scope) (i : ℕ) (ls : List Lexeme) (t : Table) (rest : List Lexeme)
-    → shared_table s i ls ≡ Ok (t, rest) → length rest < length ls
-shared_shortens s = shortens (shared_ones s)
-
 pub shared_reads : (s : Scope) → Reader (spell_all spell_table) (AllByRecursion TableIsWithin)
-    (Unless (is_keyword keyword_.Table)) (shared_tables s)
-unfolding shared_tables
+    (Unless (is_keyword keyword_.Table)) (all_of (is_keyword keyword_.Table) (shared_table s))
+unfolding all_of
 shared_reads s = each_of (shared_ones s) 0
 
 -- ---- the arrays and tables of a process
@@ -100,29 +95,24 @@ declaration_parts s (array x n) tokens more is =
     ((token.Keyword keyword_.Array, (x, (n, tt))), refl, (tt, (is.0, tt)), sym is.1)
 declaration_parts s (table t) tokens more is = ((token.Keyword keyword_.Table, (t, tt)), refl, (is.0, tt), sym is.1)
 
-declaration_reads : (s : Scope) (i : ℕ) → Reader spell_declaration DeclarationIsWithin Anything (declaration s i)
+declaration_reads : (s : Scope) → Reader spell_declaration DeclarationIsWithin Anything (declaration s)
 unfolding declaration
-declaration_reads s i = exactly (by_token (declaration_behind s) (declaration_arms s) (declaration_parts s) s)
+declaration_reads s = exactly (by_token (declaration_behind s) (declaration_arms s) (declaration_parts s) s)
 
 declaration_starts : (d : Declaration) (more : List Token) → begins declares (spell_declaration d more) ≡ true
 declaration_starts (array x n) more = refl
 declaration_starts (table t) more = refl
 
-declaration_ones : (s : Scope)
-    → Elements declares (λ d. d) spell_declaration (λ d more. DeclarationIsWithin d) (declaration s)
+pub declaration_ones : (s : Scope)
+    → Elements declares (λ d. d) spell_declaration (λ d more. DeclarationIsWithin d) (λ i. declaration s)
 declaration_ones s = record {
-  laws = declaration_reads s;
+  laws = λ i. declaration_reads s;
   starts = λ d more within. declaration_starts d more;
   longer = λ d more within.
       token_longer (declaration_behind s) (declaration_arms s) (declaration_parts s) d _ more (within, refl);
 }
 
--- one of them takes a token or more
-pub declaration_shortens : (s : Scope) (i : ℕ) (ls : List Lexeme) (d : Declaration) (rest : List Lexeme)
-    → declaration s i ls ≡ Ok (d, rest) → length rest < length ls
-declaration_shortens s = shortens (declaration_ones s)
-
 pub declarations_reads : (s : Scope) → Reader (spell_all spell_declaration) (AllByRecursion DeclarationIsWithin)
-    (Unless declares) (declarations s)
-unfolding declarations
+    (Unless declares) (all_of declares (declaration s))
+unfolding all_of
 declarations_reads s = each_of (declaration_ones s) 0

@@ -11,10 +11,9 @@ use Rattle.kpn_text_grammar.specs.Syntax.{ProcessNode, Description}
 use Rattle.kpn_text_grammar.specs.Spelling.{kinds, SpellsAll, SpellsProcess, spell_all, spell_table, spell_language, spell_network, IsWithinLimits, IsDescription}
 use Rattle.kpn_text_tokens.specs.Results.{and_then}
 use Rattle.kpn_text_grammar.specs.TokenTests.{is_keyword}
-use Rattle.kpn_text_grammar.specs.Reading.{keyword, language_at, mark, opening, shared_tables, processes, network, at_end, contents, description, two}
+use Rattle.kpn_text_grammar.specs.Reading.{keyword, language_at, mark, all_of, shared_table, processes, network, at_end, contents, description, two}
 use Rattle.kpn_text_grammar.proofs.Steps.{bind_ok, moved, ok_is, this_keyword, this_mark, this_two}
 use Rattle.kpn_text_grammar.proofs.Readers.{Unless, begins}
-use Rattle.kpn_text_grammar.proofs.CanonicalLaws.{by_rules, description_rules}
 use Rattle.kpn_text_grammar.proofs.DeclarationLaws.{shared_reads}
 use Rattle.kpn_text_grammar.proofs.ProcessLaws.{processes_reads}
 use Rattle.kpn_text_grammar.proofs.NetworkLaws.{network_reads}
@@ -61,22 +60,17 @@ contents_takes s ls d h =
       within = record { tables = ts.2; processes = ps.2.1 };
     }))))
 
-opening_takes : (s : Scope) (ls rest : List Lexeme) → opening s ls ≡ Ok rest
-    → kinds ls ≡ spell_language language.Two (kinds rest)
-unfolding opening
-opening_takes s ls rest h =
+language_takes : (s : Scope) (l : Language) (ls rest : List Lexeme) → language_at s l ls ≡ Ok rest
+    → kinds ls ≡ spell_language l (kinds rest)
+unfolding language_at
+language_takes s language.One ls rest h = ap kinds (ok_is ls rest h)
+language_takes s language.Two ls rest h =
     let k = bind_ok _ _ _ h in
     let n = bind_ok _ _ _ k.2 in
     let word = (this_keyword s keyword_.Language).takes ls k.0 k.1 in
     let number = (this_two s).takes k.0 n.0 n.1 in
     let close = (this_mark s mark_.Semicolon).takes n.0 rest n.2 in
     rw (word, number, close) refl
-
-language_takes : (s : Scope) (l : Language) (ls rest : List Lexeme) → language_at s l ls ≡ Ok rest
-    → kinds ls ≡ spell_language l (kinds rest)
-unfolding language_at
-language_takes s language.One ls rest h = ap kinds (ok_is ls rest h)
-language_takes s language.Two ls rest h = opening_takes s ls rest h
 
 -- What is read is spelled so and within the limits.
 pub description_takes : (s : Scope) (ls : List Lexeme) (d : Description) → description s ls ≡ Ok d
@@ -87,16 +81,17 @@ description_takes s ls d h =
     let begun = language_takes s s.language ls b.0 b.1 in
     let parts = contents_takes s b.0 d b.2 in
     record {
-      spelled = by_rules s.language (kinds ls) d
-          (record {
+      spelled =
+          record {
             inside = parts.inside;
             opening = begun ∙ ap (spell_language s.language) parts.tables;
             processes = parts.spelled;
-          });
+          };
       within = parts.within;
     }
 
-contents_at : (s : Scope) (d : Description) (ls a b c : List Lexeme) → shared_tables s ls ≡ Ok (d.tables, a)
+contents_at : (s : Scope) (d : Description) (ls a b c : List Lexeme)
+    → all_of (is_keyword keyword_.Table) (shared_table s) ls ≡ Ok (d.tables, a)
     → processes s a ≡ Ok (d.processes, b) → network s b ≡ Ok (d.network, c) → at_end c ≡ Ok tt → contents s ls ≡ Ok d
 unfolding contents and_then
 contents_at s d ls a b c t p n e = rw (t, p, n, e) refl
@@ -108,8 +103,8 @@ no_table l [] tokens d h = ap (λ ts. begins (is_keyword keyword_.Table) ts) h
 no_table l (p ∷ ps) tokens d (others, first, rest) = ap (λ ts. begins (is_keyword keyword_.Table) ts) first.head
 
 opening_at : (s : Scope) (ls a b rest : List Lexeme) → keyword s keyword_.Language ls ≡ Ok a → two s a ≡ Ok b
-    → mark s mark_.Semicolon b ≡ Ok rest → opening s ls ≡ Ok rest
-unfolding opening and_then
+    → mark s mark_.Semicolon b ≡ Ok rest → language_at s language.Two ls ≡ Ok rest
+unfolding language_at and_then
 opening_at s ls a b rest k n m = rw (k, n, m) refl
 
 language_again : (s : Scope) (l : Language) (ls : List Lexeme) (more : List Token) → kinds ls ≡ spell_language l more
@@ -131,7 +126,7 @@ description_at s d ls rest b p = rw (b, p) refl
 pub description_again : (s : Scope) (ls : List Lexeme) (d : Description) → IsDescription s.language (kinds ls) d
     → description s ls ≡ Ok d
 description_again s ls d is =
-    let rules = description_rules s.language (kinds ls) d is in
+    let rules = is.spelled in
     let b = language_again s s.language ls (spell_all spell_table d.tables rules.inside) rules.opening in
     let t = (shared_reads s).again b.0 d.tables rules.inside is.within.tables
     (no_table s.language d.processes rules.inside d rules.processes) b.2 in

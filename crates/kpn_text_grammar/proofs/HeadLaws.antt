@@ -9,20 +9,14 @@ use Rattle.kpn_text_grammar.specs.declared.parser.Scope.{Scope}
 use Rattle.kpn_text_grammar.specs.Syntax.{NameBytes}
 use Rattle.kpn_text_grammar.specs.Spelling.{spell_names, spell_later_part, spell_parts}
 use Rattle.kpn_text_grammar.specs.TokenTests.{is_mark, is_name}
-use Rattle.kpn_text_grammar.specs.Reading.{next, name, further, names, optional_names, HeadParts, after_outs, outs_or_pars, after_ins, parts_behind, parts}
+use Rattle.kpn_text_grammar.specs.Reading.{next, name, separated, optional_names, HeadParts, after_outs, outs_or_pars, after_ins, parts_behind, parts}
 use Rattle.kpn_text_tokens.specs.Results.{and_then}
 use Rattle.kpn_text_grammar.proofs.Steps.{this_mark, this_keyword}
-use Rattle.kpn_text_grammar.proofs.Readers.{Row, Reader, Free, Unless, done, behind, bind, As, recast, reads, choice, optional, mapped, maybe_some, a_name, Arm, arm, no_arm, rearm, Begun, by_token, Exactly, exactly, begins, either, spell_either, Either, Some_of, some_of, is_comma, further_ones, with_commas, shortens}
+use Rattle.kpn_text_grammar.proofs.Readers.{Row, Reader, Free, Unless, done, behind, bind, As, recast, reads, choice, optional, mapped, maybe_some, a_name, Arm, arm, no_arm, rearm, Begun, by_token, Exactly, exactly, begins, either, spell_either, Either, Some_of, some_of, is_comma, with_commas}
 
 -- ---- names
 
--- one more name takes a token or more
-pub further_name_shortens : (s : Scope) (i : ℕ) (ls : List Lexeme) (x : NameBytes) (rest : List Lexeme)
-    → further s (name s) i ls ≡ Ok (x, rest) → length rest < length ls
-further_name_shortens s = shortens (further_ones s (a_name s))
-
-names_reads : (s : Scope) → Reader spell_names Some_of (Unless is_comma) (names s)
-unfolding names
+names_reads : (s : Scope) → Reader spell_names Some_of (Unless is_comma) (separated s (name s))
 names_reads s = some_of (with_commas s (a_name s))
 
 -- no name and no comma follows

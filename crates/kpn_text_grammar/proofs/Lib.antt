@@ -4,12 +4,10 @@ pub mod DeclarationLaws
 pub mod DescriptionLaws
 pub mod HeadLaws
 pub mod ProcessLaws
-pub mod ListSteps
 pub mod Readers
 pub mod NetworkLaws
 pub mod StatementLaws
 pub mod Steps
-pub mod TermLaws
 pub mod TightReads
 pub mod TightLaws
 pub mod TightSteps

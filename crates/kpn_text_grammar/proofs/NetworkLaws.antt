@@ -11,11 +11,11 @@ use Rattle.kpn_net.specs.declared.tables.Policy.{Policy}
 use Rattle.kpn_text_grammar.specs.declared.parser.Scope.{Scope}
 use Rattle.kpn_text_grammar.specs.Syntax.{NameBytes, Literal, Item, channel, source, sink, instance}
 use Rattle.kpn_text_grammar.specs.Words.{growth_word, growth_spelled, policy_word, policy_spelled}
-use Rattle.kpn_text_grammar.specs.Spelling.{spell_all, spell_values, spell_call, spell_item, spell_setting, spell_number, spell_policy_word, spell_growth_word, spell_limit, spell_policy, spell_growth, spell_network}
+use Rattle.kpn_text_grammar.specs.Spelling.{spell_all, spell_values, spell_call, spell_item, spell_setting, spell_limit, spell_policy, spell_growth, spell_network}
 use Rattle.kpn_text_grammar.specs.TokenTests.{is_keyword}
-use Rattle.kpn_text_grammar.specs.Reading.{Read, number, stands_in_block, capacity, channel_behind, source_behind, sink_behind, optional_values, call, instance_behind, item_behind, item, items, token_word, word_of, setting, limit, policy, growth, network}
+use Rattle.kpn_text_grammar.specs.Reading.{Read, all_of, number, stands_in_block, with_capacity, optional_values, call, instance_behind, item_behind, item, token_word, read_as, setting, network}
 use Rattle.kpn_text_grammar.proofs.Steps.{this_mark, this_keyword, is_keyword_same, Spells, growths_spelled, policies_spelled}
-use Rattle.kpn_text_grammar.proofs.Readers.{Reader, Anything, Free, Unless, done, behind, value, bind, reads, a_name, a_number, a_token, optional, maybe_some, either, spell_either, Either, Arm, arm, no_arm, Begun, by_token, token_longer, Exactly, exactly, begins, Elements, each_of, all_free, shortens, is_comma}
+use Rattle.kpn_text_grammar.proofs.Readers.{Reader, Anything, Free, Unless, done, behind, value, bind, reads, a_name, a_number, a_token, optional, maybe_some, either, spell_either, Either, Arm, arm, no_arm, Begun, by_token, token_longer, Exactly, exactly, begins, Elements, each_of, all_free, is_comma}
 use Rattle.kpn_text_grammar.proofs.HeadLaws.{semicolon, Closes, closes_not, optional_names_reads}
 use Rattle.kpn_text_grammar.proofs.ValueLaws.{values_reads}
 
@@ -52,28 +52,17 @@ call_reads s x =
 
 -- ---- items
 
--- a capacity and the semicolon
-abbrev spell_capacity : ℕ → List Token → List Token
-spell_capacity n more = token.Keyword keyword_.Cap ∷ token.Number n ∷ token.Mark mark_.Semicolon ∷ more
-
-capacity_reads : (s : Scope) → Reader spell_capacity Free Anything (capacity s)
-unfolding capacity
-capacity_reads s =
-    reads (behind (this_keyword s keyword_.Cap) (value (a_number s)
-    (λ n. behind (this_mark s mark_.Semicolon) (done n))))
-    (λ z more within. (tt, refl)) (λ n more within. ((n, tt), refl, (tt, tt)))
-
 item_arms : (s : Scope) (t : Token) → Arm (Exactly spell_item Free) Anything t (item_behind s t)
-unfolding item_behind channel_behind source_behind sink_behind instance_behind
+unfolding item_behind with_capacity instance_behind
 item_arms s (token.Keyword keyword_.Channel) =
-    arm (λ start. value (a_name s) (λ x. value (capacity_reads s) (λ n. done (channel x n))))
-    (λ z more within. (tt, refl))
+    arm (λ start. value (a_name s) (λ x. behind (this_keyword s keyword_.Cap) (value (a_number s)
+    (λ n. behind (this_mark s mark_.Semicolon) (done (channel x n)))))) (λ z more within. (tt, refl))
 item_arms s (token.Keyword keyword_.Source) =
     arm (λ start. value (a_name s) (λ x. behind (this_mark s mark_.Semicolon) (done (source x))))
     (λ z more within. (tt, refl))
 item_arms s (token.Keyword keyword_.Sink) =
-    arm (λ start. value (a_name s) (λ x. value (capacity_reads s) (λ n. done (sink x n))))
-    (λ z more within. (tt, refl))
+    arm (λ start. value (a_name s) (λ x. behind (this_keyword s keyword_.Cap) (value (a_number s)
+    (λ n. behind (this_mark s mark_.Semicolon) (done (sink x n)))))) (λ z more within. (tt, refl))
 item_arms s (token.Name x) =
     arm (λ start. behind (this_mark s mark_.Assign) (value (call_reads s x)
     (λ i. behind (this_mark s mark_.Semicolon) (done (instance i)))))
@@ -90,12 +79,13 @@ unfolding item_arms
 item_parts s (channel x n) tokens more is =
     ((token.Keyword keyword_.Channel, (x, (n, tt))), refl, (tt, (tt, tt)), sym is.1)
 item_parts s (source x) tokens more is = ((token.Keyword keyword_.Source, (x, tt)), refl, (tt, tt), sym is.1)
-item_parts s (sink x n) tokens more is = ((token.Keyword keyword_.Sink, (x, (n, tt))), refl, (tt, (tt, tt)), sym is.1)
+item_parts s (sink x n) tokens more is =
+    ((token.Keyword keyword_.Sink, (x, (n, tt))), refl, (tt, (tt, tt)), sym is.1)
 item_parts s (instance i) tokens more is = ((token.Name i.name, (i, tt)), refl, (refl, tt), sym is.1)
 
-item_reads : (s : Scope) (i : ℕ) → Reader spell_item Free Anything (item s i)
+item_reads : (s : Scope) → Reader spell_item Free Anything (item s)
 unfolding item
-item_reads s i = exactly (by_token (item_behind s) (item_arms s) (item_parts s) s)
+item_reads s = exactly (by_token (item_behind s) (item_arms s) (item_parts s) s)
 
 item_starts : (x : Item) (more : List Token) → begins stands_in_block (spell_item x more) ≡ true
 item_starts (channel x n) more = refl
@@ -103,37 +93,32 @@ item_starts (source x) more = refl
 item_starts (sink x n) more = refl
 item_starts (instance i) more = refl
 
-item_ones : (s : Scope) → Elements stands_in_block (λ x. x) spell_item (λ x more. Free x) (item s)
+pub item_ones : (s : Scope) → Elements stands_in_block (λ x. x) spell_item (λ x more. Free x) (λ i. item s)
 item_ones s = record {
-  laws = item_reads s;
+  laws = λ i. item_reads s;
   starts = λ x more within. item_starts x more;
   longer = λ x more within. token_longer (item_behind s) (item_arms s) (item_parts s) x _ more (within, refl);
 }
 
--- an item takes a token or more
-pub item_shortens : (s : Scope) (i : ℕ) (ls : List Lexeme) (x : Item) (rest : List Lexeme) → item s i ls ≡ Ok (x, rest)
-    → length rest < length ls
-item_shortens s = shortens (item_ones s)
-
-items_reads : (s : Scope) → Reader (spell_all spell_item) Free (Unless stands_in_block) (items s)
-unfolding items
+items_reads : (s : Scope) → Reader (spell_all spell_item) Free (Unless stands_in_block) (all_of stands_in_block (item s))
+unfolding all_of
 items_reads s =
     reads (each_of (item_ones s) 0) (λ xs more within. (tt, refl)) (λ xs more within. (xs, refl, all_free xs))
 
 -- ---- settings
 
-setting_reads : {A : Type 0} (k : Keyword) (spell : A → List Token → List Token) (one : Scope → List Lexeme → Read A)
-    (s : Scope) → Reader spell Free Anything (one s)
-    → Reader (spell_setting k spell) Free (Unless (is_keyword k)) (setting k one s)
+setting_reads : {A : Type 0} (k : Keyword) (spelled : A → Token) (one : Scope → List Lexeme → Read A) (s : Scope)
+    → Reader (λ x more. spelled x ∷ more) Free Anything (one s)
+    → Reader (spell_setting k spelled) Free (Unless (is_keyword k)) (setting k one s)
 unfolding setting
-setting_reads {A} k spell one s row =
+setting_reads {A} k spelled one s row =
     reads (optional (is_keyword k) None (behind (this_keyword s k) (value row
     (λ x. behind (this_mark s mark_.Semicolon) (done {May = Anything} (Some x)))))
     (λ more may. (tt, may)) (λ z more within. is_keyword_same k)) back parts where
       back : (z : (A × Unit {0}) ⊎ Unit {0}) (more : List Token)
           → Either (λ z more. Unit {0} × Unit {0}) (λ u more. Unit {0}) z more
-          → Unit {0} × (spell_either (λ z more. token.Keyword k ∷ spell z.0 (token.Mark mark_.Semicolon ∷ more))
-          (λ u more. more) z more ≡ spell_setting k spell (either (λ z. Some z.0) (λ (u : Unit {0}). None) z) more)
+          → Unit {0} × (spell_either (λ z more. token.Keyword k ∷ spelled z.0 ∷ token.Mark mark_.Semicolon ∷ more)
+          (λ u more. more) z more ≡ spell_setting k spelled (either (λ z. Some z.0) (λ (u : Unit {0}). None) z) more)
       back (inl z) more within = (tt, refl)
       back (inr u) more within = (tt, refl)
 
@@ -144,8 +129,7 @@ setting_reads {A} k spell one s row =
       parts (Some x) more within = (inl (x, tt), refl, (tt, tt))
 
 word_reads : {A : Type 0} (meant : NameBytes → Option A) (spelled : A → NameBytes) → Spells meant spelled → (s : Scope)
-    → Reader (λ x more. token.Name (spelled x) ∷ more) Free Anything (word_of meant s)
-unfolding word_of
+    → Reader (λ x more. token.Name (spelled x) ∷ more) Free Anything (read_as (token_word meant) s)
 word_reads {A} meant spelled table s =
     a_token s (token_word meant) (λ x. token.Name (spelled x)) means (λ x within. table.found x) where
       means : (t : Token) (x : A) → token_word meant t ≡ Some x → (t ≡ token.Name (spelled x)) × Free x
@@ -154,20 +138,19 @@ word_reads {A} meant spelled table s =
       means (token.Mark m) x h = absurd cc
       means (token.Keyword k) x h = absurd cc
 
-limit_reads : (s : Scope) → Reader spell_limit Free (Unless (is_keyword keyword_.Limit)) (limit s)
-unfolding limit
-limit_reads s = setting_reads keyword_.Limit spell_number number s (a_number s)
+limit_reads : (s : Scope) → Reader spell_limit Free (Unless (is_keyword keyword_.Limit)) (setting keyword_.Limit number s)
+limit_reads s = setting_reads keyword_.Limit token.Number number s (a_number s)
 
-policy_reads : (s : Scope) → Reader spell_policy Free (Unless (is_keyword keyword_.Policy)) (policy s)
-unfolding policy
+policy_reads : (s : Scope)
+    → Reader spell_policy Free (Unless (is_keyword keyword_.Policy)) (setting keyword_.Policy (read_as (token_word policy_spelled)) s)
 policy_reads s =
-    setting_reads keyword_.Policy spell_policy_word (word_of policy_spelled) s
+    setting_reads keyword_.Policy (λ q. token.Name (policy_word q)) (read_as (token_word policy_spelled)) s
     (word_reads policy_spelled policy_word policies_spelled s)
 
-growth_reads : (s : Scope) → Reader spell_growth Free (Unless (is_keyword keyword_.Grow)) (growth s)
-unfolding growth
+growth_reads : (s : Scope)
+    → Reader spell_growth Free (Unless (is_keyword keyword_.Grow)) (setting keyword_.Grow (read_as (token_word growth_spelled)) s)
 growth_reads s =
-    setting_reads keyword_.Grow spell_growth_word (word_of growth_spelled) s
+    setting_reads keyword_.Grow (λ g. token.Name (growth_word g)) (read_as (token_word growth_spelled)) s
     (word_reads growth_spelled growth_word growths_spelled s)
 
 -- ---- the network

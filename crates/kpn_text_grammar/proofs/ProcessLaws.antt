@@ -13,7 +13,7 @@ use Rattle.kpn_text_grammar.specs.Spelling.{SpellsAll, SpellsProcess, spell_all,
 use Rattle.kpn_text_grammar.specs.TokenTests.{is_keyword}
 use Rattle.kpn_text_grammar.specs.Reading.{process, numbered_process, processes}
 use Rattle.kpn_text_grammar.proofs.Steps.{this_mark, this_keyword}
-use Rattle.kpn_text_grammar.proofs.Readers.{ReaderBy, Anything, Unless, behind, value, bind, mapped, reads_by, a_name, begins, Elements, each_by, shortens}
+use Rattle.kpn_text_grammar.proofs.Readers.{ReaderBy, Anything, Unless, behind, value, bind, mapped, reads_by, a_name, begins, Elements, each_by}
 use Rattle.kpn_text_grammar.proofs.DeclarationLaws.{declarations_reads}
 use Rattle.kpn_text_grammar.proofs.HeadLaws.{parts_reads}
 use Rattle.kpn_text_grammar.proofs.StatementLaws.{whole_body_reads, no_declaration}
@@ -67,7 +67,7 @@ process_longer s p tokens more is =
       (whole_body_reads s).no_gap (p.body, is.0.inside) more (is.0.body, is.1.body),
     )
 
-process_ones : (s : Scope) → Elements {Z = ProcessNode × List Token} (is_keyword keyword_.Process) (λ z. z.0)
+pub process_ones : (s : Scope) → Elements {Z = ProcessNode × List Token} (is_keyword keyword_.Process) (λ z. z.0)
     (λ z more. z.1) (λ z more. ProcessOf s.language z.0 z.1 more) (numbered_process s)
 unfolding numbered_process
 process_ones s = record {
@@ -75,11 +75,6 @@ process_ones s = record {
   starts = λ z more is. ap (begins (is_keyword keyword_.Process)) is.0.head;
   longer = λ z more is. process_longer s z.0 z.1 more is;
 }
-
--- a process takes a token or more
-pub process_shortens : (s : Scope) (i : ℕ) (ls : List Lexeme) (p : ProcessNode) (rest : List Lexeme)
-    → numbered_process s i ls ≡ Ok (p, rest) → length rest < length ls
-process_shortens s = shortens (process_ones s)
 
 pub processes_reads : (s : Scope)
     → ReaderBy (λ ps tokens more. SpellsAll (SpellsProcess s.language) ps tokens more × AllByRecursion ProcessIsWithin ps)

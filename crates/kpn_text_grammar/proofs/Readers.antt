@@ -10,11 +10,12 @@ use Rattle.kpn_text_tokens.specs.declared.tokens.Mark.TheVariants as mark_
 use Rattle.kpn_text_grammar.specs.declared.fault.GrammarFault.{GrammarFault}
 use Rattle.kpn_text_grammar.specs.declared.fault.GrammarFault.TheVariants as fault
 use Rattle.kpn_text_grammar.specs.declared.parser.Scope.{Scope}
-use Rattle.kpn_text_grammar.specs.Spelling.{kinds, spell_all, spell_further, spell_list, spell_name, spell_number, SpellsAll}
+use Rattle.kpn_text_grammar.specs.Spelling.{kinds, spell_all, spell_further, spell_list, spell_name, SpellsAll}
 use Rattle.kpn_text_grammar.specs.Operators.{operator_mark}
+use Rattle.kpn_text_grammar.specs.Syntax.{NameBytes}
 use Rattle.kpn_text_grammar.specs.TokenTests.{is_mark}
 use Rattle.kpn_text_tokens.specs.Results.{and_then}
-use Rattle.kpn_text_grammar.specs.Reading.{Read, first_is, next, named, name, numbered, number, token_operator, operator, or_fault_at, many, further, separated}
+use Rattle.kpn_text_grammar.specs.Reading.{Read, first_is, next, read_as, token_name, name, token_number, number, token_operator, operator, or_fault_at, many, further, separated}
 use Rattle.kpn_text_grammar.proofs.Steps.{bind_ok, bound, by_test, found_is, kind_of, kinds_of, moved, next_takes, next_again, no_value, Passes, this_mark, token_operator_is, operator_back}
 
 -- ---- the laws of a reader
@@ -204,8 +205,8 @@ mapped to row follows =
 pub a_token : {A : Type 0} {Within : A → Type 0} (s : Scope) (what : Token → Option A) (spelled : A → Token)
     → ((t : Token) (x : A) → what t ≡ Some x → (t ≡ spelled x) × Within x)
     → ((x : A) → Within x → what (spelled x) ≡ Some x)
-    → Reader (λ x more. spelled x ∷ more) Within Anything
-    (λ ls. and_then (next s ls) (λ l. or_fault_at l.0.start l.1 (what l.0.token)))
+    → Reader (λ x more. spelled x ∷ more) Within Anything (read_as what s)
+unfolding read_as
 a_token {A} {Within} s what spelled means found = record {
   takes = λ ls x rest h.
       let b = bind_ok (next s ls) (λ (l : Lexeme × List Lexeme). or_fault_at l.0.start l.1 (what l.0.token)) (x, rest) h in
@@ -480,21 +481,24 @@ exactly {A} {spell} {Within} row =
     recast row (λ z more within. (z.0, refl, within.0, sym within.1))
     (λ x more within. ((x, spell x more), refl, (within, refl), refl))
 
-name_arms : (s : Scope) (t : Token) → Arm (Exactly spell_name Free) Anything t (named t)
-name_arms s (token.Name x) = arm (λ start. done x) (λ z more within. (tt, refl))
-name_arms s _ = no_arm
+token_name_is : (t : Token) (x : NameBytes) → token_name t ≡ Some x → (t ≡ token.Name x) × Free x
+token_name_is (token.Name y) x h = (cc, tt)
+token_name_is _ x h = absurd cc
 
 pub a_name : (s : Scope) → Reader spell_name Free Anything (name s)
-unfolding name name_arms
-a_name s = exactly (by_token named (name_arms s) (λ x tokens more is. ((token.Name x, tt), refl, tt, sym is.1)) s)
+unfolding name
+a_name s = a_token s token_name token.Name token_name_is (λ x free. refl)
 
-number_arms : (s : Scope) (t : Token) → Arm (Exactly spell_number Free) Anything t (numbered t)
-number_arms s (token.Number n) = arm (λ start. done n) (λ z more within. (tt, refl))
-number_arms s _ = no_arm
+abbrev pub spell_number : ℕ → List Token → List Token
+spell_number n more = token.Number n ∷ more
+
+token_number_is : (t : Token) (n : ℕ) → token_number t ≡ Some n → (t ≡ token.Number n) × Free n
+token_number_is (token.Number m) n h = (cc, tt)
+token_number_is _ n h = absurd cc
 
 pub a_number : (s : Scope) → Reader spell_number Free Anything (number s)
-unfolding number number_arms
-a_number s = exactly (by_token numbered (number_arms s) (λ n tokens more is. ((token.Number n, tt), refl, tt, sym is.1)) s)
+unfolding number
+a_number s = a_token s token_number token.Number token_number_is (λ n free. refl)
 
 pub an_operator : (s : Scope) → Reader (λ o more. token.Mark (operator_mark o) ∷ more) Free Anything (operator s)
 unfolding operator
@@ -520,9 +524,9 @@ pub record Elements {Z A : Type 0} (goes : Token → Bool) (make : Z → A) (spe
 module _ {Z A : Type 0} {goes : Token → Bool} {make : Z → A} {spell : Z → List Token → List Token}
     {Within : Z → List Token → Type 0} {one : ℕ → List Lexeme → Read A} (all : Elements goes make spell Within one) where
   -- fewer tokens are left
-  pub shortens : (i : ℕ) (ls : List Lexeme) (x : A) (rest : List Lexeme) → one i ls ≡ Ok (x, rest)
+  pub shortens : (i : ℕ) {ls : List Lexeme} {x : A} {rest : List Lexeme} → one i ls ≡ Ok (x, rest)
       → length rest < length ls
-  shortens i ls x rest h =
+  shortens i {ls} {x} {rest} h =
       let t = (all.laws i).takes ls x rest h in
       omega (arith, all.longer t.0 (kinds rest) t.2, ap length t.3, kinds_length ls, kinds_length rest)
 
@@ -567,7 +571,7 @@ module _ {Z A : Type 0} {goes : Token → Bool} {make : Z → A} {spell : Z → 
       absurd (omega (arith, room, all.longer z (spell_all spell zs more) within.0, ap length h, kinds_length ls))
   all_again i (suc n) ls (z ∷ zs) more room within ends h =
       let o = (all.laws i).again ls z (spell_all spell zs more) within.0 tt h in
-      let less = shortens i ls (make z) o.0 o.1 in
+      let less = shortens i o.1 in
       let r = all_again (i + 1) n o.0 zs more (omega (arith, less, room)) within.1 ends o.2 in (
         r.0,
         turn_at i n ls (make z) (map make zs) o.0 r.0
@@ -657,7 +661,7 @@ is_comma = is_mark mark_.Comma
 
 module _ {A : Type 0} {spell : A → List Token → List Token} {Within : A → Type 0} {one : List Lexeme → Read A} (s : Scope)
     (row : Reader spell Within Anything one) where
-  pub further_ones : Elements is_comma (λ x. x) (spell_further spell) (λ x more. Within x) (further s one)
+  pub further_ones : Elements is_comma (λ x. x) (spell_further spell) (λ x more. Within x) (λ i. further s one)
   unfolding further
   further_ones = record {
     laws = λ i. behind (this_mark s mark_.Comma) row;

@@ -58,10 +58,6 @@ module _ {A : Type 0} (goes : Token → Bool) (one : ℕ → List Lexeme → Rea
   stop front i zero ls ends = ap (λ (ys : List A). Ok (ys, ls)) (append-nil front)
   stop front i (suc n) ls ends = rw ends (ap (λ (ys : List A). Ok (ys, ls)) (append-nil front))
 
-  pub stops_here : (front : List A) (i : ℕ) (ls : List Lexeme) (total : Read (List A))
-      → StandsAt goes one front i ls total → first_is goes ls ≡ false → total ≡ Ok (front, ls)
-  stops_here front i ls total stands ends = sym stands.whole ∙ stop front i stands.most ls ends
-
   fail : (e : GrammarFault) (front : List A) (i n : ℕ) (ls : List Lexeme) (total : Read (List A)) → length ls ≤ n
       → first_is goes ls ≡ true → ReadingFails e (one i ls) → with_front front (many goes one i n ls) ≡ total → ReadingFails e total
   unfolding many and_then
@@ -77,11 +73,6 @@ module _ {A : Type 0} (goes : Token → Bool) (one : ℕ → List Lexeme → Rea
       rw (goes_so, failed) refl in
       sym so_far ∙ one
 
-  pub fails_here : (e : GrammarFault) (front : List A) (i : ℕ) (ls : List Lexeme) (total : Read (List A))
-      → StandsAt goes one front i ls total → first_is goes ls ≡ true → ReadingFails e (one i ls) → ReadingFails e total
-  fails_here e front i ls total stands goes_so failed = fail e front i stands.most ls total stands.room goes_so failed
-      stands.whole
-
   -- before the first round
   start : (n : ℕ) (ls : List Lexeme) (read : Read (List A)) → with_front [] read ≡ read
   unfolding and_then
@@ -96,24 +87,33 @@ module _ {A : Type 0} (goes : Token → Bool) (one : ℕ → List Lexeme → Rea
         start (length ls) ls (many goes one i (length ls) ls);
   }
 
+module _ {A : Type 0} {goes : Token → Bool} {one : ℕ → List Lexeme → Read A} where
+  pub stops_here : {front : List A} {i : ℕ} {ls : List Lexeme} {total : Read (List A)}
+      → StandsAt goes one front i ls total → first_is goes ls ≡ false → total ≡ Ok (front, ls)
+  stops_here {front} {i} {ls} stands ends = sym stands.whole ∙ stop goes one front i stands.most ls ends
+
+  pub fails_here : (e : GrammarFault) {front : List A} {i : ℕ} {ls : List Lexeme} {total : Read (List A)}
+      → StandsAt goes one front i ls total → first_is goes ls ≡ true → ReadingFails e (one i ls) → ReadingFails e total
+  fails_here e {front} {i} {ls} {total} stands goes_so failed =
+      fail goes one e front i stands.most ls total stands.room goes_so failed stands.whole
+
 -- ---- a loop that keeps what it read in a list, each seen by a view
 
-module _ {A C : Type 0} (view : C → A) (goes : Token → Bool) (one : ℕ → List Lexeme → Read A) where
+module _ {A C : Type 0} (view : C → A) {goes : Token → Bool} {one : ℕ → List Lexeme → Read A} where
   -- nothing is read yet
   pub at_first : (found : List C) (ls : List Lexeme) → found ≡ []
       → StandsAt goes one (map view found) (length found) ls (many goes one 0 (length ls) ls)
   at_first found ls e = rw e (begins_here goes one 0 ls)
 
   -- one more was read and kept
-  pub one_more : (old new : List C) (x : C) (ls rest : List Lexeme) (total : Read (List A))
+  pub one_more : (old : List C) (x : C) {new : List C} {ls rest : List Lexeme} {total : Read (List A)}
       → StandsAt goes one (map view old) (length old) ls total → first_is goes ls ≡ true
       → one (length old) ls ≡ Ok (view x, rest) → length rest < length ls
       → new ≡ old ++ x ∷ [] → StandsAt goes one (map view new) (length new) rest total
-  one_more old new x ls rest total stands goes_so read less e =
+  one_more old x {new} {ls} {rest} {total} stands goes_so read less e =
       let seen : map view (old ++ x ∷ []) ≡ map view old ++ view x ∷ [] = map-append view old (x ∷ []) in
       let more : length (old ++ x ∷ []) ≡ length old + 1 = length-append old (x ∷ []) in
-      rw (e, seen, more) (goes_further goes one (map view old) (length old) ls (view x) rest total stands goes_so read
-      less)
+      rw (e, seen, more) (goes_further goes one (map view old) (length old) ls (view x) rest total stands goes_so read less)
 
 -- the place moves on
 pub place_moves : (ls : List Lexeme) (p q : ℕ) → length (drop q ls) < length (drop p ls) → length ls - q < length ls - p

@@ -16,10 +16,10 @@ use Rattle.kpn_text_grammar.specs.declared.parser.Scope.{Scope}
 use Rattle.kpn_text_grammar.specs.Syntax.{NameBytes, ExpressionNode, StatementNode, assign, store, receive, send, choice, loop, Statements, no_statements, statement, as_statements}
 use Rattle.kpn_text_grammar.specs.Spelling.{kinds, SpellsAll, SpellsStatement, as_assignment, as_store, as_read, as_write, as_if, as_while, SpellsStatements, nothing, one_more, SpellsElse, left_out, behind_else, SpellsSecond, with_braces, as_branch, begins_else, inner_levels, deepest_term, BlockIsWithin}
 use Rattle.kpn_text_grammar.specs.TokenTests.{is_mark, is_keyword}
-use Rattle.kpn_text_grammar.specs.Reading.{Read, first_is, mark, is_second, assignment_behind, store_behind, target_behind, receive_behind, send_behind, else_behind, choice_behind, loop_behind, statement_behind, one_statement, declares, stands_in_block, statements_at, block_behind, opened, too_deep, is_branch, branch, block, second_block, body_behind}
-use Rattle.kpn_text_grammar.proofs.Steps.{this_mark, this_keyword, bind_ok, by_test, first_kind, is_keyword_same, no_value}
+use Rattle.kpn_text_grammar.specs.Reading.{Read, first_is, mark, is_second, assignment_behind, store_behind, target_behind, receive_behind, send_behind, else_behind, choice_behind, loop_behind, statement_behind, one_statement, declares, stands_in_block, all_of, block_behind, opened, too_deep, is_branch, branch, block, second_block}
+use Rattle.kpn_text_grammar.proofs.Steps.{this_mark, this_keyword, bind_ok, by_test, first_kind, is_keyword_same, no_value, second_is_two}
 use Rattle.kpn_text_grammar.proofs.TightLaws.{at_brace, at_bracket, at_semicolon}
-use Rattle.kpn_text_grammar.proofs.WholeLaws.{Expression, expression_of}
+use Rattle.kpn_text_grammar.proofs.WholeLaws.{Expression, expression_of, is_over}
 use Rattle.kpn_text_grammar.proofs.Readers.{Row, ReaderBy, Anything, Unless, done, behind, value, bind, mapped, As, recast, reads_by, a_name, choose, either, spell_either, Either, Arm, arm, no_arm, Begun, by_token, token_longer, begins, Elements, each_by, shortens}
 use Rattle.kpn_text_grammar.proofs.Readers as rows
 
@@ -119,10 +119,6 @@ each_is_within d (statement st ss) within = (
 
 -- ---- the test of a language
 
-second_is_two : (l : Language) → is_second l ≡ true → l ≡ language.Two
-second_is_two language.One h = absurd cc
-second_is_two language.Two h = refl
-
 and_false : (b c : Bool) → c ≡ false → (b && c) ≡ false
 and_false true c h = h
 and_false false c h = refl
@@ -193,7 +189,7 @@ module _ (s : Scope) (d : ℕ) (inner second : List Lexeme → Read Statements) 
   unfolding choice_behind
   choice_row =
       recast (bind (expression_of s) (λ e. value blocks
-      (λ a. mapped (λ b. choice e a b) else_row (λ more may. may))) (λ x z more is may. omega (arith, at_brace z.0.1)))
+      (λ a. mapped (λ b. choice e a b) else_row (λ more may. may))) (λ x z more is may. is_over s.language (token.Mark mark_.LeftBrace) z.0.1 (at_brace z.0.1)))
       there back where
         there : (z : ChoiceParts) (more : List Token) → ArePartsOf z more
             → As parts_choice parts_tokens the_choice (λ z more. z.1) ChoiceOf z more
@@ -277,11 +273,11 @@ module _ (s : Scope) (d : ℕ) (inner second : List Lexeme → Read Statements) 
       (behind (this_mark s mark_.LeftBracket) (bind (expression_of s) (λ i. behind (this_mark s mark_.RightBracket)
       (behind (this_mark s mark_.Assign) (bind (expression_of s)
       (λ e. behind (this_mark s mark_.Semicolon) (done {May = Anything} (store x i e)))
-      (λ x z more is may. omega (arith, at_semicolon more)))))
-      (λ x z more is may. omega (arith, at_bracket (token.Mark mark_.Assign ∷ z.0.1)))))
+      (λ x z more is may. is_over s.language (token.Mark mark_.Semicolon) more (at_semicolon more)))))
+      (λ x z more is may. is_over s.language (token.Mark mark_.RightBracket) (token.Mark mark_.Assign ∷ z.0.1) (at_bracket (token.Mark mark_.Assign ∷ z.0.1)))))
       (behind (this_mark s mark_.Assign) (bind (expression_of s)
       (λ e. behind (this_mark s mark_.Semicolon) (done {May = Anything} (assign x e)))
-      (λ x z more is may. omega (arith, at_semicolon more))))
+      (λ x z more is may. is_over s.language (token.Mark mark_.Semicolon) more (at_semicolon more))))
       (λ z more is may. (tt, refl)) (λ z more is may. (tt, refl)))
       (target_back x)
   statement_arms (token.Keyword keyword_.Read) =
@@ -289,12 +285,12 @@ module _ (s : Scope) (d : ℕ) (inner second : List Lexeme → Read Statements) 
       (done (receive i x))))) (λ z more is. (as_read, record { blocks = omega arith; terms = omega arith }))
   statement_arms (token.Keyword keyword_.Write) =
       arm (λ start. value (a_name s) (λ o. bind (expression_of s)
-      (λ e. behind (this_mark s mark_.Semicolon) (done (send o e))) (λ x z more is may. omega (arith, at_semicolon more))))
+      (λ e. behind (this_mark s mark_.Semicolon) (done (send o e))) (λ x z more is may. is_over s.language (token.Mark mark_.Semicolon) more (at_semicolon more))))
       (λ z more is. (as_write is.1.0.0, record { blocks = omega arith; terms = is.1.0.1 }))
   statement_arms (token.Keyword keyword_.If) = arm (λ start. choice_row) (λ z more is. is)
   statement_arms (token.Keyword keyword_.While) =
       arm (λ start. bind (expression_of s) (λ e. mapped (λ b. loop e b) blocks (λ more may. may))
-      (λ x z more is may. omega (arith, at_brace z.1)))
+      (λ x z more is may. is_over s.language (token.Mark mark_.LeftBrace) z.1 (at_brace z.1)))
       (λ z more is. (
         as_while is.0.0 is.1.0,
         record {
@@ -334,15 +330,14 @@ module _ (s : Scope) (d : ℕ) (inner second : List Lexeme → Read Statements) 
       → Begun (statement_behind s inner second) statement_arms st tokens more
   statement_parts st tokens more is = begun is.0 is.1
 
-  statement_reads : (i : ℕ)
-      → ReaderBy (StatementOf s.language d) Anything (one_statement s inner second i)
+  statement_reads : ReaderBy (StatementOf s.language d) Anything (one_statement s inner second)
   unfolding one_statement
-  statement_reads i = by_token (statement_behind s inner second) statement_arms statement_parts s
+  statement_reads = by_token (statement_behind s inner second) statement_arms statement_parts s
 
   pub statement_ones : Elements {Z = StatementNode × List Token} stands_in_block (λ z. z.0) (λ z more. z.1)
-      (λ z more. StatementOf s.language d z.0 z.1 more) (one_statement s inner second)
+      (λ z more. StatementOf s.language d z.0 z.1 more) (λ i. one_statement s inner second)
   statement_ones = record {
-    laws = statement_reads;
+    laws = λ i. statement_reads;
     starts = λ z more is. statement_starts is.0;
     longer = λ z more is.
         token_longer (statement_behind s inner second) statement_arms statement_parts z.0 z.1 more is;
@@ -351,7 +346,7 @@ module _ (s : Scope) (d : ℕ) (inner second : List Lexeme → Read Statements) 
   -- ---- blocks
 
   pub body_reads : ReaderBy (BodyOf s.language (suc d)) Anything (block_behind s inner second)
-  unfolding block_behind statements_at
+  unfolding block_behind all_of
   body_reads =
       reads_by (bind (each_by (SpellsStatement s.language) (StatementIsWithin d) statement_ones 0)
       (λ ss. behind (this_mark s mark_.RightBrace) (done {May = Anything} (as_statements ss)))
@@ -479,14 +474,14 @@ mutual
       second_reads s d (block s d) (second_block s d) (block_reads s d) (second_block_reads s d)
 
 -- the statements of a body and its closing brace
-pub whole_body_reads : (s : Scope) → ReaderBy (BodyOf s.language MAX_LEVELS) Anything (body_behind s)
-unfolding body_behind
+pub whole_body_reads : (s : Scope) → ReaderBy (BodyOf s.language MAX_LEVELS) Anything
+    (block_behind s (block s (MAX_LEVELS - 1)) (second_block s (MAX_LEVELS - 1)))
 whole_body_reads s =
     body_reads s (MAX_LEVELS - 1) (block s (MAX_LEVELS - 1)) (second_block s (MAX_LEVELS - 1))
     (block_reads s (MAX_LEVELS - 1)) (second_block_reads s (MAX_LEVELS - 1))
 
 -- a statement takes a token or more
-pub statement_shortens : (s : Scope) (d i : ℕ) (ls : List Lexeme) (st : StatementNode) (rest : List Lexeme)
-    → one_statement s (block s d) (second_block s d) i ls ≡ Ok (st, rest) → length rest < length ls
-statement_shortens s d =
-    shortens (statement_ones s d (block s d) (second_block s d) (block_reads s d) (second_block_reads s d))
+pub statement_shortens : (s : Scope) (d : ℕ) (ls : List Lexeme) {st : StatementNode} {rest : List Lexeme}
+    → one_statement s (block s d) (second_block s d) ls ≡ Ok (st, rest) → length rest < length ls
+statement_shortens s d ls =
+    shortens (statement_ones s d (block s d) (second_block s d) (block_reads s d) (second_block_reads s d)) 0

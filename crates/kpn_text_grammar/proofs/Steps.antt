@@ -4,6 +4,8 @@ use Rattle.std.specs.Str.{bytes_eq}
 use Rattle.std.proofs.lemmas.Bool.{eqb-true}
 use Rattle.std.proofs.lemmas.Slice.Eq.{bytes_eq-Decides}
 use denote.Enum.Bare.{same_true, true_same}
+use Rattle.kpn_text_tokens.specs.declared.tokens.Language.{Language}
+use Rattle.kpn_text_tokens.specs.declared.tokens.Language.TheVariants as language
 use Rattle.kpn_text_tokens.specs.declared.tokens.Lexeme.{Lexeme}
 use Rattle.kpn_text_tokens.specs.declared.tokens.Token.{Token}
 use Rattle.kpn_text_tokens.specs.declared.tokens.Token.TheVariants as token
@@ -22,11 +24,11 @@ use Rattle.kpn_net.specs.declared.tables.Policy.{Policy}
 use Rattle.kpn_net.specs.declared.tables.Policy.TheVariants as policy
 use Rattle.kpn_text_grammar.specs.Syntax.{NameBytes}
 use Rattle.kpn_text_grammar.specs.Operators.{every_operator, operator_mark, operator_of}
-use Rattle.kpn_text_grammar.specs.Words.{growth_word, growths, growth_spelled, policy_word, policies, policy_spelled}
+use Rattle.kpn_text_grammar.specs.Words.{growth_word, growth_spelled, policy_word, policy_spelled}
 use Rattle.kpn_text_grammar.specs.Spelling.{kinds}
 use Rattle.kpn_text_tokens.specs.Results.{and_then, OkOr}
 use Rattle.kpn_text_grammar.specs.TokenTests.{same_mark, same_keyword, is_mark, is_keyword, is_number_two}
-use Rattle.kpn_text_grammar.specs.Reading.{ReadingFails, ReadingGives, first_is, next, mark, keyword, token_operator, or_fault_at, two}
+use Rattle.kpn_text_grammar.specs.Reading.{ReadingFails, ReadingGives, first_is, is_second, next, mark, keyword, token_operator, or_fault_at, two}
 use Rattle.kpn_text_tokens.proofs.Pieces.{find_passes}
 
 -- the value of a step that had no fault
@@ -69,6 +71,16 @@ pub bound : {A B : Type 0} (r : Result A GrammarFault) (x : A) (f : A → Result
     → r ≡ Ok x → f x ≡ y → and_then r f ≡ y
 unfolding and_then
 bound r x f y e h = rw e h
+
+-- ---- the test of a language
+
+pub second_is_two : (l : Language) → is_second l ≡ true → l ≡ language.Two
+second_is_two language.One h = absurd cc
+second_is_two language.Two h = refl
+
+pub first_is_one : (l : Language) → is_second l ≡ false → l ≡ language.One
+first_is_one language.One h = refl
+first_is_one language.Two h = absurd cc
 
 -- ---- marks and reserved words are distinct
 
@@ -247,7 +259,7 @@ policy_found policy.All = refl
 policy_back : (n : NameBytes) (q : Policy) → policy_spelled n ≡ Some q → n ≡ policy_word q
 unfolding policy_spelled
 policy_back n q h =
-    sym ((bytes_eq-Decides (policy_word q) n).0 (find_passes (λ k. bytes_eq (policy_word k) n) policies q h))
+    sym ((bytes_eq-Decides (policy_word q) n).0 (find_passes (λ k. bytes_eq (policy_word k) n) (policy.Cycles ∷ policy.All ∷ []) q h))
 
 pub policies_spelled : Spells policy_spelled policy_word
 policies_spelled = record { back = policy_back; found = policy_found }
@@ -260,7 +272,7 @@ growth_found growth.Double = refl
 growth_back : (n : NameBytes) (g : Growth) → growth_spelled n ≡ Some g → n ≡ growth_word g
 unfolding growth_spelled
 growth_back n g h =
-    sym ((bytes_eq-Decides (growth_word g) n).0 (find_passes (λ k. bytes_eq (growth_word k) n) growths g h))
+    sym ((bytes_eq-Decides (growth_word g) n).0 (find_passes (λ k. bytes_eq (growth_word k) n) (growth.One ∷ growth.Double ∷ []) g h))
 
 pub growths_spelled : Spells growth_spelled growth_word
 growths_spelled = record { back = growth_back; found = growth_found }

@@ -1,6 +1,8 @@
--- How tight the operators of language 2 bind, and which of them go on behind a left side.
+-- How tight operators bind, and which of them go on behind a left side.
 use Rattle.std.proofs.Common.{◌≡◌, ℕ, suc, ◌<◌, ◌≤◌, Bool, true, false, cond, ◌&&◌, nat_le, List, [], ◌∷◌, Option, Some, None, Ok, refl, sym, ap, ◌∙◌, arith}
 use Rattle.std.proofs.lemmas.Bool.{and_from, and_parts, leb-true, le-leb, lt-leb}
+use Rattle.kpn_text_tokens.specs.declared.tokens.Language.{Language}
+use Rattle.kpn_text_tokens.specs.declared.tokens.Language.TheVariants as language
 use Rattle.kpn_text_tokens.specs.declared.tokens.Lexeme.{Lexeme}
 use Rattle.kpn_text_tokens.specs.declared.tokens.Token.{Token}
 use Rattle.kpn_text_tokens.specs.declared.tokens.Token.TheVariants as token
@@ -8,12 +10,12 @@ use Rattle.kpn_text_tokens.specs.declared.tokens.Mark.TheVariants as mark_
 use Rattle.kpn_text_grammar.specs.declared.parser.Scope.{Scope}
 use Rattle.kpn_lang.specs.declared.syntax.Op.{Op}
 use Rattle.kpn_lang.specs.declared.syntax.Op.TheVariants as op
-use Rattle.kpn_text_grammar.specs.Operators.{operator_mark, operator_of, tightness, left_side, right_side, LOOSEST, OPERAND}
+use Rattle.kpn_text_grammar.specs.Operators.{operator_mark, operator_of, tightness, left_side, right_side, LOOSEST, OPERAND, loosest}
 use Rattle.kpn_text_grammar.specs.Spelling.{kinds}
+use Rattle.kpn_text_grammar.specs.TokenTests.{is_mark}
 use Rattle.kpn_text_grammar.specs.Reading.{operator, token_operator, first_is, operator_fits, goes_further}
 use Rattle.kpn_text_grammar.proofs.Steps.{first_kind, operator_back}
 use Rattle.kpn_text_grammar.proofs.Readers.{begins, an_operator}
-use Rattle.kpn_text_grammar.proofs.TermLaws.{is_index, no_bracket}
 
 pub operator_takes : (s : Scope) (ls : List Lexeme) (o : Op) (rest : List Lexeme) → operator s ls ≡ Ok (o, rest)
     → kinds ls ≡ token.Mark (operator_mark o) ∷ kinds rest
@@ -22,6 +24,20 @@ operator_takes s ls o rest h =
     t.3 ∙ ap (λ (p : Op). token.Mark (operator_mark p) ∷ kinds rest) t.1
 
 -- ---- the table of operators
+
+-- `[`, which behind a name begins an index
+abbrev pub is_index : Token → Bool
+is_index = is_mark mark_.LeftBracket
+
+-- no operator is spelled `?`
+pub no_question : (o : Op) → is_mark mark_.Question (token.Mark (operator_mark o)) ≡ false
+no_question op.Add = refl
+no_question _ = refl
+
+-- no operator is spelled `[`
+pub no_bracket : (o : Op) → is_index (token.Mark (operator_mark o)) ≡ false
+no_bracket op.Add = refl
+no_bracket _ = refl
 
 pub right_below : (o : Op) → right_side o ≤ OPERAND
 right_below op.Add = omega arith
@@ -42,6 +58,15 @@ right_is_tighter _ = omega arith
 pub is_tight : (o : Op) → LOOSEST ≤ tightness o
 is_tight op.Add = omega arith
 is_tight _ = omega arith
+
+-- how tight an expression binds
+pub some_loosest : (l : Language) → 0 < loosest l
+some_loosest language.One = omega arith
+some_loosest language.Two = omega arith
+
+pub below_loosest : (l : Language) → loosest l ≤ OPERAND
+below_loosest language.One = omega arith
+below_loosest language.Two = omega arith
 
 pub below_operand : (o : Op) → tightness o < OPERAND
 below_operand op.Add = omega arith

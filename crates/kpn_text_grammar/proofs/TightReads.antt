@@ -1,7 +1,9 @@
--- What is read as an expression of language 2 follows the rules and has no more levels than it may, and what follows
+-- What is read as an expression follows the rules and has no more levels than it may, and what follows
 -- the rules is read, whatever stands behind it: to read it is to go on behind it. The canonical spelling follows them.
-use Rattle.std.proofs.Common.{◌≡◌, ◌⊎◌, inl, inr, ℕ, zero, suc, ◌+◌, ◌<◌, ◌≤◌, true, false, nat_le, cond, List, ◌∷◌, length, Result, Ok, Err, refl, sym, subst, ◌∙◌, arith}
+use Rattle.std.proofs.Common.{◌≡◌, ◌⊎◌, inl, inr, ℕ, zero, suc, ◌+◌, ◌<◌, ◌≤◌, true, false, nat_le, cond, List, ◌∷◌, length, Result, Ok, Err, refl, sym, ap, subst, ◌∙◌, arith}
 use Rattle.std.proofs.lemmas.Bool.{cond_both, leb-false, leb-true, le-leb, lt-leb}
+use Rattle.kpn_text_tokens.specs.declared.tokens.Language.{Language}
+use Rattle.kpn_text_tokens.specs.declared.tokens.Language.TheVariants as language
 use Rattle.kpn_text_tokens.specs.declared.tokens.Lexeme.{Lexeme}
 use Rattle.kpn_text_tokens.specs.declared.tokens.Token.{Token}
 use Rattle.kpn_text_tokens.specs.declared.tokens.Token.TheVariants as token
@@ -11,15 +13,14 @@ use Rattle.kpn_text_grammar.specs.declared.fault.GrammarFault.TheVariants as fau
 use Rattle.kpn_text_grammar.specs.declared.parser.Scope.{Scope}
 use Rattle.kpn_lang.specs.declared.syntax.Op.{Op}
 use Rattle.kpn_text_grammar.specs.Syntax.{NameBytes, ExpressionNode, numeral, variable, element, minus, negation, complement, binary, conditional}
-use Rattle.kpn_text_grammar.specs.Operators.{operator_mark, tightness, left_side, right_side, LOOSEST, OPERAND}
-use Rattle.kpn_text_grammar.specs.Spelling.{kinds, term_level, spell_tight, SpellsTight, as_number, as_name, as_element, as_minus, as_negation, as_complement, in_parentheses, as_conditional, as_binary}
+use Rattle.kpn_text_grammar.specs.Operators.{operator_mark, tightness, left_side, right_side, LOOSEST, OPERAND, loosest}
+use Rattle.kpn_text_grammar.specs.Spelling.{kinds, term_level, spell_term, spell_tight, SpellsTight, as_number, as_name, as_element, as_minus, as_negation, as_complement, in_parentheses, as_sides, as_conditional, as_binary}
 use Rattle.kpn_text_tokens.specs.Results.{and_then}
 use Rattle.kpn_text_grammar.specs.TokenTests.{is_mark}
-use Rattle.kpn_text_grammar.specs.Reading.{Read, next, operator, level_fault, first_is, goes_further, unless_full, sides_behind, element_behind, behind_name, conditional_behind, inside_behind, tight_operand, tight_over, tight}
-use Rattle.kpn_text_grammar.proofs.Steps.{bind_ok, bound, by_test, moved, no_value, this_mark}
-use Rattle.kpn_text_grammar.proofs.Readers.{ReaderBy, Anything, done, behind, bind, mapped, guarded, an_operator, either, spell_either, Either, choice, optional, Arm, arm, no_arm, first_token}
-use Rattle.kpn_text_grammar.proofs.TermLaws.{is_index, some_level}
-use Rattle.kpn_text_grammar.proofs.TightLaws.{operator_takes, right_below, left_below, left_is_tight, right_is_tighter, is_tight, first_tightness, at_bracket, at_close, at_question, at_colon, operator_first, no_index, looser_first, stops_first, Fits, fits_of, goes_of}
+use Rattle.kpn_text_grammar.specs.Reading.{Read, next, mark, operator, level_fault, first_is, goes_further, unless_full, sides_behind, behind_name, binary_behind, conditional_behind, is_second, inside_behind, tight_operand, tight_over, tight}
+use Rattle.kpn_text_grammar.proofs.Steps.{bind_ok, bound, by_test, first_is_one, moved, no_value, second_is_two, this_mark}
+use Rattle.kpn_text_grammar.proofs.Readers.{Row, ReaderBy, Anything, begins, done, behind, value, bind, mapped, guarded, an_operator, either, spell_either, Either, choose, choice, optional, Arm, arm, no_arm, first_token}
+use Rattle.kpn_text_grammar.proofs.TightLaws.{operator_takes, is_index, no_question, some_loosest, below_loosest, below_operand, right_below, left_below, left_is_tight, right_is_tighter, is_tight, first_tightness, at_bracket, at_close, at_question, at_colon, operator_first, no_index, looser_first, stops_first, Fits, fits_of, goes_of}
 
 -- ---- operators behind a left side
 
@@ -89,9 +90,20 @@ unfolding and_then
 in_turn (Ok x) f g = refl
 in_turn (Err e) f g = refl
 
+-- each expression has a level
+pub some_level : (e : ExpressionNode) → term_level e ≤ 0 → ⊥
+some_level (numeral n) h = omega arith
+some_level (variable x) h = omega arith
+some_level (element x e) h = omega (arith, h)
+some_level (minus e) h = omega (arith, h)
+some_level (negation e) h = omega (arith, h)
+some_level (complement e) h = omega (arith, h)
+some_level (binary op a b) h = omega (arith, h)
+some_level (conditional c a b) h = omega (arith, h)
+
 -- ---- spellings are no gaps
 
-pub tight_longer : {depth n : ℕ} {e : ExpressionNode} {tokens more : List Token} → SpellsTight depth n e tokens more
+pub tight_longer : {l : Language} {depth n : ℕ} {e : ExpressionNode} {tokens more : List Token} → SpellsTight l depth n e tokens more
     → length more < length tokens
 tight_longer as_number = omega arith
 tight_longer as_name = omega arith
@@ -99,43 +111,44 @@ tight_longer (as_element h) = omega (arith, tight_longer h)
 tight_longer (as_minus h) = omega (arith, tight_longer h)
 tight_longer (as_negation h) = omega (arith, tight_longer h)
 tight_longer (as_complement h) = omega (arith, tight_longer h)
-tight_longer (in_parentheses h) = omega (arith, tight_longer h)
+tight_longer (in_parentheses two h) = omega (arith, tight_longer h)
+tight_longer (as_sides one ha hb) = omega (arith, tight_longer ha, tight_longer hb)
 tight_longer (as_conditional hc ha hb) = omega (arith, tight_longer hc, tight_longer ha, tight_longer hb)
 tight_longer (as_binary fits ha hb) = omega (arith, tight_longer ha, tight_longer hb)
 
 -- ---- what is read is spelled so
 
 -- what was read as an expression
-record TakesTight (depth levels n : ℕ) (tokens : List Token) (e : ExpressionNode) (rest : List Lexeme) : Type 0 where
-  spelled : SpellsTight depth n e tokens (kinds rest)
+record TakesTight (l : Language) (depth levels n : ℕ) (tokens : List Token) (e : ExpressionNode) (rest : List Lexeme) : Type 0 where
+  spelled : SpellsTight l depth n e tokens (kinds rest)
   level : term_level e ≤ levels
 
 -- what was read as an operand or a left side: it binds as tight as this
-record TakesBound (depth levels bound : ℕ) (tokens : List Token) (e : ExpressionNode) (rest : List Lexeme) : Type 0 where
-  spelled : (n : ℕ) → n ≤ bound → SpellsTight depth n e tokens (kinds rest)
+record TakesBound (l : Language) (depth levels bound : ℕ) (tokens : List Token) (e : ExpressionNode) (rest : List Lexeme) : Type 0 where
+  spelled : (n : ℕ) → n ≤ bound → SpellsTight l depth n e tokens (kinds rest)
   level : term_level e ≤ levels
 
 -- a right side, by the number of its levels
-abbrev Sides : (depth levels : ℕ) → (ℕ → List Lexeme → Read ExpressionNode) → Type 0
-Sides depth levels side = (n : ℕ) (ls : List Lexeme) (e : ExpressionNode) (rest : List Lexeme) → n ≤ OPERAND
-    → side n ls ≡ Ok (e, rest) → TakesTight depth levels n (kinds ls) e rest
+abbrev Sides : Language → (depth levels : ℕ) → (ℕ → List Lexeme → Read ExpressionNode) → Type 0
+Sides l depth levels side = (n : ℕ) (ls : List Lexeme) (e : ExpressionNode) (rest : List Lexeme) → n ≤ OPERAND
+    → side n ls ≡ Ok (e, rest) → TakesTight l depth levels n (kinds ls) e rest
 
-module _ (s : Scope) (depth d n : ℕ) (side : ℕ → List Lexeme → Read ExpressionNode) (laws : Sides depth d side) where
+module _ (s : Scope) (depth d n : ℕ) (side : ℕ → List Lexeme → Read ExpressionNode) (laws : Sides s.language depth d side) where
   bound_left : (bound : ℕ) (tokens : List Token) (left : ExpressionNode) (ls : List Lexeme) (e : ExpressionNode) (rest : List Lexeme)
-      → n ≤ bound → TakesBound depth (suc d) bound tokens left ls → ◌≡◌ {A = Read ExpressionNode} (Ok (left, ls)) (Ok (e, rest))
-      → TakesTight depth (suc d) n tokens e rest
+      → n ≤ bound → TakesBound s.language depth (suc d) bound tokens left ls → ◌≡◌ {A = Read ExpressionNode} (Ok (left, ls)) (Ok (e, rest))
+      → TakesTight s.language depth (suc d) n tokens e rest
   bound_left bound tokens left ls e rest tight_enough t h =
-      moved (λ (p : ExpressionNode × List Lexeme). TakesTight depth (suc d) n tokens p.0 p.1) (left, ls) (e, rest) h
+      moved (λ (p : ExpressionNode × List Lexeme). TakesTight s.language depth (suc d) n tokens p.0 p.1) (left, ls) (e, rest) h
       (record { spelled = t.spelled n tight_enough; level = t.level })
 
   -- an operator and its right side more
   one_more : (bound : ℕ) (tokens : List Token) (left : ExpressionNode) (ls : List Lexeme) (o : Op) (after : List Lexeme) (b : ExpressionNode)
-      (rest : List Lexeme) → Fits n bound o → TakesBound depth (suc d) bound tokens left ls
+      (rest : List Lexeme) → Fits n bound o → TakesBound s.language depth (suc d) bound tokens left ls
       → kinds ls ≡ token.Mark (operator_mark o) ∷ kinds after → term_level left < suc d
-      → TakesTight depth d (right_side o) (kinds after) b rest
-      → TakesBound depth (suc d) (tightness o) tokens (binary o left b) rest
+      → TakesTight s.language depth d (right_side o) (kinds after) b rest
+      → TakesBound s.language depth (suc d) (tightness o) tokens (binary o left b) rest
   one_more bound tokens left ls o after b rest fits t sign room right = record {
-    spelled = λ k le. as_binary le (subst (λ (ts : List Token). SpellsTight depth (left_side o) left tokens ts) sign
+    spelled = λ k le. as_binary le (subst (λ (ts : List Token). SpellsTight s.language depth (left_side o) left tokens ts) sign
         (t.spelled (left_side o) fits.left)) right.spelled;
     level = omega (arith, room, right.level);
   }
@@ -146,8 +159,8 @@ module _ (s : Scope) (depth d n : ℕ) (side : ℕ → List Lexeme → Read Expr
       (λ right. sides_behind s side (suc d) n steps (tightness o.0) (binary o.0 left right.0) right.1))
 
   sides_take : (steps bound : ℕ) (tokens : List Token) (left : ExpressionNode) (ls : List Lexeme) (e : ExpressionNode) (rest : List Lexeme)
-      → n ≤ bound → TakesBound depth (suc d) bound tokens left ls
-      → sides_behind s side (suc d) n steps bound left ls ≡ Ok (e, rest) → TakesTight depth (suc d) n tokens e rest
+      → n ≤ bound → TakesBound s.language depth (suc d) bound tokens left ls
+      → sides_behind s side (suc d) n steps bound left ls ≡ Ok (e, rest) → TakesTight s.language depth (suc d) n tokens e rest
   unfolding sides_behind
   sides_take zero bound tokens left ls e rest tight_enough t h =
       by_test (first_is (goes_further n bound) ls) (Err (fault.TooDeep s.process)) (Ok (left, ls)) (Ok (e, rest)) h
@@ -172,20 +185,20 @@ module _ (s : Scope) (depth d n : ℕ) (side : ℕ → List Lexeme → Read Expr
 -- ---- operands, by readers of what stands in them
 
 -- an expression as tight as this, of at most so many levels
-abbrev pub Tight : (depth levels n : ℕ) → ExpressionNode → List Token → List Token → Type 0
-Tight depth levels n e tokens more = SpellsTight depth n e tokens more × (term_level e ≤ levels)
+abbrev pub Tight : Language → (depth levels n : ℕ) → ExpressionNode → List Token → List Token → Type 0
+Tight l depth levels n e tokens more = SpellsTight l depth n e tokens more × (term_level e ≤ levels)
 
 -- what follows binds looser
 abbrev pub Looser : ℕ → List Token → Type 0
 Looser n more = first_tightness more < n
 
-abbrev ReadsTight : ℕ → (ℕ → ℕ → List Lexeme → Read ExpressionNode) → Type 0
-ReadsTight depth inner =
-    (levels n : ℕ) → n ≤ OPERAND → ReaderBy (Tight depth levels n) (Looser n) (inner levels n)
+abbrev ReadsTight : Language → ℕ → (ℕ → ℕ → List Lexeme → Read ExpressionNode) → Type 0
+ReadsTight l depth inner =
+    (levels n : ℕ) → n ≤ OPERAND → ReaderBy (Tight l depth levels n) (Looser n) (inner levels n)
 
-abbrev OperandOf : (depth levels : ℕ) → ExpressionNode → List Token → List Token → Type 0
-OperandOf depth levels e tokens more =
-    ((n : ℕ) → n ≤ OPERAND → SpellsTight depth n e tokens more) × (term_level e ≤ levels)
+abbrev OperandOf : Language → (depth levels : ℕ) → ExpressionNode → List Token → List Token → Type 0
+OperandOf l depth levels e tokens more =
+    ((n : ℕ) → n ≤ OPERAND → SpellsTight l depth n e tokens more) × (term_level e ≤ levels)
 
 -- no operand and no `[` follows
 abbrev Ends : List Token → Type 0
@@ -194,55 +207,122 @@ Ends more = first_tightness more ≤ OPERAND
 abbrev Spelled : Type 0
 Spelled = ExpressionNode × List Token
 
-module _ (s : Scope) (depth d : ℕ) (laws : ReadsTight depth (tight s depth)) where
+module _ (s : Scope) (depth d : ℕ) (laws : ReadsTight s.language depth (tight s depth)) where
+  abbrev least : ℕ
+  least = loosest s.language
+
+  -- a part, as loose as any
+  abbrev Part : ExpressionNode → List Token → List Token → Type 0
+  Part = Tight s.language depth d least
+
+  inside_laws : ReaderBy Part (Looser least) (tight s depth d least)
+  inside_laws = laws d least (below_loosest s.language)
+
+  closes : (t : Token) (more : List Token) → first_tightness (t ∷ more) ≡ 0 → Looser least (t ∷ more)
+  closes t more h = omega (arith, h, some_loosest s.language)
+
   name_back : (x : NameBytes) (z : (Spelled × Unit {0}) ⊎ Unit {0}) (more : List Token)
-      → Either (λ (z : Spelled × Unit {0}) more. Tight depth d LOOSEST z.0.0 z.0.1 (token.Mark mark_.RightBracket ∷ more)
-      × Unit {0}) (λ (u : Unit {0}) more. Unit {0}) z more
-      → OperandOf (suc depth) (suc d) (either (λ (z : Spelled × Unit {0}). element x z.0.0) (λ (u : Unit {0}). variable x) z)
+      → Either (λ (z : Spelled × Unit {0}) more. Part z.0.0 z.0.1 (token.Mark mark_.RightBracket ∷ more) × Unit {0})
+      (λ (u : Unit {0}) more. Unit {0}) z more
+      → OperandOf s.language (suc depth) (suc d)
+      (either (λ (z : Spelled × Unit {0}). element x z.0.0) (λ (u : Unit {0}). variable x) z)
       (token.Name x ∷ spell_either (λ (z : Spelled × Unit {0}) more. token.Mark mark_.LeftBracket ∷ z.0.1)
       (λ (u : Unit {0}) more. more) z more) more
   name_back x (inl z) more is = ((λ n small. as_element is.0.0), omega (arith, is.0.1))
   name_back x (inr u) more is = ((λ n small. as_name), omega arith)
 
-  -- behind the first expression in parentheses: `?` and two more, or the end
+  -- behind the first expression in parentheses: `?` and two more, the end, or an operator and one more
+  abbrev Choices : Type 0
+  Choices = Spelled × (Spelled × Unit {0})
+
+  abbrev Right : Type 0
+  Right = Op × (Spelled × Unit {0})
+
   abbrev Inside : Type 0
-  Inside = (Spelled × (Spelled × Unit {0})) ⊎ Unit {0}
+  Inside = Choices ⊎ (Unit {0} ⊎ Right)
 
   abbrev inside_tokens : Inside → List Token → List Token
-  inside_tokens = spell_either (λ (z : Spelled × (Spelled × Unit {0})) more. token.Mark mark_.Question ∷ z.0.1)
-      (λ (u : Unit {0}) more. token.Mark mark_.RightParen ∷ more)
+  inside_tokens = spell_either (λ (z : Choices) more. token.Mark mark_.Question ∷ z.0.1)
+      (spell_either (λ (u : Unit {0}) more. token.Mark mark_.RightParen ∷ more)
+      (λ (z : Right) more. token.Mark (operator_mark z.0) ∷ z.1.0.1))
+
+  abbrev made_of : ExpressionNode → Inside → ExpressionNode
+  made_of c = either (λ (z : Choices). conditional c z.0.0 z.1.0.0)
+      (either (λ (u : Unit {0}). c) (λ (z : Right). binary z.0 c z.1.0.0))
+
+  abbrev RightOf : ExpressionNode → Right → List Token → Type 0
+  RightOf c z more =
+      (nat_le (suc d) (term_level c) ≡ false)
+      × (Unit {0} × (Part z.1.0.0 z.1.0.1 (token.Mark mark_.RightParen ∷ more) × Unit {0}))
 
   abbrev InsideOf : ExpressionNode → Inside → List Token → Type 0
-  InsideOf c = Either (λ (z : Spelled × (Spelled × Unit {0})) more. (nat_le (suc d) (term_level c) ≡ false)
-      × (Tight depth d LOOSEST z.0.0 z.0.1 (token.Mark mark_.Colon ∷ z.1.0.1)
-      × (Tight depth d LOOSEST z.1.0.0 z.1.0.1 (token.Mark mark_.RightParen ∷ more) × Unit {0})))
-      (λ (u : Unit {0}) more. Unit {0})
+  InsideOf c = Either (λ (z : Choices) more. (nat_le (suc d) (term_level c) ≡ false)
+      × (Part z.0.0 z.0.1 (token.Mark mark_.Colon ∷ z.1.0.1)
+      × (Part z.1.0.0 z.1.0.1 (token.Mark mark_.RightParen ∷ more) × Unit {0})))
+      (Either (λ (u : Unit {0}) more. s.language ≡ language.Two)
+      (λ (z : Right) more. (s.language ≡ language.One) × RightOf c z more))
 
   inside_looser : (c : ExpressionNode) (z : Inside) (more : List Token) → InsideOf c z more
-      → Looser LOOSEST (inside_tokens z more)
-  inside_looser c (inl z) more is = omega (arith, at_question z.0.1)
-  inside_looser c (inr u) more is = omega (arith, at_close more)
+      → Looser least (inside_tokens z more)
+  inside_looser c (inl z) more is = closes (token.Mark mark_.Question) z.0.1 (at_question z.0.1)
+  inside_looser c (inr (inl u)) more is = closes (token.Mark mark_.RightParen) more (at_close more)
+  inside_looser c (inr (inr z)) more is =
+      let one : least ≡ OPERAND = ap loosest is.0 in
+      omega (arith, operator_first z.0 z.1.0.1, below_operand z.0, one)
 
   inside_back : (c : Spelled) (z : Inside) (more : List Token)
-      → Tight depth (suc d) LOOSEST c.0 c.1 (inside_tokens z more) → InsideOf c.0 z more
-      → OperandOf (suc depth) (suc d)
-      (either (λ (z : Spelled × (Spelled × Unit {0})). conditional c.0 z.0.0 z.1.0.0) (λ (u : Unit {0}). c.0) z)
-      (token.Mark mark_.LeftParen ∷ c.1) more
+      → Tight s.language depth (suc d) least c.0 c.1 (inside_tokens z more) → InsideOf c.0 z more
+      → OperandOf s.language (suc depth) (suc d) (made_of c.0 z) (token.Mark mark_.LeftParen ∷ c.1) more
   inside_back c (inl z) more first is = (
     (λ n small. as_conditional first.0 is.1.0.0 is.1.1.0.0),
     omega (arith, leb-false (suc d) (term_level c.0) is.0, is.1.0.1, is.1.1.0.1),
   )
-  inside_back c (inr u) more first is = ((λ n small. in_parentheses first.0), first.1)
+  inside_back c (inr (inl u)) more first is = (
+    (λ n small. in_parentheses is (subst (λ (l : Language). SpellsTight s.language depth (loosest l) c.0 c.1
+        (token.Mark mark_.RightParen ∷ more)) is first.0)),
+    first.1,
+  )
+  inside_back c (inr (inr z)) more first is = (
+    (λ n small. as_sides is.0 (subst (λ (l : Language). SpellsTight s.language depth (loosest l) c.0 c.1
+        (token.Mark (operator_mark z.0) ∷ z.1.0.1)) is.0 first.0)
+        (subst (λ (l : Language). SpellsTight s.language depth (loosest l) z.1.0.0 z.1.0.1
+        (token.Mark mark_.RightParen ∷ more)) is.0 is.1.1.1.0.0)),
+    omega (arith, leb-false (suc d) (term_level c.0) is.1.0, is.1.1.1.0.1),
+  )
 
-  operand_arms : (t : Token) → Arm (OperandOf (suc depth) (suc d)) Ends t (tight_operand s (tight s depth) d t)
-  unfolding tight_operand behind_name element_behind inside_behind conditional_behind
+  -- behind the first expression, if no `?` follows
+  closed_row : (c : ExpressionNode) → Row (either (λ (u : Unit {0}). c) (λ (z : Right). binary z.0 c z.1.0.0))
+      (spell_either (λ (u : Unit {0}) more. token.Mark mark_.RightParen ∷ more)
+      (λ (z : Right) more. token.Mark (operator_mark z.0) ∷ z.1.0.1))
+      (Either (λ (u : Unit {0}) more. s.language ≡ language.Two)
+      (λ (z : Right) more. (s.language ≡ language.One) × RightOf c z more)) Anything
+      (λ ls. cond (is_second s.language) (and_then (mark s mark_.RightParen ls) (λ rest. Ok (c, rest)))
+      (unless_full s (suc d) c (binary_behind s (tight s depth d least) c ls)))
+  unfolding binary_behind
+  closed_row c =
+      choose (λ ls. is_second s.language) (λ u more. s.language ≡ language.Two)
+      (λ z more. (s.language ≡ language.One) × RightOf c z more)
+      (behind (this_mark s mark_.RightParen) (done {May = Anything} c))
+      (guarded (nat_le (suc d) (term_level c)) (fault.TooDeep s.process) (value (an_operator s) (λ o. bind inside_laws
+      (λ b. behind (this_mark s mark_.RightParen) (done {May = Anything} (binary o c b)))
+      (λ x z more is may. closes (token.Mark mark_.RightParen) more (at_close more)))))
+      (λ ls u more second h is. second_is_two s.language second) (λ ls z more first h is. (first_is_one s.language first, is))
+      (λ ls u more h is may. (ap is_second is, tt, tt)) (λ ls z more h is may. (ap is_second is.0, is.1, tt))
+      (λ u more is. tt) (λ z more is. is.1)
+
+  closed_first : (z : Unit {0} ⊎ Right) (more : List Token)
+      → begins (is_mark mark_.Question) (inside_tokens (inr z) more) ≡ false
+  closed_first (inl u) more = refl
+  closed_first (inr z) more = no_question z.0
+
+  operand_arms : (t : Token) → Arm (OperandOf s.language (suc depth) (suc d)) Ends t (tight_operand s (tight s depth) d t)
+  unfolding tight_operand behind_name inside_behind conditional_behind
   operand_arms (token.Number k) =
       arm (λ start. done (numeral k)) (λ z more is. ((λ n small. as_number), omega arith))
   operand_arms (token.Name x) =
-      arm (λ start. optional is_index (variable x) (behind (this_mark s mark_.LeftBracket)
-      (bind (laws d LOOSEST (omega arith))
+      arm (λ start. optional is_index (variable x) (behind (this_mark s mark_.LeftBracket) (bind inside_laws
       (λ e. behind (this_mark s mark_.RightBracket) (done {May = Anything} (element x e)))
-      (λ x z more is may. omega (arith, at_bracket more))))
+      (λ x z more is may. closes (token.Mark mark_.RightBracket) more (at_bracket more))))
       (λ more may. (tt, no_index more may)) (λ z more is. refl)) (name_back x)
   operand_arms (token.Mark mark_.Minus) =
       arm (λ start. mapped (λ e. minus e) (laws d OPERAND (omega arith)) looser_first)
@@ -254,13 +334,14 @@ module _ (s : Scope) (depth d : ℕ) (laws : ReadsTight depth (tight s depth)) w
       arm (λ start. mapped (λ e. complement e) (laws d OPERAND (omega arith)) looser_first)
       (λ z more is. ((λ n small. as_complement is.0), omega (arith, is.1)))
   operand_arms (token.Mark mark_.LeftParen) =
-      arm (λ start. bind (laws (suc d) LOOSEST (omega arith)) (λ c. choice (is_mark mark_.Question)
+      arm (λ start. bind (laws (suc d) least (below_loosest s.language)) (λ c. choice (is_mark mark_.Question)
       (guarded (nat_le (suc d) (term_level c)) (fault.TooDeep s.process) (behind (this_mark s mark_.Question)
-      (bind (laws d LOOSEST (omega arith)) (λ a. behind (this_mark s mark_.Colon) (bind (laws d LOOSEST (omega arith))
+      (bind inside_laws (λ a. behind (this_mark s mark_.Colon) (bind inside_laws
       (λ b. behind (this_mark s mark_.RightParen) (done {May = Anything} (conditional c a b)))
-      (λ x z more is may. omega (arith, at_close more)))) (λ x z more is may. omega (arith, at_colon z.0.1)))))
-      (behind (this_mark s mark_.RightParen) (done {May = Anything} c))
-      (λ z more is may. (tt, refl)) (λ u more is may. (tt, refl)))
+      (λ x z more is may. closes (token.Mark mark_.RightParen) more (at_close more))))
+      (λ x z more is may. closes (token.Mark mark_.Colon) z.0.1 (at_colon z.0.1)))))
+      (closed_row c)
+      (λ z more is may. (tt, refl)) (λ z more is may. (tt, closed_first z more)))
       (λ c z more is may. inside_looser c z more is))
       (λ z more is. inside_back z.0 z.1 more is.0 is.1)
   operand_arms _ = no_arm
@@ -269,12 +350,12 @@ module _ (s : Scope) (depth d : ℕ) (laws : ReadsTight depth (tight s depth)) w
   an_operand ls = and_then (next s ls) (λ l. tight_operand s (tight s depth) d l.0.token l.0.start l.1)
 
   operand_takes : (ls : List Lexeme) (e : ExpressionNode) (rest : List Lexeme) → an_operand ls ≡ Ok (e, rest)
-      → TakesBound (suc depth) (suc d) OPERAND (kinds ls) e rest
+      → TakesBound s.language (suc depth) (suc d) OPERAND (kinds ls) e rest
   operand_takes ls e rest h =
       let t = (first_token (tight_operand s (tight s depth) d) operand_arms s).takes ls e rest h in
-      let is = subst (λ (ts : List Token). OperandOf (suc depth) (suc d) ((operand_arms t.0.0).make t.0.1) ts (kinds rest))
+      let is = subst (λ (ts : List Token). OperandOf s.language (suc depth) (suc d) ((operand_arms t.0.0).make t.0.1) ts (kinds rest))
       (sym t.3) ((operand_arms t.0.0).back t.0.1 (kinds rest) t.2) in
-      subst (λ (x : ExpressionNode). TakesBound (suc depth) (suc d) OPERAND (kinds ls) x rest) t.1
+      subst (λ (x : ExpressionNode). TakesBound s.language (suc depth) (suc d) OPERAND (kinds ls) x rest) t.1
       (record { spelled = is.0; level = is.1 })
 
   operand_at : (n : ℕ) (ls : List Lexeme) (e : ExpressionNode) (rest : List Lexeme) → an_operand ls ≡ Ok (e, rest)
@@ -303,8 +384,8 @@ module _ (s : Scope) (depth d : ℕ) (laws : ReadsTight depth (tight s depth)) w
 
   -- ---- the lemma of reading, by a reader of right sides
 
-  module _ (sides : (n : ℕ) → n ≤ OPERAND → ReaderBy (Tight (suc depth) d n) (Looser n) (tight s (suc depth) d n)) where
-    reads_on : {k : ℕ} {e : ExpressionNode} {tokens more : List Token} → SpellsTight (suc depth) k e tokens more → (n : ℕ)
+  module _ (sides : (n : ℕ) → n ≤ OPERAND → ReaderBy (Tight s.language (suc depth) d n) (Looser n) (tight s (suc depth) d n)) where
+    reads_on : {k : ℕ} {e : ExpressionNode} {tokens more : List Token} → SpellsTight s.language (suc depth) k e tokens more → (n : ℕ)
         (ls : List Lexeme) → k ≤ OPERAND → n ≤ k → term_level e ≤ suc d → first_tightness more ≤ k → kinds ls ≡ tokens
         → ReadsOn s (suc depth) d n k e more ls
     unfolding operand_arms
@@ -324,9 +405,40 @@ module _ (s : Scope) (depth d : ℕ) (laws : ReadsTight depth (tight s depth)) w
     reads_on (as_complement {n = k} {e} {tokens} {more} he) n ls small tight_enough level ends h =
         operand_on n k (token.Mark mark_.BitNot, (e, tokens)) more ls small (he, omega (arith, level))
         (omega (arith, small, ends)) h
-    reads_on (in_parentheses {n = k} {e} {tokens} {more} he) n ls small tight_enough level ends h =
-        operand_on n k (token.Mark mark_.LeftParen, ((e, tokens), inr tt)) more ls small ((he, level), tt)
-        (omega (arith, small, ends)) h
+    reads_on (in_parentheses {n = k} {e} {tokens} {more} two he) n ls small tight_enough level ends h =
+        operand_on n k (token.Mark mark_.LeftParen, ((e, tokens), inr (inl tt))) more ls small (
+          (
+            subst (λ (l : Language). SpellsTight s.language depth (loosest l) e tokens (token.Mark mark_.RightParen ∷ more))
+                (sym two) he,
+            level,
+          ),
+          two,
+        ) (omega (arith, small, ends)) h
+    reads_on (as_sides {n = k} {op = o} {a} {b} {at_a} {at_b} {more} one ha hb) n ls small tight_enough level ends h =
+        operand_on n k (token.Mark mark_.LeftParen, ((a, at_a), inr (inr (o, ((b, at_b), tt))))) more ls small (
+          (
+            subst (λ (l : Language). SpellsTight s.language depth (loosest l) a at_a (token.Mark (operator_mark o) ∷ at_b))
+                (sym one) ha,
+            omega (arith, level),
+          ),
+          (
+            one,
+            (
+              lt-leb (suc d) (term_level a) (omega (arith, level)),
+              (
+                tt,
+                (
+                  (
+                    subst (λ (l : Language). SpellsTight s.language depth (loosest l) b at_b (token.Mark mark_.RightParen ∷ more))
+                        (sym one) hb,
+                    omega (arith, level),
+                  ),
+                  tt,
+                ),
+              ),
+            ),
+          ),
+        ) (omega (arith, small, ends)) h
     reads_on (as_conditional {n = k} {c} {a} {b} {at_c} {at_a} {at_b} {more} hc ha hb) n ls small tight_enough level ends
         h =
         operand_on n k (token.Mark mark_.LeftParen, ((c, at_c), inl ((a, at_a), ((b, at_b), tt)))) more ls small (
@@ -355,7 +467,7 @@ module _ (s : Scope) (depth d : ℕ) (laws : ReadsTight depth (tight s depth)) w
 
 -- ---- expressions by their depth and their levels
 
-no_depth : {n : ℕ} {e : ExpressionNode} {tokens more : List Token} → SpellsTight 0 n e tokens more → ⊥
+no_depth : {l : Language} {n : ℕ} {e : ExpressionNode} {tokens more : List Token} → SpellsTight l 0 n e tokens more → ⊥
 no_depth (as_binary fits ha hb) = no_depth ha
 
 deep_takes : (s : Scope) (ls : List Lexeme) (e : ExpressionNode) (rest : List Lexeme)
@@ -364,18 +476,18 @@ deep_takes s ls e rest h =
     let b = bind_ok {B = ExpressionNode × List Lexeme} (next s ls) (λ x. Err (level_fault s x.0)) (e, rest) h in
     no_value {A = ExpressionNode × List Lexeme} (level_fault s b.0.0) (e, rest) b.2
 
-module _ (s : Scope) (depth : ℕ) (laws : ReadsTight depth (tight s depth)) where
-  module _ (d : ℕ) (sides : (n : ℕ) → n ≤ OPERAND → ReaderBy (Tight (suc depth) d n) (Looser n) (tight s (suc depth) d n)) where
-    side_takes : Sides (suc depth) d (tight s (suc depth) d)
+module _ (s : Scope) (depth : ℕ) (laws : ReadsTight s.language depth (tight s depth)) where
+  module _ (d : ℕ) (sides : (n : ℕ) → n ≤ OPERAND → ReaderBy (Tight s.language (suc depth) d n) (Looser n) (tight s (suc depth) d n)) where
+    side_takes : Sides s.language (suc depth) d (tight s (suc depth) d)
     side_takes k ls e rest le h =
         let t = (sides k le).takes ls e rest h in
-        subst (λ (x : ExpressionNode). TakesTight (suc depth) d k (kinds ls) x rest) t.1 (record {
-          spelled = subst (λ (ts : List Token). SpellsTight (suc depth) k t.0.0 ts (kinds rest)) (sym t.3) t.2.0;
+        subst (λ (x : ExpressionNode). TakesTight s.language (suc depth) d k (kinds ls) x rest) t.1 (record {
+          spelled = subst (λ (ts : List Token). SpellsTight s.language (suc depth) k t.0.0 ts (kinds rest)) (sym t.3) t.2.0;
           level = t.2.1;
         })
 
     over_takes : (n : ℕ) (ls : List Lexeme) (e : ExpressionNode) (rest : List Lexeme) → n ≤ OPERAND
-        → tight s (suc depth) (suc d) n ls ≡ Ok (e, rest) → TakesTight (suc depth) (suc d) n (kinds ls) e rest
+        → tight s (suc depth) (suc d) n ls ≡ Ok (e, rest) → TakesTight s.language (suc depth) (suc d) n (kinds ls) e rest
     unfolding tight tight_over
     over_takes n ls e rest small h =
         let x = bind_ok (next s ls) _ (e, rest) h in
@@ -385,7 +497,7 @@ module _ (s : Scope) (depth : ℕ) (laws : ReadsTight depth (tight s depth)) whe
         sides_take s (suc depth) d n (tight s (suc depth) d) side_takes (suc d) OPERAND (kinds ls) a.0.0 a.0.1 e rest
         small operand a.2
 
-  over_reads : ReadsTight (suc depth) (tight s (suc depth))
+  over_reads : ReadsTight s.language (suc depth) (tight s (suc depth))
   unfolding tight tight_over
   over_reads zero n small = record {
     takes = λ ls e rest h. absurd (deep_takes s ls e rest h);
@@ -407,7 +519,7 @@ module _ (s : Scope) (depth : ℕ) (laws : ReadsTight depth (tight s depth)) whe
     no_gap = λ z more is. omega (arith, tight_longer is.0);
   }
 
-pub tight_reads : (s : Scope) (depth : ℕ) → ReadsTight depth (tight s depth)
+pub tight_reads : (s : Scope) (depth : ℕ) → ReadsTight s.language depth (tight s depth)
 unfolding tight
 tight_reads s zero levels n small = record {
   takes = λ ls e rest h. absurd (deep_takes s ls e rest h);
@@ -417,26 +529,26 @@ tight_reads s zero levels n small = record {
 tight_reads s (suc depth) levels n small = over_reads s depth (tight_reads s depth) levels n small
 
 pub tight_takes : (s : Scope) (depth levels n : ℕ) (ls : List Lexeme) (e : ExpressionNode) (rest : List Lexeme)
-    → n ≤ OPERAND → tight s depth levels n ls ≡ Ok (e, rest) → Tight depth levels n e (kinds ls) (kinds rest)
+    → n ≤ OPERAND → tight s depth levels n ls ≡ Ok (e, rest) → Tight s.language depth levels n e (kinds ls) (kinds rest)
 tight_takes s depth levels n ls e rest small h =
     let t = (tight_reads s depth levels n small).takes ls e rest h in
-    subst (λ (x : ExpressionNode). Tight depth levels n x (kinds ls) (kinds rest)) t.1
-    (subst (λ (ts : List Token). Tight depth levels n t.0.0 ts (kinds rest)) (sym t.3) t.2)
+    subst (λ (x : ExpressionNode). Tight s.language depth levels n x (kinds ls) (kinds rest)) t.1
+    (subst (λ (ts : List Token). Tight s.language depth levels n t.0.0 ts (kinds rest)) (sym t.3) t.2)
 
 -- ---- the canonical spelling
 
 spell_binary : (depth n : ℕ) (o : Op) (a b : ExpressionNode) (at_a inside_a more : List Token)
-    → (n ≤ tightness o → SpellsTight depth n (binary o a b) at_a more)
-    → SpellsTight depth n (binary o a b) (token.Mark mark_.LeftParen ∷ inside_a) more
-    → SpellsTight depth n (binary o a b)
+    → (n ≤ tightness o → SpellsTight language.Two depth n (binary o a b) at_a more)
+    → SpellsTight language.Two depth n (binary o a b) (token.Mark mark_.LeftParen ∷ inside_a) more
+    → SpellsTight language.Two depth n (binary o a b)
     (cond (nat_le n (tightness o)) at_a (token.Mark mark_.LeftParen ∷ inside_a)) more
 spell_binary depth n o a b at_a inside_a more bare inside =
     cond_both (nat_le n (tightness o)) at_a (token.Mark mark_.LeftParen ∷ inside_a)
-    (λ (ts : List Token). SpellsTight depth n (binary o a b) ts more)
+    (λ (ts : List Token). SpellsTight language.Two depth n (binary o a b) ts more)
     (λ e. bare (leb-true n (tightness o) e)) (λ _. inside)
 
 pub canonical_tight : (e : ExpressionNode) (depth n : ℕ) (more : List Token) → term_level e ≤ depth
-    → SpellsTight depth n e (spell_tight n e more) more
+    → SpellsTight language.Two depth n e (spell_tight n e more) more
 canonical_tight e zero n more level = absurd (some_level e level)
 canonical_tight (numeral k) (suc depth) n more level = as_number
 canonical_tight (variable x) (suc depth) n more level = as_name
@@ -452,9 +564,30 @@ canonical_tight (binary o a b) (suc depth) n more level =
     spell_binary (suc depth) n o a b _ _ more
     (λ fits. as_binary fits (canonical_tight a (suc depth) (left_side o) _ (omega (arith, level)))
     (canonical_tight b (suc depth) (right_side o) more (omega (arith, level))))
-    (in_parentheses (as_binary (is_tight o) (canonical_tight a depth (left_side o) _ (omega (arith, level)))
+    (in_parentheses refl (as_binary (is_tight o) (canonical_tight a depth (left_side o) _ (omega (arith, level)))
     (canonical_tight b depth (right_side o) (token.Mark mark_.RightParen ∷ more) (omega (arith, level)))))
 canonical_tight (conditional c a b) (suc depth) n more level =
     as_conditional (canonical_tight c depth LOOSEST _ (omega (arith, level)))
     (canonical_tight a depth LOOSEST _ (omega (arith, level)))
     (canonical_tight b depth LOOSEST _ (omega (arith, level)))
+
+-- the same in language 1
+pub canonical_term : (e : ExpressionNode) (depth n : ℕ) (more : List Token) → term_level e ≤ depth
+    → SpellsTight language.One depth n e (spell_term e more) more
+canonical_term e zero n more level = absurd (some_level e level)
+canonical_term (numeral k) (suc depth) n more level = as_number
+canonical_term (variable x) (suc depth) n more level = as_name
+canonical_term (element x e) (suc depth) n more level =
+    as_element (canonical_term e depth OPERAND _ (omega (arith, level)))
+canonical_term (minus e) (suc depth) n more level = as_minus (canonical_term e depth OPERAND more (omega (arith, level)))
+canonical_term (negation e) (suc depth) n more level =
+    as_negation (canonical_term e depth OPERAND more (omega (arith, level)))
+canonical_term (complement e) (suc depth) n more level =
+    as_complement (canonical_term e depth OPERAND more (omega (arith, level)))
+canonical_term (binary o a b) (suc depth) n more level =
+    as_sides refl (canonical_term a depth OPERAND _ (omega (arith, level)))
+    (canonical_term b depth OPERAND _ (omega (arith, level)))
+canonical_term (conditional c a b) (suc depth) n more level =
+    as_conditional (canonical_term c depth OPERAND _ (omega (arith, level)))
+    (canonical_term a depth OPERAND _ (omega (arith, level)))
+    (canonical_term b depth OPERAND _ (omega (arith, level)))

@@ -7,8 +7,8 @@ use Rattle.kpn_text_tokens.specs.declared.tokens.Mark.TheVariants as mark_
 use Rattle.kpn_text_grammar.specs.declared.parser.Scope.{Scope}
 use Rattle.kpn_text_grammar.specs.Syntax.{Literal, plain, negated}
 use Rattle.kpn_text_grammar.specs.Spelling.{spell_list, spell_literal}
-use Rattle.kpn_text_grammar.specs.Reading.{further, literal_behind, literal, values}
-use Rattle.kpn_text_grammar.proofs.Readers.{Reader, Anything, Free, Unless, done, value, a_number, Arm, arm, no_arm, Begun, by_token, Exactly, exactly, Some_of, some_of, is_comma, further_ones, with_commas, shortens}
+use Rattle.kpn_text_grammar.specs.Reading.{literal_behind, literal, separated}
+use Rattle.kpn_text_grammar.proofs.Readers.{Reader, Anything, Free, Unless, done, value, a_number, Arm, arm, no_arm, Begun, by_token, Exactly, exactly, Some_of, some_of, is_comma, with_commas}
 
 literal_arms : (s : Scope) (t : Token) → Arm (Exactly spell_literal Free) Anything t (literal_behind s t)
 unfolding literal_behind
@@ -23,15 +23,10 @@ unfolding literal_arms
 literal_parts s (plain n) tokens more is = ((token.Number n, tt), refl, tt, sym is.1)
 literal_parts s (negated n) tokens more is = ((token.Mark mark_.Minus, (n, tt)), refl, (tt, tt), sym is.1)
 
-literal_reads : (s : Scope) → Reader spell_literal Free Anything (literal s)
+pub literal_reads : (s : Scope) → Reader spell_literal Free Anything (literal s)
 unfolding literal
 literal_reads s = exactly (by_token (literal_behind s) (literal_arms s) (literal_parts s) s)
 
--- one more value takes a token or more
-pub further_literal_shortens : (s : Scope) (i : ℕ) (ls : List Lexeme) (v : Literal) (rest : List Lexeme)
-    → further s (literal s) i ls ≡ Ok (v, rest) → length rest < length ls
-further_literal_shortens s = shortens (further_ones s (literal_reads s))
-
-pub values_reads : (s : Scope) → Reader (spell_list spell_literal) Some_of (Unless is_comma) (values s)
-unfolding values
+pub values_reads : (s : Scope) → Reader (spell_list spell_literal) Some_of (Unless is_comma)
+    (separated s (literal s))
 values_reads s = some_of (with_commas s (literal_reads s))

@@ -3,6 +3,8 @@ use Rattle.std.specs.Prelude.{ℕ, suc, Bool, true, false, if◌then◌else◌, 
 use Rattle.std.specs.List.{find}
 use Rattle.kpn_lang.specs.declared.syntax.Op.{Op}
 use Rattle.kpn_lang.specs.declared.syntax.Op.TheVariants as op
+use Rattle.kpn_text_tokens.specs.declared.tokens.Language.{Language}
+use Rattle.kpn_text_tokens.specs.declared.tokens.Language.TheVariants as language
 use Rattle.kpn_text_tokens.specs.declared.tokens.Mark.{Mark}
 use Rattle.kpn_text_tokens.specs.declared.tokens.Mark.TheVariants as mark
 use Rattle.kpn_text_grammar.specs.TokenTests.{same_mark}
@@ -28,7 +30,6 @@ operator_mark op.BitXor = mark.BitXor
 operator_mark op.Shl = mark.ShiftLeft
 operator_mark op.Shr = mark.ShiftRight
 
--- every operator
 abbrev pub every_operator : List Op
 every_operator =
     op.Add ∷ op.Sub ∷ op.Mul ∷ op.Div ∷ op.Rem ∷ op.Lt ∷ op.Le ∷ op.Gt ∷ op.Ge ∷ op.Eq ∷ op.Ne ∷ op.And ∷ op.Or
@@ -38,7 +39,7 @@ every_operator =
 unfoldable pub operator_of : Mark → Option Op
 operator_of m = find (λ o. same_mark (operator_mark o) m) every_operator
 
--- ---- precedence, in language 2
+-- ---- precedence
 
 abbrev pub is_comparison : Op → Bool
 is_comparison op.Lt = true
@@ -80,6 +81,11 @@ COMPARED = 7
 
 abbrev pub OPERAND : ℕ
 OPERAND = 10
+
+-- how tight each expression of a language binds at least: in language 1 each is an operand
+abbrev pub loosest : Language → ℕ
+loosest language.One = OPERAND
+loosest language.Two = LOOSEST
 
 -- How tight the left side of an operator binds at least, and its right side. Operators group from the left, but for
 -- comparisons, which do not group.

@@ -18,9 +18,7 @@ use Rattle.kpn_text_grammar.specs.declared.fault.GrammarFault.{GrammarFault}
 use Rattle.kpn_text_grammar.specs.declared.fault.GrammarFault.TheVariants as fault
 use Rattle.kpn_text_grammar.specs.declared.parser.Scope.{Scope}
 use Rattle.kpn_text_grammar.specs.TokenTests.{is_mark, is_keyword, is_number_two, is_name}
-use Rattle.kpn_net.specs.declared.tables.Growth.{Growth}
-use Rattle.kpn_net.specs.declared.tables.Policy.{Policy}
-use Rattle.kpn_text_grammar.specs.Operators.{operator_of, tightness, left_side, right_side, LOOSEST, OPERAND}
+use Rattle.kpn_text_grammar.specs.Operators.{operator_of, tightness, left_side, right_side, OPERAND, loosest}
 use Rattle.kpn_text_grammar.specs.Spelling.{term_level}
 use Rattle.kpn_text_grammar.specs.Words.{growth_spelled, policy_spelled}
 use Rattle.kpn_text_grammar.specs.Syntax.{NameBytes, ExpressionNode, numeral, variable, element, minus, negation, complement, binary, conditional, StatementNode, assign, store, receive, send, choice, loop, Statements, no_statements, statement, as_statements, Literal, plain, negated, Table, Declaration, array, table, ProcessNode, InstanceNode, Item, channel, source, sink, instance, NetworkNode, Description}
@@ -40,8 +38,6 @@ abbrev pub ReadingGives : {A B : Type 0} → (A → B) → Result A GrammarFault
 ReadingGives view (Ok x) read = read ≡ Ok (view x)
 ReadingGives view (Err e) read = ReadingFails e read
 
--- ---- one token
-
 -- the token at the front
 unfoldable pub next : Scope → List Lexeme → Read Lexeme
 next s [] = Err (fault.Grammar s.end)
@@ -52,62 +48,50 @@ abbrev pub first_is : (Token → Bool) → List Lexeme → Bool
 first_is goes [] = false
 first_is goes (l ∷ ls) = goes l.token
 
--- this mark
 unfoldable pub mark : Scope → Mark → List Lexeme → Result (List Lexeme) GrammarFault
 mark s m ls = do
   x ← next s ls
   if is_mark m x.0.token then Ok x.1 else Err (fault.Grammar x.0.start)
 
--- this reserved word
 unfoldable pub keyword : Scope → Keyword → List Lexeme → Result (List Lexeme) GrammarFault
 keyword s k ls = do
   x ← next s ls
   if is_keyword k x.0.token then Ok x.1 else Err (fault.Grammar x.0.start)
 
--- a name
-abbrev pub named : Token → ℕ → List Lexeme → Read NameBytes
-named (token.Name bytes) start rest = Ok (bytes, rest)
-named _ start rest = Err (fault.Grammar start)
+abbrev pub or_fault_at : {A : Type 0} → ℕ → List Lexeme → Option A → Read A
+or_fault_at start rest (Some x) = Ok (x, rest)
+or_fault_at start rest None = Err (fault.Grammar start)
+
+-- what the token at the front stands for, if it stands for something
+unfoldable pub read_as : {A : Type 0} → (Token → Option A) → Scope → List Lexeme → Read A
+read_as stands_for s ls = next s ls >>= λ x. or_fault_at x.0.start x.1 (stands_for x.0.token)
+
+abbrev pub token_name : Token → Option NameBytes
+token_name (token.Name x) = Some x
+token_name _ = None
 
 unfoldable pub name : Scope → List Lexeme → Read NameBytes
-name s ls = do
-  x ← next s ls
-  named x.0.token x.0.start x.1
+name = read_as token_name
 
--- a number
-abbrev pub numbered : Token → ℕ → List Lexeme → Read ℕ
-numbered (token.Number n) start rest = Ok (n, rest)
-numbered _ start rest = Err (fault.Grammar start)
+abbrev pub token_number : Token → Option ℕ
+token_number (token.Number n) = Some n
+token_number _ = None
 
 unfoldable pub number : Scope → List Lexeme → Read ℕ
-number s ls = do
-  x ← next s ls
-  numbered x.0.token x.0.start x.1
+number = read_as token_number
 
 -- the operator of a token, if it has one
 abbrev pub token_operator : Token → Option Op
 token_operator (token.Mark m) = operator_of m
 token_operator _ = None
 
-abbrev pub or_fault_at : {A : Type 0} → ℕ → List Lexeme → Option A → Read A
-or_fault_at start rest (Some x) = Ok (x, rest)
-or_fault_at start rest None = Err (fault.Grammar start)
-
 unfoldable pub operator : Scope → List Lexeme → Read Op
-operator s ls = do
-  x ← next s ls
-  or_fault_at x.0.start x.1 (token_operator x.0.token)
+operator = read_as token_operator
 
--- what a token stands for, if it is a name that stands for something
+-- what a name stands for, if it stands for something
 abbrev pub token_word : {A : Type 0} → (NameBytes → Option A) → Token → Option A
 token_word meant (token.Name x) = meant x
 token_word meant _ = None
-
--- one of the names that stand for something, by what each stands for
-unfoldable pub word_of : {A : Type 0} → (NameBytes → Option A) → Scope → List Lexeme → Read A
-word_of meant s ls = do
-  x ← next s ls
-  or_fault_at x.0.start x.1 (token_word meant x.0.token)
 
 -- ---- repetition
 
@@ -120,41 +104,37 @@ many goes one i (suc n) ls =
     then (one i ls >>= λ x. many goes one (i + 1) n x.1 >>= λ xs. Ok (x.0 ∷ xs.0, xs.1))
     else Ok ([], ls)
 
+-- all of them
+unfoldable pub all_of : {A : Type 0} → (Token → Bool) → (List Lexeme → Read A) → List Lexeme → Read (List A)
+all_of goes one ls = many goes (λ i. one) 0 (length ls) ls
+
 -- one more behind a comma
-unfoldable pub further : {A : Type 0} → Scope → (List Lexeme → Read A) → ℕ → List Lexeme → Read A
-further s one i ls = mark s mark_.Comma ls >>= one
+unfoldable pub further : {A : Type 0} → Scope → (List Lexeme → Read A) → List Lexeme → Read A
+further s one ls = mark s mark_.Comma ls >>= one
 
 -- one or more, with commas between them, numbered from 0
 unfoldable pub separated : {A : Type 0} → Scope → (List Lexeme → Read A) → List Lexeme → Read (List A)
 separated s one ls = do
   x ← one ls
-  xs ← many (is_mark mark_.Comma) (further s one) 1 (length x.1) x.1
+  xs ← many (is_mark mark_.Comma) (λ i. further s one) 1 (length x.1) x.1
   Ok (x.0 ∷ xs.0, xs.1)
 
--- names, with commas between them
-unfoldable pub names : Scope → List Lexeme → Read (List NameBytes)
-names s ls = separated s (name s) ls
-
--- the same, or none if no name is at the front
+-- names, or none if no name is at the front
 unfoldable pub optional_names : Scope → List Lexeme → Read (List NameBytes)
-optional_names s ls = if first_is is_name ls then names s ls else Ok ([], ls)
+optional_names s ls = if first_is is_name ls then separated s (name s) ls else Ok ([], ls)
 
--- ---- a name or an element, by a parser of the index
-
--- behind the name of an array or a table
-unfoldable pub element_behind : Scope → (List Lexeme → Read ExpressionNode) → NameBytes → List Lexeme → Read ExpressionNode
-element_behind s inner x ls = do
-  inside ← mark s mark_.LeftBracket ls
-  e ← inner inside
-  rest ← mark s mark_.RightBracket e.1
-  Ok (element x e.0, rest)
-
--- behind a name
+-- a name or an element, by a parser of the index
 unfoldable pub behind_name : Scope → (List Lexeme → Read ExpressionNode) → NameBytes → List Lexeme → Read ExpressionNode
 behind_name s inner x ls =
-    if first_is (is_mark mark_.LeftBracket) ls then element_behind s inner x ls else Ok (variable x, ls)
+    if first_is (is_mark mark_.LeftBracket) ls
+    then (do
+      inside ← mark s mark_.LeftBracket ls
+      e ← inner inside
+      rest ← mark s mark_.RightBracket e.1
+      Ok (element x e.0, rest))
+    else Ok (variable x, ls)
 
--- ---- expressions of language 1, by a parser of those one level deeper
+-- ---- expressions, by parsers of those inside
 
 abbrev pub begins_expression : Token → Bool
 begins_expression (token.Number n) = true
@@ -187,34 +167,6 @@ conditional_behind s inner c ls = do
   rest ← mark s mark_.RightParen b.1
   Ok (conditional c a.0 b.0, rest)
 
--- one of them, behind the first expression
-unfoldable pub group_behind : Scope → (List Lexeme → Read ExpressionNode) → ExpressionNode → List Lexeme → Read ExpressionNode
-group_behind s inner first ls =
-    if first_is (is_mark mark_.Question) ls
-    then conditional_behind s inner first ls
-    else binary_behind s inner first ls
-
--- behind the opening parenthesis
-unfoldable pub group : Scope → (List Lexeme → Read ExpressionNode) → List Lexeme → Read ExpressionNode
-group s inner ls = inner ls >>= λ first. group_behind s inner first.0 first.1
-
--- behind its first token, which begins at this byte
-unfoldable pub operand : Scope → (List Lexeme → Read ExpressionNode) → Token → ℕ → List Lexeme → Read ExpressionNode
-operand s inner (token.Number n) start rest = Ok (numeral n, rest)
-operand s inner (token.Name x) start rest = behind_name s inner x rest
-operand s inner (token.Mark mark_.Minus) start rest = inner rest >>= λ e. Ok (minus e.0, e.1)
-operand s inner (token.Mark mark_.Not) start rest = inner rest >>= λ e. Ok (negation e.0, e.1)
-operand s inner (token.Mark mark_.BitNot) start rest = inner rest >>= λ e. Ok (complement e.0, e.1)
-operand s inner (token.Mark mark_.LeftParen) start rest = group s inner rest
-operand s inner _ start rest = Err (fault.Grammar start)
-
--- an expression of at most so many levels
-unfoldable pub expression : Scope → ℕ → List Lexeme → Read ExpressionNode
-expression s zero ls = next s ls >>= λ x. Err (level_fault s x.0)
-expression s (suc d) ls = next s ls >>= λ x. operand s (expression s d) x.0.token x.0.start x.1
-
--- ---- expressions of language 2
-
 -- the operator binds as tight as n, and may stand behind a left side that binds as tight as `left`
 abbrev pub operator_fits : (n left : ℕ) → Option Op → Bool
 operator_fits n left (Some op) = nat_le n (tightness op) && nat_le (left_side op) left
@@ -240,19 +192,26 @@ sides_behind s side levels n (suc steps) bound left ls =
     >>= λ right. sides_behind s side levels n steps (tightness op.0) (binary op.0 left right.0) right.1)
     else Ok (left, ls)
 
--- what stands between parentheses, by parsers of one that has so many levels and of one that has one less
+abbrev pub is_second : Language → Bool
+is_second language.One = false
+is_second language.Two = true
+
+-- What stands between parentheses, by parsers of one that has so many levels and of one that has one less. In language 1
+-- an operator has to be there.
 unfoldable pub inside_behind : Scope → (levels : ℕ) → (inner deeper : List Lexeme → Read ExpressionNode) → List Lexeme → Read ExpressionNode
 inside_behind s levels inner deeper ls =
     inner ls >>= λ first. if first_is (is_mark mark_.Question) first.1
     then unless_full s levels first.0 (conditional_behind s deeper first.0 first.1)
-    else (mark s mark_.RightParen first.1 >>= λ rest. Ok (first.0, rest))
+    else (if is_second s.language
+    then (mark s mark_.RightParen first.1 >>= λ rest. Ok (first.0, rest))
+    else unless_full s levels first.0 (binary_behind s deeper first.0 first.1))
 
 -- An operand of at most one level more than these, from its first token on, which begins at this byte. `inner` parses
 -- what stands behind a sign, `(` or `[`, by its levels and by how tight it has to bind.
 unfoldable pub tight_operand : Scope → (inner : ℕ → ℕ → List Lexeme → Read ExpressionNode) → (levels : ℕ) → Token → ℕ
     → List Lexeme → Read ExpressionNode
 tight_operand s inner levels (token.Number k) start rest = Ok (numeral k, rest)
-tight_operand s inner levels (token.Name x) start rest = behind_name s (inner levels LOOSEST) x rest
+tight_operand s inner levels (token.Name x) start rest = behind_name s (inner levels (loosest s.language)) x rest
 tight_operand s inner levels (token.Mark mark_.Minus) start rest =
     inner levels OPERAND rest >>= λ e. Ok (minus e.0, e.1)
 tight_operand s inner levels (token.Mark mark_.Not) start rest =
@@ -260,7 +219,7 @@ tight_operand s inner levels (token.Mark mark_.Not) start rest =
 tight_operand s inner levels (token.Mark mark_.BitNot) start rest =
     inner levels OPERAND rest >>= λ e. Ok (complement e.0, e.1)
 tight_operand s inner levels (token.Mark mark_.LeftParen) start rest =
-    inside_behind s (suc levels) (inner (suc levels) LOOSEST) (inner levels LOOSEST) rest
+    inside_behind s (suc levels) (inner (suc levels) (loosest s.language)) (inner levels (loosest s.language)) rest
 tight_operand s inner levels _ start rest = Err (fault.Grammar start)
 
 -- an expression of at most so many levels that binds as tight as n
@@ -276,15 +235,9 @@ unfoldable pub tight : Scope → (depth levels n : ℕ) → List Lexeme → Read
 tight s zero levels n ls = next s ls >>= λ x. Err (level_fault s x.0)
 tight s (suc depth) levels n ls = tight_over s (tight s depth) levels n ls
 
--- ---- expressions of statements
-
-abbrev pub is_second : Language → Bool
-is_second language.One = false
-is_second language.Two = true
-
+-- an expression of a statement
 unfoldable pub whole : Scope → List Lexeme → Read ExpressionNode
-whole s ls =
-    if is_second s.language then tight s MAX_LEVELS MAX_LEVELS LOOSEST ls else expression s MAX_LEVELS ls
+whole s ls = tight s MAX_LEVELS MAX_LEVELS (loosest s.language) ls
 
 -- ---- statements, by a parser of the blocks one level deeper
 
@@ -312,7 +265,6 @@ unfoldable pub target_behind : Scope → NameBytes → List Lexeme → Read Stat
 target_behind s x ls =
     if first_is (is_mark mark_.LeftBracket) ls then store_behind s x ls else assignment_behind s x ls
 
--- behind `read`
 unfoldable pub receive_behind : Scope → List Lexeme → Read StatementNode
 receive_behind s ls = do
   i ← name s ls
@@ -320,7 +272,6 @@ receive_behind s ls = do
   rest ← mark s mark_.Semicolon x.1
   Ok (receive i.0 x.0, rest)
 
--- behind `write`
 unfoldable pub send_behind : Scope → List Lexeme → Read StatementNode
 send_behind s ls = do
   o ← name s ls
@@ -343,7 +294,6 @@ choice_behind s inner second ls = do
   b ← else_behind s second a.1
   Ok (choice e.0 a.0 b.0, b.1)
 
--- behind `while`
 unfoldable pub loop_behind : Scope → (List Lexeme → Read Statements) → List Lexeme → Read StatementNode
 loop_behind s inner ls = do
   e ← whole s ls
@@ -360,22 +310,17 @@ statement_behind s inner second (token.Keyword keyword_.If) start rest = choice_
 statement_behind s inner second (token.Keyword keyword_.While) start rest = loop_behind s inner rest
 statement_behind s inner second _ start rest = Err (fault.Grammar start)
 
-unfoldable pub one_statement : Scope → (inner second : List Lexeme → Read Statements) → ℕ → List Lexeme → Read StatementNode
-one_statement s inner second i ls = next s ls >>= λ x. statement_behind s inner second x.0.token x.0.start x.1
+unfoldable pub one_statement : Scope → (inner second : List Lexeme → Read Statements) → List Lexeme → Read StatementNode
+one_statement s inner second ls = next s ls >>= λ x. statement_behind s inner second x.0.token x.0.start x.1
 
 -- anything but the brace that ends a block or the network
 abbrev pub stands_in_block : Token → Bool
 stands_in_block t = not (is_mark mark_.RightBrace t)
 
--- the statements up to the closing brace
-unfoldable pub statements_at : Scope → (inner second : List Lexeme → Read Statements) → List Lexeme
-    → Read (List StatementNode)
-statements_at s inner second ls = many stands_in_block (one_statement s inner second) 0 (length ls) ls
-
 -- the statements of a block and its closing brace
 unfoldable pub block_behind : Scope → (inner second : List Lexeme → Read Statements) → List Lexeme → Read Statements
 block_behind s inner second ls = do
-  found ← statements_at s inner second ls
+  found ← all_of stands_in_block (one_statement s inner second) ls
   rest ← mark s mark_.RightBrace found.1
   Ok (as_statements found.0, rest)
 
@@ -423,36 +368,25 @@ literal_behind s _ start rest = Err (fault.Grammar start)
 unfoldable pub literal : Scope → List Lexeme → Read Literal
 literal s ls = next s ls >>= λ x. literal_behind s x.0.token x.0.start x.1
 
--- values, with commas between them
-unfoldable pub values : Scope → List Lexeme → Read (List Literal)
-values s ls = separated s (literal s) ls
-
 -- the size of an array, which is a number above 0
 abbrev pub token_size : Token → Option ℕ
 token_size (token.Number n) = if n == 0 then None else Some n
 token_size _ = None
 
-unfoldable pub size : Scope → List Lexeme → Read ℕ
-size s ls = do
-  x ← next s ls
-  or_fault_at x.0.start x.1 (token_size x.0.token)
-
--- behind `array`
 unfoldable pub array_behind : Scope → List Lexeme → Read Declaration
 array_behind s ls = do
   x ← name s ls
   inside ← mark s mark_.LeftBracket x.1
-  n ← size s inside
+  n ← read_as token_size s inside
   after ← mark s mark_.RightBracket n.1
   rest ← mark s mark_.Semicolon after
   Ok (array x.0 n.0, rest)
 
--- behind `table`
 unfoldable pub table_behind : Scope → List Lexeme → Read Table
 table_behind s ls = do
   x ← name s ls
   inside ← mark s mark_.Assign x.1
-  vs ← values s inside
+  vs ← separated s (literal s) inside
   rest ← mark s mark_.Semicolon vs.1
   Ok (record { name = x.0; values = vs.0 }, rest)
 
@@ -462,24 +396,16 @@ declaration_behind s (token.Keyword keyword_.Array) start rest = array_behind s 
 declaration_behind s (token.Keyword keyword_.Table) start rest = table_behind s rest >>= λ t. Ok (table t.0, t.1)
 declaration_behind s _ start rest = Err (fault.Grammar start)
 
-unfoldable pub declaration : Scope → ℕ → List Lexeme → Read Declaration
-declaration s i ls = next s ls >>= λ x. declaration_behind s x.0.token x.0.start x.1
+unfoldable pub declaration : Scope → List Lexeme → Read Declaration
+declaration s ls = next s ls >>= λ x. declaration_behind s x.0.token x.0.start x.1
 
 abbrev pub declares : Token → Bool
 declares (token.Keyword keyword_.Array) = true
 declares (token.Keyword keyword_.Table) = true
 declares _ = false
 
--- the arrays and tables of a process
-unfoldable pub declarations : Scope → List Lexeme → Read (List Declaration)
-declarations s ls = many declares (declaration s) 0 (length ls) ls
-
-unfoldable pub shared_table : Scope → ℕ → List Lexeme → Read Table
-shared_table s i ls = keyword s keyword_.Table ls >>= table_behind s
-
--- the tables in front of the processes
-unfoldable pub shared_tables : Scope → List Lexeme → Read (List Table)
-shared_tables s ls = many (is_keyword keyword_.Table) (shared_table s) 0 (length ls) ls
+unfoldable pub shared_table : Scope → List Lexeme → Read Table
+shared_table s ls = keyword s keyword_.Table ls >>= table_behind s
 
 -- ---- processes
 
@@ -496,16 +422,16 @@ after_outs s ins outs ls =
     then (do
       after ← mark s mark_.Semicolon ls
       word ← keyword s keyword_.Par after
-      pars ← names s word
+      pars ← separated s (name s) word
       Ok (record { ins = ins; outs = outs; pars = pars.0 }, pars.1))
     else Ok (record { ins = ins; outs = outs; pars = [] }, ls)
 
 -- "out" names [ ";" "par" names ] or "par" names behind the in ports, from its first token on, which begins at this
 -- byte
 unfoldable pub outs_or_pars : Scope → List NameBytes → Token → ℕ → List Lexeme → Read HeadParts
-outs_or_pars s ins (token.Keyword keyword_.Out) start rest = names s rest >>= λ outs. after_outs s ins outs.0 outs.1
+outs_or_pars s ins (token.Keyword keyword_.Out) start rest = separated s (name s) rest >>= λ outs. after_outs s ins outs.0 outs.1
 outs_or_pars s ins (token.Keyword keyword_.Par) start rest =
-    names s rest >>= λ pars. Ok (record { ins = ins; outs = []; pars = pars.0 }, pars.1)
+    separated s (name s) rest >>= λ pars. Ok (record { ins = ins; outs = []; pars = pars.0 }, pars.1)
 outs_or_pars s ins _ start rest = Err (fault.Grammar start)
 
 -- the same behind a semicolon, if one is at the front
@@ -520,7 +446,7 @@ after_ins s ins ls =
 
 -- from its first token on, which begins at this byte
 unfoldable pub parts_behind : Scope → Token → ℕ → List Lexeme → Read HeadParts
-parts_behind s (token.Keyword keyword_.In) start rest = names s rest >>= λ ins. after_ins s ins.0 ins.1
+parts_behind s (token.Keyword keyword_.In) start rest = separated s (name s) rest >>= λ ins. after_ins s ins.0 ins.1
 parts_behind s t start rest = outs_or_pars s [] t start rest
 
 -- ports and parameters up to the closing parenthesis
@@ -530,11 +456,6 @@ parts s ls =
     then Ok (record { ins = []; outs = []; pars = [] }, ls)
     else (next s ls >>= λ x. parts_behind s x.0.token x.0.start x.1)
 
--- the statements of a body and its closing brace
-unfoldable pub body_behind : Scope → List Lexeme → Read Statements
-body_behind s ls = block_behind s (block s (MAX_LEVELS - 1)) (second_block s (MAX_LEVELS - 1)) ls
-
--- a process
 unfoldable pub process : Scope → List Lexeme → Read ProcessNode
 process s ls = do
   word ← keyword s keyword_.Process ls
@@ -543,8 +464,8 @@ process s ls = do
   p ← parts s inside
   after ← mark s mark_.RightParen p.1
   opened ← mark s mark_.LeftBrace after
-  ds ← declarations s opened
-  body ← body_behind s ds.1
+  ds ← all_of declares (declaration s) opened
+  body ← block_behind s (block s (MAX_LEVELS - 1)) (second_block s (MAX_LEVELS - 1)) ds.1
   Ok (
     record {
       name = x.0;
@@ -557,50 +478,28 @@ process s ls = do
     body.1,
   )
 
--- the process of a number
 unfoldable pub numbered_process : Scope → ℕ → List Lexeme → Read ProcessNode
 numbered_process s i ls = process (record { end = s.end; process = i; language = s.language }) ls
 
--- the processes, numbered from 0
 unfoldable pub processes : Scope → List Lexeme → Read (List ProcessNode)
 processes s ls = many (is_keyword keyword_.Process) (numbered_process s) 0 (length ls) ls
 
 -- ---- networks
 
--- "cap", a number and the semicolon
-unfoldable pub capacity : Scope → List Lexeme → Read ℕ
-capacity s ls = do
-  word ← keyword s keyword_.Cap ls
+-- what a name and a capacity make, with "cap" and the semicolon
+unfoldable pub with_capacity : (NameBytes → ℕ → Item) → Scope → List Lexeme → Read Item
+with_capacity made s ls = do
+  x ← name s ls
+  word ← keyword s keyword_.Cap x.1
   n ← number s word
   rest ← mark s mark_.Semicolon n.1
-  Ok (n.0, rest)
-
--- behind `channel`
-unfoldable pub channel_behind : Scope → List Lexeme → Read Item
-channel_behind s ls = do
-  x ← name s ls
-  n ← capacity s x.1
-  Ok (channel x.0 n.0, n.1)
-
--- behind `sink`
-unfoldable pub sink_behind : Scope → List Lexeme → Read Item
-sink_behind s ls = do
-  x ← name s ls
-  n ← capacity s x.1
-  Ok (sink x.0 n.0, n.1)
-
--- behind `source`
-unfoldable pub source_behind : Scope → List Lexeme → Read Item
-source_behind s ls = do
-  x ← name s ls
-  rest ← mark s mark_.Semicolon x.1
-  Ok (source x.0, rest)
+  Ok (made x.0 n.0, rest)
 
 -- values behind a semicolon, or none if no semicolon is at the front
 unfoldable pub optional_values : Scope → List Lexeme → Read (List Literal)
 optional_values s ls =
     if first_is (is_mark mark_.Semicolon) ls
-    then (mark s mark_.Semicolon ls >>= values s)
+    then (mark s mark_.Semicolon ls >>= separated s (literal s))
     else Ok ([], ls)
 
 -- the program of the instance of this name, its channels and values
@@ -615,7 +514,6 @@ call s x ls = do
   rest ← mark s mark_.RightParen vs.1
   Ok (record { name = x; program = f.0; ins = ins.0; outs = outs.0; values = vs.0 }, rest)
 
--- behind the name of the instance
 unfoldable pub instance_behind : Scope → NameBytes → List Lexeme → Read Item
 instance_behind s x ls = do
   after ← mark s mark_.Assign ls
@@ -625,18 +523,15 @@ instance_behind s x ls = do
 
 -- behind its first token, which begins at this byte
 unfoldable pub item_behind : Scope → Token → ℕ → List Lexeme → Read Item
-item_behind s (token.Keyword keyword_.Channel) start rest = channel_behind s rest
-item_behind s (token.Keyword keyword_.Source) start rest = source_behind s rest
-item_behind s (token.Keyword keyword_.Sink) start rest = sink_behind s rest
+item_behind s (token.Keyword keyword_.Channel) start rest = with_capacity channel s rest
+item_behind s (token.Keyword keyword_.Source) start rest =
+    name s rest >>= λ x. mark s mark_.Semicolon x.1 >>= λ after. Ok (source x.0, after)
+item_behind s (token.Keyword keyword_.Sink) start rest = with_capacity sink s rest
 item_behind s (token.Name x) start rest = instance_behind s x rest
 item_behind s _ start rest = Err (fault.Grammar start)
 
-unfoldable pub item : Scope → ℕ → List Lexeme → Read Item
-item s i ls = next s ls >>= λ x. item_behind s x.0.token x.0.start x.1
-
--- the items up to the closing brace
-unfoldable pub items : Scope → List Lexeme → Read (List Item)
-items s ls = many stands_in_block (item s) 0 (length ls) ls
+unfoldable pub item : Scope → List Lexeme → Read Item
+item s ls = next s ls >>= λ x. item_behind s x.0.token x.0.start x.1
 
 -- a setting and the semicolon behind its reserved word, if that is at the front
 unfoldable pub setting : {A : Type 0} → Keyword → (Scope → List Lexeme → Read A) → Scope → List Lexeme
@@ -650,31 +545,16 @@ setting k one s ls =
       Ok (Some x.0, rest))
     else Ok (None, ls)
 
--- the limit, if it is written
-unfoldable pub limit : Scope → List Lexeme → Read (Option ℕ)
-limit = setting keyword_.Limit number
-
--- the policy, if it is written
-unfoldable pub policy : Scope → List Lexeme → Read (Option Policy)
-policy = setting keyword_.Policy (word_of policy_spelled)
-
--- the growth, if it is written
-unfoldable pub growth : Scope → List Lexeme → Read (Option Growth)
-growth = setting keyword_.Grow (word_of growth_spelled)
-
--- the network
 unfoldable pub network : Scope → List Lexeme → Read NetworkNode
 network s ls = do
   word ← keyword s keyword_.Network ls
   inside ← mark s mark_.LeftBrace word
-  n ← limit s inside
-  q ← policy s n.1
-  g ← growth s q.1
-  found ← items s g.1
+  n ← setting keyword_.Limit number s inside
+  q ← setting keyword_.Policy (read_as (token_word policy_spelled)) s n.1
+  g ← setting keyword_.Grow (read_as (token_word growth_spelled)) s q.1
+  found ← all_of stands_in_block (item s) g.1
   rest ← mark s mark_.RightBrace found.1
   Ok (record { limit = n.0; policy = q.0; growth = g.0; items = found.0 }, rest)
-
--- ---- the whole
 
 -- nothing is left
 unfoldable pub at_end : List Lexeme → Result (Unit {0}) GrammarFault
@@ -687,22 +567,18 @@ two s ls = do
   x ← next s ls
   if is_number_two x.0.token then Ok x.1 else Err (fault.Grammar x.0.start)
 
--- `language 2;`
-unfoldable pub opening : Scope → List Lexeme → Result (List Lexeme) GrammarFault
-opening s ls = do
+-- `language 2;` in language 2, and nothing in language 1
+unfoldable pub language_at : Scope → Language → List Lexeme → Result (List Lexeme) GrammarFault
+language_at s language.One ls = Ok ls
+language_at s language.Two ls = do
   word ← keyword s keyword_.Language ls
   number ← two s word
   mark s mark_.Semicolon number
 
--- the same in language 2, and nothing in language 1
-unfoldable pub language_at : Scope → Language → List Lexeme → Result (List Lexeme) GrammarFault
-language_at s language.One ls = Ok ls
-language_at s language.Two ls = opening s ls
-
 -- the shared tables, the processes, the network and nothing after it
 unfoldable pub contents : Scope → List Lexeme → Result Description GrammarFault
 contents s ls = do
-  ts ← shared_tables s ls
+  ts ← all_of (is_keyword keyword_.Table) (shared_table s) ls
   ps ← processes s ts.1
   n ← network s ps.1
   nothing ← at_end n.1

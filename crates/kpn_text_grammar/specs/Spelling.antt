@@ -1,6 +1,6 @@
 -- How a tree is spelled, token by token, how deep it nests, and what it is for tokens to be a description. Each
--- spelling has behind it the tokens that follow. In language 1 a tree has one spelling. In language 2 it has many, by
--- the rules of the grammar, and the canonical one of them has no parentheses and no `else` that can be left out.
+-- spelling has behind it the tokens that follow. The rules leave one spelling to a tree of language 1, and many to one
+-- of language 2, where the canonical one has no parentheses and no `else` that can be left out.
 use Rattle.std.specs.Prelude.{◌≡◌, ◌<◌, ◌≤◌, ℕ, suc, max, Bool, false, nat_le, if◌then◌else◌, List, [], ◌∷◌, length, map, Option, Some, None}
 use Rattle.std.specs.List.{AllByRecursion}
 use Rattle.kpn_limits.specs.declared.TheConstants.{MAX_LEVELS}
@@ -15,7 +15,7 @@ use Rattle.kpn_text_tokens.specs.declared.tokens.Keyword.TheVariants as keyword
 use Rattle.kpn_lang.specs.declared.syntax.Op.{Op}
 use Rattle.kpn_net.specs.declared.tables.Growth.{Growth}
 use Rattle.kpn_net.specs.declared.tables.Policy.{Policy}
-use Rattle.kpn_text_grammar.specs.Operators.{operator_mark, tightness, left_side, right_side, LOOSEST, OPERAND}
+use Rattle.kpn_text_grammar.specs.Operators.{operator_mark, tightness, left_side, right_side, LOOSEST, OPERAND, loosest}
 use Rattle.kpn_text_grammar.specs.TokenTests.{is_keyword}
 use Rattle.kpn_text_grammar.specs.Words.{growth_word, policy_word}
 use Rattle.kpn_text_grammar.specs.Syntax.{NameBytes, ExpressionNode, numeral, variable, element, minus, negation, complement, binary, conditional, StatementNode, assign, store, receive, send, choice, loop, Statements, no_statements, statement, Literal, plain, negated, Table, Declaration, array, table, ProcessNode, InstanceNode, Item, channel, source, sink, instance, NetworkNode, Description}
@@ -66,38 +66,43 @@ abbrev pub spell_expression : Language → ExpressionNode → List Token → Lis
 spell_expression language.One e more = spell_term e more
 spell_expression language.Two e more = spell_tight LOOSEST e more
 
--- The rules of expressions in language 2, a rule for each form: tokens up to those that follow spell a term that binds
--- as tight as this, or tighter. `depth` is how many operands, signs, `(` and `[` may stand in each other.
-pub data SpellsTight : (depth n : ℕ) → ExpressionNode → List Token → List Token → Type 0 where
-  as_number : {depth n k : ℕ} {more : List Token} → SpellsTight (suc depth) n (numeral k) (token.Number k ∷ more) more
+-- The rules of expressions in a language, a rule for each form: tokens up to those that follow spell a term that binds
+-- as tight as this, or tighter. `depth` is how many operands, signs, `(` and `[` may stand in each other. In language 1
+-- parentheses stand around each operator, and around nothing else but a choice.
+pub data SpellsTight (l : Language) : (depth n : ℕ) → ExpressionNode → List Token → List Token → Type 0 where
+  as_number : {depth n k : ℕ} {more : List Token} → SpellsTight l (suc depth) n (numeral k) (token.Number k ∷ more) more
   as_name : {depth n : ℕ} {x : NameBytes} {more : List Token}
-      → SpellsTight (suc depth) n (variable x) (token.Name x ∷ more) more
+      → SpellsTight l (suc depth) n (variable x) (token.Name x ∷ more) more
   as_element : {depth n : ℕ} {x : NameBytes} {e : ExpressionNode} {tokens more : List Token}
-      → SpellsTight depth LOOSEST e tokens (token.Mark mark.RightBracket ∷ more)
-      → SpellsTight (suc depth) n (element x e) (token.Name x ∷ token.Mark mark.LeftBracket ∷ tokens) more
-  as_minus : {depth n : ℕ} {e : ExpressionNode} {tokens more : List Token} → SpellsTight depth OPERAND e tokens more
-      → SpellsTight (suc depth) n (minus e) (token.Mark mark.Minus ∷ tokens) more
-  as_negation : {depth n : ℕ} {e : ExpressionNode} {tokens more : List Token} → SpellsTight depth OPERAND e tokens more
-      → SpellsTight (suc depth) n (negation e) (token.Mark mark.Not ∷ tokens) more
-  as_complement : {depth n : ℕ} {e : ExpressionNode} {tokens more : List Token} → SpellsTight depth OPERAND e tokens more
-      → SpellsTight (suc depth) n (complement e) (token.Mark mark.BitNot ∷ tokens) more
-  in_parentheses : {depth n : ℕ} {e : ExpressionNode} {tokens more : List Token}
-      → SpellsTight depth LOOSEST e tokens (token.Mark mark.RightParen ∷ more)
-      → SpellsTight (suc depth) n e (token.Mark mark.LeftParen ∷ tokens) more
+      → SpellsTight l depth (loosest l) e tokens (token.Mark mark.RightBracket ∷ more)
+      → SpellsTight l (suc depth) n (element x e) (token.Name x ∷ token.Mark mark.LeftBracket ∷ tokens) more
+  as_minus : {depth n : ℕ} {e : ExpressionNode} {tokens more : List Token} → SpellsTight l depth OPERAND e tokens more
+      → SpellsTight l (suc depth) n (minus e) (token.Mark mark.Minus ∷ tokens) more
+  as_negation : {depth n : ℕ} {e : ExpressionNode} {tokens more : List Token} → SpellsTight l depth OPERAND e tokens more
+      → SpellsTight l (suc depth) n (negation e) (token.Mark mark.Not ∷ tokens) more
+  as_complement : {depth n : ℕ} {e : ExpressionNode} {tokens more : List Token}
+      → SpellsTight l depth OPERAND e tokens more
+      → SpellsTight l (suc depth) n (complement e) (token.Mark mark.BitNot ∷ tokens) more
+  in_parentheses : {depth n : ℕ} {e : ExpressionNode} {tokens more : List Token} → l ≡ language.Two
+      → SpellsTight l depth LOOSEST e tokens (token.Mark mark.RightParen ∷ more)
+      → SpellsTight l (suc depth) n e (token.Mark mark.LeftParen ∷ tokens) more
+  as_sides : {depth n : ℕ} {op : Op} {a b : ExpressionNode} {at_a at_b more : List Token} → l ≡ language.One
+      → SpellsTight l depth OPERAND a at_a (token.Mark (operator_mark op) ∷ at_b)
+      → SpellsTight l depth OPERAND b at_b (token.Mark mark.RightParen ∷ more)
+      → SpellsTight l (suc depth) n (binary op a b) (token.Mark mark.LeftParen ∷ at_a) more
   as_conditional : {depth n : ℕ} {c a b : ExpressionNode} {at_c at_a at_b more : List Token}
-      → SpellsTight depth LOOSEST c at_c (token.Mark mark.Question ∷ at_a)
-      → SpellsTight depth LOOSEST a at_a (token.Mark mark.Colon ∷ at_b)
-      → SpellsTight depth LOOSEST b at_b (token.Mark mark.RightParen ∷ more)
-      → SpellsTight (suc depth) n (conditional c a b) (token.Mark mark.LeftParen ∷ at_c) more
+      → SpellsTight l depth (loosest l) c at_c (token.Mark mark.Question ∷ at_a)
+      → SpellsTight l depth (loosest l) a at_a (token.Mark mark.Colon ∷ at_b)
+      → SpellsTight l depth (loosest l) b at_b (token.Mark mark.RightParen ∷ more)
+      → SpellsTight l (suc depth) n (conditional c a b) (token.Mark mark.LeftParen ∷ at_c) more
   as_binary : {depth n : ℕ} {op : Op} {a b : ExpressionNode} {at_a at_b more : List Token} → n ≤ tightness op
-      → SpellsTight depth (left_side op) a at_a (token.Mark (operator_mark op) ∷ at_b)
-      → SpellsTight depth (right_side op) b at_b more
-      → SpellsTight depth n (binary op a b) at_a more
+      → SpellsTight l depth (left_side op) a at_a (token.Mark (operator_mark op) ∷ at_b)
+      → SpellsTight l depth (right_side op) b at_b more
+      → SpellsTight l depth n (binary op a b) at_a more
 
 -- the tokens up to those that follow spell an expression of a statement
 abbrev pub SpellsTerm : Language → ExpressionNode → List Token → List Token → Type 0
-SpellsTerm language.One e tokens more = tokens ≡ spell_term e more
-SpellsTerm language.Two e tokens more = SpellsTight MAX_LEVELS LOOSEST e tokens more
+SpellsTerm l = SpellsTight l MAX_LEVELS (loosest l)
 
 -- a number or a name has one level, and an index, a sign, an operator or a choice one more than its deepest part
 abbrev pub term_level : ExpressionNode → ℕ
@@ -207,14 +212,9 @@ abbrev mutual
   inner_levels (choice e a b) = suc (max (levels_within a) (levels_within b))
   inner_levels (loop e b) = suc (levels_within b)
 
-  -- the same of several statements
   pub levels_within : Statements → ℕ
   levels_within no_statements = 0
   levels_within (statement s ss) = max (inner_levels s) (levels_within ss)
-
--- a block has one level more than what is in it
-abbrev pub block_level : Statements → ℕ
-block_level b = suc (levels_within b)
 
 abbrev mutual
   -- the most levels of an expression in a statement
@@ -226,7 +226,6 @@ abbrev mutual
   deepest_term (choice e a b) = max (term_level e) (max (deepest_term_of_all a) (deepest_term_of_all b))
   deepest_term (loop e b) = max (term_level e) (deepest_term_of_all b)
 
-  -- the same of several statements
   pub deepest_term_of_all : Statements → ℕ
   deepest_term_of_all no_statements = 0
   deepest_term_of_all (statement s ss) = max (deepest_term s) (deepest_term_of_all ss)
@@ -234,7 +233,7 @@ abbrev mutual
 -- a block within the limits of depth: it has at most so many levels of blocks, itself among them, and its expressions
 -- have at most 32 levels
 pub record BlockIsWithin (depth : ℕ) (b : Statements) : Type 0 where
-  pub blocks : block_level b ≤ depth
+  pub blocks : suc (levels_within b) ≤ depth
   pub terms : deepest_term_of_all b ≤ MAX_LEVELS
 
 -- ---- lists
@@ -356,30 +355,21 @@ spell_item (instance i) more = token.Name i.name ∷ token.Mark mark.Assign
     ∷ spell_call i (token.Mark mark.Semicolon ∷ more)
 
 -- a setting behind its reserved word, up to the semicolon, if it is written
-abbrev pub spell_setting : {A : Type 0} → Keyword → (A → List Token → List Token) → Option A → List Token → List Token
-spell_setting word spell None more = more
-spell_setting word spell (Some x) more = token.Keyword word ∷ spell x (token.Mark mark.Semicolon ∷ more)
-
-abbrev pub spell_number : ℕ → List Token → List Token
-spell_number n more = token.Number n ∷ more
-
-abbrev pub spell_policy_word : Policy → List Token → List Token
-spell_policy_word q more = token.Name (policy_word q) ∷ more
-
-abbrev pub spell_growth_word : Growth → List Token → List Token
-spell_growth_word g more = token.Name (growth_word g) ∷ more
+abbrev pub spell_setting : {A : Type 0} → Keyword → (A → Token) → Option A → List Token → List Token
+spell_setting word spelled None more = more
+spell_setting word spelled (Some x) more = token.Keyword word ∷ spelled x ∷ token.Mark mark.Semicolon ∷ more
 
 -- limit 3;
 abbrev pub spell_limit : Option ℕ → List Token → List Token
-spell_limit = spell_setting keyword.Limit spell_number
+spell_limit = spell_setting keyword.Limit token.Number
 
 -- policy all;
 abbrev pub spell_policy : Option Policy → List Token → List Token
-spell_policy = spell_setting keyword.Policy spell_policy_word
+spell_policy = spell_setting keyword.Policy (λ q. token.Name (policy_word q))
 
 -- grow double;
 abbrev pub spell_growth : Option Growth → List Token → List Token
-spell_growth = spell_setting keyword.Grow spell_growth_word
+spell_growth = spell_setting keyword.Grow (λ g. token.Name (growth_word g))
 
 -- network { .. }
 abbrev pub spell_network : NetworkNode → List Token → List Token
@@ -388,8 +378,6 @@ spell_network n more =
     ∷ spell_limit n.limit
     (spell_policy n.policy
     (spell_growth n.growth (spell_all spell_item n.items (token.Mark mark.RightBrace ∷ more))))
-
--- ---- the whole
 
 -- `language 2;` in language 2
 abbrev pub spell_language : Language → List Token → List Token
@@ -402,16 +390,11 @@ abbrev pub spell_description : Language → Description → List Token
 spell_description l d = spell_language l (spell_all spell_table d.tables
     (spell_all (spell_process l) d.processes (spell_network d.network [])))
 
--- the tokens spell the same by the rules
-pub record SpellsByRules (l : Language) (d : Description) (tokens : List Token) : Type 0 where
+-- the tokens spell the same, in one way or another
+pub record SpellsDescription (l : Language) (d : Description) (tokens : List Token) : Type 0 where
   pub inside : List Token
   pub opening : tokens ≡ spell_language l (spell_all spell_table d.tables inside)
   pub processes : SpellsAll (SpellsProcess l) d.processes inside (spell_network d.network [])
-
--- the tokens spell the description in a language
-abbrev pub SpellsDescription : Language → Description → List Token → Type 0
-SpellsDescription language.One d tokens = tokens ≡ spell_description language.One d
-SpellsDescription language.Two d tokens = SpellsByRules language.Two d tokens
 
 -- its arrays and tables are within the limits, its blocks nest at most 32 levels, its body among them, and its
 -- expressions at most 32

@@ -9,7 +9,6 @@ use Rattle.kpn_net.specs.declared.tables.Policy.{Policy}
 abbrev pub NameBytes : Type 0
 NameBytes = List ℕ
 
--- an expression
 pub data ExpressionNode : Type 0 where
   numeral : ℕ → ExpressionNode
   variable : NameBytes → ExpressionNode

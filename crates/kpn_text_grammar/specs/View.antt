@@ -2,7 +2,7 @@
 use Rattle.std.specs.Prelude.{◌≡◌, ◌≤◌, ℕ, List, map, drop, Result}
 use Rattle.kpn_text_tokens.specs.declared.tokens.Lexeme.{Lexeme}
 use Rattle.kpn_text_grammar.specs.declared.parser.Source.{Source}
-use Rattle.kpn_text_grammar.specs.declared.precedence.Subtree.{Subtree}
+use Rattle.kpn_text_grammar.specs.declared.expressions.Subtree.{Subtree}
 use Rattle.kpn_text_grammar.specs.declared.tree.Declaration.{Declaration as DeclarationCode}
 use Rattle.kpn_text_grammar.specs.declared.tree.Declaration.TheVariants as declaration
 use Rattle.kpn_text_grammar.specs.declared.tree.Description.{Description as DescriptionCode}
@@ -78,7 +78,6 @@ literal_seen (literal.Negated n) = negated n
 abbrev pub values_seen : List LiteralCode → List Literal
 values_seen vs = map literal_seen vs
 
--- a table, an array or a table
 abbrev pub table_seen : TableCode → Table
 table_seen t = record { name = t.name.bytes.now; values = values_seen t.values.items }
 
@@ -137,7 +136,6 @@ document d = record {
 
 -- ---- scaffolding: what the parsers return; all of them but `description` are private
 
--- ports and parameters
 abbrev pub parts_seen : HeadPartsCode → HeadParts
 parts_seen p = record { ins = names_seen p.ins.items; outs = names_seen p.outs.items; pars = names_seen p.pars.items }
 

@@ -5,13 +5,12 @@ ghost use Rattle.std.specs.Prelude.{◌≡◌};
 ghost use Rattle.kpn_text_grammar.specs.Reading as spec;
 ghost use Rattle.kpn_text_grammar.specs.View.{Parses, statement_seen, statements_seen, block_seen, tokens_from};
 
+use crate::expressions::whole;
 use crate::fault::GrammarFault;
 use crate::parser::{
     Read, Source, at_keyword, at_mark, goes_on, is_second, keyword, mark, name, next,
 };
-use crate::precedence::whole;
 use crate::tree::{Block, Identifier, StatementNode};
-use kpn_limits::MAX_LEVELS;
 use kpn_text_tokens::{Keyword, Mark, Token};
 use std::alloc::Global;
 
@@ -36,7 +35,12 @@ pub(crate) fn block<'a>(
 /// The statements of a block and its closing brace, with blocks of at most `depth` levels in it.
 #[cycle(block)]
 #[tactic(auto, unfolding(crate::specs::Reading::block_behind, kpn_text_tokens::specs::Results::and_then))]
-fn block_behind<'a>(alloc: Global, source: Source<'a>, depth: usize, at: usize) -> Read<Block<'a>>
+pub(crate) fn block_behind<'a>(
+    alloc: Global,
+    source: Source<'a>,
+    depth: usize,
+    at: usize,
+) -> Read<Block<'a>>
     ensures { Parses (λ found. block_seen found.items)
         (λ s. spec.block_behind s (spec.block s depth) (spec.second_block s depth)) source.entry at result }
 {
@@ -45,19 +49,12 @@ fn block_behind<'a>(alloc: Global, source: Source<'a>, depth: usize, at: usize) 
     Ok((found, at))
 }
 
-/// The statements of the body of a process and its closing brace.
-#[tactic(auto, unfolding(crate::specs::Reading::body_behind))]
-pub(crate) fn body<'a>(alloc: Global, source: Source<'a>, at: usize) -> Read<Block<'a>>
-    ensures { Parses (λ found. block_seen found.items) spec.body_behind source.entry at result }
-{
-    block_behind(alloc, source, MAX_LEVELS - 1, at)
-}
-
 /// The statements up to the closing brace.
 #[cycle(block)]
 fn statements<'a>(alloc: Global, source: Source<'a>, depth: usize, at: usize) -> Read<Block<'a>>
     ensures { Parses (λ found. statements_seen found.items)
-        (λ s. spec.statements_at s (spec.block s depth) (spec.second_block s depth)) source.entry at result }
+        (λ s. spec.all_of spec.stands_in_block
+        (spec.one_statement s (spec.block s depth) (spec.second_block s depth))) source.entry at result }
 {
     let mut found = Vec::new(alloc);
     let mut place = at;
@@ -79,7 +76,7 @@ fn one_statement<'a>(
     at: usize,
 ) -> Read<StatementNode<'a>>
     ensures { Parses statement_seen
-        (λ s. spec.one_statement s (spec.block s depth) (spec.second_block s depth) 0) source.entry at result }
+        (λ s. spec.one_statement s (spec.block s depth) (spec.second_block s depth)) source.entry at result }
 {
     let (first, at) = next(source, at)?;
     match &first.token {

@@ -1,7 +1,9 @@
 //! Arrays and tables: those of a process, at the head of its body, and the tables in front of the processes.
 
 ghost use Rattle.std.specs.Prelude.{◌≡◌};
+ghost use Rattle.kpn_text_tokens.specs.declared.tokens.Keyword.TheVariants as kind;
 ghost use Rattle.kpn_text_grammar.specs.Reading as spec;
+ghost use Rattle.kpn_text_grammar.specs.TokenTests as tests;
 ghost use Rattle.kpn_text_grammar.specs.View.{
   Parses,
   declaration_seen,
@@ -43,7 +45,7 @@ fn table_behind<'a>(alloc: Global, source: Source<'a>, at: usize) -> Read<Table<
 /// An array or a table.
 #[tactic(auto, unfolding(crate::specs::Reading::declaration, crate::specs::Reading::declaration_behind, kpn_text_tokens::specs::Results::and_then))]
 fn declaration<'a>(alloc: Global, source: Source<'a>, at: usize) -> Read<Declaration<'a>>
-    ensures { Parses declaration_seen (λ s. spec.declaration s 0) source.entry at result }
+    ensures { Parses declaration_seen spec.declaration source.entry at result }
 {
     let (first, at) = next(source, at)?;
     match &first.token {
@@ -63,7 +65,7 @@ pub(crate) fn declarations<'a>(
     at: usize,
 ) -> Read<Vec<Declaration<'a>>>
     ensures { Parses (λ found. declarations_seen found.items)
-        spec.declarations source.entry at result }
+        (λ s. spec.all_of spec.declares (spec.declaration s)) source.entry at result }
 {
     let mut found = Vec::new(alloc);
     let mut place = at;
@@ -77,7 +79,7 @@ pub(crate) fn declarations<'a>(
 
 #[tactic(auto, unfolding(crate::specs::Reading::shared_table, kpn_text_tokens::specs::Results::and_then))]
 fn shared_table<'a>(alloc: Global, source: Source<'a>, at: usize) -> Read<Table<'a>>
-    ensures { Parses table_seen (λ s. spec.shared_table s 0) source.entry at result }
+    ensures { Parses table_seen spec.shared_table source.entry at result }
 {
     let at = keyword(source, Keyword::Table, at)?;
     table_behind(alloc, source, at)
@@ -89,7 +91,8 @@ pub(crate) fn shared_tables<'a>(
     source: Source<'a>,
     at: usize,
 ) -> Read<Vec<Table<'a>>>
-    ensures { Parses (λ found. tables_seen found.items) spec.shared_tables source.entry at result }
+    ensures { Parses (λ found. tables_seen found.items)
+        (λ s. spec.all_of (tests.is_keyword kind.Table) (spec.shared_table s)) source.entry at result }
 {
     let mut found = Vec::new(alloc);
     let mut place = at;

@@ -13,7 +13,6 @@ mod lists;
 mod networks;
 mod operators;
 mod parser;
-mod precedence;
 mod processes;
 mod tree;
 mod whole;

@@ -14,16 +14,17 @@ use std::alloc::Global;
 #[tactic(auto, unfolding(crate::specs::Reading::further, kpn_text_tokens::specs::Results::and_then))]
 fn further_name<'a>(source: Source<'a>, at: usize) -> Read<Identifier<'a>>
     ensures { Parses (λ name. name.bytes.now)
-        (λ s. spec.further s (spec.name s) 0) source.entry at result }
+        (λ s. spec.further s (spec.name s)) source.entry at result }
 {
     let at = mark(source, Mark::Comma, at)?;
     name(source, at)
 }
 
 /// One name or more.
-#[tactic(auto, unfolding(crate::specs::Reading::names, crate::specs::Reading::separated, kpn_text_tokens::specs::Results::and_then))]
+#[tactic(auto, unfolding(crate::specs::Reading::separated, kpn_text_tokens::specs::Results::and_then))]
 pub(crate) fn names<'a>(alloc: Global, source: Source<'a>, at: usize) -> Read<Names<'a>>
-    ensures { Parses (λ found. names_seen found.items) spec.names source.entry at result }
+    ensures { Parses (λ found. names_seen found.items)
+        (λ s. spec.separated s (spec.name s)) source.entry at result }
 {
     let (first, after) = name(source, at)?;
     let mut found = Vec::new(alloc);
@@ -68,16 +69,17 @@ fn literal(source: Source<'_>, at: usize) -> Read<Literal>
 /// A comma and a value.
 #[tactic(auto, unfolding(crate::specs::Reading::further, kpn_text_tokens::specs::Results::and_then))]
 fn further_literal(source: Source<'_>, at: usize) -> Read<Literal>
-    ensures { Parses literal_seen (λ s. spec.further s (spec.literal s) 0) source.entry at result }
+    ensures { Parses literal_seen (λ s. spec.further s (spec.literal s)) source.entry at result }
 {
     let at = mark(source, Mark::Comma, at)?;
     literal(source, at)
 }
 
 /// One value or more.
-#[tactic(auto, unfolding(crate::specs::Reading::values, crate::specs::Reading::separated, kpn_text_tokens::specs::Results::and_then))]
+#[tactic(auto, unfolding(crate::specs::Reading::separated, kpn_text_tokens::specs::Results::and_then))]
 pub(crate) fn values(alloc: Global, source: Source<'_>, at: usize) -> Read<Vec<Literal>>
-    ensures { Parses (λ found. values_seen found.items) spec.values source.entry at result }
+    ensures { Parses (λ found. values_seen found.items)
+        (λ s. spec.separated s (spec.literal s)) source.entry at result }
 {
     let (first, after) = literal(source, at)?;
     let mut found = Vec::new(alloc);

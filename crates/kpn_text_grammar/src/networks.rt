@@ -1,7 +1,9 @@
 //! The network: its settings and its items.
 
 ghost use Rattle.std.specs.Prelude.{◌≡◌};
+ghost use Rattle.kpn_text_tokens.specs.declared.tokens.Keyword.TheVariants as kind;
 ghost use Rattle.kpn_text_grammar.specs.Reading as spec;
+ghost use Rattle.kpn_text_grammar.specs.Syntax as tree;
 ghost use Rattle.kpn_text_grammar.specs.Words as words;
 ghost use Rattle.kpn_text_grammar.specs.View.{Parses, instance_seen, item_seen, items_seen, network_seen};
 
@@ -14,42 +16,26 @@ use kpn_net::{Growth, Policy};
 use kpn_text_tokens::{Keyword, Mark, Number, Token};
 use std::alloc::Global;
 
-/// A capacity and the semicolon.
-#[tactic(auto, unfolding(crate::specs::Reading::capacity, kpn_text_tokens::specs::Results::and_then))]
-fn capacity(source: Source<'_>, at: usize) -> Read<Number>
-    ensures { Parses (λ n. n) spec.capacity source.entry at result }
+#[tactic(auto, unfolding(crate::specs::Reading::with_capacity, kpn_text_tokens::specs::Results::and_then))]
+fn channel_behind<'a>(source: Source<'a>, at: usize) -> Read<Item<'a>>
+    ensures { Parses item_seen (spec.with_capacity tree.channel) source.entry at result }
 {
+    let (name, at) = name(source, at)?;
     let at = keyword(source, Keyword::Cap, at)?;
     let (capacity, at) = number(source, at)?;
     let at = mark(source, Mark::Semicolon, at)?;
-    Ok((capacity, at))
-}
-
-#[tactic(auto, unfolding(crate::specs::Reading::channel_behind, kpn_text_tokens::specs::Results::and_then))]
-fn channel_behind<'a>(source: Source<'a>, at: usize) -> Read<Item<'a>>
-    ensures { Parses item_seen spec.channel_behind source.entry at result }
-{
-    let (name, at) = name(source, at)?;
-    let (capacity, at) = capacity(source, at)?;
     Ok((Item::Channel(name, capacity), at))
 }
 
-#[tactic(auto, unfolding(crate::specs::Reading::sink_behind, kpn_text_tokens::specs::Results::and_then))]
+#[tactic(auto, unfolding(crate::specs::Reading::with_capacity, kpn_text_tokens::specs::Results::and_then))]
 fn sink_behind<'a>(source: Source<'a>, at: usize) -> Read<Item<'a>>
-    ensures { Parses item_seen spec.sink_behind source.entry at result }
+    ensures { Parses item_seen (spec.with_capacity tree.sink) source.entry at result }
 {
     let (name, at) = name(source, at)?;
-    let (capacity, at) = capacity(source, at)?;
-    Ok((Item::Sink(name, capacity), at))
-}
-
-#[tactic(auto, unfolding(crate::specs::Reading::source_behind, kpn_text_tokens::specs::Results::and_then))]
-fn source_behind<'a>(source: Source<'a>, at: usize) -> Read<Item<'a>>
-    ensures { Parses item_seen spec.source_behind source.entry at result }
-{
-    let (name, at) = name(source, at)?;
+    let at = keyword(source, Keyword::Cap, at)?;
+    let (capacity, at) = number(source, at)?;
     let at = mark(source, Mark::Semicolon, at)?;
-    Ok((Item::Source(name), at))
+    Ok((Item::Sink(name, capacity), at))
 }
 
 /// The program of the instance of this name, its channels and the values of its parameters.
@@ -97,12 +83,16 @@ fn instance_behind<'a>(
 
 #[tactic(auto, unfolding(crate::specs::Reading::item, crate::specs::Reading::item_behind, kpn_text_tokens::specs::Results::and_then))]
 fn item<'a>(alloc: Global, source: Source<'a>, at: usize) -> Read<Item<'a>>
-    ensures { Parses item_seen (λ s. spec.item s 0) source.entry at result }
+    ensures { Parses item_seen spec.item source.entry at result }
 {
     let (first, at) = next(source, at)?;
     match &first.token {
         Token::Keyword(Keyword::Channel) => channel_behind(source, at),
-        Token::Keyword(Keyword::Source) => source_behind(source, at),
+        Token::Keyword(Keyword::Source) => {
+            let (name, at) = name(source, at)?;
+            let at = mark(source, Mark::Semicolon, at)?;
+            Ok((Item::Source(name), at))
+        }
         Token::Keyword(Keyword::Sink) => sink_behind(source, at),
         Token::Name(name) => {
             let name = Identifier::new(name, first.start);
@@ -114,7 +104,8 @@ fn item<'a>(alloc: Global, source: Source<'a>, at: usize) -> Read<Item<'a>>
 
 /// The items up to the closing brace.
 fn items<'a>(alloc: Global, source: Source<'a>, at: usize) -> Read<Vec<Item<'a>>>
-    ensures { Parses (λ found. items_seen found.items) spec.items source.entry at result }
+    ensures { Parses (λ found. items_seen found.items)
+        (λ s. spec.all_of spec.stands_in_block (spec.item s)) source.entry at result }
 {
     let mut found = Vec::new(alloc);
     let mut place = at;
@@ -127,9 +118,9 @@ fn items<'a>(alloc: Global, source: Source<'a>, at: usize) -> Read<Vec<Item<'a>>
 }
 
 /// The limit, if it is written.
-#[tactic(auto, unfolding(crate::specs::Reading::limit, crate::specs::Reading::setting, kpn_text_tokens::specs::Results::and_then))]
+#[tactic(auto, unfolding(crate::specs::Reading::setting, kpn_text_tokens::specs::Results::and_then))]
 fn limit(source: Source<'_>, at: usize) -> Read<Option<Number>>
-    ensures { Parses (λ n. n) spec.limit source.entry at result }
+    ensures { Parses (λ n. n) (spec.setting kind.Limit spec.number) source.entry at result }
 {
     if !at_keyword(source, Keyword::Limit, at) {
         return Ok((None, at));
@@ -140,9 +131,9 @@ fn limit(source: Source<'_>, at: usize) -> Read<Option<Number>>
     Ok((Some(limit), at))
 }
 
-#[tactic(auto, unfolding(crate::specs::Reading::word_of, kpn_text_tokens::specs::Results::and_then))]
+#[tactic(auto, unfolding(crate::specs::Reading::read_as, kpn_text_tokens::specs::Results::and_then))]
 fn policy_word(source: Source<'_>, at: usize) -> Read<Policy>
-    ensures { Parses (λ q. q) (spec.word_of words.policy_spelled) source.entry at result }
+    ensures { Parses (λ q. q) (spec.read_as (spec.token_word words.policy_spelled)) source.entry at result }
 {
     let (first, after) = next(source, at)?;
     let spelled = match &first.token {
@@ -156,9 +147,9 @@ fn policy_word(source: Source<'_>, at: usize) -> Read<Policy>
 }
 
 /// The policy, if it is written.
-#[tactic(auto, unfolding(crate::specs::Reading::policy, crate::specs::Reading::setting, kpn_text_tokens::specs::Results::and_then))]
+#[tactic(auto, unfolding(crate::specs::Reading::setting, kpn_text_tokens::specs::Results::and_then))]
 fn policy(source: Source<'_>, at: usize) -> Read<Option<Policy>>
-    ensures { Parses (λ q. q) spec.policy source.entry at result }
+    ensures { Parses (λ q. q) (spec.setting kind.Policy (spec.read_as (spec.token_word words.policy_spelled))) source.entry at result }
 {
     if !at_keyword(source, Keyword::Policy, at) {
         return Ok((None, at));
@@ -169,9 +160,9 @@ fn policy(source: Source<'_>, at: usize) -> Read<Option<Policy>>
     Ok((Some(policy), at))
 }
 
-#[tactic(auto, unfolding(crate::specs::Reading::word_of, kpn_text_tokens::specs::Results::and_then))]
+#[tactic(auto, unfolding(crate::specs::Reading::read_as, kpn_text_tokens::specs::Results::and_then))]
 fn growth_word(source: Source<'_>, at: usize) -> Read<Growth>
-    ensures { Parses (λ g. g) (spec.word_of words.growth_spelled) source.entry at result }
+    ensures { Parses (λ g. g) (spec.read_as (spec.token_word words.growth_spelled)) source.entry at result }
 {
     let (first, after) = next(source, at)?;
     let spelled = match &first.token {
@@ -185,9 +176,9 @@ fn growth_word(source: Source<'_>, at: usize) -> Read<Growth>
 }
 
 /// The growth, if it is written.
-#[tactic(auto, unfolding(crate::specs::Reading::growth, crate::specs::Reading::setting, kpn_text_tokens::specs::Results::and_then))]
+#[tactic(auto, unfolding(crate::specs::Reading::setting, kpn_text_tokens::specs::Results::and_then))]
 fn growth(source: Source<'_>, at: usize) -> Read<Option<Growth>>
-    ensures { Parses (λ g. g) spec.growth source.entry at result }
+    ensures { Parses (λ g. g) (spec.setting kind.Grow (spec.read_as (spec.token_word words.growth_spelled))) source.entry at result }
 {
     if !at_keyword(source, Keyword::Grow, at) {
         return Ok((None, at));

@@ -5,7 +5,7 @@ ghost use Rattle.kpn_text_grammar.specs.Operators.{operator_mark};
 ghost use Rattle.kpn_text_grammar.specs.Operators as table;
 
 use kpn_lang::Op;
-use kpn_text_tokens::Mark;
+use kpn_text_tokens::{Language, Mark};
 
 const OPERATORS: [Op; 18] = [
     Op::Add,
@@ -73,6 +73,16 @@ const COMPARED: usize = 7;
 
 /// How tight an operand binds: tighter than each operator.
 pub const OPERAND: usize = 10;
+
+/// How tight each expression of a language binds at least: in language 1 each is an operand.
+pub(crate) fn loosest(language: Language) -> usize
+    ensures { result ≡ table.loosest language }
+{
+    match language {
+        Language::One => OPERAND,
+        Language::Two => LOOSEST,
+    }
+}
 
 fn is_comparison(operator: Op) -> bool
     ensures { result ≡ table.is_comparison operator }

@@ -154,7 +154,7 @@ pub(crate) fn keyword(
 }
 
 /// A name.
-#[tactic(auto, unfolding(crate::specs::Reading::name, kpn_text_tokens::specs::Results::and_then))]
+#[tactic(auto, unfolding(crate::specs::Reading::name, crate::specs::Reading::read_as, kpn_text_tokens::specs::Results::and_then))]
 pub(crate) fn name<'a>(source: Source<'a>, at: usize) -> Read<Identifier<'a>>
     ensures { Parses (λ name. name.bytes.now) spec.name source.entry at result }
 {
@@ -166,7 +166,7 @@ pub(crate) fn name<'a>(source: Source<'a>, at: usize) -> Read<Identifier<'a>>
 }
 
 /// A number.
-#[tactic(auto, unfolding(crate::specs::Reading::number, kpn_text_tokens::specs::Results::and_then))]
+#[tactic(auto, unfolding(crate::specs::Reading::number, crate::specs::Reading::read_as, kpn_text_tokens::specs::Results::and_then))]
 pub(crate) fn number(source: Source<'_>, at: usize) -> Read<Number>
     ensures { Parses (λ n. n) spec.number source.entry at result }
 {
@@ -193,9 +193,9 @@ fn size_of_token(token: &Token<'_>) -> Option<Number>
 }
 
 /// The size of an array: a number above 0.
-#[tactic(auto, unfolding(crate::specs::Reading::size, kpn_text_tokens::specs::Results::and_then))]
+#[tactic(auto, unfolding(crate::specs::Reading::read_as, kpn_text_tokens::specs::Results::and_then))]
 pub(crate) fn size(source: Source<'_>, at: usize) -> Read<Number>
-    ensures { Parses (λ n. n) spec.size source.entry at result }
+    ensures { Parses (λ n. n) (spec.read_as spec.token_size) source.entry at result }
 {
     let (first, after) = next(source, at)?;
     match size_of_token(&first.token) {
@@ -218,7 +218,7 @@ pub(crate) fn two(source: Source<'_>, at: usize) -> Result<usize, GrammarFault>
 }
 
 /// An operator between two expressions.
-#[tactic(auto, unfolding(crate::specs::Reading::operator, kpn_text_tokens::specs::Results::and_then))]
+#[tactic(auto, unfolding(crate::specs::Reading::operator, crate::specs::Reading::read_as, kpn_text_tokens::specs::Results::and_then))]
 pub(crate) fn operator(source: Source<'_>, at: usize) -> Read<Op>
     ensures { Parses (λ op. op) spec.operator source.entry at result }
 {

@@ -4,12 +4,13 @@ ghost use Rattle.std.specs.Prelude.{◌≡◌};
 ghost use Rattle.kpn_text_grammar.specs.Reading as spec;
 ghost use Rattle.kpn_text_grammar.specs.View.{Parses, names_seen, parts_seen, process_seen, processes_seen};
 
-use crate::blocks::body;
+use crate::blocks::block_behind;
 use crate::declarations::declarations;
 use crate::fault::GrammarFault;
 use crate::lists::names;
 use crate::parser::{Read, Scope, Source, at_keyword, at_mark, keyword, mark, name, next};
 use crate::tree::{HeadParts, Names, ProcessNode};
+use kpn_limits::MAX_LEVELS;
 use kpn_text_tokens::{Keyword, Lexeme, Mark, Token};
 use std::alloc::Global;
 
@@ -133,7 +134,7 @@ fn process<'a>(alloc: Global, source: Source<'a>, at: usize) -> Read<ProcessNode
     let at = mark(source, Mark::RightParen, at)?;
     let at = mark(source, Mark::LeftBrace, at)?;
     let (declarations, at) = declarations(alloc, source, at)?;
-    let (body, at) = body(alloc, source, at)?;
+    let (body, at) = block_behind(alloc, source, MAX_LEVELS - 1, at)?;
     let process = ProcessNode {
         name,
         parts,

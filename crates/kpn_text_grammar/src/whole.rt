@@ -27,24 +27,18 @@ fn at_end(source: Source<'_>, at: usize) -> Result<(), GrammarFault>
     }
 }
 
-/// `language 2;`
-#[tactic(auto, unfolding(crate::specs::Reading::opening, kpn_text_tokens::specs::Results::and_then))]
-fn opening(source: Source<'_>, at: usize) -> Result<usize, GrammarFault>
-    ensures { Passes spec.opening source.entry at result }
-{
-    let at = keyword(source, Keyword::Language, at)?;
-    let at = two(source, at)?;
-    mark(source, Mark::Semicolon, at)
-}
-
-/// What begins a text of a language.
-#[tactic(auto, unfolding(crate::specs::Reading::language_at))]
+/// What begins a text of a language: `language 2;`, or nothing.
+#[tactic(auto, unfolding(crate::specs::Reading::language_at, kpn_text_tokens::specs::Results::and_then))]
 fn language_at(source: Source<'_>, language: Language, at: usize) -> Result<usize, GrammarFault>
     ensures { Passes (λ s. spec.language_at s language) source.entry at result }
 {
     match language {
         Language::One => Ok(at),
-        Language::Two => opening(source, at),
+        Language::Two => {
+            let at = keyword(source, Keyword::Language, at)?;
+            let at = two(source, at)?;
+            mark(source, Mark::Semicolon, at)
+        }
     }
 }
 

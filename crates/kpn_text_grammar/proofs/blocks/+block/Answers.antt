@@ -1,9 +1,9 @@
 -- A block is its statements, one level below, and its braces; one more round of the loop reads one statement more.
-use Rattle.std.proofs.Common.{◌≡◌, ◌<◌, true, false, length, sym, ◌∙◌, arith}
+use Rattle.std.proofs.Common.{◌≡◌, ◌<◌, true, false, sym, ◌∙◌, arith}
 use Rattle.std.proofs.lemmas.Result.{err_from_is_err_and}
-use Rattle.kpn_text_grammar.specs.Reading.{stands_in_block, is_branch, one_statement, block, second_block, statements_at}
-use Rattle.kpn_text_grammar.specs.View.{tokens_from, statement_seen, statements_seen}
-use Rattle.kpn_text_grammar.proofs.BlockSteps.{block_below, block_deep, block_unopened, second_below, second_deep, second_is_block, any_number, all_statements, fails_at_any}
+use Rattle.kpn_text_grammar.specs.Reading.{is_branch, all_of}
+use Rattle.kpn_text_grammar.specs.View.{tokens_from, statement_seen}
+use Rattle.kpn_text_grammar.proofs.BlockSteps.{block_below, block_deep, block_unopened, second_below, second_deep, second_is_block}
 use Rattle.kpn_text_grammar.proofs.Rounds.{at_first, one_more, stops_here, fails_here, place_moves}
 use Rattle.kpn_text_grammar.proofs.StatementLaws.{statement_shortens}
 use Rattle.kpn_text_grammar.proofs.blocks.+block.Goals as goal
@@ -27,59 +27,29 @@ block-returns t c =
     (tokens_from c.args.source c.in_ok-inside.inside) some c.in_ok-inside.ensures) c.block_behind.ensures
 
 pub statements-statements-init : goal.statements-statements-init
+unfolding all_of
 statements-statements-init t c =
-    let s = c.args.source.scope in
-    let inner = block s c.args.depth in
-    let second = second_block s c.args.depth in
-    rw (all_statements s inner second (tokens_from c.args.source c.args.at))
-    (at_first statement_seen stands_in_block (one_statement s inner second) c.new-found.result.items
-    (tokens_from c.args.source c.args.at) c.new-found.ensures.items)
+    at_first statement_seen c.new-found.result.items (tokens_from c.args.source c.args.at) c.new-found.ensures.items
 
 pub statements-returns-in_err-statement : goal.statements-returns-in_err-statement
 statements-returns-in_err-statement t c =
-    let s = c.args.source.scope in
-    let inner = block s c.args.depth in
-    let second = second_block s c.args.depth in
     let p = err_from_is_err_and c.from_residual.result c.from_residual.ensures.1 in
-    let ls = tokens_from c.args.source c.statements.place in
-    rw (p.1, p.2) (fails_here stands_in_block (one_statement s inner second) c.in_err-statement.field-0.0
-    (statements_seen c.statements.found.items) (length c.statements.found.items) ls
-    (statements_at s inner second (tokens_from c.args.source c.args.at)) c.statements.invariant
-    (sym c.goes_on.ensures ∙ c.statements-test.true)
-    (fails_at_any s inner second (length c.statements.found.items) ls c.in_err-statement.field-0.0 c.in_err-statement.ensures))
+    rw (p.1, p.2) (fails_here c.in_err-statement.field-0.0 c.statements.invariant
+    (sym c.goes_on.ensures ∙ c.statements-test.true) c.in_err-statement.ensures)
 
 pub statements-statements-smaller : goal.statements-statements-smaller
 statements-statements-smaller t c =
-    let s = c.args.source.scope in
     place_moves c.args.source.tokens.now c.statements.place c.in_ok-statement.after
-    (statement_shortens s c.args.depth 0 (tokens_from c.args.source c.statements.place)
-    (statement_seen c.in_ok-statement.statement) (tokens_from c.args.source c.in_ok-statement.after)
-    c.in_ok-statement.ensures)
+    (statement_shortens c.args.source.scope c.args.depth _ c.in_ok-statement.ensures)
 
 pub statements-statements-preserved : goal.statements-statements-preserved
 statements-statements-preserved t c =
-    let s = c.args.source.scope in
-    let inner = block s c.args.depth in
-    let second = second_block s c.args.depth in
-    one_more statement_seen stands_in_block (one_statement s inner second) c.statements.found.items c.push.new.self.items
-    c.in_ok-statement.statement (tokens_from c.args.source c.statements.place)
-    (tokens_from c.args.source c.in_ok-statement.after)
-    (statements_at s inner second (tokens_from c.args.source c.args.at)) c.statements.invariant
-    (sym c.goes_on.ensures ∙ c.statements-test.true) (any_number s inner second _ _ ∙ c.in_ok-statement.ensures)
-    (statement_shortens s c.args.depth 0 (tokens_from c.args.source c.statements.place)
-    (statement_seen c.in_ok-statement.statement) (tokens_from c.args.source c.in_ok-statement.after)
-    c.in_ok-statement.ensures)
+    one_more statement_seen c.statements.found.items c.in_ok-statement.statement c.statements.invariant (sym c.goes_on.ensures ∙ c.statements-test.true)
+    c.in_ok-statement.ensures (statement_shortens c.args.source.scope c.args.depth _ c.in_ok-statement.ensures)
     c.in_ok-push.ensures.items
 
 pub statements-returns : goal.statements-returns
-statements-returns t c =
-    let s = c.args.source.scope in
-    let inner = block s c.args.depth in
-    let second = second_block s c.args.depth in
-    stops_here stands_in_block (one_statement s inner second) (statements_seen c.statements.found.items)
-    (length c.statements.found.items) (tokens_from c.args.source c.statements.place)
-    (statements_at s inner second (tokens_from c.args.source c.args.at)) c.statements.invariant
-    (sym c.goes_on.ensures ∙ c.statements-test.false)
+statements-returns t c = stops_here c.statements.invariant (sym c.goes_on.ensures ∙ c.statements-test.false)
 
 pub second_block-returns-then-not-is_branch : goal.second_block-returns-then-not-is_branch
 second_block-returns-then-not-is_branch t c =

@@ -1,6 +1,6 @@
 -- A block is read by its statements, one level deeper each; what was read so far comes before what is still read.
 use Rattle.std.proofs.Common.{◌+◌, ◌-◌, ◌*◌, length}
-use Rattle.kpn_text_grammar.specs.Reading.{stands_in_block, one_statement, block, second_block, statements_at}
+use Rattle.kpn_text_grammar.specs.Reading.{stands_in_block, one_statement, block, second_block, all_of}
 use Rattle.kpn_text_grammar.specs.View.{tokens_from, statements_seen}
 use Rattle.kpn_text_grammar.proofs.Rounds.{StandsAt}
 use Rattle.kpn_text_grammar.proofs.blocks.+block.Given as goal
@@ -37,8 +37,9 @@ invariant-statements-statements l =
     let s = l.source.scope in
     let inner = block s l.depth in
     let second = second_block s l.depth in
-    StandsAt stands_in_block (one_statement s inner second) (statements_seen l.found.items)
-    (length l.found.items) (tokens_from l.source l.place) (statements_at s inner second (tokens_from l.source l.at))
+    StandsAt stands_in_block (λ i. one_statement s inner second) (statements_seen l.found.items)
+    (length l.found.items) (tokens_from l.source l.place) (all_of stands_in_block (one_statement s inner second)
+    (tokens_from l.source l.at))
 
 abbrev pub decreases-statements-statements : goal.decreases-statements-statements
 decreases-statements-statements l = length l.source.tokens.now - l.place

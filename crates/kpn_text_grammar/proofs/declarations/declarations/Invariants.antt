@@ -1,14 +1,14 @@
 -- What was read so far comes before what is still read.
 use Rattle.std.proofs.Common.{◌-◌, length}
-use Rattle.kpn_text_grammar.specs.Reading.{declares, declaration, declarations}
+use Rattle.kpn_text_grammar.specs.Reading.{declares, declaration, all_of}
 use Rattle.kpn_text_grammar.specs.View.{tokens_from, declarations_seen}
 use Rattle.kpn_text_grammar.proofs.Rounds.{StandsAt}
 use Rattle.kpn_text_grammar.proofs.declarations.declarations.Given as goal
 
 abbrev pub invariant-declarations : goal.invariant-declarations
 invariant-declarations l =
-    StandsAt declares (declaration l.source.scope) (declarations_seen l.found.items) (length l.found.items)
-    (tokens_from l.source l.place) (declarations l.source.scope (tokens_from l.source l.at))
+    StandsAt declares (λ i. declaration l.source.scope) (declarations_seen l.found.items) (length l.found.items)
+    (tokens_from l.source l.place) (all_of declares (declaration l.source.scope) (tokens_from l.source l.at))
 
 abbrev pub decreases-declarations : goal.decreases-declarations
 decreases-declarations l = length l.source.tokens.now - l.place

@@ -2,15 +2,16 @@
 use Rattle.std.proofs.Common.{◌-◌, length}
 use Rattle.kpn_text_tokens.specs.declared.tokens.Mark.TheVariants as mark_
 use Rattle.kpn_text_grammar.specs.TokenTests.{is_mark}
-use Rattle.kpn_text_grammar.specs.Reading.{further, name, names}
+use Rattle.kpn_text_grammar.specs.Reading.{further, name, separated}
 use Rattle.kpn_text_grammar.specs.View.{tokens_from, names_seen}
 use Rattle.kpn_text_grammar.proofs.Rounds.{StandsAt}
 use Rattle.kpn_text_grammar.proofs.lists.names.Given as goal
 
 abbrev pub invariant-names : goal.invariant-names
 invariant-names l =
-    StandsAt (is_mark mark_.Comma) (further l.source.scope (name l.source.scope)) (names_seen l.found.items)
-    (length l.found.items) (tokens_from l.source l.place) (names l.source.scope (tokens_from l.source l.at))
+    StandsAt (is_mark mark_.Comma) (λ i. further l.source.scope (name l.source.scope)) (names_seen l.found.items)
+    (length l.found.items) (tokens_from l.source l.place) (separated l.source.scope (name l.source.scope)
+    (tokens_from l.source l.at))
 
 abbrev pub decreases-names : goal.decreases-names
 decreases-names l = length l.source.tokens.now - l.place

@@ -2,15 +2,16 @@
 use Rattle.std.proofs.Common.{◌-◌, length}
 use Rattle.kpn_text_tokens.specs.declared.tokens.Mark.TheVariants as mark_
 use Rattle.kpn_text_grammar.specs.TokenTests.{is_mark}
-use Rattle.kpn_text_grammar.specs.Reading.{further, literal, values}
+use Rattle.kpn_text_grammar.specs.Reading.{further, literal, separated}
 use Rattle.kpn_text_grammar.specs.View.{tokens_from, values_seen}
 use Rattle.kpn_text_grammar.proofs.Rounds.{StandsAt}
 use Rattle.kpn_text_grammar.proofs.lists.values.Given as goal
 
 abbrev pub invariant-values : goal.invariant-values
 invariant-values l =
-    StandsAt (is_mark mark_.Comma) (further l.source.scope (literal l.source.scope)) (values_seen l.found.items)
-    (length l.found.items) (tokens_from l.source l.place) (values l.source.scope (tokens_from l.source l.at))
+    StandsAt (is_mark mark_.Comma) (λ i. further l.source.scope (literal l.source.scope)) (values_seen l.found.items)
+    (length l.found.items) (tokens_from l.source l.place) (separated l.source.scope (literal l.source.scope)
+    (tokens_from l.source l.at))
 
 abbrev pub decreases-values : goal.decreases-values
 decreases-values l = length l.source.tokens.now - l.place

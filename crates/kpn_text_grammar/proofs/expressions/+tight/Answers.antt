@@ -12,7 +12,7 @@ use Rattle.kpn_text_grammar.proofs.Rounds.{place_moves}
 use Rattle.kpn_text_grammar.proofs.Steps.{fails_with}
 use Rattle.kpn_text_grammar.proofs.TightLaws.{right_below}
 use Rattle.kpn_text_grammar.proofs.TightSteps.{GoesOn, first_turn, full_turn, last_turn, next_turn, operand_fails, side_fails, side_shortens, sign_fails, tight_ends, tight_none}
-use Rattle.kpn_text_grammar.proofs.precedence.+tight.Goals as goal
+use Rattle.kpn_text_grammar.proofs.expressions.+tight.Goals as goal
 
 pub tight-returns-in_err-first-clause-read : goal.tight-returns-in_err-first-clause-read
 tight-returns-in_err-first-clause-read t c =

@@ -4,7 +4,7 @@ use Rattle.std.proofs.Common.{◌+◌, ◌-◌, ◌*◌, length}
 use Rattle.kpn_text_grammar.specs.Reading.{tight}
 use Rattle.kpn_text_grammar.specs.View.{term, tokens_from}
 use Rattle.kpn_text_grammar.proofs.TightSteps.{GoesOn}
-use Rattle.kpn_text_grammar.proofs.precedence.+tight.Given as goal
+use Rattle.kpn_text_grammar.proofs.expressions.+tight.Given as goal
 
 abbrev pub decreases-tight : goal.decreases-tight
 decreases-tight l = 4 * (l.room.levels + l.room.depth)
@@ -15,14 +15,14 @@ decreases-tight_operand l = 4 * (l.room.levels + l.room.depth) - 1
 abbrev pub decreases-behind_name : goal.decreases-behind_name
 decreases-behind_name l = 4 * (l.room.levels + l.room.depth) - 2
 
-abbrev pub decreases-element : goal.decreases-element
-decreases-element l = 4 * (l.room.levels + l.room.depth) - 3
-
 abbrev pub decreases-behind_sign : goal.decreases-behind_sign
 decreases-behind_sign l = 4 * (l.room.levels + l.room.depth) - 2
 
 abbrev pub decreases-parentheses : goal.decreases-parentheses
 decreases-parentheses l = 4 * (l.room.levels + l.room.depth) - 2
+
+abbrev pub decreases-sides : goal.decreases-sides
+decreases-sides l = 4 * (l.room.levels + l.room.depth) - 3
 
 abbrev pub decreases-values : goal.decreases-values
 decreases-values l = 4 * (l.room.levels + l.room.depth) - 3
