@@ -6,23 +6,17 @@ ghost use Rattle.kpn_pool_desk.specs.Desk.{with_book};
 ghost use Rattle.kpn_pool_desk.specs.RegionTurn.{ClaimsOne, Runs, SettlesRegion, ComesBackFromRegion};
 
 use crate::desk::Desk;
-use crate::division::BUDGET;
 use crate::gate::Gate;
 use crate::job::Job;
 use crate::phases::NextMove;
 use crate::seat::{Why, WorkerSeat};
+use crate::tuning::{CLAIMS_OF_ONE_REGION, EVENTS_PER_REGION, STEPS_PER_SHORT_TURN};
 use kpn_book::Refused;
 use kpn_net::Network;
 use kpn_region::Batch;
 use std::alloc::{AllocError, Allocator, Global};
 use std::marker::{Model, PhantomData};
 use std::time::Duration;
-
-// A process makes no more steps in a row: so a batch does not last for long where they lead to no get or put.
-const STEPS_PER_TURN_IN_REGION: u32 = 1_000;
-
-// So many times in a row a worker claims the same region again, whatever the others wait for.
-const AGAIN: u32 = 16;
 
 /// The region that a worker has in hand, if one is held. The memory is kept for those that follow.
 #[derive(Drop)]
@@ -94,7 +88,7 @@ impl<'n, J: Job, A: Allocator> RegionTurn<'n, J, A> {
             desk.division.stop();
             return false;
         }
-        let last = (self.times < AGAIN).then_some(self.region);
+        let last = (self.times < CLAIMS_OF_ONE_REGION).then_some(self.region);
         let Some(region) = desk.next_region(last) else {
             return false;
         };
@@ -144,7 +138,7 @@ impl<'n, J: Job, A: Allocator> RegionTurn<'n, J, A> {
         ensures { Runs self.old self.new }
     {
         if let Some(batch) = &mut self.batch {
-            let _ = batch.run(quota.min(STEPS_PER_TURN_IN_REGION), BUDGET);
+            let _ = batch.run(quota.min(STEPS_PER_SHORT_TURN), EVENTS_PER_REGION);
         }
     }
 

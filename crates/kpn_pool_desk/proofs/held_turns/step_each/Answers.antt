@@ -1,7 +1,6 @@
 -- A step leaves the process of its turn as it was, and the gate answers for this process.
 use Rattle.std.proofs.Common.{◌≡◌, ◌<◌, length, Some, sym, ap, ◌∙◌, subst, rules, arith}
 use Rattle.std.specs.Prelude.{slice_get}
-use Rattle.kpn_pool_desk.specs.declared.gate.Go.TheVariants.{On, Abandon}
 use Rattle.kpn_pool_desk.specs.HeldTurns.{claimed_by}
 use Rattle.kpn_pool_desk.specs.Gate.{LetsThrough}
 use Rattle.kpn_pool_desk.proofs.Batches.{claimed_by-set, claimed_at, through_more, stopped_at, let_all}
