@@ -139,12 +139,13 @@ fn beside_batches<J: Job>(
         return Ok(0);
     };
     let mut worker = Worker::new(seat, 10);
+    worker.pace.away = Some(away);
     let mut turns: u64 = 0;
     'batches: for _batch in 0..10 {
         if worker.turns.claim(&mut desk)? {
             worker.turns.step(gate, 0, 10);
-            turns = turns.saturating_add(worker.turns() as u64);
-            let _ = worker.come_back_with_turns(&mut desk, gate, Some(away), u64::MAX);
+            turns = turns.saturating_add(worker.turns.len() as u64);
+            let _ = worker.come_back_with_turns(&mut desk, gate, u64::MAX);
         }
     }
     Ok(worker.seat.commits().saturating_sub(turns))

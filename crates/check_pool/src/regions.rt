@@ -4,7 +4,7 @@ ghost use Rattle.std.specs.Prelude.{◌≡◌};
 use crate::abandoning::TestGate;
 use kpn_book::Keeping;
 use kpn_net::Network;
-use kpn_pool_desk::{Desk, Job, NextMove, Why, Worker, end_seats};
+use kpn_pool_desk::{Desk, Job, NextMove, RegionTurn, Why, Worker, end_seats};
 use kpn_text::read_network;
 use linked_list_allocator::LocalHeap;
 use std::alloc::AllocError;
@@ -28,7 +28,8 @@ network {
 #[derive(Drop)]
 struct OnlyWorker<'n, 'a, J: Job> {
     desk: Desk<'n, J, &'a LocalHeap>,
-    worker: Worker<'n, J, &'a LocalHeap>,
+    worker: Worker<'n, J>,
+    region: RegionTurn<'n, J, &'a LocalHeap>,
     gate: TestGate,
     /// So many commits are allowed.
     most: u64,
@@ -56,6 +57,7 @@ impl<'n, 'a, J: Job> OnlyWorker<'n, 'a, J> {
         Ok(Some(OnlyWorker {
             desk,
             worker: Worker::new(seat, 1_000),
+            region: RegionTurn::new(),
             gate: TestGate::open(true),
             most,
         }))
@@ -64,11 +66,12 @@ impl<'n, 'a, J: Job> OnlyWorker<'n, 'a, J> {
     /// Makes turns until it holds a region, and returns whether it does, or why it ends before.
     fn claim_region(&mut self) -> Result<bool, Why> {
         let (desk, worker, gate) = (&mut self.desk, &mut self.worker, &self.gate);
+        let region = &mut self.region;
         for _ in 0..100_000 {
-            if worker.region.is_held() {
+            if region.is_held() {
                 return Ok(false);
             }
-            if worker.region.claim(desk, gate) {
+            if region.claim(desk, gate) {
                 return Ok(true);
             }
             let some = worker.turns.claim(desk);
@@ -76,7 +79,7 @@ impl<'n, 'a, J: Job> OnlyWorker<'n, 'a, J> {
                 return Ok(false);
             }
             worker.turns.step(gate, 0, 1_000);
-            let next = worker.come_back_with_turns(desk, gate, None, self.most);
+            let next = worker.come_back_with_turns(desk, gate, self.most);
             if let NextMove::End(why) = next {
                 return Err(why);
             }
@@ -86,14 +89,13 @@ impl<'n, 'a, J: Job> OnlyWorker<'n, 'a, J> {
 
     /// Runs the region that it holds, and comes back. Returns why it ends, if it does, and how many commits it made.
     fn run_region(&mut self) -> (Option<Why>, u64) {
-        let (desk, worker) = (&mut self.desk, &mut self.worker);
-        if !worker.region.is_held() {
+        let (desk, worker, region) = (&mut self.desk, &mut self.worker, &mut self.region);
+        if !region.is_held() {
             return (None, 0);
         }
         let before = worker.seat.commits();
-        worker.region.run(1_000);
-        let (region, seat) = (&mut worker.region, &mut worker.seat);
-        let why = match region.come_back(desk, seat, u64::MAX, None, self.most) {
+        region.run(1_000);
+        let why = match region.come_back(desk, &mut worker.seat, &worker.pace, self.most) {
             NextMove::End(why) => Some(why),
             _ => None,
         };

@@ -1,6 +1,6 @@
 -- What the workers of a run did, and why they did not come to its end.
-use Rattle.std.specs.Prelude.{◌≡◌, ℕ, Bool, true, false, not, if◌then◌else◌, List, length, Option, Some, None}
-use Rattle.std.specs.List.{list_any, list_all, sum_by}
+use Rattle.std.specs.Prelude.{Bool, true, false, not, if◌then◌else◌, List, Option, Some, None}
+use Rattle.std.specs.List.{list_any, list_all}
 use Rattle.kpn_pool_desk.specs.declared.seat.Why.{Why}
 use Rattle.kpn_pool_desk.specs.declared.seat.Why.TheVariants as why
 use Rattle.kpn_pool_desk.specs.Seat.{Seat}
@@ -11,11 +11,6 @@ use Rattle.kpn_pool.specs.declared.fault.RunFault.TheVariants.{Threads, NoMemory
 -- what a worker did, as its seat has it
 abbrev pub worked_of : Seat → Worked
 worked_of seat = record { why = seat.why; commits = seat.commits }
-
--- these are the commits of so many workers together
-abbrev pub AreMadeBy : (workers commits : ℕ) → Type 0
-AreMadeBy workers commits =
-    (made : List Worked) × (length made ≡ workers) × (commits ≡ sum_by (λ (w : Worked). w.commits) made)
 
 -- a worker ended since memory ran out at its commit
 abbrev pub is_out_of_memory : Option Why → Bool

@@ -2,7 +2,6 @@
 ghost use Rattle.std.specs.Prelude.{◌≡◌, ◌<◌, ◌≤◌, length, IfOk};
 ghost use Rattle.kpn_net.specs.Iteration.{sources};
 ghost use Rattle.kpn_book.specs.Reports.{AreSupplied, IsReport, events_of};
-ghost use Rattle.kpn_pool.specs.Causes.{AreMadeBy};
 
 use crate::beside::{EndedRun, WorkPlan, run_beside};
 use crate::ending::conclude;
@@ -44,7 +43,6 @@ pub fn run<R: Threads + Wait + Clock + Sync, G: Gate>(
     ensures report { IfOk result (λ report. IsReport network.now lists.now limits.now report) }
     ensures supplied { IfOk result (λ report.
         AreSupplied network.now lists.now (events_of report)) }
-    ensures commits { IfOk result (λ report. AreMadeBy workers report.commits) }
 {
     let plan = WorkPlan {
         workers,
@@ -70,7 +68,6 @@ pub fn run_keeping<R: Threads + Wait + Clock + Sync, G: Gate>(
         IsReport network.now lists.now plan.now.limits report) }
     ensures supplied { IfOk result (λ report.
         AreSupplied network.now lists.now (events_of report)) }
-    ensures commits { IfOk result (λ report. AreMadeBy plan.now.workers report.commits) }
 {
     let serving = Serving::new(lists, plan.limits.take, plan.gate.lets_all());
     let nobody: &[Nobody] = &[];

@@ -2,7 +2,7 @@
 ghost use Rattle.std.specs.Prelude.{◌≡◌, ◌<◌, ◌≤◌, IsSome};
 
 use crate::shared::Shared;
-use kpn_pool_desk::{Gate, Job, Worker, WorkerSeat};
+use kpn_pool_desk::{Gate, Job, RegionTurn, Worker, WorkerSeat};
 use std::alloc::Allocator;
 use std::sync::Wait;
 use std::time::Clock;
@@ -35,11 +35,12 @@ pub fn work<'n, J: Job, A: Allocator + Copy, G: Gate, R: Wait + Clock>(
     ensures commits { seat.commits ≤ result.commits }
 {
     let mut worker = Worker::new(seat, quota);
+    let mut region = RegionTurn::new();
     for _ in rt.forever() {
-        if !shared.go_on(rt, gate, &mut worker) {
+        if !shared.go_on(rt, gate, &mut worker, &mut region) {
             return worker.into_seat();
         }
-        worker.step(rt, gate);
+        worker.step(rt, gate, &mut region);
     }
     unreachable!()
 }

@@ -1,7 +1,8 @@
 //! The turns that a worker makes between two holds of the lock, in the order of their claims.
 ghost use Rattle.std.specs.Prelude.{◌≡◌, ◌↔◌, ◌+◌, ◌<◌, ◌≤◌, IsTrue, IfOk, OnErr, take, length};
 ghost use Rattle.kpn_book.specs.Stepping.{ClaimsNobody};
-ghost use Rattle.kpn_pool_desk.specs.HeldTurns.{InTurn, Claims, ClaimsInVain, CommitsOrDrops, PutsBack, SettlesTurns, claimed_by};
+ghost use Rattle.kpn_pool_desk.specs.HeldTurns.{InTurn, Claims, ClaimsInVain, CommitsOrDrops, PutsBack, StepsWithin, SettlesTurns, claimed_by};
+ghost use Rattle.std.specs.List.{All};
 ghost use Rattle.kpn_pool_desk.specs.Gate.{LetsThrough};
 ghost use Rattle.kpn_pool_desk.specs.Desk.{share_in, with_book, with_total};
 
@@ -98,6 +99,7 @@ impl<'n, J: Job> HeldTurns<'n, J> {
         ensures claimed { claimed_by self.new.turns ≡ claimed_by self.old.turns }
         ensures gate { LetsThrough (G.may_answer gate.now worker) self.new.passed self.new.held
             (claimed_by self.new.turns) }
+        ensures quota { All (StepsWithin quota) (take self.new.passed self.new.turns) }
     {
         let held = self.held;
         self.passed = step_each(
@@ -116,6 +118,7 @@ impl<'n, J: Job> HeldTurns<'n, J> {
         ensures claimed { claimed_by self.new.turns ≡ claimed_by self.old.turns }
         ensures gate { LetsThrough (G.may_answer gate.now worker) self.new.passed self.new.held
             (claimed_by self.new.turns) }
+        ensures quota { All (StepsWithin quota) (take self.new.passed self.new.turns) }
     {
         let held = self.held;
         let watch = ClockWatch { rt };
@@ -200,6 +203,7 @@ fn step_each<J: Job, G: Gate, W: Watch>(
     ensures claimed { claimed_by turns.new ≡ claimed_by turns.old }
     ensures gate { LetsThrough (G.may_answer gate.now worker) result held
         (claimed_by turns.new) }
+    ensures quota { All (StepsWithin quota) (take result turns.new) }
 {
     'turns: for i in 0..held {
         let turn = &mut turns[i];

@@ -32,6 +32,7 @@ pub use job::Job;
 pub use kpn_book::{Refused, View};
 pub use opening::{EndSeats, end_seats};
 pub use outside_seats::{SinkSeat, SnapFault, SourceSeat, take_from_each};
+pub use pace::Pace;
 pub use phases::{NextMove, Notices, Stay, Workers};
 pub use region_turn::RegionTurn;
 pub use rows::Takers;

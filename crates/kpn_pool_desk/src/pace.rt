@@ -7,6 +7,8 @@ use std::time::{Clock, Duration, Instant};
 pub struct Pace {
     turns: u32,
     begun: Option<Instant>,
+    /// For how long the turn has left the lock free, if it was measured.
+    pub away: Option<Duration>,
     // since when the worker has the lock, if the turn was measured
     held: Option<Instant>,
     /// How many commits there were when the turn began.
@@ -21,6 +23,7 @@ impl Pace {
         Pace {
             turns: 0,
             begun: None,
+            away: None,
             held: None,
             commits: u64::MAX,
             is_timed: false,
@@ -37,9 +40,12 @@ impl Pace {
         self.turns = self.turns.wrapping_add(1);
     }
 
-    /// For how long the turn lasts, if it is measured.
-    pub fn time<R: Clock>(&self, rt: &R) -> Option<Duration> {
-        self.begun?.elapsed(rt).ok()
+    /// The turn is over, and the worker comes back to the lock.
+    pub fn end<R: Clock>(&mut self, rt: &R) {
+        self.away = match self.begun {
+            Some(begun) => begun.elapsed(rt).ok(),
+            None => None,
+        };
     }
 
     /// The worker has the lock, which is measured if the turn was.

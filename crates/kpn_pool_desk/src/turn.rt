@@ -2,7 +2,7 @@
 ghost use Rattle.std.specs.Prelude.{◌≡◌, ◌≢◌, ◌+◌, ◌≤◌, ◌⊎◌, true, false, None, IfOk, OnErr};
 ghost use Rattle.kpn_book.specs.Stepping.{ClaimsNobody};
 ghost use Rattle.kpn_pool_desk.specs.Desk.{with_book, with_total};
-ghost use Rattle.kpn_pool_desk.specs.HeldTurns.{Claims, MayCommitTurn, CommitsOrDrops, PutsBack};
+ghost use Rattle.kpn_pool_desk.specs.HeldTurns.{Claims, MayCommitTurn, CommitsOrDrops, PutsBack, StepsWithin};
 
 use crate::desk::Desk;
 use crate::job::Job;
@@ -105,6 +105,7 @@ impl<'n, J: Job> Turn<'n, J> {
     pub(crate) fn step(&mut self, quota: u32) -> usize
         ensures same { self.new.process ≡ self.old.process }
         ensures process { result ≡ self.new.process }
+        ensures quota { StepsWithin quota self.new }
     {
         if let Some(last) = &mut self.last {
             last.made = match last.to.try_copy_from(&last.claim.frame) {
@@ -119,6 +120,7 @@ impl<'n, J: Job> Turn<'n, J> {
     pub(crate) fn step_timed<W: Watch>(&mut self, watch: &W, quota: u32) -> usize
         ensures same { self.new.process ≡ self.old.process }
         ensures process { result ≡ self.new.process }
+        ensures quota { StepsWithin quota self.new }
     {
         let begun = watch.read();
         let process = self.step(quota);

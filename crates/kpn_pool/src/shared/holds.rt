@@ -9,7 +9,7 @@ use kpn_pool_desk::tuning::{
     LOCK_TRIES, LOCK_TRIES_OUTSIDE, LOOK_ON_MICROSECONDS, LOOK_ON_REGIONS_MICROSECONDS,
     ROWS_MICROSECONDS,
 };
-use kpn_pool_desk::{Desk, Gate, Job, NextMove, Stay, Why, Worker, WorkerSeat};
+use kpn_pool_desk::{Desk, Gate, Job, NextMove, RegionTurn, Stay, Why, Worker, WorkerSeat};
 use std::alloc::{Allocator, Global};
 use std::sync::{MutexGuard, Wait};
 use std::time::{Clock, Duration, Instant};
@@ -21,34 +21,34 @@ impl<'n, J: Job, A: Allocator> Shared<'n, J, A> {
         &self,
         rt: &R,
         gate: &G,
-        worker: &mut Worker<'n, J, A>,
+        worker: &mut Worker<'n, J>,
+        region: &mut RegionTurn<'n, J, A>,
     ) -> bool
     where
         A: Copy,
-        requires { IsSome worker.old.region → LetsAll (G.may_answer gate.now) }
+        requires { IsSome region.old → LetsAll (G.may_answer gate.now) }
         ensures number { worker.new.seat.number ≡ worker.old.seat.number }
         ensures commits { worker.old.seat.commits ≤ worker.new.seat.commits }
         ensures ended { (result ≡ false) → IsSome worker.new.seat.why }
         // what the gate was not asked for is claimed and committed only if it lets everything through
-        ensures region { IsSome worker.new.region → LetsAll (G.may_answer gate.now) }
+        ensures region { IsSome region.new → LetsAll (G.may_answer gate.now) }
         ensures asked { worker.old.seat.commits + worker.old.turns.passed < worker.new.seat.commits
             → LetsAll (G.may_answer gate.now) }
     {
-        let away = worker.pace.time(rt);
-        let turns = worker.turns();
+        worker.pace.end(rt);
         // others may have the lock for as long as a region takes to be committed
-        let tries = if worker.region.is_held() {
-            LOCK_TRIES_OUTSIDE
+        let (turns, tries) = if region.is_held() {
+            (1, LOCK_TRIES_OUTSIDE)
         } else {
-            LOCK_TRIES
+            (worker.turns.len(), LOCK_TRIES)
         };
         let mut desk = self.lock_after(rt, tries);
         worker.pace.hold(rt);
-        let next = self.come_back(rt, gate, worker, &mut desk, away);
+        let next = self.come_back(rt, gate, worker, region, &mut desk);
         let Some(mut desk) = self.wait_for_work(rt, worker, desk, next) else {
             return false;
         };
-        if let Some(why) = worker.claim(&mut desk, gate) {
+        if let Some(why) = worker.claim(&mut desk, gate, region) {
             self.end(desk, &mut worker.seat, why);
             return false;
         }
@@ -64,23 +64,23 @@ impl<'n, J: Job, A: Allocator> Shared<'n, J, A> {
         &self,
         rt: &R,
         gate: &G,
-        worker: &mut Worker<'n, J, A>,
+        worker: &mut Worker<'n, J>,
+        region: &mut RegionTurn<'n, J, A>,
         desk: &mut Desk<'n, J, A>,
-        away: Option<Duration>,
     ) -> NextMove
     where
         A: Copy,
-        requires { IsSome worker.old.region → LetsAll (G.may_answer gate.now) }
-        ensures region { worker.new.region ≡ None }
+        requires { IsSome region.old → LetsAll (G.may_answer gate.now) }
+        ensures region { region.new ≡ None }
         ensures number { worker.new.seat.number ≡ worker.old.seat.number }
         ensures commits { worker.old.seat.commits ≤ worker.new.seat.commits }
         ensures asked { worker.old.seat.commits + worker.old.turns.passed < worker.new.seat.commits
             → LetsAll (G.may_answer gate.now) }
     {
-        let is_region = worker.region.is_held();
-        let turns = worker.turns() as u64;
+        let is_region = region.is_held();
+        let turns = worker.turns.len() as u64;
         let before = worker.seat.commits();
-        let next = worker.come_back(desk, gate, away, self.max_commits);
+        let next = worker.come_back(desk, gate, region, self.max_commits);
         if is_region || worker.seat.commits() - before <= turns {
             return next;
         }
@@ -93,13 +93,12 @@ impl<'n, J: Job, A: Allocator> Shared<'n, J, A> {
         &self,
         rt: &R,
         gate: &G,
-        worker: &mut Worker<'n, J, A>,
+        worker: &mut Worker<'n, J>,
         desk: &mut Desk<'n, J, A>,
         next: NextMove,
     ) -> NextMove
     where
         A: Copy,
-        ensures region { worker.new.region ≡ worker.old.region }
         ensures number { worker.new.seat.number ≡ worker.old.seat.number }
         ensures commits { worker.old.seat.commits ≤ worker.new.seat.commits }
         ensures asked { worker.old.seat.commits < worker.new.seat.commits
@@ -130,11 +129,10 @@ impl<'n, J: Job, A: Allocator> Shared<'n, J, A> {
     fn wait_for_work<'l, R: Wait + Clock>(
         &'l self,
         rt: &R,
-        worker: &mut Worker<'n, J, A>,
+        worker: &mut Worker<'n, J>,
         desk: MutexGuard<'l, Desk<'n, J, A>>,
         next: NextMove,
     ) -> Option<MutexGuard<'l, Desk<'n, J, A>>>
-        ensures region { worker.new.region ≡ worker.old.region }
         ensures number { worker.new.seat.number ≡ worker.old.seat.number }
         ensures commits { worker.new.seat.commits ≡ worker.old.seat.commits }
         ensures ended { IfNone result (IsSome worker.new.seat.why) }
