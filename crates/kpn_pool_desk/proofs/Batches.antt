@@ -1,8 +1,10 @@
 -- What a worker does with several processes, one turn after the other.
 use Rattle.std.proofs.Common.{◌≡◌, ◌≢◌, ℕ, zero, suc, ◌+◌, ◌-◌, ◌<◌, Option, Some, None, List, [], ◌∷◌, ◌++◌, length, take, drop, get_or, inl, inr, refl, sym, ap, ◌∙◌, subst, arith, IfSome}
+use Rattle.std.specs.List.{All}
 use Rattle.std.specs.Prelude.{slice_set, slice_get}
 use Rattle.std.proofs.lemmas.Bool.{cases_order}
 use Rattle.std.proofs.lemmas.List.{take_more, take_more_set}
+use Rattle.std.proofs.lemmas.List.Elements.{All-append}
 use Rattle.kpn_lang.specs.Parts.{Parts}
 use Rattle.kpn_step.specs.declared.stop.Stop.{Stop}
 use Rattle.kpn_step.specs.Stops.{Advanced, advanced_of}
@@ -45,6 +47,17 @@ pub one_more_set : (Does : Turn → Book → Book → Type 0) (turns : List Turn
 one_more_set Does turns i turn before between after there so_far does =
     subst (λ xs. InTurn Does xs before after) (sym (take_more_set turns i turn there))
     (then_one Does (take i turns) turn before between after so_far does)
+
+-- what holds of the first turns holds of one more, which was changed
+pub all_more_set : (P : Turn → Type 0) (turns : List Turn) (i : ℕ) (turn : Turn) → i < length turns
+    → All P (take i turns) → P turn → All P (take (i + 1) (slice_set turns i turn))
+all_more_set P turns i turn there so_far holds =
+    subst (All P) (sym (take_more_set turns i turn there))
+    (All-append P (take i turns) (turn ∷ []) so_far alone)
+  where
+    alone : (k : ℕ) (d : Turn) → k < 1 → P (get_or (turn ∷ []) k d)
+    alone zero d less = holds
+    alone (suc k) d less = absurd (omega (arith, less))
 
 -- ---- the gate
 

@@ -1,12 +1,11 @@
 -- A step leaves the process of its turn as it was, and the gate answers for this process.
-use Rattle.std.proofs.Common.{◌≡◌, ◌<◌, ◌∷◌, [], length, take, Some, tt, sym, ap, ◌∙◌, subst, rules, arith}
+use Rattle.std.proofs.Common.{◌≡◌, ◌<◌, length, take, Some, sym, ap, ◌∙◌, subst, rules, arith}
 use Rattle.std.specs.Prelude.{slice_get}
 use Rattle.std.specs.List.{All}
-use Rattle.std.proofs.lemmas.List.{take-set, take_more_set}
-use Rattle.std.proofs.lemmas.List.Elements.{All-append}
+use Rattle.std.proofs.lemmas.List.{take-set}
 use Rattle.kpn_pool_desk.specs.HeldTurns.{StepsWithin, claimed_by}
 use Rattle.kpn_pool_desk.specs.Gate.{LetsThrough}
-use Rattle.kpn_pool_desk.proofs.Batches.{claimed_by-set, claimed_at, through_more, stopped_at, let_all}
+use Rattle.kpn_pool_desk.proofs.Batches.{all_more_set, claimed_by-set, claimed_at, through_more, stopped_at, let_all}
 use Rattle.kpn_pool_desk.proofs.held_turns.step_each.Goals as goal
 
 pub turns-preserved : goal.turns-preserved
@@ -25,10 +24,8 @@ turns-preserved g c =
           (subst (λ go. may c.step_timed-process.result go) c.in-On.is c.between.ensures) c.turns.invariant.through j q less
           (subst (λ ps. slice_get ps j ≡ Some q) kept at);
       within =
-          let within = StepsWithin c.args.quota in
-          subst (λ ts. All within ts) (sym (take_more_set c.turns.turns c.turns.i c.step_timed-process.new.self below))
-          (All-append within (take c.turns.i c.turns.turns) (c.step_timed-process.new.self ∷ [])
-          c.turns.invariant.within (c.step_timed-process.ensures.quota, tt));
+          all_more_set (StepsWithin c.args.quota) c.turns.turns c.turns.i c.step_timed-process.new.self below
+          c.turns.invariant.within c.step_timed-process.ensures.quota;
     }
 
 pub returns-in-Abandon : goal.returns-in-Abandon
