@@ -7,7 +7,7 @@ use kpn_book::{Keeping, Limits, Outcome, Report};
 use kpn_limits::MAX_WORKERS;
 use kpn_net::Network;
 use kpn_pool::{RunFault, run};
-use kpn_pool_desk::{Desk, HeldTurns, Job};
+use kpn_pool_desk::{Desk, Job, Worker};
 use kpn_text::read_network;
 use std::alloc::{AllocError, Global};
 use std::marker::Brand;
@@ -135,19 +135,20 @@ fn beside_batches<J: Job>(
     requires one { J.parts ≡ 1 }
 {
     let (mut desk, mut seats) = Desk::<J>::with_seats(alloc, blank, network, 1, Keeping::Nothing)?;
-    let Some(mut seat) = seats.pop() else {
+    let Some(seat) = seats.pop() else {
         return Ok(0);
     };
-    let mut batch = HeldTurns::new();
+    let mut worker = Worker::new(seat, 10);
+    worker.pace.away = Some(away);
     let mut turns: u64 = 0;
     'batches: for _batch in 0..10 {
-        if batch.claim(&mut desk)? {
-            batch.step(gate, 0, 10);
-            turns = turns.saturating_add(batch.len() as u64);
-            let _ = batch.come_back(&mut desk, gate, &mut seat, 0, Some(away), 10, u64::MAX);
+        if worker.turns.claim(&mut desk)? {
+            worker.turns.step(gate, 0, 10);
+            turns = turns.saturating_add(worker.turns.len() as u64);
+            let _ = worker.come_back_with_turns(&mut desk, gate, u64::MAX);
         }
     }
-    Ok(seat.commits().saturating_sub(turns))
+    Ok(worker.seat.commits().saturating_sub(turns))
 }
 
 /// The same of the ring, with a gate that says that it lets all through, or does not.

@@ -4,7 +4,7 @@ ghost use Rattle.std.specs.Prelude.{◌≡◌};
 use crate::abandoning::TestGate;
 use kpn_book::Keeping;
 use kpn_net::Network;
-use kpn_pool_desk::{Desk, HeldTurns, Job, NextMove, RegionTurn, Why, WorkerSeat, end_seats};
+use kpn_pool_desk::{Desk, Job, NextMove, RegionTurn, Why, Worker, end_seats};
 use kpn_text::read_network;
 use linked_list_allocator::LocalHeap;
 use std::alloc::AllocError;
@@ -26,16 +26,16 @@ network {
 
 /// The only worker of a run, at its desk.
 #[derive(Drop)]
-struct Worker<'n, 'a, J: Job> {
+struct OnlyWorker<'n, 'a, J: Job> {
     desk: Desk<'n, J, &'a LocalHeap>,
-    seat: WorkerSeat<J>,
+    worker: Worker<'n, J>,
     region: RegionTurn<'n, J, &'a LocalHeap>,
     gate: TestGate,
     /// So many commits are allowed.
     most: u64,
 }
 
-impl<'n, 'a, J: Job> Worker<'n, 'a, J> {
+impl<'n, 'a, J: Job> OnlyWorker<'n, 'a, J> {
     /// Of a run whose network may be cut, and whose workers take from the sinks. The error is that memory ran out.
     /// `None` if there is no worker.
     fn new(
@@ -54,33 +54,32 @@ impl<'n, 'a, J: Job> Worker<'n, 'a, J> {
         let Some(seat) = seats.pop() else {
             return Ok(None);
         };
-        let (region, gate) = (RegionTurn::new(), TestGate::open(true));
-        Ok(Some(Worker {
+        Ok(Some(OnlyWorker {
             desk,
-            seat,
-            region,
-            gate,
+            worker: Worker::new(seat, 1_000),
+            region: RegionTurn::new(),
+            gate: TestGate::open(true),
             most,
         }))
     }
 
     /// Makes turns until it holds a region, and returns whether it does, or why it ends before.
     fn claim_region(&mut self) -> Result<bool, Why> {
-        let mut batch = HeldTurns::new();
+        let (desk, worker, gate) = (&mut self.desk, &mut self.worker, &self.gate);
+        let region = &mut self.region;
         for _ in 0..100_000 {
-            if self.region.is_held() {
+            if region.is_held() {
                 return Ok(false);
             }
-            if self.region.claim(&mut self.desk, &self.gate) {
+            if region.claim(desk, gate) {
                 return Ok(true);
             }
-            let some = batch.claim(&mut self.desk);
+            let some = worker.turns.claim(desk);
             if !some.map_err(|_error| Why::NoMemory)? {
                 return Ok(false);
             }
-            batch.step(&self.gate, 0, 1_000);
-            let (desk, seat) = (&mut self.desk, &mut self.seat);
-            let next = batch.come_back(desk, &self.gate, seat, u64::MAX, None, 1_000, self.most);
+            worker.turns.step(gate, 0, 1_000);
+            let next = worker.come_back_with_turns(desk, gate, self.most);
             if let NextMove::End(why) = next {
                 return Err(why);
             }
@@ -90,22 +89,22 @@ impl<'n, 'a, J: Job> Worker<'n, 'a, J> {
 
     /// Runs the region that it holds, and comes back. Returns why it ends, if it does, and how many commits it made.
     fn run_region(&mut self) -> (Option<Why>, u64) {
-        if !self.region.is_held() {
+        let (desk, worker, region) = (&mut self.desk, &mut self.worker, &mut self.region);
+        if !region.is_held() {
             return (None, 0);
         }
-        let before = self.seat.commits();
-        self.region.run(1_000);
-        let (desk, seat) = (&mut self.desk, &mut self.seat);
-        let why = match self.region.come_back(desk, seat, u64::MAX, None, self.most) {
+        let before = worker.seat.commits();
+        region.run(1_000);
+        let why = match region.come_back(desk, &mut worker.seat, &worker.pace, self.most) {
             NextMove::End(why) => Some(why),
             _ => None,
         };
-        (why, self.seat.commits() - before)
+        (why, worker.seat.commits() - before)
     }
 
     /// Whether its seat has counted all commits of the run, and no more.
     fn has_counted(&self) -> bool {
-        let commits = self.seat.commits();
+        let commits = self.worker.seat.commits();
         self.desk.reason_to_end(commits) == Some(Why::Limit)
             && self.desk.reason_to_end(commits.saturating_add(1)).is_none()
     }
@@ -139,7 +138,7 @@ fn comes_to_the_limit<'a, J: Job>(
     requires network { network.now ≡ J.network }
     requires one { J.parts ≡ 1 }
 {
-    let worker: Option<Worker<'_, 'a, J>> = Worker::new(heap, blank, network, 60_000)?;
+    let worker: Option<OnlyWorker<'_, 'a, J>> = OnlyWorker::new(heap, blank, network, 60_000)?;
     let Some(mut worker) = worker else {
         return Ok(false);
     };
@@ -173,7 +172,7 @@ fn commits_though_halted<'a, J: Job>(
     requires network { network.now ≡ J.network }
     requires one { J.parts ≡ 1 }
 {
-    let worker: Option<Worker<'_, 'a, J>> = Worker::new(heap, blank, network, u64::MAX)?;
+    let worker: Option<OnlyWorker<'_, 'a, J>> = OnlyWorker::new(heap, blank, network, u64::MAX)?;
     let Some(mut worker) = worker else {
         return Ok(false);
     };
@@ -200,7 +199,7 @@ fn refused_in<'a, J: Job>(
     requires network { network.now ≡ J.network }
     requires one { J.parts ≡ 1 }
 {
-    let worker: Option<Worker<'_, 'a, J>> = Worker::new(heap, blank, network, u64::MAX)?;
+    let worker: Option<OnlyWorker<'_, 'a, J>> = OnlyWorker::new(heap, blank, network, u64::MAX)?;
     let Some(mut worker) = worker else {
         return Ok(None);
     };

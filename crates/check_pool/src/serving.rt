@@ -3,7 +3,8 @@ use crate::abandoning::TestGate;
 use kpn_book::{Keeping, Limits};
 use kpn_net::Network;
 use kpn_pool::{
-    Client, EndedRun, Feeder, Outside, Shared, close, feed_when_room, run_beside, take_when_there,
+    Client, EndedRun, Feeder, Outside, Shared, WorkPlan, close, feed_when_room, run_beside,
+    take_when_there,
 };
 use kpn_pool_desk::{Awaited, Job, Refused, SinkSeat, SourceSeat, Why};
 use kpn_text::read_network;
@@ -109,9 +110,13 @@ fn is_copied<R: Threads + Wait + Clock + Sync>(
     feeders: &[Feeds],
 ) -> Result<bool, AllocError> {
     let client = Takes { sum: 0 };
-    let gate = TestGate::open(false);
-    let keeping = Keeping::All;
-    match run_beside(rt, alloc, network, 2, &gate, &ALL, keeping, client, feeders) {
+    let plan = WorkPlan {
+        workers: 2,
+        gate: &TestGate::open(false),
+        limits: ALL,
+        keeping: Keeping::All,
+    };
+    match run_beside(rt, alloc, network, &plan, client, feeders) {
         Ok(ran) => Ok(has_copied(&ran)),
         Err(fault) => Err(fault),
     }

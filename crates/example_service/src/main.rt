@@ -7,7 +7,7 @@ use kpn_book::{Keeping, Limits, Refused};
 use kpn_net::Network;
 use kpn_pool::{
     Awaited, Client, CommitsAll, EndedRun, Feeder, Job, Outside, Shared, SinkSeat, SourceSeat, Why,
-    close, feed_when_room, run_beside, take_when_there,
+    WorkPlan, close, feed_when_room, run_beside, take_when_there,
 };
 use kpn_text::read_network;
 use std::alloc::Global;
@@ -173,18 +173,13 @@ fn serve_network<R: Threads + Wait + Clock + Sync>(
         looks: 0,
     };
     let feeders = [Counting { bound: 1 }, Counting { bound: 16 }];
-    let gate = &CommitsAll;
-    let ran = run_beside(
-        rt,
-        alloc,
-        network,
-        WORKERS,
-        gate,
-        &LIMITS,
-        Keeping::All,
-        client,
-        &feeders,
-    )?;
+    let plan = WorkPlan {
+        workers: WORKERS,
+        gate: &CommitsAll,
+        limits: LIMITS,
+        keeping: Keeping::All,
+    };
+    let ran = run_beside(rt, alloc, network, &plan, client, &feeders)?;
     told_of(alloc, &ran)
 }
 

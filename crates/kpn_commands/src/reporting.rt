@@ -10,7 +10,7 @@ use kpn_command_base::{Inputs, NamedEnd, QUOTA, Refusal, RunRequest};
 use kpn_lang::Sequence;
 use kpn_limits::{MAX_INPUT_BYTES, MAX_WORKERS};
 use kpn_net::Network;
-use kpn_pool::{RunFault, run_keeping};
+use kpn_pool::{RunFault, WorkPlan, run_keeping};
 use kpn_pool_desk::CommitsAll;
 use std::alloc::Global;
 use std::sync::Wait;
@@ -74,16 +74,13 @@ pub(crate) fn run_by_workers<R: Threads + Wait + Clock + Sync>(
     ensures refused { IfErr result (IsRefusalOfReport (Some workers)) }
 {
     let workers = (workers as usize).clamp(1, MAX_WORKERS);
-    match run_keeping(
-        rt,
-        alloc,
-        network,
-        lists,
+    let plan = WorkPlan {
         workers,
-        &CommitsAll,
-        limits,
+        gate: &CommitsAll,
+        limits: *limits,
         keeping,
-    ) {
+    };
+    match run_keeping(rt, alloc, network, lists, &plan) {
         Ok(report) => Ok(report),
         Err(RunFault::Threads) => Err(Refusal::Threads),
         Err(RunFault::NoMemory) => Err(Refusal::NoMemory),

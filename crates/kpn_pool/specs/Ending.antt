@@ -2,7 +2,8 @@
 use Rattle.std.specs.Prelude.{◌≡◌}
 use Rattle.kpn_book.specs.Book.{Book, held_count}
 
--- the network is the same, and as many processes are held
+-- the network is the same, as many processes are held, and as many commits were made
 pub record KeepsHeld (before after : Book) : Type 0 where
   pub tables : after.tables ≡ before.tables
   pub held : held_count after ≡ held_count before
+  pub commits : after.commits ≡ before.commits

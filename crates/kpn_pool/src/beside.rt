@@ -6,7 +6,7 @@ ghost use Rattle.kpn_pool.specs.Causes.{worked_of, is_out_of_memory, is_abandone
 
 use crate::fault::RunFault;
 use crate::shared::{Opened, Shared, gather};
-use crate::threads::{Ended, work_side_by_side};
+use crate::threads::{Ended, Outer, Parties, work_side_by_side};
 use kpn_book::{Book, Keeping, Limits};
 use kpn_limits::MAX_WORKERS;
 use kpn_net::Network;
@@ -46,6 +46,19 @@ pub struct Worked {
     pub commits: u64,
 }
 
+/// How a network is run by workers.
+#[derive(Drop)]
+pub struct WorkPlan<'g, G> {
+    /// How many there are, each on a thread of its own.
+    pub workers: usize,
+    /// Whom they ask before they commit.
+    pub gate: &'g G,
+    /// A quota of 0 counts as 1.
+    pub limits: Limits,
+    /// What is kept of what happens.
+    pub keeping: Keeping,
+}
+
 /// A run whose workers have ended.
 #[derive(Drop)]
 pub struct EndedRun<'n, C: Drop> {
@@ -60,13 +73,13 @@ pub struct EndedRun<'n, C: Drop> {
     pub fault: Option<RunFault>,
 }
 
-/// Runs a network by 1 to `MAX_WORKERS` workers, each on a thread of its own, while the client serves the outside on
-/// the calling thread. Each feeder feeds a source on a thread of its own, in order of channel number. Feeders for which
+/// Runs a network by 1 to `MAX_WORKERS` workers as it is planned, while the client serves the outside on the calling
+/// thread. Each feeder feeds a source on a thread of its own, in order of channel number. Feeders for which
 /// no source is left do nothing.
 ///
 /// The workers end once nothing more can happen, or the client has returned, or there are as many commits as the limit
-/// or up to 127 more. The gate is asked before each commit, unless it lets all through. A quota of 0 counts as 1. How many items are wanted of each
-/// sink is the matter of the client. The run keeps what it is told to keep of what happens.
+/// or up to 127 more. The gate is asked before each commit, unless it lets all through. How many items are wanted of
+/// each sink is the matter of the client.
 ///
 /// If a thread cannot be started, the workers have to end. The error is that memory ran out before a thread was
 /// started.
@@ -74,27 +87,23 @@ pub fn run_beside<'n, R: Threads + Wait + Clock + Sync, G: Gate, C: Client, F: F
     rt: &R,
     alloc: Global,
     network: &'n Network,
-    workers: usize,
-    gate: &G,
-    limits: &Limits,
-    keeping: Keeping,
+    plan: &WorkPlan<'_, G>,
     client: C,
     feeders: &[F],
 ) -> Result<EndedRun<'n, C>, AllocError>
-    requires workers { (0 < workers) × (workers ≤ MAX_WORKERS) }
+    requires workers { (0 < plan.now.workers) × (plan.now.workers ≤ MAX_WORKERS) }
     ensures network { IfOk result (λ ran. ran.book.tables ≡ network.now) }
     ensures book { IfOk result (λ ran. IsBook ran.book) }
-    ensures count { IfOk result (λ ran. vec_len ran.workers ≡ workers) }
+    ensures count { IfOk result (λ ran. vec_len ran.workers ≡ plan.now.workers) }
     // whether each worker and each feeder had a thread of its own is the only thing left open
     ensures fault { IfOk result (λ ran.
         (had_threads : Bool) × (ran.fault ≡ fault_of_run had_threads ran.workers.items)) }
     ensures commits { IfOk result (λ ran.
         ran.book.commits ≡ sum_by (λ worked. worked.commits) ran.workers.items) }
 {
-    let blank = Blank::new(workers as u64);
-    run_job::<Brand, R, G, C, F>(
-        rt, alloc, blank, network, workers, gate, limits, keeping, client, feeders,
-    )
+    let blank = Blank::new(plan.workers as u64);
+    let outer = Outer { client, feeders };
+    run_job::<Brand, R, G, C, F>(rt, alloc, blank, network, plan, outer)
 }
 
 /// Runs the network, whose commits are counted in the ledger that the blank makes.
@@ -110,36 +119,32 @@ fn run_job<
     alloc: Global,
     blank: Blank,
     network: &'n Network,
-    workers: usize,
-    gate: &G,
-    limits: &Limits,
-    keeping: Keeping,
-    client: C,
-    feeders: &[F],
+    plan: &WorkPlan<'_, G>,
+    outer: Outer<'_, C, F>,
 ) -> Result<EndedRun<'n, C>, AllocError>
     requires ledger { (blank.name ≡ J.name) × (blank.parts ≡ J.parts) }
     requires network { network.now ≡ J.network }
-    requires workers { (workers ≡ J.parts) × (0 < workers) × (workers ≤ MAX_WORKERS) }
+    requires workers { (plan.now.workers ≡ J.parts) × (0 < plan.now.workers)
+        × (plan.now.workers ≤ MAX_WORKERS) }
     ensures network { IfOk result (λ ran. ran.book.tables ≡ J.network) }
     ensures book { IfOk result (λ ran. IsBook ran.book) }
-    ensures count { IfOk result (λ ran. vec_len ran.workers ≡ workers) }
+    ensures count { IfOk result (λ ran. vec_len ran.workers ≡ plan.now.workers) }
     ensures fault { IfOk result (λ ran.
         (had_threads : Bool) × (ran.fault ≡ fault_of_run had_threads ran.workers.items)) }
     ensures commits { IfOk result (λ ran.
         ran.book.commits ≡ sum_by (λ worked. worked.commits) ran.workers.items) }
 {
+    let workers = plan.workers;
+    let most = plan.limits.commits;
     let mut records = Vec::with_capacity(alloc, workers)?;
     let Opened {
         shared,
         workers: seats,
         sources,
         sinks,
-    } = Shared::<J>::keeping(alloc, blank, network, workers, limits.commits, keeping)?;
+    } = Shared::<J>::keeping(alloc, blank, network, workers, most, plan.keeping)?;
     let ends = EndSeats { sources, sinks };
-    let quota = limits.quota.max(1);
-    let ended = work_side_by_side(
-        rt, alloc, &shared, seats, gate, quota, ends, client, feeders,
-    )?;
+    let ended = work_side_by_side(rt, alloc, &shared, plan, Parties { seats, ends, outer })?;
     let Ended {
         seats,
         client,

@@ -3,7 +3,7 @@ ghost use Rattle.std.specs.Prelude.{◌≡◌, ◌<◌, ◌≤◌, length, IfOk}
 ghost use Rattle.kpn_net.specs.Iteration.{sources};
 ghost use Rattle.kpn_book.specs.Reports.{AreSupplied, IsReport, events_of};
 
-use crate::beside::{EndedRun, run_beside};
+use crate::beside::{EndedRun, WorkPlan, run_beside};
 use crate::ending::conclude;
 use crate::fault::RunFault;
 use crate::serving::{Nobody, Serving};
@@ -21,10 +21,10 @@ use std::time::Clock;
 /// limits. The processes are stepped by 1 to `MAX_WORKERS` workers, each on a thread of its own.
 ///
 /// The calling thread feeds each source its whole list, closes it, and takes from the sinks what is put on them, while
-/// the workers run. The gate is asked before each commit, unless it lets all through. The report keeps the promise of `kpn_book::run_here`: the
-/// lists were fed whole and the sources closed, under every outcome. Which capacities and which prefixes of the
-/// journals of other channels it shows depends on the schedule. The workers may make up to 127 commits more than the
-/// limit. A quota of 0 counts as 1.
+/// the workers run. The gate is asked before each commit, unless it lets all through. The report keeps the promise of
+/// `kpn_book::run_here`: the lists were fed whole and the sources closed, under every outcome. Which capacities and which
+/// prefixes of the journals of other channels it shows depends on the schedule. The commits are those of the workers,
+/// who may make up to 127 more than the limit. A quota of 0 counts as 1.
 ///
 /// The error is the first of these: a thread could not be started; memory ran out; the gate made every worker end
 /// before there was an outcome; a source was fed something else than its list or not closed, or a call of the outside
@@ -44,41 +44,34 @@ pub fn run<R: Threads + Wait + Clock + Sync, G: Gate>(
     ensures supplied { IfOk result (λ report.
         AreSupplied network.now lists.now (events_of report)) }
 {
-    run_keeping(
-        rt,
-        alloc,
-        network,
-        lists,
+    let plan = WorkPlan {
         workers,
         gate,
-        limits,
-        Keeping::All,
-    )
+        limits: *limits,
+        keeping: Keeping::All,
+    };
+    run_keeping(rt, alloc, network, lists, &plan)
 }
 
-/// The same run, which keeps what it is told to keep: the items of the sources and of the sinks at least, by which the
-/// report is checked and made.
+/// The same run as it is planned, which keeps the items of the sources and of the sinks at least, by which the report is
+/// checked and made.
 pub fn run_keeping<R: Threads + Wait + Clock + Sync, G: Gate>(
     rt: &R,
     alloc: Global,
     network: &Network,
     lists: &[Sequence<i64>],
-    workers: usize,
-    gate: &G,
-    limits: &Limits,
-    keeping: Keeping,
+    plan: &WorkPlan<'_, G>,
 ) -> Result<Report, RunFault>
     requires lists { length lists.now ≡ sources network.now }
-    requires workers { (0 < workers) × (workers ≤ MAX_WORKERS) }
-    ensures report { IfOk result (λ report. IsReport network.now lists.now limits.now report) }
+    requires workers { (0 < plan.now.workers) × (plan.now.workers ≤ MAX_WORKERS) }
+    ensures report { IfOk result (λ report.
+        IsReport network.now lists.now plan.now.limits report) }
     ensures supplied { IfOk result (λ report.
         AreSupplied network.now lists.now (events_of report)) }
 {
-    let serving = Serving::new(lists, limits.take, gate.lets_all());
+    let serving = Serving::new(lists, plan.limits.take, plan.gate.lets_all());
     let nobody: &[Nobody] = &[];
-    let ran = run_beside(
-        rt, alloc, network, workers, gate, limits, keeping, serving, nobody,
-    )?;
+    let ran = run_beside(rt, alloc, network, plan, serving, nobody)?;
     let EndedRun {
         book,
         client,
@@ -94,5 +87,5 @@ pub fn run_keeping<R: Threads + Wait + Clock + Sync, G: Gate>(
     if matches!(served, Err(Refused::NoMemory)) {
         return Err(RunFault::NoMemory);
     }
-    conclude(alloc, book, lists, limits, abandoned, served)
+    conclude(alloc, book, lists, &plan.limits, abandoned, served)
 }

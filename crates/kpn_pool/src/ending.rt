@@ -27,6 +27,7 @@ pub(crate) fn conclude(
         IsReport book.entry.tables lists.now limits.now report) }
     ensures supplied { IfOk result (λ report.
         AreSupplied book.entry.tables lists.now (events_of report)) }
+    ensures commits { IfOk result (λ report. report.commits ≡ book.entry.commits) }
 {
     let mut book = book;
     put_back_held(&mut book);

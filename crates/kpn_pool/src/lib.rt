@@ -9,13 +9,12 @@ mod ending;
 mod fault;
 mod fed;
 mod outside_calls;
-mod pace;
 mod serving;
 mod shared;
 mod threads;
 mod working;
 
-pub use beside::{Client, EndedRun, Feeder, Outside, Worked, run_beside};
+pub use beside::{Client, EndedRun, Feeder, Outside, WorkPlan, Worked, run_beside};
 pub use by_workers::{run, run_keeping};
 pub use fault::RunFault;
 pub use kpn_pool_desk::{

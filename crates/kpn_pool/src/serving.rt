@@ -3,12 +3,10 @@ use crate::beside::{Client, Feeder, Outside};
 use crate::outside_calls::{close, feed_all, take_each, take_when_due};
 use crate::shared::Shared;
 use kpn_lang::Sequence;
+use kpn_pool_desk::tuning::ITEMS_PER_FEED;
 use kpn_pool_desk::{Job, Refused, SinkSeat, SourceSeat};
 use std::sync::Wait;
 use std::time::Clock;
-
-// How many items are fed under one hold of the lock: they take some tenths of a millisecond.
-const ITEMS_PER_HOLD: usize = 16_384;
 
 /// Feeds each source its whole list and closes it, as on one thread, and takes from the sinks until all workers have
 /// ended or what is wanted of the sinks was taken.
@@ -95,7 +93,7 @@ fn feed_list<J: Job, R: Wait>(
     list: &[i64],
     sinks: &mut [SinkSeat],
 ) -> Result<(), Refused> {
-    for items in list.chunks(ITEMS_PER_HOLD) {
+    for items in list.chunks(ITEMS_PER_FEED) {
         feed_all(rt, shared, seat, items, usize::MAX)?;
         seat.forget();
         take_each(rt, shared, sinks)?;

@@ -13,6 +13,9 @@ ghost use Rattle.std.specs.Sync.Mutex.{mutex_guard_value};
 use kpn_book::{Book, Keeping, View};
 use kpn_limits::MAX_WORKERS;
 use kpn_net::Network;
+use kpn_pool_desk::tuning::{
+    CLOCK_READS_PER_TRY, LOCK_TRIES, LOCK_TRIES_OUTSIDE, LOOK_ON_MICROSECONDS,
+};
 use kpn_pool_desk::{
     Awaited, Desk, EndSeats, Job, Need, Notices, SinkSeat, SourceSeat, WorkerSeat, Workers,
     end_seats,
@@ -23,22 +26,6 @@ use std::sync::{Condvar, Mutex, MutexGuard, Wait};
 use std::time::{Clock, Duration, Instant};
 
 mod holds;
-
-// So many tries to take the lock take some microseconds.
-const TRIES: u32 = 400;
-
-// Those outside try for longer than a worker that makes turns in a row has the lock, and so get it when it is free for a
-// moment.
-const TRIES_OUTSIDE: u32 = 16_000;
-
-// Somebody who looks on reads the clock so many times before each try, so that those that are busy get the lock.
-const LOOKS: u32 = 16;
-
-// For how many microseconds somebody looks on: some times as long as it takes to sleep and to be woken.
-const MOMENT: u64 = 20;
-
-// For how many a worker does while others run regions: as long as one of these takes.
-const REGION_MOMENT: u64 = 100;
 
 /// A desk under its lock.
 #[derive(Drop)]
@@ -167,7 +154,7 @@ impl<'n, J: Job, A: Allocator> Shared<'n, J, A> {
         ensures quiet { IfOk result (λ found.
             IfSome found (λ view. IsKahnAtRest J.network view)) }
     {
-        let Some(desk) = self.try_lock(TRIES_OUTSIDE) else {
+        let Some(desk) = self.try_lock(LOCK_TRIES_OUTSIDE) else {
             return Ok(None);
         };
         let Ok(view) = desk.snapshot(alloc) else {
@@ -178,7 +165,7 @@ impl<'n, J: Job, A: Allocator> Shared<'n, J, A> {
 
     /// The desk, once nobody else has it, for a call of the outside.
     pub(crate) fn lock<R: Wait>(&self, rt: &R) -> MutexGuard<'_, Desk<'n, J, A>> {
-        self.lock_after(rt, TRIES_OUTSIDE)
+        self.lock_after(rt, LOCK_TRIES_OUTSIDE)
     }
 
     /// The desk, once nobody else has it. Others have it often and for a short time, so this tries so often before it
@@ -209,15 +196,15 @@ impl<'n, J: Job, A: Allocator> Shared<'n, J, A> {
         moment: Duration,
     ) -> MutexGuard<'_, Desk<'n, J, A>> {
         let Ok(begun) = Instant::now(rt) else {
-            return self.lock_after(rt, TRIES);
+            return self.lock_after(rt, LOCK_TRIES);
         };
         let mut looks: u32 = 0;
         for _ in rt.forever() {
             if begun.elapsed(rt).unwrap_or(Duration::MAX) > moment {
-                return self.lock_after(rt, TRIES);
+                return self.lock_after(rt, LOCK_TRIES);
             }
             looks = looks.wrapping_add(1);
-            if looks % LOOKS > 0 {
+            if looks % CLOCK_READS_PER_TRY > 0 {
                 continue;
             }
             if let Some(desk) = self.desk.try_lock() {
@@ -236,7 +223,7 @@ impl<'n, J: Job, A: Allocator> Shared<'n, J, A> {
         rt: &R,
         seats: &[SinkSeat<B>],
     ) -> MutexGuard<'_, Desk<'n, J, A>> {
-        let moment = Duration::from_micros(MOMENT);
+        let moment = Duration::from_micros(LOOK_ON_MICROSECONDS);
         let mut desk = self.lock_in_moment(rt, Some(seats), moment);
         if let Some(most) = desk.await_due(seats) {
             desk = self.called.wait_timeout(rt, desk, most).0;

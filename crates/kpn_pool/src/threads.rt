@@ -1,7 +1,7 @@
 //! The threads of a run: one for each worker and each feeder, beside the calling thread, which serves the outside.
 ghost use Rattle.std.specs.Prelude.{◌≡◌, ◌+◌, ◌<◌, ◌≤◌, IfOk, vec_len, vec_capacity};
 
-use crate::beside::{Client, Feeder, Outside};
+use crate::beside::{Client, Feeder, Outside, WorkPlan};
 use crate::shared::Shared;
 use crate::working::work;
 use kpn_pool_desk::{EndSeats, Gate, Job, SourceSeat, WorkerSeat};
@@ -10,6 +10,21 @@ use std::sync::Wait;
 use std::thread;
 use std::thread::{JoinHandle, Scope, Threads};
 use std::time::Clock;
+
+/// Who is outside of a run: the client, and those who feed on threads of their own.
+#[derive(Drop)]
+pub(crate) struct Outer<'f, C: Drop, F> {
+    pub client: C,
+    pub feeders: &'f [F],
+}
+
+/// Who takes part in a run: the seats of its workers, and those outside with theirs.
+#[derive(Drop)]
+pub(crate) struct Parties<'f, J: Job, C: Drop, F> {
+    pub seats: Vec<WorkerSeat<J>>,
+    pub ends: EndSeats,
+    pub outer: Outer<'f, C, F>,
+}
 
 /// What a run has come to once its workers and its feeders have ended.
 #[derive(Drop)]
@@ -34,29 +49,19 @@ pub(crate) fn work_side_by_side<
     rt: &R,
     alloc: Global,
     shared: &Shared<'_, J>,
-    seats: Vec<WorkerSeat<J>>,
-    gate: &G,
-    quota: u32,
-    ends: EndSeats,
-    client: C,
-    feeders: &[F],
+    plan: &WorkPlan<'_, G>,
+    parties: Parties<'_, J, C, F>,
 ) -> Result<Ended<J, C>, AllocError>
-    requires quota { 0 < quota }
-    requires seats { vec_len seats ≡ J.parts }
+    requires { vec_len parties.seats ≡ J.parts }
     ensures { IfOk result (λ ended. vec_len ended.seats ≡ J.parts) }
 {
     thread::scope(
         thread::scope_env(),
         rt,
         |scope| -> Result<Ended<J, C>, AllocError>
-            requires quota { 0 < quota }
-            requires seats { vec_len seats ≡ J.parts }
+            requires { vec_len parties.seats ≡ J.parts }
             ensures { IfOk result (λ ended. vec_len ended.seats ≡ J.parts) }
-        {
-            work_in(
-                rt, alloc, scope, shared, seats, gate, quota, ends, client, feeders,
-            )
-        },
+        { work_in(rt, alloc, scope, shared, plan, parties) },
     )
 }
 
@@ -74,16 +79,22 @@ fn work_in<
     alloc: Global,
     scope: &Scope<'s, E>,
     shared: &'s Shared<'_, J>,
-    seats: Vec<WorkerSeat<J>>,
-    gate: &'s G,
-    quota: u32,
-    ends: EndSeats,
-    client: C,
-    feeders: &'s [F],
+    plan: &'s WorkPlan<'_, G>,
+    parties: Parties<'s, J, C, F>,
 ) -> Result<Ended<J, C>, AllocError>
-    requires { 0 < quota }
-    ensures { IfOk result (λ ended. vec_len ended.seats ≡ vec_len seats) }
+    ensures { IfOk result (λ ended. vec_len ended.seats ≡ vec_len parties.entry.seats) }
 {
+    let Parties {
+        seats,
+        mut ends,
+        outer,
+    } = parties;
+    let Outer {
+        mut client,
+        feeders,
+    } = outer;
+    let gate = plan.gate;
+    let quota = plan.limits.quota.max(1);
     // a gate may hold workers for long, which then need no processor
     if gate.lets_all() {
         if let Ok(processors) = thread::available_parallelism(rt) {
@@ -98,10 +109,8 @@ fn work_in<
             Err(seat) => ended.push_reserved(seat),
         }
     }
-    let mut ends = ends;
     let have_feeders = start_feeders(rt, scope, shared, feeders, &mut ends);
     let had_threads = ended.is_empty() && have_feeders;
-    let mut client = client;
     client.serve(rt, Outside { shared, ends });
     shared.halt(rt);
     'threads: for thread in threads {

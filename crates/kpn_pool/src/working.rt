@@ -1,9 +1,8 @@
 //! What a worker does.
 ghost use Rattle.std.specs.Prelude.{◌≡◌, ◌<◌, ◌≤◌, IsSome};
 
-use crate::pace::Pace;
 use crate::shared::Shared;
-use kpn_pool_desk::{Gate, HeldTurns, Job, RegionTurn, WorkerSeat};
+use kpn_pool_desk::{Gate, Job, RegionTurn, Worker, WorkerSeat};
 use std::alloc::Allocator;
 use std::sync::Wait;
 use std::time::Clock;
@@ -35,29 +34,13 @@ pub fn work<'n, J: Job, A: Allocator + Copy, G: Gate, R: Wait + Clock>(
     ensures why { IsSome result.why }
     ensures commits { seat.commits ≤ result.commits }
 {
-    let mut seat = seat;
-    let mut pace = Pace::new();
-    let mut batch = HeldTurns::new();
+    let mut worker = Worker::new(seat, quota);
     let mut region = RegionTurn::new();
     for _ in rt.forever() {
-        if !shared.go_on(
-            rt,
-            gate,
-            &mut seat,
-            quota,
-            &mut pace,
-            &mut batch,
-            &mut region,
-        ) {
-            return seat;
+        if !shared.go_on(rt, gate, &mut worker, &mut region) {
+            return worker.into_seat();
         }
-        if region.is_held() {
-            region.run(quota);
-        } else if pace.is_timed {
-            batch.step_timed(rt, gate, seat.number(), quota);
-        } else {
-            batch.step(gate, seat.number(), quota);
-        }
+        worker.step(rt, gate, &mut region);
     }
     unreachable!()
 }

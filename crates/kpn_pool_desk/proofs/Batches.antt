@@ -1,19 +1,27 @@
 -- What a worker does with several processes, one turn after the other.
-use Rattle.std.proofs.Common.{◌≡◌, ℕ, zero, suc, ◌+◌, ◌-◌, ◌<◌, Option, Some, List, [], ◌∷◌, ◌++◌, length, take, drop, get_or, inl, inr, refl, sym, ap, ◌∙◌, subst, arith, IfSome}
+use Rattle.std.proofs.Common.{◌≡◌, ◌≢◌, ℕ, zero, suc, ◌+◌, ◌-◌, ◌<◌, Option, Some, None, List, [], ◌∷◌, ◌++◌, length, take, drop, get_or, inl, inr, refl, sym, ap, ◌∙◌, subst, arith, IfSome}
+use Rattle.std.specs.List.{All}
 use Rattle.std.specs.Prelude.{slice_set, slice_get}
 use Rattle.std.proofs.lemmas.Bool.{cases_order}
 use Rattle.std.proofs.lemmas.List.{take_more, take_more_set}
+use Rattle.std.proofs.lemmas.List.Elements.{All-append}
 use Rattle.kpn_lang.specs.Parts.{Parts}
 use Rattle.kpn_step.specs.declared.stop.Stop.{Stop}
-use Rattle.kpn_step.specs.Stops.{advanced_of}
-use Rattle.kpn_book.specs.Book.{Book}
+use Rattle.kpn_step.specs.Stops.{Advanced, advanced_of}
+use Rattle.kpn_book.specs.Book.{Book, IsHeld}
+use Rattle.kpn_book.specs.Commits.{IsOwnAdvance}
+use Rattle.kpn_book.specs.Refusals.{RefusesCommit}
+use Rattle.kpn_book.specs.declared.answers.Refused.{Refused}
+use Rattle.kpn_book.specs.declared.answers.Refused.TheVariants as refused
 use Rattle.kpn_pool_desk.specs.declared.seat.Why.{Why}
 use Rattle.kpn_pool_desk.specs.declared.turn.Stepped.{Stepped}
-use Rattle.kpn_pool_desk.specs.Desk.{Desk, with_book, with_commit, with_total}
+use Rattle.kpn_pool_desk.specs.declared.phases.NextMove.{NextMove}
+use Rattle.kpn_pool_desk.specs.Desk.{Desk, EndsFor, with_book, with_commit, with_total}
 use Rattle.kpn_pool_desk.specs.declared.gate.Go.{Go}
 use Rattle.kpn_pool_desk.specs.declared.gate.Go.TheVariants.{On, Abandon}
-use Rattle.kpn_pool_desk.specs.HeldTurns.{Turn, HeldTurns, IsTurnOf, made_of, steps_of, CommitsOrDrops, PutsBack, InTurn, IsEnd, SettlesTurns, claimed_by}
+use Rattle.kpn_pool_desk.specs.HeldTurns.{Turn, HeldTurns, IsTurnOf, made_of, steps_of, CommitsOrDrops, PutsBack, InTurn, IsEnd, SettlesTurns, claimed_by, ComesBackWithTurns}
 use Rattle.kpn_pool_desk.specs.Gate.{LetsThrough}
+use Rattle.kpn_pool_desk.specs.Rows.{GoesInRows}
 
 -- ---- one turn more
 
@@ -39,6 +47,17 @@ pub one_more_set : (Does : Turn → Book → Book → Type 0) (turns : List Turn
 one_more_set Does turns i turn before between after there so_far does =
     subst (λ xs. InTurn Does xs before after) (sym (take_more_set turns i turn there))
     (then_one Does (take i turns) turn before between after so_far does)
+
+-- what holds of the first turns holds of one more, which was changed
+pub all_more_set : (P : Turn → Type 0) (turns : List Turn) (i : ℕ) (turn : Turn) → i < length turns
+    → All P (take i turns) → P turn → All P (take (i + 1) (slice_set turns i turn))
+all_more_set P turns i turn there so_far holds =
+    subst (All P) (sym (take_more_set turns i turn there))
+    (All-append P (take i turns) (turn ∷ []) so_far alone)
+  where
+    alone : (k : ℕ) (d : Turn) → k < 1 → P (get_or (turn ∷ []) k d)
+    alone zero d less = holds
+    alone (suc k) d less = absurd (omega (arith, less))
 
 -- ---- the gate
 
@@ -142,3 +161,32 @@ steps_made program o last made there is all =
     let turn = subst (λ x. IfSome x (IsTurnOf program)) there all in
     ap steps_of there ∙ ap (made_of last.claim.program.now last.claim.frame last.to) is
     ∙ ap (λ p. Some (advanced_of p last.claim.frame last.to made.0 made.1)) turn.program_is
+
+-- a commit that is refused for another cause than memory is one of foreign steps
+pub foreign_unless : (p : ℕ) (x : Advanced) (b : Book) (cause : Refused) → RefusesCommit p x b cause
+    → cause ≢ refused.NoMemory → ¬ (IsHeld b p × IsOwnAdvance b p x)
+foreign_unless p x b refused.NotHeld why other = λ may. why may.0
+foreign_unless p x b refused.Stranger why other = λ may. why.1 may.1
+foreign_unless p x b refused.NoMemory why other = λ may. other refl
+foreign_unless p x b refused.NoSuchEnd why other = absurd why
+foreign_unless p x b refused.SourceClosed why other = absurd why
+foreign_unless p x b (refused.Full item) why other = absurd why
+foreign_unless p x b refused.SinkLeft why other = absurd why
+
+-- ---- a worker that is back
+
+-- its batch is settled, the network may be cut, and rows are made
+pub comes_back : (may_answer : (worker process : ℕ) → Go → Type 0) (quota most : ℕ) (b : HeldTurns) (then : NextMove)
+    (before between cut rows after : Desk) → SettlesTurns b None before between → cut ≡ between
+    → GoesInRows may_answer quota most cut rows → after ≡ rows → EndsFor rows most then
+    → ComesBackWithTurns may_answer quota most b then before after
+comes_back may_answer quota most b then before between cut rows after settles same goes is ends = record {
+  why = None;
+  between = between;
+  settles = settles;
+  goes_on = (
+    subst (λ d. GoesInRows may_answer quota most d after) same
+        (subst (λ d. GoesInRows may_answer quota most cut d) (sym is) goes),
+    subst (λ d. EndsFor d most then) (sym is) ends,
+  );
+}

@@ -1,11 +1,11 @@
 -- Regions are claimed and committed: the network stays, and commits are only added.
-use Rattle.std.proofs.Common.{◌≡◌, ℕ, ◌+◌, ◌≤◌, Bool, true, false, Option, Some, None, refl, sym, ap, ◌∙◌, subst, arith}
+use Rattle.std.proofs.Common.{◌≡◌, ℕ, ◌+◌, Bool, true, false, Option, Some, None, refl, ap, ◌∙◌, arith}
 use Rattle.kpn_step.specs.declared.stop.Stop.{Stop}
 use Rattle.kpn_region.specs.Batch.{Batch}
 use Rattle.kpn_book.specs.declared.answers.Done.{Done}
 use Rattle.kpn_book.specs.Book.{Book, with_one_commit}
 use Rattle.kpn_book.specs.Commits.{HandlesStop, ready_if_paused}
-use Rattle.kpn_book.specs.Regions.{commits_or_not, goes_to, settles_if, has_part, Settles, SettleBelow, none_yet, one_more}
+use Rattle.kpn_book.specs.Regions.{commits_or_not, goes_to, settles_if, has_part, SettleBelow, none_yet, one_more}
 use Rattle.kpn_book.specs.RegionCalls.{CommitsRegion}
 use Rattle.kpn_book.specs.RegionClaims.{IsSameBook, ClaimsRegion}
 use Rattle.kpn_book.proofs.Appended.{base_tables, base_commits, commits_stay, tables_stay}

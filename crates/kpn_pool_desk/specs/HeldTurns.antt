@@ -3,7 +3,7 @@ use Rattle.std.specs.Prelude.{◌≡◌, ℕ, ◌<◌, ◌-◌, ◌⊎◌, true,
 use Rattle.kpn_lang.specs.Parts.{Parts}
 use Rattle.kpn_step.specs.declared.stop.Stop.{Stop}
 use Rattle.kpn_step.specs.Frame.{Frame, fits}
-use Rattle.kpn_step.specs.Stops.{Advanced, advanced_of, IsAdvance, IsAtPort}
+use Rattle.kpn_step.specs.Stops.{Advanced, advanced_of, IsAdvance, IsAtPort, IsWithinQuota}
 use Rattle.kpn_machine.specs.Machine.{frame_in}
 use Rattle.kpn_book.specs.declared.answers.Done.{Done}
 use Rattle.kpn_book.specs.Book.{Book, IsHeld, IsClaimed, put_back}
@@ -68,11 +68,20 @@ abbrev pub MayCommitTurn : Turn → Book → Type 0
 MayCommitTurn turn b =
     (steps : Advanced) × (turn.steps ≡ Some steps) × IsHeld b turn.process × IsOwnAdvance b turn.process steps
 
--- its steps are committed; any others are dropped
+-- its steps are made, and are those of a process that is not held, or not of this one from where it stands
+abbrev pub AreForeign : Turn → Book → Type 0
+AreForeign turn b =
+    (steps : Advanced) × (turn.steps ≡ Some steps) × (¬ (IsHeld b turn.process × IsOwnAdvance b turn.process steps))
+
+-- its steps, if they are made, are those that this quota allows
+abbrev pub StepsWithin : (quota : ℕ) → Turn → Type 0
+StepsWithin quota turn = IfSome turn.steps (IsWithinQuota quota)
+
+-- its steps are committed. Foreign ones are dropped, and a turn that has claimed nobody has none
 abbrev pub CommitsOrDrops : Turn → Book → Book → Type 0
 CommitsOrDrops turn before after =
     ((steps : Advanced) × (done : Done) × (turn.steps ≡ Some steps) × Commits turn.process steps done before after)
-    ⊎ ((¬ MayCommitTurn turn before) × (after ≡ before))
+    ⊎ ((AreForeign turn before ⊎ (turn.frame ≡ None)) × (after ≡ before))
 
 -- its process is put back, if it is held
 abbrev pub PutsBack : Turn → Book → Book → Type 0

@@ -34,35 +34,12 @@
 ghost use Rattle.std.specs.Prelude.{◌≡◌, ◌<◌, ◌-◌, true, max};
 ghost use Rattle.kpn_pool_desk.specs.Desk.{share_of};
 
+use crate::tuning::{
+    FIRST_HOLD_NANOSECONDS, HOLDS_WITHOUT_ROW, LONGEST_HOLD_NANOSECONDS, LONGEST_TURN_NANOSECONDS,
+    PARTS_OF_THE_MEAN, REST_MILLISECONDS, TURNS_PER_BATCH, WATCH_MILLISECONDS,
+};
 use std::mem;
 use std::time::Duration;
-
-// For how many nanoseconds a turn keeps the lock from others, by its commit and its claim, until that is measured.
-const HOLD_NANOSECONDS: u32 = 450;
-
-// No hold counts for more nanoseconds: one that was interrupted weighs little.
-const LONGEST_HOLD_NANOSECONDS: u32 = 2_000;
-
-// No turn counts for more nanoseconds. At so many there pay more workers than a run may have, and a turn that was
-// interrupted weighs little.
-const LONGEST_TURN_NANOSECONDS: u32 = 16_000;
-
-// A turn is one part of so many in the mean: so the mean follows within some hundred turns.
-const WEIGHT: u32 = 8;
-
-// A worker claims no more processes in one hold: so many pay for the lock, and others find enough that are ready.
-pub(crate) const TURNS_PER_BATCH: usize = 8;
-
-// For how many milliseconds the one that keeps watch rests: so seldom does it cost nothing, and two such rests, after
-// which it takes the place of a worker that is held, are still less than a tenth of a second.
-const WATCH: u64 = 40;
-
-// For how many milliseconds the others rest. They are notified when they are needed.
-const REST: u64 = 1_000;
-
-// So many times a worker that is back makes no row, until the outside has come that was called. It then has the lock
-// for some microseconds, and others may take it in between. To wake up takes some 50 microseconds.
-const YIELDS: u32 = 64;
 
 /// What somebody outside waits for.
 #[derive(Clone, Copy)]
@@ -131,7 +108,7 @@ fn mean_with(mean: u32, taken: Duration, turns: usize, longest: u32) -> u32
     if mean == 0 {
         return nanos.min(longest);
     }
-    (mean - mean / WEIGHT).saturating_add(nanos.min(longest) / WEIGHT)
+    (mean - mean / PARTS_OF_THE_MEAN).saturating_add(nanos.min(longest) / PARTS_OF_THE_MEAN)
 }
 
 impl Crew {
@@ -142,7 +119,7 @@ impl Crew {
         Crew {
             working: workers,
             most: workers,
-            hold: HOLD_NANOSECONDS,
+            hold: FIRST_HOLD_NANOSECONDS,
             ..Crew::default()
         }
     }
@@ -268,7 +245,11 @@ impl Crew {
 
     /// For how long a worker rests that keeps watch, or does not.
     pub(crate) fn rest_of(keeps_watch: bool) -> Duration {
-        Duration::from_millis(if keeps_watch { WATCH } else { REST })
+        Duration::from_millis(if keeps_watch {
+            WATCH_MILLISECONDS
+        } else {
+            REST_MILLISECONDS
+        })
     }
 
     /// A worker has rested.
@@ -327,7 +308,7 @@ impl Crew {
             Need::Item { .. } => self.awaits_item = true,
             Need::Room { .. } => self.awaits_room = true,
         }
-        Duration::from_millis(REST)
+        Duration::from_millis(REST_MILLISECONDS)
     }
 
     /// Whether somebody outside sleeps until a sink has an item.
@@ -360,7 +341,7 @@ impl Crew {
         let calls = self.is_to_call();
         self.owes_call = false;
         if calls {
-            self.yields = YIELDS;
+            self.yields = HOLDS_WITHOUT_ROW;
             self.is_awaited = false;
             self.awaits_item = false;
             self.awaits_room = false;

@@ -1,21 +1,16 @@
 //! A cut of a network into regions, and what a run by workers would take with it.
 
 use crate::regions::{number_at, sum};
+use crate::tuning::{
+    HAND_OVER_HOLD_NANOSECONDS, HAND_OVER_NANOSECONDS, PARTS_OF_A_GAIN, PARTS_UNDER_THE_LOCK,
+    WIDE_ITEMS,
+};
 use std::alloc::{AllocError, Allocator};
-
-// A channel of a smaller capacity is narrow. None such is cut: a hand-over would pass an item or two.
-const WIDE_CAPACITY: u32 = 8;
-
-// So many nanoseconds a hand-over takes in the mean: a claim, a commit, and now and then a worker that has to be woken.
-const HAND_OVER_NANOSECONDS: u64 = 80_000;
-
-// For so many of them the lock is held.
-const HAND_OVER_HOLD_NANOSECONDS: u64 = 1_000;
 
 /// Whether a channel of this capacity is wide, as a source is, which has none.
 pub(crate) fn is_wide(capacity: Option<u32>) -> bool {
     match capacity {
-        Some(capacity) => capacity >= WIDE_CAPACITY,
+        Some(capacity) => capacity >= WIDE_ITEMS,
         None => true,
     }
 }
@@ -66,7 +61,7 @@ impl<A: Allocator + Copy> Cut<A> {
         workers: usize,
         by_turns: u64,
     ) -> Result<Option<Self>, AllocError> {
-        let mut least = by_turns - by_turns / 8;
+        let mut least = by_turns - by_turns / PARTS_OF_A_GAIN;
         let mut best = None;
         for count in 1..workers.saturating_mul(2).min(loads.len()).saturating_add(1) {
             let mut cut = Cut::of_each(alloc, loads)?;
@@ -101,7 +96,7 @@ impl<A: Allocator> Cut<A> {
     /// across the channels with the most hand-overs, which come first, and then those that take least.
     pub(crate) fn join_to(&mut self, count: usize, flows: &[Flow]) {
         let even = sum(&self.load) / count.max(1) as u64;
-        let share = even.saturating_add(even / 8);
+        let share = even.saturating_add(even / PARTS_OF_A_GAIN);
         for flow in flows {
             let (writer, reader) = (self.region(flow.writer), self.region(flow.reader));
             if flow.hand_overs == u64::MAX || self.joint_load(writer, reader) <= share {
@@ -200,7 +195,7 @@ impl<A: Allocator> Cut<A> {
         }
         let held = claims
             .saturating_mul(HAND_OVER_HOLD_NANOSECONDS)
-            .saturating_add(work / 10);
+            .saturating_add(work / PARTS_UNDER_THE_LOCK);
         busiest.max(all / workers.max(1) as u64).max(held)
     }
 

@@ -17,26 +17,16 @@ ghost use Rattle.kpn_pool_desk.specs.RegionTurn.{DrainsFor, ClaimsFor};
 
 use crate::desk::Desk;
 use crate::job::Job;
-use crate::regions::Regions;
+use crate::regions::{Regions, Times};
 use crate::rows::Takers;
+use crate::tuning::{
+    COMMITS_BEFORE_CUT, COMMITS_FACTOR_OF_NEXT_CUT, EVENTS_PER_REGION, LONGEST_TURN_NANOSECONDS,
+    TIMED_COMMITS,
+};
 use kpn_book::Book;
 use kpn_history::State;
 use kpn_region::Batch;
 use std::alloc::{AllocError, Allocator};
-
-// Before so many commits the workers make single turns, which are timed.
-const TIMED: u64 = 2_000;
-
-// The network is cut after so many commits, and anew after so many times as many, since what goes through it may change.
-const FIRST: u64 = 20_000;
-
-const LATER: u64 = 16;
-
-// No turn counts for more nanoseconds: one that was interrupted weighs little.
-const LONGEST_TIMED_TURN_NANOSECONDS: u64 = 16_000;
-
-/// So many gets and puts a batch of a region makes at most.
-pub(crate) const BUDGET: u32 = 4_096;
 
 /// For how long the turns of each process took, and the regions into which the network is cut.
 #[derive(Drop)]
@@ -69,7 +59,7 @@ impl<A: Allocator> Division<A> {
             limit: 0,
             taken: Vec::new(alloc),
             turns: Vec::new(alloc),
-            due: FIRST,
+            due: COMMITS_BEFORE_CUT,
             from: 0,
             regions: None,
             held: 0,
@@ -92,7 +82,7 @@ impl<A: Allocator> Division<A> {
     /// A region has made no commit: its batch was refused, or memory ran out in its run. Turns are made until there are
     /// some commits more.
     pub(crate) fn rest(&mut self, commits: u64) {
-        self.from = commits.saturating_add(u64::from(BUDGET));
+        self.from = commits.saturating_add(u64::from(EVENTS_PER_REGION));
     }
 
     /// If the network is no longer divided, and no region is held, the regions go.
@@ -110,7 +100,7 @@ impl<A: Allocator> Division<A> {
             return;
         }
         if let Some(taken) = self.taken.get_mut(process) {
-            *taken = taken.saturating_add(nanos.min(LONGEST_TIMED_TURN_NANOSECONDS));
+            *taken = taken.saturating_add(nanos.min(u64::from(LONGEST_TURN_NANOSECONDS)));
         }
         if let Some(turns) = self.turns.get_mut(process) {
             *turns = turns.saturating_add(1);
@@ -126,7 +116,7 @@ impl<A: Allocator> Division<A> {
         if self.limit == 0 || self.held > 0 || commits < self.due {
             return;
         }
-        self.due = commits.saturating_mul(LATER);
+        self.due = commits.saturating_mul(COMMITS_FACTOR_OF_NEXT_CUT);
         match self.cut(book, drains, workers) {
             Ok(regions) => self.regions = regions,
             Err(_error) => self.stop(),
@@ -143,6 +133,10 @@ impl<A: Allocator> Division<A> {
     where
         A: Copy,
     {
+        let times = Times {
+            taken: self.taken.as_slice(),
+            turns: self.turns.as_slice(),
+        };
         let network = book.network();
         let mut carried = Vec::with_capacity(self.alloc, network.channels())?;
         for c in 0..network.channels() {
@@ -152,8 +146,7 @@ impl<A: Allocator> Division<A> {
             self.alloc,
             network,
             carried.as_slice(),
-            self.taken.as_slice(),
-            self.turns.as_slice(),
+            times,
             drains,
             workers,
         )
@@ -215,7 +208,7 @@ impl<'n, J: Job, A: Allocator> Desk<'n, J, A> {
 
     /// Whether turns are to be timed.
     pub fn times(&self) -> bool {
-        self.division.limit > 0 && self.book.commits() < TIMED
+        self.division.limit > 0 && self.book.commits() < TIMED_COMMITS
     }
 
     /// Cuts the network, if it is time.
@@ -281,7 +274,7 @@ impl<'n, J: Job, A: Allocator> Desk<'n, J, A> {
     fn is_limit_far(&self) -> bool {
         let processes = self.book.network().instances() as u64;
         let regions = (self.division.held as u64).saturating_add(1);
-        let most = u64::from(BUDGET)
+        let most = u64::from(EVENTS_PER_REGION)
             .saturating_add(processes)
             .saturating_mul(regions);
         most <= self.division.limit.saturating_sub(self.book.commits())
@@ -357,7 +350,10 @@ impl<'n, J: Job, A: Allocator> Desk<'n, J, A> {
         if !are_below(self.book.network().instances(), of) {
             return Ok(false);
         }
-        let claimed = match self.book.claim_region(of, batch, BUDGET as usize, drains) {
+        let claimed = match self
+            .book
+            .claim_region(of, batch, EVENTS_PER_REGION as usize, drains)
+        {
             Ok(claimed) => claimed,
             Err(error) => {
                 self.book.known();

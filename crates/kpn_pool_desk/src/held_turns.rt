@@ -1,23 +1,22 @@
 //! The turns that a worker makes between two holds of the lock, in the order of their claims.
 ghost use Rattle.std.specs.Prelude.{◌≡◌, ◌↔◌, ◌+◌, ◌<◌, ◌≤◌, IsTrue, IfOk, OnErr, take, length};
 ghost use Rattle.kpn_book.specs.Stepping.{ClaimsNobody};
-ghost use Rattle.kpn_pool_desk.specs.HeldTurns.{InTurn, Claims, ClaimsInVain, CommitsOrDrops, PutsBack, SettlesTurns, claimed_by, ComesBackWithTurns};
-ghost use Rattle.kpn_pool_desk.specs.Gate.{LetsThrough, LetsAll};
+ghost use Rattle.kpn_pool_desk.specs.HeldTurns.{InTurn, Claims, ClaimsInVain, CommitsOrDrops, PutsBack, StepsWithin, SettlesTurns, claimed_by};
+ghost use Rattle.std.specs.List.{All};
+ghost use Rattle.kpn_pool_desk.specs.Gate.{LetsThrough};
 ghost use Rattle.kpn_pool_desk.specs.Desk.{share_in, with_book, with_total};
 
-use crate::crew::TURNS_PER_BATCH;
 use crate::desk::Desk;
 use crate::gate::{Gate, Go};
 use crate::job::Job;
-use crate::phases::NextMove;
-use crate::rows::go_in_rows;
 use crate::seat::{Why, WorkerSeat};
+use crate::tuning::TURNS_PER_BATCH;
 use crate::turn::Turn;
 use crate::watch::{ClockWatch, NoWatch, Watch};
 use arrayvec::ArrayVec;
 use std::alloc::{AllocError, Allocator};
 use std::marker::Model;
-use std::time::{Clock, Duration};
+use std::time::Clock;
 
 /// Turns of which the first ones are held, and of these the gate has let the first ones through.
 #[derive(Drop)]
@@ -100,6 +99,7 @@ impl<'n, J: Job> HeldTurns<'n, J> {
         ensures claimed { claimed_by self.new.turns ≡ claimed_by self.old.turns }
         ensures gate { LetsThrough (G.may_answer gate.now worker) self.new.passed self.new.held
             (claimed_by self.new.turns) }
+        ensures quota { All (StepsWithin quota) (take self.new.passed self.new.turns) }
     {
         let held = self.held;
         self.passed = step_each(
@@ -118,49 +118,24 @@ impl<'n, J: Job> HeldTurns<'n, J> {
         ensures claimed { claimed_by self.new.turns ≡ claimed_by self.old.turns }
         ensures gate { LetsThrough (G.may_answer gate.now worker) self.new.passed self.new.held
             (claimed_by self.new.turns) }
+        ensures quota { All (StepsWithin quota) (take self.new.passed self.new.turns) }
     {
         let held = self.held;
         let watch = ClockWatch { rt };
         self.passed = step_each(gate, &watch, worker, quota, self.turns.as_mut_slice(), held);
     }
 
-    /// A worker is back from these turns, which began after so many commits and left the lock free for so long, if that
-    /// was measured. It commits their steps, and then makes turns in a row. Returns what it does next, if `most` commits
-    /// are allowed.
-    pub fn come_back<A: Allocator + Copy, G: Gate>(
-        &self,
-        desk: &mut Desk<'n, J, A>,
-        gate: &G,
-        seat: &mut WorkerSeat<J>,
-        commits: u64,
-        away: Option<Duration>,
-        quota: u32,
-        most: u64,
-    ) -> NextMove
-        ensures number { seat.new.number ≡ seat.old.number }
-        ensures commits { seat.old.commits ≤ seat.new.commits }
-        // turns that the gate was not asked for are committed only if it lets everything through
-        ensures asked { seat.old.commits + self.now.passed < seat.new.commits
-            → LetsAll (G.may_answer gate.now) }
-        ensures does { ComesBackWithTurns (G.may_answer gate.now) quota most self.now result desk.old desk.new }
+    /// Notes for how long the steps of each turn took that the gate has let through, if they were timed.
+    pub(crate) fn note<A: Allocator>(&self, desk: &mut Desk<'n, J, A>)
+        ensures { desk.new ≡ desk.old }
     {
-        let is_alone = desk.book.commits() == commits;
-        desk.crew.come_back(self.held, away);
         let turns = self.turns.as_slice();
         note_each(desk, &turns[..self.passed]);
-        if let Some(why) = self.settle(desk, seat) {
-            return NextMove::End(why);
-        }
-        if gate.lets_all() {
-            desk.cut();
-        }
-        go_in_rows(gate, desk, seat, quota, most);
-        desk.next(most, is_alone, true)
     }
 
     /// Commits the steps that the gate has let through, in order, until memory is refused, and puts the others back, in
     /// order. Returns why the worker ends, if there are such. If memory was refused, all workers have to end.
-    fn settle<A: Allocator + Copy>(
+    pub(crate) fn settle<A: Allocator + Copy>(
         &self,
         desk: &mut Desk<'n, J, A>,
         seat: &mut WorkerSeat<J>,
@@ -228,6 +203,7 @@ fn step_each<J: Job, G: Gate, W: Watch>(
     ensures claimed { claimed_by turns.new ≡ claimed_by turns.old }
     ensures gate { LetsThrough (G.may_answer gate.now worker) result held
         (claimed_by turns.new) }
+    ensures quota { All (StepsWithin quota) (take result turns.new) }
 {
     'turns: for i in 0..held {
         let turn = &mut turns[i];

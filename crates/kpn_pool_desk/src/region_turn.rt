@@ -6,23 +6,17 @@ ghost use Rattle.kpn_pool_desk.specs.Desk.{with_book};
 ghost use Rattle.kpn_pool_desk.specs.RegionTurn.{ClaimsOne, Runs, SettlesRegion, ComesBackFromRegion};
 
 use crate::desk::Desk;
-use crate::division::BUDGET;
 use crate::gate::Gate;
 use crate::job::Job;
+use crate::pace::Pace;
 use crate::phases::NextMove;
 use crate::seat::{Why, WorkerSeat};
+use crate::tuning::{CLAIMS_OF_ONE_REGION, EVENTS_PER_REGION, STEPS_PER_SHORT_TURN};
 use kpn_book::Refused;
 use kpn_net::Network;
 use kpn_region::Batch;
 use std::alloc::{AllocError, Allocator, Global};
 use std::marker::{Model, PhantomData};
-use std::time::Duration;
-
-// A process makes no more steps in a row: so a batch does not last for long where they lead to no get or put.
-const STEPS_PER_TURN_IN_REGION: u32 = 1_000;
-
-// So many times in a row a worker claims the same region again, whatever the others wait for.
-const AGAIN: u32 = 16;
 
 /// The region that a worker has in hand, if one is held. The memory is kept for those that follow.
 #[derive(Drop)]
@@ -94,7 +88,7 @@ impl<'n, J: Job, A: Allocator> RegionTurn<'n, J, A> {
             desk.division.stop();
             return false;
         }
-        let last = (self.times < AGAIN).then_some(self.region);
+        let last = (self.times < CLAIMS_OF_ONE_REGION).then_some(self.region);
         let Some(region) = desk.next_region(last) else {
             return false;
         };
@@ -144,19 +138,17 @@ impl<'n, J: Job, A: Allocator> RegionTurn<'n, J, A> {
         ensures { Runs self.old self.new }
     {
         if let Some(batch) = &mut self.batch {
-            let _ = batch.run(quota.min(STEPS_PER_TURN_IN_REGION), BUDGET);
+            let _ = batch.run(quota.min(STEPS_PER_SHORT_TURN), EVENTS_PER_REGION);
         }
     }
 
-    /// A worker is back from this region, which it claimed after so many commits and which left the lock free for so
-    /// long, if that was measured. It commits what the region has done, and takes from the sinks, if the workers take.
-    /// Returns what it does next, if `most` commits are allowed.
+    /// A worker is back from this region. It commits what the region has done, and takes from the sinks, if the workers
+    /// take. Returns what it does next, if `most` commits are allowed.
     pub fn come_back(
         &mut self,
         desk: &mut Desk<'n, J, A>,
         seat: &mut WorkerSeat<J>,
-        commits: u64,
-        away: Option<Duration>,
+        pace: &Pace,
         most: u64,
     ) -> NextMove
     where
@@ -167,9 +159,9 @@ impl<'n, J: Job, A: Allocator> RegionTurn<'n, J, A> {
         ensures commits { seat.old.commits ≤ seat.new.commits }
         ensures does { ComesBackFromRegion most self.old result desk.old desk.new }
     {
-        let is_alone = desk.book.commits() == commits;
+        let is_alone = desk.book.commits() == pace.commits;
         let before = seat.commits();
-        desk.crew.come_back(1, away);
+        desk.crew.come_back(1, pace.away);
         desk.division.release();
         let why = self.settle(desk, seat);
         self.is_held = false;

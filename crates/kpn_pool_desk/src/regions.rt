@@ -1,17 +1,9 @@
 //! The regions of a network: a worker claims the processes of one together. Any cut is right; this one is to be fast.
 
 use crate::cut::{Cut, Flow, is_wide};
+use crate::tuning::{BY_TURNS_NANOSECONDS, NARROW_NANOSECONDS, WIDE_NANOSECONDS};
 use kpn_net::{End, Network};
 use std::alloc::{AllocError, Allocator};
-
-// So many nanoseconds a get or put takes beside the steps of its process, by turns: each keeps the lock from others, and
-// waits for it.
-const BY_TURNS_NANOSECONDS: u64 = 1_500;
-
-// In a region, on a wide channel, where many come without a wait, and on a narrow one.
-const WIDE_NANOSECONDS: u64 = 10;
-
-const NARROW_NANOSECONDS: u64 = 45;
 
 /// Regions, of which each process is in one.
 #[derive(Drop)]
@@ -23,20 +15,17 @@ pub(crate) struct Regions<A: Allocator> {
 }
 
 impl<A: Allocator + Copy> Regions<A> {
-    /// Cuts a network for so many workers, by how many items each of its channels has carried, and how many nanoseconds
-    /// so many turns of each of its processes took that were timed: into one region, or several. `None` if turns are
-    /// faster. The error is that memory ran out.
+    /// Cuts a network for so many workers, by how many items each of its channels has carried and how long its turns
+    /// took: into one region, or several. `None` if turns are faster. The error is that memory ran out.
     pub(crate) fn cut(
         alloc: A,
         network: &Network,
         carried: &[u64],
-        taken: &[u64],
-        turns: &[u64],
+        times: Times<'_>,
         drains: bool,
         workers: usize,
     ) -> Result<Option<Self>, AllocError> {
         let flows = flows(alloc, network, carried)?;
-        let times = Times { taken, turns };
         let by_turns = time_by_turns(alloc, network, carried, times, workers)?;
         let in_regions = loads(alloc, network, carried, times, Way::Regions { drains })?;
         match Cut::best(alloc, &in_regions, &flows, workers, by_turns)? {
@@ -113,11 +102,11 @@ fn flows<A: Allocator + Copy>(
     Ok(flows)
 }
 
-/// How many nanoseconds so many turns of each process took.
+/// How many nanoseconds so many turns of each process took that were timed.
 #[derive(Clone, Copy)]
-struct Times<'t> {
-    taken: &'t [u64],
-    turns: &'t [u64],
+pub(crate) struct Times<'t> {
+    pub taken: &'t [u64],
+    pub turns: &'t [u64],
 }
 
 impl Times<'_> {

@@ -13,13 +13,8 @@ use crate::gate::Gate;
 use crate::job::Job;
 use crate::phases::NextMove;
 use crate::seat::WorkerSeat;
+use crate::tuning::{COMMITS_PER_ROW, STEPS_PER_SHORT_TURN};
 use std::alloc::Allocator;
-
-// A worker makes no more commits before it looks what it does next. Short ones take some 30 microseconds together.
-const ROW: u64 = 512;
-
-// No row is made of turns that may have more steps: one long turn after many short ones would keep the lock for long.
-const LONGEST_TURN: u32 = 1_000;
 
 /// Who takes what comes to the sinks.
 #[derive(Clone, Copy, Debug, PartialEq, Eq)]
@@ -166,11 +161,15 @@ pub(crate) fn go_in_rows<J: Job, A: Allocator + Copy, G: Gate>(
     if !desk.makes_rows() {
         return;
     }
-    if desk.has_to_end() || desk.ends_rows() || quota > LONGEST_TURN {
+    if desk.has_to_end() || desk.ends_rows() || quota > STEPS_PER_SHORT_TURN {
         return;
     }
     desk.take_from_sinks();
-    let limit = desk.book.commits().saturating_add(ROW).min(most);
+    let limit = desk
+        .book
+        .commits()
+        .saturating_add(COMMITS_PER_ROW)
+        .min(most);
     make_rows(desk, seat, quota, limit);
     desk.note_rows();
 }
@@ -186,7 +185,7 @@ fn make_rows<J: Job, A: Allocator + Copy>(
     ensures number { seat.new.number ≡ seat.old.number }
     ensures counted { seat.old.commits ≤ seat.new.commits }
 {
-    'rows: for _row in 0..ROW {
+    'rows: for _row in 0..COMMITS_PER_ROW {
         let Some(sink) = seat.make_row(desk, quota, limit) else {
             return;
         };

@@ -1,21 +1,19 @@
 //! What a worker does with one process between two holds of the lock: its claim, its steps, and their commit.
-ghost use Rattle.std.specs.Prelude.{◌≡◌, ◌+◌, ◌≤◌, ◌⊎◌, true, false, None, IfOk, OnErr};
+ghost use Rattle.std.specs.Prelude.{◌≡◌, ◌≢◌, ◌+◌, ◌≤◌, ◌⊎◌, true, false, None, IfOk, OnErr};
 ghost use Rattle.kpn_book.specs.Stepping.{ClaimsNobody};
 ghost use Rattle.kpn_pool_desk.specs.Desk.{with_book, with_total};
-ghost use Rattle.kpn_pool_desk.specs.HeldTurns.{Claims, MayCommitTurn, CommitsOrDrops, PutsBack};
+ghost use Rattle.kpn_pool_desk.specs.HeldTurns.{Claims, MayCommitTurn, CommitsOrDrops, PutsBack, StepsWithin};
 
 use crate::desk::Desk;
 use crate::job::Job;
 use crate::seat::WorkerSeat;
+use crate::tuning::SHORTEST_TURN_NANOSECONDS;
 use crate::watch::Watch;
 use kpn_book::{Claim, Refused};
 use kpn_step::{Frame, Stop};
 use std::alloc::{AllocError, Allocator};
 use std::marker::{Model, PhantomData};
 use std::time::Instant;
-
-// No turn takes fewer nanoseconds.
-const SHORTEST: u64 = 20;
 
 /// A process that was claimed, and where it came to from the frame of its claim.
 #[derive(Drop)]
@@ -107,6 +105,7 @@ impl<'n, J: Job> Turn<'n, J> {
     pub(crate) fn step(&mut self, quota: u32) -> usize
         ensures same { self.new.process ≡ self.old.process }
         ensures process { result ≡ self.new.process }
+        ensures quota { StepsWithin quota self.new }
     {
         if let Some(last) = &mut self.last {
             last.made = match last.to.try_copy_from(&last.claim.frame) {
@@ -121,6 +120,7 @@ impl<'n, J: Job> Turn<'n, J> {
     pub(crate) fn step_timed<W: Watch>(&mut self, watch: &W, quota: u32) -> usize
         ensures same { self.new.process ≡ self.old.process }
         ensures process { result ≡ self.new.process }
+        ensures quota { StepsWithin quota self.new }
     {
         let begun = watch.read();
         let process = self.step(quota);
@@ -129,7 +129,7 @@ impl<'n, J: Job> Turn<'n, J> {
         let clock = between(ended, watch.read());
         self.nanos = match between(begun, ended) {
             0 => 0,
-            nanos => nanos.saturating_sub(clock).max(SHORTEST),
+            nanos => nanos.saturating_sub(clock).max(SHORTEST_TURN_NANOSECONDS),
         };
         process
     }
@@ -172,8 +172,7 @@ impl<'n, J: Job> Turn<'n, J> {
                 desk.note(done);
                 true
             }
-            Err(Refused::NoMemory) => false,
-            Err(_) => true,
+            Err(cause) => are_foreign(cause),
         }
     }
 
@@ -186,6 +185,14 @@ impl<'n, J: Job> Turn<'n, J> {
         let _ = desk.book.put_back(self.process);
         desk.book.known();
     }
+}
+
+/// Whether steps are refused since they are foreign, and not for want of memory.
+fn are_foreign(cause: Refused) -> bool
+    ensures foreign { (result ≡ true) → cause ≢ Refused.NoMemory }
+    ensures memory { (result ≡ false) → cause ≡ Refused.NoMemory }
+{
+    !matches!(cause, Refused::NoMemory)
 }
 
 /// How many nanoseconds lie between two times, if both are known.

@@ -30,4 +30,7 @@ returns c =
       supplied =
           are_supplied t c.empty_sinks-emptied.new.book same c.known.ensures c.in-Some.outcome report
           c.in-Ok.ensures c.args.lists.now fed closed;
+      commits =
+          c.in-Ok.ensures.commits ∙ c.empty_sinks-emptied.ensures.commits
+          ∙ ap (λ b. b.commits) c.put_back_held.ensures.alone;
     }

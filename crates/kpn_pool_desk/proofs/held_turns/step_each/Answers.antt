@@ -1,10 +1,11 @@
 -- A step leaves the process of its turn as it was, and the gate answers for this process.
-use Rattle.std.proofs.Common.{◌≡◌, ◌<◌, length, Some, sym, ap, ◌∙◌, subst, rules, arith}
+use Rattle.std.proofs.Common.{◌≡◌, ◌<◌, length, take, Some, sym, ap, ◌∙◌, subst, rules, arith}
 use Rattle.std.specs.Prelude.{slice_get}
-use Rattle.kpn_pool_desk.specs.declared.gate.Go.TheVariants.{On, Abandon}
-use Rattle.kpn_pool_desk.specs.HeldTurns.{claimed_by}
+use Rattle.std.specs.List.{All}
+use Rattle.std.proofs.lemmas.List.{take-set}
+use Rattle.kpn_pool_desk.specs.HeldTurns.{StepsWithin, claimed_by}
 use Rattle.kpn_pool_desk.specs.Gate.{LetsThrough}
-use Rattle.kpn_pool_desk.proofs.Batches.{claimed_by-set, claimed_at, through_more, stopped_at, let_all}
+use Rattle.kpn_pool_desk.proofs.Batches.{all_more_set, claimed_by-set, claimed_at, through_more, stopped_at, let_all}
 use Rattle.kpn_pool_desk.proofs.held_turns.step_each.Goals as goal
 
 pub turns-preserved : goal.turns-preserved
@@ -22,6 +23,9 @@ turns-preserved g c =
           through_more may (claimed_by c.turns.turns) c.turns.i c.step_timed-process.result there
           (subst (λ go. may c.step_timed-process.result go) c.in-On.is c.between.ensures) c.turns.invariant.through j q less
           (subst (λ ps. slice_get ps j ≡ Some q) kept at);
+      within =
+          all_more_set (StepsWithin c.args.quota) c.turns.turns c.turns.i c.step_timed-process.new.self below
+          c.turns.invariant.within c.step_timed-process.ensures.quota;
     }
 
 pub returns-in-Abandon : goal.returns-in-Abandon
@@ -40,9 +44,17 @@ returns-in-Abandon g c =
           subst (λ ps. LetsThrough may c.turns.i c.args.held ps) (sym kept)
           (stopped_at may (claimed_by c.turns.turns) c.turns.i c.step_timed-process.result c.args.held there
           (subst (λ go. may c.step_timed-process.result go) c.in-Abandon.is c.between.ensures) c.turns.invariant.through);
+      quota =
+          subst (λ ts. All (StepsWithin c.args.quota) ts)
+          (sym (take-set c.turns.turns c.turns.i c.step_timed-process.new.self)) c.turns.invariant.within;
     }
 
 pub returns-clause-gate : goal.returns-clause-gate
 returns-clause-gate g c =
     let_all (g.G.Gate.may_answer c.args.gate.now c.args.worker) (claimed_by c.turns.turns) c.args.held
     (λ j q less at. c.turns.invariant.through j q (omega (arith, less)) at)
+
+pub returns-clause-quota : goal.returns-clause-quota
+returns-clause-quota g c =
+    let all : c.turns.i ≡ c.args.held = omega arith in
+    subst (λ n. All (StepsWithin c.args.quota) (take n c.turns.turns)) all c.turns.invariant.within

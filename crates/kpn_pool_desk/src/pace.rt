@@ -1,21 +1,20 @@
 //! What a worker measures of its turns and of the times for which it has the lock.
+use crate::tuning::BATCHES_PER_MEASURED;
 use std::time::{Clock, Duration, Instant};
-
-// One of so many batches is measured, since a look at the clock costs as much as a short turn. An even number would
-// always meet the same processes of 8 or 16.
-const MEASURED: u32 = 31;
 
 /// What a worker knows of its turn.
 #[derive(Clone, Copy)]
-pub(crate) struct Pace {
+pub struct Pace {
     turns: u32,
     begun: Option<Instant>,
+    /// For how long the turn has left the lock free, if it was measured.
+    pub away: Option<Duration>,
     // since when the worker has the lock, if the turn was measured
     held: Option<Instant>,
     /// How many commits there were when the turn began.
-    pub commits: u64,
+    pub(crate) commits: u64,
     /// Whether the steps of each process are timed.
-    pub is_timed: bool,
+    pub(crate) is_timed: bool,
 }
 
 impl Pace {
@@ -24,6 +23,7 @@ impl Pace {
         Pace {
             turns: 0,
             begun: None,
+            away: None,
             held: None,
             commits: u64::MAX,
             is_timed: false,
@@ -31,22 +31,25 @@ impl Pace {
     }
 
     /// A turn begins after so many commits.
-    pub(crate) fn begin<R: Clock>(&mut self, rt: &R, commits: u64) {
+    pub fn begin<R: Clock>(&mut self, rt: &R, commits: u64) {
         self.commits = commits;
         self.begun = None;
-        if self.turns % MEASURED == 0 {
+        if self.turns % BATCHES_PER_MEASURED == 0 {
             self.begun = Instant::now(rt).ok();
         }
         self.turns = self.turns.wrapping_add(1);
     }
 
-    /// For how long the turn lasts, if it is measured.
-    pub(crate) fn time<R: Clock>(&self, rt: &R) -> Option<Duration> {
-        self.begun?.elapsed(rt).ok()
+    /// The turn is over, and the worker comes back to the lock.
+    pub fn end<R: Clock>(&mut self, rt: &R) {
+        self.away = match self.begun {
+            Some(begun) => begun.elapsed(rt).ok(),
+            None => None,
+        };
     }
 
     /// The worker has the lock, which is measured if the turn was.
-    pub(crate) fn hold<R: Clock>(&mut self, rt: &R) {
+    pub fn hold<R: Clock>(&mut self, rt: &R) {
         self.held = None;
         if self.begun.is_some() {
             self.held = Instant::now(rt).ok();
@@ -54,7 +57,7 @@ impl Pace {
     }
 
     /// The worker makes turns in a row, so this hold is not measured. The next turn is, since a row takes long.
-    pub(crate) fn make_row(&mut self) {
+    pub fn make_row(&mut self) {
         self.held = None;
         self.turns = 0;
     }
@@ -65,12 +68,12 @@ impl Pace {
     }
 
     /// The worker waits, so this hold is not measured.
-    pub(crate) fn wait(&mut self) {
+    pub fn wait(&mut self) {
         self.held = None;
     }
 
     /// For how long the worker has had the lock, if that is measured.
-    pub(crate) fn held<R: Clock>(&self, rt: &R) -> Option<Duration> {
+    pub fn held<R: Clock>(&self, rt: &R) -> Option<Duration> {
         self.held?.elapsed(rt).ok()
     }
 }

@@ -1,0 +1,121 @@
+//! The numbers of a run by workers that were tuned. Each has its unit in its name, and says what chose it: where it
+//! names nothing else, `bench/workers/command.py` does, which compares 1 to 16 workers with one thread.
+
+// ---- what a worker does in one hold of the lock
+
+/// A worker claims no more processes in one hold: so many share its price, and others find enough that are ready.
+pub(crate) const TURNS_PER_BATCH: usize = 8;
+
+/// A worker makes no more commits in a row before it looks what it does next: short ones take some 30 us together.
+pub(crate) const COMMITS_PER_ROW: u64 = 512;
+
+/// Turns of more steps are made in no row and in no region: a step takes 4 to 35 ns (`bench/step/run.py`), and one long
+/// turn after many short ones would keep the lock, or the region, for long.
+pub(crate) const STEPS_PER_SHORT_TURN: u32 = 1_000;
+
+/// For so long a worker makes turns in a row before it lets the lock go. The outside may have to wait for that: twice as
+/// long as it takes to wake up.
+pub const ROWS_MICROSECONDS: u64 = 100;
+
+/// So many holds of workers make no row, until the outside has come that was called: 64 short ones outlast the 50 us
+/// that it takes to wake up.
+pub(crate) const HOLDS_WITHOUT_ROW: u32 = 64;
+
+/// So many items are fed in one hold: they take some tenths of a millisecond.
+pub const ITEMS_PER_FEED: usize = 16_384;
+
+// ---- how many workers pay
+
+/// What a turn keeps the lock from others, by its commit and its claim, until that is measured: 415 to 667 instructions
+/// (callgrind).
+pub(crate) const FIRST_HOLD_NANOSECONDS: u32 = 450;
+
+/// No hold counts for more: one that was interrupted weighs little.
+pub(crate) const LONGEST_HOLD_NANOSECONDS: u32 = 2_000;
+
+/// No turn counts for more: at so much there pay more workers than a run may have, and one that was interrupted weighs
+/// little.
+pub(crate) const LONGEST_TURN_NANOSECONDS: u32 = 16_000;
+
+/// No turn counts for less: few steps take as long (`bench/step/run.py`).
+pub(crate) const SHORTEST_TURN_NANOSECONDS: u64 = 20;
+
+/// A turn is one part of so many of the mean, which so follows within some hundred turns.
+pub(crate) const PARTS_OF_THE_MEAN: u32 = 8;
+
+/// One of so many batches is measured, since a look at the clock costs as much as a short turn. An even number would
+/// always meet the same processes of 8 or 16.
+pub const BATCHES_PER_MEASURED: u32 = 31;
+
+// ---- how workers wait
+
+/// So many tries to take the lock take some microseconds: less than a sleep and a wake.
+pub const LOCK_TRIES: u32 = 400;
+
+/// Those outside try for longer than a worker that makes turns in a row has the lock, and so get it when it is free for
+/// a moment.
+pub const LOCK_TRIES_OUTSIDE: u32 = 16_000;
+
+/// Who looks on reads the clock so many times before each try, so that those that are busy get the lock.
+pub const CLOCK_READS_PER_TRY: u32 = 16;
+
+/// For so long somebody looks on: some times as long as it takes to sleep and to be woken (`bench/idle/run.py`).
+pub const LOOK_ON_MICROSECONDS: u64 = 20;
+
+/// For so long a worker does while others run regions: as long as one of these takes.
+pub const LOOK_ON_REGIONS_MICROSECONDS: u64 = 100;
+
+/// For so long the worker that keeps watch rests. So seldom it costs nothing (`bench/idle/run.py`), and two such rests,
+/// after which it takes the place of a worker that is held, are less than a tenth of a second.
+pub(crate) const WATCH_MILLISECONDS: u64 = 40;
+
+/// For so long the others rest, which are notified when they are needed.
+pub(crate) const REST_MILLISECONDS: u64 = 1_000;
+
+// ---- when the network is cut into regions
+
+/// Before so many commits the workers make single turns, which are timed: 20 of each of 100
+/// processes.
+pub(crate) const TIMED_COMMITS: u64 = 2_000;
+
+/// The network is cut at so many commits, which take some milliseconds.
+pub(crate) const COMMITS_BEFORE_CUT: u64 = 20_000;
+
+/// It is cut anew at so many times as many, since what goes through it may change.
+pub(crate) const COMMITS_FACTOR_OF_NEXT_CUT: u64 = 16;
+
+/// A batch of a region makes so many gets and puts at most: they take as long as a worker looks on.
+pub(crate) const EVENTS_PER_REGION: u32 = 4_096;
+
+/// So many times in a row a worker claims the same region again, whatever the others wait for.
+pub(crate) const CLAIMS_OF_ONE_REGION: u32 = 16;
+
+// ---- which regions
+
+/// A get or put takes so long beside the steps of its process, by turns: each keeps the lock from others, and waits for
+/// it.
+pub(crate) const BY_TURNS_NANOSECONDS: u64 = 1_500;
+
+/// And so long in a region, on a wide channel, where many come without a wait.
+pub(crate) const WIDE_NANOSECONDS: u64 = 10;
+
+/// And so long there on a narrow one.
+pub(crate) const NARROW_NANOSECONDS: u64 = 45;
+
+/// A channel of a smaller capacity is narrow. None such is cut: a hand-over would pass an item or two.
+pub(crate) const WIDE_ITEMS: u32 = 8;
+
+/// A hand-over takes so long in the mean: a claim, a commit, and now and then a worker that has to be woken. With 8 us,
+/// four workers had 0.39 of the speed of one thread (a source and 8 copies); with 2.5 us more rows are slower than
+/// faster.
+pub(crate) const HAND_OVER_NANOSECONDS: u64 = 80_000;
+
+/// And for so long of that the lock is held.
+pub(crate) const HAND_OVER_HOLD_NANOSECONDS: u64 = 1_000;
+
+/// The lock is held for one part of so many of the work in regions besides: for the events that are joined.
+pub(crate) const PARTS_UNDER_THE_LOCK: u64 = 10;
+
+/// A cut is taken if it saves more than one part of so many, and a region may take one such part more than its even
+/// share: two runs of one network differ by more.
+pub(crate) const PARTS_OF_A_GAIN: u64 = 8;
