@@ -294,6 +294,14 @@ class Words(WithFolder):
         self.assertEqual(done.returncode, 1)
         self.assertTrue(done.stderr.endswith('kpn: 27 Write\n'), done.stderr)
 
+    def test_a_pipe_that_nobody_reads(self):
+        reads, writes = os.pipe()
+        os.close(reads)
+        for words in (['run'], ['--help']):
+            done = subprocess.run(['./prog', *words], cwd=self.folder, stdout=writes, stderr=subprocess.PIPE, text=True)
+            self.assertEqual((done.returncode, done.stderr[-14:]), (1, 'kpn: 27 Write\n'))
+        os.close(writes)
+
     def test_refused_memory(self):
         text = 'process p(out o) { while 1 { write o 1; } }\nnetwork { sink z cap 1; a = p(; z); }\n'
         self.build(text)

@@ -54,7 +54,8 @@ static int run_words(struct kpn_run *run, const struct kpn_plan *plan, bool is_s
 
 int kpn_main(const struct kpn_plan *plan, const char *program, int count, char **words) {
   kpn_fill_standard();
-  signal(SIGXFSZ, SIG_IGN); /* a file that may not grow is a failed write */
+  signal(SIGXFSZ, SIG_IGN); /* a file that may not grow is a failed write, and so is a pipe that nobody reads */
+  signal(SIGPIPE, SIG_IGN);
   if (!kpn_are_texts(count - 1, words + 1)) {
     return KPN_USAGE;
   }

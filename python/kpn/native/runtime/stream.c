@@ -1,7 +1,6 @@
 /* stream.c: the command `stream`, on items as they come. */
 #define _GNU_SOURCE
 #include <poll.h>
-#include <signal.h>
 #include <stdio.h>
 #include <stdlib.h>
 #include <string.h>
@@ -321,7 +320,6 @@ static int run_stream(struct stream *stream) {
   if (!kpn_reserve_all(network, true)) {
     return kpn_refuse(KPN_LACKS_MEMORY, "42 NoMemory");
   }
-  signal(SIGPIPE, SIG_IGN);
   go(stream);
   flush_all(stream);
   end_all(stream);
