@@ -372,6 +372,31 @@ class Streams(WithFolder):
         for given in (b'', b'1\n', b'1\n2\n'):
             self.compare([], given)
 
+    def test_stats(self):
+        self.build('process copy(in i; out o) { while 1 { read i x; write o x; } }\n'
+                   'network { source s; channel m cap 4; sink z cap 1; p = copy(s; m); q = copy(m; z); }\n')
+        tables = []
+        for program in ([PROGRAM, 'stream', 'net.kpn'], ['./prog', 'stream']):
+            done = subprocess.run([*program, '--stats', '--quiet'], cwd=self.folder, input=b'1\n2\n3\n',
+                                  capture_output=True, timeout=60)
+            tables.append([line.split()[:4] for line in done.stderr.decode().splitlines()])
+        self.assertEqual(tables[1], tables[0])
+
+    def test_beside_kpn_stream(self):
+        self.build(self.QUOTIENTS)
+        (self.folder / 'b').write_text('1\n2\n')
+        words = ['./prog', 'stream', '--source', 'a=-', '--source', 'b=b', '--sink', 'o=-', '--sink', 'p=out', '--check',
+                 'items']
+        for given, program, status, told in (
+                ('4\n9\n', PROGRAM, 0, 'checked: the items and the end are those'),
+                ('4\nx\n', PROGRAM, 1, 'checked: the items are those'),
+                ('4\n9\n', '/bin/true', 9, 'not checked: the items of the sink `o`'),
+                ('4\n9\n', '/nowhere/kpn', 9, 'not checked: the items of the sink `o`')):
+            done = subprocess.run(words, cwd=self.folder, input=given, capture_output=True, text=True, timeout=60,
+                                  env={**os.environ, 'KPN_PROGRAM': program})
+            self.assertEqual((done.returncode, f'kpn: {told}' in done.stderr), (status, True), done.stderr)
+            self.assertEqual(done.stdout[:2], '5\n')
+
     def test_formats(self):
         self.build(Words.DOUBLE)
         for given in (b'', b'\n', b'1\r\n2\r', b'-9223372036854775809', b'0' * 30, b'007\n-0\n1',

@@ -30,11 +30,12 @@ class Loop(NamedTuple):
 
 
 class Region(NamedTuple):
-    """Its members with their laps in a period, the channels inside with the items that lie there at the beginning, what
-    a period gets and puts elsewhere, and the rows of a period as (member, lap, row)."""
+    """Its members with their laps in a period, the channels inside with the items that lie there at the beginning and
+    at most, what a period gets and puts elsewhere, and the rows of a period as (member, lap, row)."""
 
     laps: Dict[int, int]
     inside: Dict[str, int]
+    most: Dict[str, int]
     gets: Dict[str, int]
     puts: Dict[str, int]
     order: List[Tuple[int, int, int]]
@@ -152,7 +153,7 @@ class Finder:
         first = {c: self.loops[self.writers[c][0]].first.get(self.writers[c][1], 0) for c in sorted(inside)}
         if any(count > self.capacities[c] for c, count in first.items()):
             return None
-        region = Region(laps, first, {}, {}, [])
+        region = Region(laps, first, dict(first), {}, {}, [])
         for p, count in laps.items():
             entry, process = self.entries[p], self.rows[self.entries[p].process].process
             sides = (entry.ins, process.ins, region.gets), (entry.outs, process.outs, region.puts)
@@ -171,6 +172,7 @@ class Finder:
                 lap, place = at[p]
                 while lap < count and self.may_step(p, place, unread):
                     region.order.append((p, lap, place))
+                    region.most.update((c, number) for c, number in unread.items() if number > region.most[c])
                     place, moved = place + 1, True
                     if place == self.loops[p].end:
                         lap, place = lap + 1, self.loops[p].head + 1

@@ -113,10 +113,10 @@ struct kpn_member {
   uint32_t laps;           /* in a period */
 };
 
-/* A channel between members, and how many items it carries in a period. */
+/* A channel between members, how many items it carries in a period, and how many are unread there at most. */
 struct kpn_inside {
   uint16_t channel;
-  uint32_t count;
+  uint32_t count, most;
 };
 
 struct kpn_region_plan {
@@ -304,6 +304,9 @@ void kpn_park(struct kpn_network *network, unsigned process);
 void kpn_region_turn(struct kpn_network *network, unsigned region);
 void kpn_wake_region(struct kpn_network *network, unsigned region);
 void kpn_end_region(struct kpn_network *network, unsigned region);
+
+/* How many items a channel inside a region has carried beside those of its positions: the region counts periods. */
+uint64_t kpn_carried_inside(const struct kpn_network *network, size_t channel);
 
 /* ---- lock step */
 

@@ -34,7 +34,7 @@ struct kpn_words {
   struct kpn_format_word *formats;
   size_t source_count, sink_count, format_count;
   const char *trace;
-  bool has_take, is_certified, is_checked, has_most_commits, is_quiet, clips;
+  bool has_take, is_certified, is_checked, has_most_commits, is_quiet, clips, has_stats;
   uint64_t take, most_commits, events, rate, channels;
 };
 

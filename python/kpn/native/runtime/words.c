@@ -119,6 +119,9 @@ static bool *flag_of(struct kpn_words *words, bool is_stream, const char *option
   if (!is_stream) {
     return strcmp(option, "--certify") == 0 ? &words->is_certified : NULL;
   }
+  if (strcmp(option, "--stats") == 0) {
+    return &words->has_stats;
+  }
   return strcmp(option, "--clip") == 0 ? &words->clips : strcmp(option, "--quiet") == 0 ? &words->is_quiet : NULL;
 }
 
@@ -167,7 +170,7 @@ static bool read_value(struct kpn_words *words, bool is_stream, enum option opti
 
 static bool may_have(bool is_stream, enum option option) {
   bool is_of_stream = option == FORMAT || option == RATE || option == CHANNELS;
-  return is_stream ? option != CHECK && option != EVENTS : !is_of_stream;
+  return is_stream ? option != EVENTS : !is_of_stream;
 }
 
 static unsigned option_of(bool is_stream, const char *name) {
