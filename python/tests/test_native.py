@@ -382,6 +382,24 @@ class Streams(WithFolder):
             tables.append([line.split()[:4] for line in done.stderr.decode().splitlines()])
         self.assertEqual(tables[1], tables[0])
 
+    def test_sound(self):
+        self.build('process half(in i; out o) { while 1 { read i x; read i y; write o (x + y); } }\n'
+                   'network { source s; sink z cap 1; p = half(s; z); }\n')
+        for name, width, channels, samples in (('mono', 2, 1, struct.pack('<4h', 1, 2, 3, 4)), ('8', 1, 1, b'\x80\x82'),
+                                               ('stereo', 2, 2, struct.pack('<4h', 1, 20, 3, 40))):
+            kind = struct.pack('<HHIIHH', 1, channels, 16000, 16000 * width * channels, width * channels, 8 * width)
+            (self.folder / name).write_bytes(b'RIFF\0\0\0\0WAVEfmt \x10\0\0\0' + kind + b'data'
+                                             + struct.pack('<I', len(samples)) + samples)
+        for source, status, wanted in (('mono', 0, [3, 7]), ('8', 0, [2]), ('stereo', 1, []), ('stereo:1', 0, [60]),
+                                       ('stereo:2', 1, [])):
+            words = ['./prog', 'stream', '--sound', '--format', 'wav', '--source', f's={source}', '--sink', 'z=out']
+            done = self.call(*words)
+            self.assertEqual((done[0], 'kpn: 55 BadHead at 22\n' in done[2]), (status, status == 1), done)
+            found, size = (self.folder / 'out').read_bytes(), 2 * len(wanted)
+            rate = 8000 if wanted else 48000
+            self.assertEqual((found[4:8], found[24:28], found[40:]), (
+                struct.pack('<I', 36 + size), struct.pack('<I', rate), struct.pack(f'<I{size // 2}h', size, *wanted)))
+
     def test_beside_kpn_stream(self):
         self.build(self.QUOTIENTS)
         (self.folder / 'b').write_text('1\n2\n')

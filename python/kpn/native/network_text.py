@@ -30,6 +30,7 @@ class NetworkText:
         for _, entry in description.instances:
             self.starts.append(self.starts[-1] + self.rows[entry.process].places)
         finder = Finder(description, self.rows)
+        self.periods = {} if fixed or is_session else finder.periods()
         kinds = {name: kind for kind, name, _ in description.channels}
         # Only a session goes in lock step with its caller.
         self.lock = lock_of(finder, kinds, self.starts) if is_session and schedule == 'fuse' else None
@@ -136,6 +137,9 @@ class NetworkText:
             yield 'static const char text[] ='
             yield from (f'    "{line}\\n"' for line in self.text.splitlines())
             yield '    "";'
+        if self.periods:
+            items = ', '.join(str(self.periods.get(name, 0)) for name in self.numbers)
+            yield f'static const uint32_t periods[] = {{{items}}};'
         yield 'const struct kpn_plan kpn_plan = {'
         tables = (('channels', len(self.numbers)), ('processes', len(description.instances)),
                   ('variables', self.variable_count), ('regions', len(self.regions)))
@@ -146,7 +150,7 @@ class NetworkText:
         yield f'  {"NULL" if self.fixed else "text"}, {{{texts}}},'
         yield f'  {names}, {counts}, {settings.get("limit", LARGEST_CAPACITY)},'
         flags = (settings.get('policy') == 'all', settings.get('grow') == 'double', self.is_one_talk)
-        yield '  ' + ', '.join('true' if it else 'false' for it in flags)
+        yield f'  {", ".join("true" if it else "false" for it in flags)}, {"periods" if self.periods else "NULL"}'
         yield '};'
 
 

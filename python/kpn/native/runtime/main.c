@@ -13,7 +13,7 @@ static const char HELP[] =
     "                   [--certify] [--events N] [--check items]\n"
     "       PROGRAM stream [--source NAME=IN].. [--sink NAME=OUT].. [--format F].. [--format NAME=F].. [--clip]\n"
     "                   [--rate N] [--channels N] [--take K] [--max-commits N] [--trace OUT] [--quiet] [--stats]\n"
-    "                   [--check items]\n"
+    "                   [--check items] [--sound]\n"
     "\n"
     "Runs the network that this program was compiled from. The commands and options are those of `kpn run` and\n"
     "`kpn stream`, and so are the reports. Nothing is proved of this program. But `kpn`, which is proved, can judge\n"

@@ -178,6 +178,8 @@ struct kpn_plan {
   bool is_policy_all, is_growth_double;
   bool is_one_talk;        /* a turn is a commit of `kpn run`: one talk, or its steps used up; waits are events
                               immediately */
+  const uint32_t *periods; /* the items of each channel in a period of all that is connected with it, 0 if that is not
+                              known; null in static memory */
 };
 
 /* Takes what has come to a sink. */

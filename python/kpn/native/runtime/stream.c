@@ -118,6 +118,11 @@ static void look_behind_items(struct stream *stream, unsigned c, enum kpn_input_
     snprintf(line, sizeof line, "25 BadItem at %zu", stream->inputs[c]->used);
     fail(stream, c, KPN_REFUSED, line);
   } else if (state == KPN_BAD_HEAD) {
+    const struct kpn_wav *wav = &stream->inputs[c]->wav;
+    if (stream->inputs[c]->is_sound && wav->bad == wav->channels_at) {
+      kpn_refuse(0, "the file has %u channels: `--channels %u`, or %s=FILE:0 for one of them", wav->channels,
+                 wav->channels, plan_of(stream)->channels[c].name);
+    }
     snprintf(line, sizeof line, "55 BadHead at %zu", stream->inputs[c]->wav.bad);
     fail(stream, c, KPN_REFUSED, line);
   } else if (state == KPN_CUT_SAMPLE) {
@@ -425,6 +430,9 @@ static int run_stream(struct stream *stream) {
   flush_all(stream);
   end_all(stream);
   look_at_outputs(stream);
+  if (run->words.is_sound) {
+    kpn_end_sound(stream);
+  }
   if (network->lacks_memory) {
     return kpn_refuse(KPN_LACKS_MEMORY, "42 NoMemory");
   }
