@@ -53,6 +53,8 @@ class NetworkText:
     def lines(self) -> Iterator[str]:
         """The lines of the C."""
         yield '/* Made by `kpn compile`. Nothing is proved of it. */'
+        if self.fixed and self.lock:
+            yield '#define KPN_SMALL_TURNS'
         if self.fixed:
             yield from ('#ifndef KPN_FIXED', '#define KPN_FIXED', '#endif', '#include "fixed.h"')
         yield '#include "network.h"'
