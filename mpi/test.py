@@ -102,8 +102,8 @@ class Tests:
         return done.returncode, done.stdout, done.stderr
 
     def over_ranks(self, ranks, *words):
-        """What a run gives. kpn-mpi has a line for its status 1. Without one, `mpirun` has not heard in time that a rank
-        is done, where much else runs: then the run is made again."""
+        """What a run gives. kpn-mpi has a line for its status 1. Without one it is that of `mpirun`, which gives it now
+        and then where much else runs; why is not known. Then the run is made again, and counted."""
         for _ in range(3):
             status, out, error = self.call(*self.mpirun.split(), '-n', ranks, self.mpi, *words, timeout=600)
             self.notes = ''.join(NOTES.findall(error))

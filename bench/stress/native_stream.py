@@ -9,7 +9,7 @@ KPN_PROGRAM names the program `kpn`, and CC and CFLAGS the compiler. So sanitize
 
 Four networks are compiled under all schedules. A stream has formats for all ends or for some, and perhaps `--clip`,
 `--take`, `--quiet`, or a word that is wrong. Both programs have to write the same bytes, tell the same, and end with
-the same status. Two sinks are served in another order: if a device has failed, the items of one begin those of the
+the same status. Some compiled ones are checked by `--check items`, which has to find nothing. Two sinks are served in another order: if a device has failed, the items of one begin those of the
 other.
 It ends with 1 at the first difference. It is no part of the gate, but python/tests/test_native.py runs a part of it.
 """
@@ -18,6 +18,7 @@ import collections
 import math
 import pathlib
 import random
+import re
 import struct
 import subprocess
 import sys
@@ -44,6 +45,7 @@ NETWORKS = {
 CODES = {'lines': '', 'u8': 'B', 's8': 'b', 's16le': '<h', 's24le': '', 's32le': '<i', 's64le': '<q', 'f32le': '<f',
          'f32le:0': '<f', 'f32le:40': '<f', 'wav': '', 'wav16': '', 'wav24': ''}
 TOLD = b'kpn: compiled: nothing is proved of the program that runs here\n'
+CHECKED = re.compile(rb'^kpn: checked: .*\n', re.M)
 # Seconds that a stream may take.
 MOST = 60
 
@@ -158,7 +160,7 @@ class Streams:
             (self.folder / f'{sink}.out').unlink(missing_ok=True)
         out, status, told = call([*program, *words], self.folder, input=standard, timeout=MOST)
         files = [self.folder / f'{sink}.out' for sink in self.ends(name)[1]]
-        told = told.replace(TOLD, b'')
+        told = CHECKED.sub(b'', told.replace(TOLD, b''))
         return status, out, told, [it.read_bytes() if it.exists() else None for it in files]
 
     def stream(self):
@@ -167,7 +169,8 @@ class Streams:
         words, standard = self.words(name)
         program = self.chosen.choice(self.programs[name])
         wanted = self.outcome([self.kpn, 'stream', name], name, words, standard)
-        found = self.outcome([program, 'stream'], name, words, standard)
+        checks = ['--check', 'items'] if self.chosen.random() < 0.2 else []
+        found = self.outcome([program, 'stream', *checks], name, words, standard)
         if not self.are_equal(wanted, found):
             raise Difference(f'{program.name} {" ".join(words)}: {found}, and not {wanted}')
         failed = [line.split()[1] for line in wanted[2].decode().splitlines() if line.startswith('kpn: ')]

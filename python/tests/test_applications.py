@@ -60,6 +60,13 @@ class Sound(unittest.TestCase):
         found = self.chain.build(2).run(self.items).check()['y']
         self.assertEqual((found[::2], found[1::2]), (self.wanted(self.items[::2]), self.wanted(self.items[1::2])))
 
+    def test_volume(self):
+        volumes = [256, 128, 0, 1024, 300, 256]
+        found = self.chain.build(2, 50).run({'x': self.items, 'volume': volumes}).check()['y']
+        for channel in (0, 1):
+            loud = [it * volumes[n // 50] for n, it in enumerate(self.wanted(self.items[channel::2]))]
+            self.assertEqual(found[channel::2], [max(-32_768, min(32_767, rounded(it, 256))) for it in loud])
+
     @unittest.skipUnless(shutil.which('sox'), 'sox is not there')
     def test_live_through_pipes(self):
         with tempfile.TemporaryDirectory() as folder:
@@ -79,13 +86,24 @@ class Radio(unittest.TestCase):
         made = run_tool([sys.executable, str(FOLDER / 'fm/sender.py'), '0.02', '2000']).stdout
         samples = array.array('h', made)
         self.assertEqual(len(samples), 2 * 4_800)
-        sound = receiver.build().run(samples.tolist()).check()['sound'][240:]
+        self.is_tone(receiver, receiver.build().run(samples.tolist()).check()['sound'][240:])
+        self.assertEqual(sender.FS, receiver.FS)
+        # The sender is 30 kHz lower at first, and then 20 kHz higher.
+        moves = [-30_000] * 10 + [20_000] * 10
+        angles = [sum(moves[:n // 240]) * 240 + moves[n // 240] * (n % 240) for n in range(4_800)]
+        points = [complex(*pair) * cmath.exp(2j * math.pi * angle / receiver.FS)
+                  for pair, angle in zip(zip(samples[::2], samples[1::2]), angles)]
+        items = [round(it) for point in points for it in (point.real, point.imag)]
+        tune = [round(-it * 2**32 / receiver.FS) for it in moves]
+        self.is_tone(receiver, receiver.build(240).run({'iq': items, 'tune': tune}).check()['sound'][240:])
+
+    def is_tone(self, receiver, sound):
+        """The tone of 2,000 Hz comes out, and nothing else."""
         at = [sum(it * cmath.exp(-2j * math.pi * n * f / 48_000) for n, it in enumerate(sound)) / len(sound) * 2
               for f in (2_000, 4_000, 6_000)]
         height = receiver.HEIGHT * 0.5 / abs(1 + 2j * math.pi * 2_000 * 50e-6)
         self.assertAlmostEqual(abs(at[0]) / height, 1, delta=0.02)
         self.assertLess(max(map(abs, at[1:])), 0.01 * height)
-        self.assertEqual(sender.FS, receiver.FS)
 
 
 class Picture(unittest.TestCase):

@@ -294,6 +294,14 @@ class Words(WithFolder):
         self.assertEqual(done.returncode, 1)
         self.assertTrue(done.stderr.endswith('kpn: 27 Write\n'), done.stderr)
 
+    def test_a_pipe_that_nobody_reads(self):
+        reads, writes = os.pipe()
+        os.close(reads)
+        for words in (['run'], ['--help']):
+            done = subprocess.run(['./prog', *words], cwd=self.folder, stdout=writes, stderr=subprocess.PIPE, text=True)
+            self.assertEqual((done.returncode, done.stderr[-14:]), (1, 'kpn: 27 Write\n'))
+        os.close(writes)
+
     def test_refused_memory(self):
         text = 'process p(out o) { while 1 { write o 1; } }\nnetwork { sink z cap 1; a = p(; z); }\n'
         self.build(text)
@@ -363,6 +371,49 @@ class Streams(WithFolder):
         self.build(text)
         for given in (b'', b'1\n', b'1\n2\n'):
             self.compare([], given)
+
+    def test_stats(self):
+        self.build('process copy(in i; out o) { while 1 { read i x; write o x; } }\n'
+                   'network { source s; channel m cap 4; sink z cap 1; p = copy(s; m); q = copy(m; z); }\n')
+        tables = []
+        for program in ([PROGRAM, 'stream', 'net.kpn'], ['./prog', 'stream']):
+            done = subprocess.run([*program, '--stats', '--quiet'], cwd=self.folder, input=b'1\n2\n3\n',
+                                  capture_output=True, timeout=60)
+            tables.append([line.split()[:4] for line in done.stderr.decode().splitlines()])
+        self.assertEqual(tables[1], tables[0])
+
+    def test_sound(self):
+        self.build('process half(in i; out o) { while 1 { read i x; read i y; write o (x + y); } }\n'
+                   'network { source s; sink z cap 1; p = half(s; z); }\n')
+        for name, width, channels, samples in (('mono', 2, 1, struct.pack('<4h', 1, 2, 3, 4)), ('8', 1, 1, b'\x80\x82'),
+                                               ('stereo', 2, 2, struct.pack('<4h', 1, 20, 3, 40))):
+            kind = struct.pack('<HHIIHH', 1, channels, 16000, 16000 * width * channels, width * channels, 8 * width)
+            (self.folder / name).write_bytes(b'RIFF\0\0\0\0WAVEfmt \x10\0\0\0' + kind + b'data'
+                                             + struct.pack('<I', len(samples)) + samples)
+        for source, status, wanted in (('mono', 0, [3, 7]), ('8', 0, [2]), ('stereo', 1, []), ('stereo:1', 0, [60]),
+                                       ('stereo:2', 1, [])):
+            words = ['./prog', 'stream', '--sound', '--format', 'wav', '--source', f's={source}', '--sink', 'z=out']
+            done = self.call(*words)
+            self.assertEqual((done[0], 'kpn: 55 BadHead at 22\n' in done[2]), (status, status == 1), done)
+            found, size = (self.folder / 'out').read_bytes(), 2 * len(wanted)
+            rate = 8000 if wanted else 48000
+            self.assertEqual((found[4:8], found[24:28], found[40:]), (
+                struct.pack('<I', 36 + size), struct.pack('<I', rate), struct.pack(f'<I{size // 2}h', size, *wanted)))
+
+    def test_beside_kpn_stream(self):
+        self.build(self.QUOTIENTS)
+        (self.folder / 'b').write_text('1\n2\n')
+        words = ['./prog', 'stream', '--source', 'a=-', '--source', 'b=b', '--sink', 'o=-', '--sink', 'p=out', '--check',
+                 'items']
+        for given, program, status, told in (
+                ('4\n9\n', PROGRAM, 0, 'checked: the items and the end are those'),
+                ('4\nx\n', PROGRAM, 1, 'checked: the items are those'),
+                ('4\n9\n', '/bin/true', 9, 'not checked: the items of the sink `o`'),
+                ('4\n9\n', '/nowhere/kpn', 9, 'not checked: the items of the sink `o`')):
+            done = subprocess.run(words, cwd=self.folder, input=given, capture_output=True, text=True, timeout=60,
+                                  env={**os.environ, 'KPN_PROGRAM': program})
+            self.assertEqual((done.returncode, f'kpn: {told}' in done.stderr), (status, True), done.stderr)
+            self.assertEqual(done.stdout[:2], '5\n')
 
     def test_formats(self):
         self.build(Words.DOUBLE)

@@ -16,7 +16,7 @@ BITS = [NUMBERS.randrange(2) for _ in range(200)]
 RUNS = [it // 7 % 3 for it in range(200)]
 COUNTS = [it % 6 - 2 for it in range(200)]
 # Parts that are what their first line says, and have no source.
-PLAIN = {'add', 'constant', 'count', 'deal', 'delay', 'downsample', 'drop', 'fork', 'gain', 'hold', 'merge', 'multiply',
+PLAIN = {'add', 'constant', 'control', 'count', 'deal', 'delay', 'downsample', 'drop', 'fork', 'gain', 'hold', 'merge', 'multiply',
          'offset', 'pointwise', 'saturate', 'scale', 'subtract', 'sum_of', 'upsample', 'wrap', 'zip_streams'}
 
 
@@ -62,6 +62,8 @@ CASES = {
             (lambda x: parts.cic(x, 3, 5, 20), [A], boxes(A, 3, 5))],
     'constant': [(lambda x: parts.add(x, parts.constant(x.net, 3)), [A], [it + 3 for it in A]),
                  (lambda x: parts.add(x, parts.constant(x.net, 3, times=5)), [A], [it + 3 for it in A[:5]])],
+    'control': [(lambda x, y: parts.control(x, y, 7), [A, B[:20]],
+                 (A[:140], [it for it in B[:20] for _ in range(7)]))],
     'count': [(lambda x: parts.add(x, parts.count(x.net)), [A], [it + n for n, it in enumerate(A)]),
               (lambda x: parts.add(x, parts.count(x.net, 5, -2)), [A], [it + 5 - 2 * n for n, it in enumerate(A)])],
     'deal': [(lambda x: parts.deal(x, 3), [A], tuple(A[it::3] for it in range(3))),

@@ -10,7 +10,7 @@ import shlex
 import subprocess
 import sys
 import tempfile
-from typing import List, Optional, Sequence
+from typing import List, Optional, Sequence, Tuple
 
 from ..errors import KpnError
 from ..language import LARGEST_CAPACITY, Reader
@@ -159,10 +159,18 @@ def build_shared(text: str, out: str) -> int:
         return subprocess.run(words, check=False).returncode
 
 
+def of_fixed(text: str) -> Tuple[Sequence[str], List[str]]:
+    """The runtime of a network in static memory, without what that does not use, and flags for it."""
+    unused = {file: flag for file, flag, table in (('regions.c', '-DKPN_NO_REGIONS', 'struct kpn_region_plan regions[]'),
+                                                   ('lock.c', '-DKPN_NO_LOCK', 'struct kpn_lock_plan lock_plan'))
+              if table not in text}
+    return [name for name in FIXED if name not in unused], ['-DKPN_FIXED', *unused.values()]
+
+
 def build_library(text: str, out: str, is_fixed: bool = False, prefix: str = '', tells_sizes: bool = False) -> int:
     """Compiles the C of a network to one object with the calls of a session, with a prefix also a header for it beside
     it. Two objects in one program are an error of the linker, unless they have different prefixes."""
-    names, flags = (FIXED, ['-DKPN_FIXED']) if is_fixed else (LIBRARY, ['-fPIC'])
+    names, flags = of_fixed(text) if is_fixed else (LIBRARY, ['-fPIC'])
     with tempfile.TemporaryDirectory(prefix='kpn-') as folder:
         source, renames = pathlib.Path(folder, 'network_of.c'), pathlib.Path(folder, 'renames.h')
         source.write_text(text)

@@ -200,7 +200,7 @@ class LockText:
             if self.kinds[c] == 'source':
                 yield f'if (c_{n}->put - c_{n}->got < {self.phases[number].start.unread[n] + 1}) return false;'
             elif self.kinds[c] == 'sink' and self.puts[number][c]:
-                yield f'if (kpn_free_room(c_{n}) < {self.puts[number][c]}) return false;'
+                yield f'if (kpn_room_now(c_{n}) < {self.puts[number][c]}) return false;'
 
     def piece(self, number: int, piece: Piece) -> Iterator[str]:
         """The rows of a process up to its next wait. Labels have the process, the lap and the row, and behind the
@@ -361,8 +361,8 @@ class LockText:
         slots = [self.slots.get(c, 0) for c in self.channels]
         sources = [n for c, n in self.channels.items() if self.kinds[c] == 'source']
         for kind, name, values in (('uint16_t', 'rows', rows), ('uint16_t', 'waits', waits),
-                                   ('uint16_t', 'unread', unread), ('uint32_t', 'laps', all_laps),
-                                   ('uint32_t', 'gots', all_gots), ('uint16_t', 'slots', slots),
+                                   ('uint16_t', 'unread', unread), ('uint16_t', 'laps', all_laps),
+                                   ('uint16_t', 'gots', all_gots), ('uint16_t', 'slots', slots),
                                    ('uint16_t', 'sources', sources)):
             yield f'static const {kind} lock_{name}[] = {{{", ".join(map(str, values))}}};'
         yield 'static const struct kpn_lock_plan lock_plan = {'

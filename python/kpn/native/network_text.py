@@ -30,6 +30,7 @@ class NetworkText:
         for _, entry in description.instances:
             self.starts.append(self.starts[-1] + self.rows[entry.process].places)
         finder = Finder(description, self.rows)
+        self.periods = {} if fixed or is_session else finder.periods()
         kinds = {name: kind for kind, name, _ in description.channels}
         # Only a session goes in lock step with its caller.
         self.lock = lock_of(finder, kinds, self.starts) if is_session and schedule == 'fuse' else None
@@ -52,6 +53,8 @@ class NetworkText:
     def lines(self) -> Iterator[str]:
         """The lines of the C."""
         yield '/* Made by `kpn compile`. Nothing is proved of it. */'
+        if self.fixed and self.lock:
+            yield '#define KPN_SMALL_TURNS'
         if self.fixed:
             yield from ('#ifndef KPN_FIXED', '#define KPN_FIXED', '#endif', '#include "fixed.h"')
         yield '#include "network.h"'
@@ -136,6 +139,9 @@ class NetworkText:
             yield 'static const char text[] ='
             yield from (f'    "{line}\\n"' for line in self.text.splitlines())
             yield '    "";'
+        if self.periods:
+            items = ', '.join(str(self.periods.get(name, 0)) for name in self.numbers)
+            yield f'static const uint32_t periods[] = {{{items}}};'
         yield 'const struct kpn_plan kpn_plan = {'
         tables = (('channels', len(self.numbers)), ('processes', len(description.instances)),
                   ('variables', self.variable_count), ('regions', len(self.regions)))
@@ -146,7 +152,7 @@ class NetworkText:
         yield f'  {"NULL" if self.fixed else "text"}, {{{texts}}},'
         yield f'  {names}, {counts}, {settings.get("limit", LARGEST_CAPACITY)},'
         flags = (settings.get('policy') == 'all', settings.get('grow') == 'double', self.is_one_talk)
-        yield '  ' + ', '.join('true' if it else 'false' for it in flags)
+        yield f'  {", ".join("true" if it else "false" for it in flags)}, {"periods" if self.periods else "NULL"}'
         yield '};'
 
 

@@ -274,7 +274,8 @@ class RegionText:
         """The tables of the members and of what a period needs."""
         members = ', '.join(f'{{{p}, {laps}}}' for p, laps in self.region.laps.items())
         yield f'static const struct kpn_member members_{self.number}[] = {{{members}}};'
-        inside = ', '.join(f'{{{self.channels[c]}, {count}}}' for c, count in self.put_count.items())
+        inside = ', '.join(f'{{{self.channels[c]}, {count}, {self.region.most[c]}}}'
+                           for c, count in self.put_count.items())
         if inside:
             yield f'static const struct kpn_inside inside_{self.number}[] = {{{inside}}};'
         needs = [f'{{{self.channels[c]}, {word}, {count}}}' for of, word in

@@ -30,20 +30,19 @@ class Loop(NamedTuple):
 
 
 class Region(NamedTuple):
-    """Its members with their laps in a period, the channels inside with the items that lie there at the beginning, what
-    a period gets and puts elsewhere, and the rows of a period as (member, lap, row)."""
+    """Its members with their laps in a period, the channels inside with the items that lie there at the beginning and
+    at most, what a period gets and puts elsewhere, and the rows of a period as (member, lap, row)."""
 
     laps: Dict[int, int]
     inside: Dict[str, int]
+    most: Dict[str, int]
     gets: Dict[str, int]
     puts: Dict[str, int]
     order: List[Tuple[int, int, int]]
 
 
 def loop_of(rows: Rows) -> Optional[Loop]:
-    """A process as first items and laps, if it has this form. An array would have to be copied in each period."""
-    if rows.arrays():
-        return None
+    """A process as first items and laps, if it has this form."""
     first: Dict[str, int] = collections.Counter()
     for head, row in enumerate(rows.rows):
         if isinstance(row, Test):
@@ -85,7 +84,10 @@ class Finder:
         self.names = [name for name, _ in description.instances]
         self.capacities = {name: capacity or 0 for _, name, capacity in description.channels}
         loops = {name: loop_of(it) for name, it in rows.items()}
-        self.loops = {p: loop for p, entry in enumerate(self.entries) for loop in [loops[entry.process]] if loop}
+        self.rates = {p: loop.rates for p, entry in enumerate(self.entries) for loop in [loops[entry.process]] if loop}
+        # An array would have to be copied in each period.
+        self.loops = {p: loop for p, entry in enumerate(self.entries) for loop in [loops[entry.process]]
+                      if loop and not rows[entry.process].arrays()}
         self.writers: Dict[str, Tuple[int, str]] = {}
         self.readers: Dict[str, Tuple[int, str]] = {}
         for p, entry in enumerate(self.entries):
@@ -110,6 +112,17 @@ class Finder:
             region = self.period(laps, inside)
             if region:
                 yield region
+
+    def periods(self) -> Dict[str, int]:
+        """How many items each channel carries in a period of all that is connected with it, where that is known."""
+        found: Dict[str, int] = {}
+        links = {c for c in self.capacities if c in self.writers and c in self.readers}
+        for members in self.components(set(range(len(self.entries))), links):
+            inside = {c for c in links if self.writers[c][0] in members}
+            laps = self.balance(members, inside) if members <= set(self.rates) else None
+            for ends in (self.writers, self.readers) if laps else ():
+                found.update({c: laps[p] * self.rates[p].get(port, 0) for c, (p, port) in ends.items() if p in laps})
+        return found
 
     def components(self, members: Set[int], links: Set[str]) -> List[Set[int]]:
         """The sets of processes that these channels connect."""
@@ -138,7 +151,7 @@ class Finder:
     def balance(self, members: Set[int], inside: Set[str]) -> Optional[Dict[int, int]]:
         """The least numbers of laps after which each channel has as many items as before, if there are any."""
         ends = [(c, *self.writers[c], *self.readers[c]) for c in inside]
-        links = [Link(c, writer, reader, self.loops[writer].rates.get(put, 0), self.loops[reader].rates.get(got, 0))
+        links = [Link(c, writer, reader, self.rates[writer].get(put, 0), self.rates[reader].get(got, 0))
                  for c, writer, put, reader, got in ends]
         if not all(it.put and it.got for it in links):
             return None
@@ -152,7 +165,7 @@ class Finder:
         first = {c: self.loops[self.writers[c][0]].first.get(self.writers[c][1], 0) for c in sorted(inside)}
         if any(count > self.capacities[c] for c, count in first.items()):
             return None
-        region = Region(laps, first, {}, {}, [])
+        region = Region(laps, first, dict(first), {}, {}, [])
         for p, count in laps.items():
             entry, process = self.entries[p], self.rows[self.entries[p].process].process
             sides = (entry.ins, process.ins, region.gets), (entry.outs, process.outs, region.puts)
@@ -171,6 +184,7 @@ class Finder:
                 lap, place = at[p]
                 while lap < count and self.may_step(p, place, unread):
                     region.order.append((p, lap, place))
+                    region.most.update((c, number) for c, number in unread.items() if number > region.most[c])
                     place, moved = place + 1, True
                     if place == self.loops[p].end:
                         lap, place = lap + 1, self.loops[p].head + 1

@@ -17,11 +17,11 @@ from .levels import agc, compressor, level
 from .radio import am_demodulate, complex_multiply, fm_demodulate, mix, nco, oscillator, polar
 from .recursive import butterworth, cascade, dc_block, deemphasis, iir, notch, second_order
 from .windows import decimate, fir, interpolate, moving_sum, polyphase
-from .wiring import (constant, count, deal, delay, downsample, drop, fork, hold, merge, run_length_decode,
+from .wiring import (constant, control, count, deal, delay, downsample, drop, fork, hold, merge, run_length_decode,
                      run_length_encode, select, switch, upsample, zip_streams)
 
-__all__ = ['add', 'agc', 'am_demodulate', 'biquad', 'bitonic_sort', 'butterworth', 'cascade', 'cic',
-           'complex_multiply', 'compressor', 'constant', 'count', 'dc_block', 'dct', 'dct_blocks', 'deal', 'decimate',
+__all__ = ['add', 'agc', 'am_demodulate', 'biquad', 'bitonic_sort', 'butterworth', 'cascade', 'cic', 'complex_multiply',
+           'compressor', 'constant', 'control', 'count', 'dc_block', 'dct', 'dct_blocks', 'deal', 'decimate',
            'deemphasis', 'delay', 'dequantize', 'downsample', 'drop', 'exp_golomb', 'exp_golomb_decode', 'fft', 'fir',
            'fm_demodulate', 'fork', 'from_blocks', 'gain', 'hold', 'huffman', 'huffman_decode', 'iir', 'interpolate',
            'level', 'linear', 'matrix_product', 'merge', 'mix', 'moving_sum', 'multiply', 'nco', 'notch', 'offset',

@@ -53,6 +53,14 @@ process hold(in i; out o; par n) {
     while (k < n) { write o x; k = (k + 1); }
   }
 }''')
+CONTROL = Process.from_text('''
+process control(in i, parameter; out o, value; par n) {
+  while 1 {
+    read parameter p;
+    k = 0;
+    while (k < n) { read i x; write o x; write value p; k = (k + 1); }
+  }
+}''')
 SELECT = Process.from_text('''
 process select(in control, yes, no; out o) {
   while 1 {
@@ -177,6 +185,15 @@ def hold(stream: Stream, n: int) -> Stream:
     Rates: n out for one in. Faults: none.
     """
     return cast(Stream, HOLD(stream, whole('how often an item is held', n)))
+
+
+def control(stream: Stream, parameter: Stream, n: int) -> Tuple[Stream, Stream]:
+    """Gives each item, and beside it the parameter that holds for it: of each n items, 1 or more, one of `parameter`.
+
+    So a gain or a frequency changes while a run goes on, at places that the network fixes.
+    Rates: n on each out for n of the stream and one of `parameter`, which is read first. Faults: none.
+    """
+    return cast(Tuple[Stream, Stream], CONTROL(stream, parameter, whole('how long a parameter holds', n, 1)))
 
 
 def deal(stream: Stream, n: int) -> Tuple[Stream, ...]:

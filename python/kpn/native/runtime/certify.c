@@ -1,75 +1,21 @@
 /* certify.c: the proved `kpn` judges a run. */
 #define _GNU_SOURCE
-#include <errno.h>
-#include <fcntl.h>
 #include <stdio.h>
 #include <stdlib.h>
 #include <string.h>
-#include <sys/wait.h>
 #include <unistd.h>
 
-#include "program.h"
+#include "judge.h"
 
-enum { PATH = 4096, MOST_COMMITS = 1000000000 };
-
-/* A folder for what `kpn` reads, and the texts of the words that name files in it. */
-struct folder {
-  char path[PATH];
-  size_t file_count;
-};
-
-static bool make_folder(struct folder *folder) {
-  const char *base = getenv("TMPDIR");
-  folder->file_count = 0;
-  int length = snprintf(folder->path, sizeof folder->path, "%s/kpn-XXXXXX", base && *base ? base : "/tmp");
-  return length > 0 && length < PATH - 64 && mkdtemp(folder->path);
-}
-
-/* The path of a file by its number; the texts live until the folder is dropped. */
-static char *path_of(const struct folder *folder, size_t number) {
-  char *path = malloc(PATH);
-  if (path) {
-    snprintf(path, PATH, "%.*s/%zu", PATH - 32, folder->path, number);
-  }
-  return path;
-}
-
-static char *open_next(struct folder *folder, int *to) {
-  char *path = path_of(folder, folder->file_count);
-  *to = path ? open(path, O_WRONLY | O_CREAT | O_TRUNC | O_CLOEXEC, 0600) : -1;
-  folder->file_count += *to >= 0;
-  return path;
-}
-
-static void drop_folder(struct folder *folder) {
-  for (size_t k = 0; k < folder->file_count; k++) {
-    char *path = path_of(folder, k);
-    if (path) {
-      unlink(path);
-      free(path);
-    }
-  }
-  rmdir(folder->path);
-}
+enum { MOST_COMMITS = 1000000000 };
 
 static bool write_to(void *to, const char *text, size_t length) {
   return kpn_write_all(*(int *)to, text, length);
 }
 
-/* Stores a text in a new file of the folder, and gives its path. */
-static char *store_text(struct folder *folder, const char *text) {
+static char *store_history(struct kpn_folder *folder, const struct kpn_run *run) {
   int to;
-  char *path = open_next(folder, &to);
-  if (to < 0 || !kpn_write_all(to, text, strlen(text)) || close(to) != 0) {
-    free(path);
-    return NULL;
-  }
-  return path;
-}
-
-static char *store_history(struct folder *folder, const struct kpn_run *run) {
-  int to;
-  char *path = open_next(folder, &to);
+  char *path = kpn_open_next(folder, &to);
   const struct kpn_plan *plan = run->network.plan;
   if (to < 0 || !kpn_history_write(&run->history, plan->is_policy_all, plan->is_growth_double, write_to, &to) ||
       close(to) != 0) {
@@ -77,39 +23,6 @@ static char *store_history(struct folder *folder, const struct kpn_run *run) {
     return NULL;
   }
   return path;
-}
-
-/* Starts `kpn` with these words, and gives what it writes. */
-static FILE *start(char *const *words, pid_t *child) {
-  int ends[2];
-  if (pipe2(ends, O_CLOEXEC) != 0) {
-    return NULL;
-  }
-  *child = fork();
-  if (*child == 0) {
-    dup2(ends[1], STDOUT_FILENO);
-    execvp(words[0], words);
-    fprintf(stderr, "kpn: %s does not run: %s; name the program `kpn` by KPN_PROGRAM\n", words[0], strerror(errno));
-    _exit(127);
-  }
-  close(ends[1]);
-  if (*child < 0) {
-    close(ends[0]);
-    return NULL;
-  }
-  return fdopen(ends[0], "r");
-}
-
-/* The status of `kpn`, once all is read. */
-static int finish(FILE *from, pid_t child) {
-  int status;
-  fclose(from);
-  while (waitpid(child, &status, 0) < 0) {
-    if (errno != EINTR) {
-      return -1;
-    }
-  }
-  return WIFEXITED(status) ? WEXITSTATUS(status) : -1;
 }
 
 /* Reads a word up to a space or a line feed, and tells which. */
@@ -196,26 +109,26 @@ static int judge(FILE *from, const struct kpn_run *run) {
 }
 
 int kpn_certify(struct kpn_run *run) {
-  struct folder folder;
+  struct kpn_folder folder;
   pid_t child;
   int status = KPN_NOT_CERTIFIED;
-  if (!make_folder(&folder)) {
+  if (!kpn_make_folder(&folder)) {
     return kpn_refuse(status, "not certified: no folder can be made in TMPDIR");
   }
-  char *net = store_text(&folder, run->network.plan->text), *trace = store_history(&folder, run);
+  char *net = kpn_store_text(&folder, run->network.plan->text), *trace = store_history(&folder, run);
   char *words[] = {(char *)run->program, "audit", net, trace, "--steps", "1000000000", NULL};
-  FILE *from = net && trace ? start(words, &child) : NULL;
+  FILE *from = net && trace ? kpn_start_judge(words, &child) : NULL;
   if (from) {
     status = judge(from, run);
     while (getc_unlocked(from) != EOF) {
     }
-    if (finish(from, child) != 0 && status == 0) {
+    if (kpn_finish_judge(from, child) != 0 && status == 0) {
       status = kpn_refuse(KPN_NOT_CERTIFIED, "not certified: `kpn audit` has failed");
     }
   } else {
     kpn_refuse(status, "not certified: the trace cannot be stored in %s, or `kpn` cannot be started", folder.path);
   }
-  drop_folder(&folder);
+  kpn_drop_folder(&folder);
   free(net);
   free(trace);
   return status;
@@ -237,9 +150,9 @@ static bool compare(void *to, const char *text, size_t length) {
   return true;
 }
 
-static char *store_items(struct folder *folder, const struct kpn_text_items *list) {
+static char *store_items(struct kpn_folder *folder, const struct kpn_text_items *list) {
   int to;
-  char *path = open_next(folder, &to), line[32];
+  char *path = kpn_open_next(folder, &to), line[32];
   FILE *file = to >= 0 ? fdopen(to, "w") : NULL;
   bool is_stored = file != NULL;
   for (size_t k = 0; is_stored && k < list->count; k++) {
@@ -264,19 +177,19 @@ static uint64_t most_commits(const struct kpn_run *run) {
 }
 
 /* The words of `kpn run` for a run: 2 for each source, and 8 at most beside these. */
-static bool run_words(struct folder *folder, const struct kpn_run *run, char **words) {
+static bool run_words(struct kpn_folder *folder, const struct kpn_run *run, char **words) {
   char number[32], *path;
   size_t count = 0;
   words[count++] = strdup(run->program);
   words[count++] = strdup("run");
-  words[count++] = store_text(folder, run->network.plan->text);
+  words[count++] = kpn_store_text(folder, run->network.plan->text);
   for (size_t k = 0; k < run->words.source_count; k++) {
     const struct kpn_end *source = &run->words.sources[k];
     path = store_items(folder, &run->lists[source->channel]);
     words[count++] = strdup("--source");
-    words[count++] = path ? malloc(PATH + 64) : NULL;
+    words[count++] = path ? malloc(KPN_PATH + 64) : NULL;
     if (path && words[count - 1]) {
-      snprintf(words[count - 1], PATH + 64, "%s=%s", source->name, path);
+      snprintf(words[count - 1], KPN_PATH + 64, "%s=%s", source->name, path);
     }
     free(path);
   }
@@ -297,26 +210,26 @@ static bool run_words(struct folder *folder, const struct kpn_run *run, char **w
 }
 
 int kpn_compare_runs(struct kpn_run *run) {
-  struct folder folder;
+  struct kpn_folder folder;
   pid_t child;
   size_t most = 2 * run->words.source_count + 8;
   if (run->outcome == KPN_STOPPED && !run->network.plan->is_one_talk) {
     return kpn_refuse(0, "not checked: the run was stopped, and reports no items");
   }
   char **words = calloc(most, sizeof *words);
-  if (!words || !make_folder(&folder)) {
+  if (!words || !kpn_make_folder(&folder)) {
     free(words);
     return kpn_refuse(KPN_NOT_CERTIFIED, "not checked: no folder can be made in TMPDIR");
   }
-  struct comparison comparison = {run_words(&folder, run, words) ? start(words, &child) : NULL, true};
+  struct comparison comparison = {run_words(&folder, run, words) ? kpn_start_judge(words, &child) : NULL, true};
   if (comparison.from) {
     kpn_report(run, compare, &comparison);
     comparison.is_same = comparison.is_same && getc_unlocked(comparison.from) == EOF;
     while (getc_unlocked(comparison.from) != EOF) {
     }
-    finish(comparison.from, child);
+    kpn_finish_judge(comparison.from, child);
   }
-  drop_folder(&folder);
+  kpn_drop_folder(&folder);
   for (size_t k = 0; k < most; k++) {
     free(words[k]);
   }

@@ -81,8 +81,15 @@ static enum kpn_input_state next_sample(struct kpn_input *input, int64_t *item) 
   return is_item ? KPN_ITEM : KPN_BAD_ITEM;
 }
 
-/* Reads the head of a WAV file. */
-static enum kpn_input_state pass_head(struct kpn_input *input) {
+/* Whether a WAV file has the channels that --sound asks for. */
+static bool has_channels(const struct kpn_input *input) {
+  const struct kpn_wav *wav = &input->wav;
+  size_t frame = kpn_sample_width(input->format) * wav->channels;
+  bool fits = input->is_picked ? input->picked < wav->channels : input->channels == wav->channels;
+  return !input->is_sound || (fits && frame <= sizeof input->bytes);
+}
+
+enum kpn_input_state kpn_pass_head(struct kpn_input *input) {
   size_t used;
   enum kpn_head head = kpn_read_head(&input->wav, &input->format.sample, input->bytes + input->start,
                                      input->end - input->start, &used);
@@ -90,12 +97,18 @@ static enum kpn_input_state pass_head(struct kpn_input *input) {
   if (head == KPN_HEAD_OPEN && input->has_ended) {
     input->wav.bad = input->wav.at + (input->end - input->start);
   }
+  if (head == KPN_HEAD_WHOLE && !has_channels(input)) {
+    input->wav.is_whole = false;
+    input->wav.bad = input->wav.channels_at;
+    return KPN_BAD_HEAD;
+  }
   return head == KPN_HEAD_WHOLE ? KPN_ITEM : head == KPN_HEAD_BAD || input->has_ended ? KPN_BAD_HEAD : KPN_NO_ITEM_YET;
 }
 
 static enum kpn_input_state next_of_wav(struct kpn_input *input, int64_t *item) {
-  enum kpn_input_state state = input->wav.is_whole ? KPN_ITEM : pass_head(input);
-  size_t width = kpn_sample_width(input->format), length = input->end - input->start;
+  enum kpn_input_state state = input->wav.is_whole ? KPN_ITEM : kpn_pass_head(input);
+  size_t sample = kpn_sample_width(input->format), length = input->end - input->start;
+  size_t width = input->is_picked ? sample * input->wav.channels : sample;
   if (state != KPN_ITEM) {
     return state;
   }
@@ -104,7 +117,10 @@ static enum kpn_input_state next_of_wav(struct kpn_input *input, int64_t *item) 
     bool is_end = kpn_is_wav_end(&input->wav, input->format, input->bytes + input->start, length);
     return !is_over ? KPN_NO_ITEM_YET : is_end ? KPN_NO_MORE_ITEMS : KPN_CUT_SAMPLE;
   }
-  kpn_read_sample(input->format, input->bytes + input->start, item);
+  kpn_read_sample(input->format, input->bytes + input->start + sample * input->picked, item);
+  if (input->is_sound && input->format.sample == KPN_U8) {
+    *item -= 128;
+  }
   input->wav.left -= width;
   input->start += width;
   input->used++;

@@ -5,6 +5,7 @@
 #include <stdbool.h>
 #include <stddef.h>
 #include <stdint.h>
+#include <sys/types.h>
 
 #include "formats.h"
 #include "program.h"
@@ -21,6 +22,8 @@ struct kpn_input {
   bool waits_for_writer;     /* a FIFO, where perhaps nobody writes yet */
   struct kpn_format format;
   struct kpn_wav wav;
+  bool is_sound, is_picked;  /* by --sound: 8 bits are centred, and the channels have to fit; only one is read */
+  unsigned channels, picked; /* how many there have to be; which one is read */
   size_t start, end, used;   /* the bytes that were not used yet; lines or samples so far */
   char bytes[KPN_DEVICE_BYTES];
 };
@@ -34,6 +37,7 @@ struct kpn_output {
   bool has_gone, has_failed; /* nobody reads it any more; it could not be written */
   bool has_misfit;           /* an item that the format does not have was to be written */
   int64_t misfit;
+  off_t start;               /* where it began, if it is a plain file whose head may be patched, or else -1 */
   size_t length;
   uint64_t count, taken;     /* of the items that were given, and of those that the device took whole */
   char bytes[KPN_DEVICE_BYTES];
@@ -52,6 +56,9 @@ enum kpn_input_state { KPN_ITEM, KPN_NO_ITEM_YET, KPN_NO_MORE_ITEMS, KPN_BAD_ITE
 
 /* Takes an item from the bytes that are there. */
 enum kpn_input_state kpn_next_item(struct kpn_input *input, int64_t *item);
+
+/* Reads the head of a WAV file, as far as it is there. */
+enum kpn_input_state kpn_pass_head(struct kpn_input *input);
 
 /* Reads what there is, and waits for it if need be. False says that the device fails. */
 bool kpn_read_more(struct kpn_input *input);

@@ -10,9 +10,6 @@
 
 #include "stream.h"
 
-/* Samples a second of a written WAV file, if no option says another number. */
-enum { USUAL_RATE = 48000 };
-
 static const struct kpn_plan *plan_of(const struct stream *stream) {
   return stream->run->network.plan;
 }
@@ -105,6 +102,15 @@ static int open_input(struct stream *stream, unsigned c) {
     return kpn_refuse(KPN_LACKS_MEMORY, "42 NoMemory");
   }
   input->format = kpn_format_of_end(&stream->run->words, plan_of(stream)->channels[c].name);
+  input->is_sound = stream->run->words.is_sound;
+  input->channels = stream->run->words.channels ? (unsigned)stream->run->words.channels : 1;
+  for (size_t k = 0; k < stream->run->words.source_count; k++) {
+    const struct kpn_end *source = &stream->run->words.sources[k];
+    if (source->channel == c) {
+      input->is_picked = source->is_picked && input->format.is_wav;
+      input->picked = source->picked;
+    }
+  }
   input->waits_for_writer = !is_standard(stream, c) && kpn_is_fifo(stream->files[c]);
   input->from = is_standard(stream, c) ? STDIN_FILENO
                                        : open(stream->files[c], O_RDONLY | O_CLOEXEC |
@@ -127,9 +133,10 @@ static int open_output(struct stream *stream, unsigned c) {
   }
   output->format = kpn_format_of_end(&stream->run->words, plan_of(stream)->channels[c].name);
   output->clips = stream->run->words.clips;
+  output->start = -1;
   if (output->format.is_wav) {
     const struct kpn_words *words = &stream->run->words;
-    kpn_write_head(output->bytes, output->format, words->rate ? (uint32_t)words->rate : USUAL_RATE,
+    kpn_write_head(output->bytes, output->format, words->rate ? (uint32_t)words->rate : KPN_USUAL_RATE,
                    words->channels ? (uint16_t)words->channels : 1);
     output->head = output->length = KPN_HEAD_BYTES;
   }
@@ -166,6 +173,9 @@ int kpn_open_ends(struct stream *stream) {
   }
   for (unsigned c = 0; c < count && status == 0; c++) {
     status = stream->outputs[c] ? empty_output(stream->outputs[c]) : 0;
+  }
+  if (status == 0 && stream->run->words.is_sound) {
+    kpn_begin_sound(stream);
   }
   return status;
 }

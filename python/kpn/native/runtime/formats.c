@@ -129,10 +129,9 @@ char *kpn_write_sample(struct kpn_format format, char *to, int64_t item) {
 
 /* ---- heads of WAV files */
 
-/* A head has so many bytes and chunks at most. From a size of so many bytes on, `data` has what comes; that is what a
-   written head says. The places in a chunk `fmt `, and what it has to say: whole numbers, or by 16 bytes that kind. */
+/* A head has so many bytes and chunks at most. The places in a chunk `fmt `, and what it has to say: whole numbers, or
+   by 16 bytes that kind. */
 enum { MOST_HEAD = 1048576, MOST_CHUNKS = 1000, START = 12, CHUNK = 8, LONG_KIND = 40, SHORT_KIND = 16 };
-#define UNKNOWN UINT32_C(0x7fffe000)
 static const char WHOLE_KIND[16] = {1, 0, 0, 0, 0, 0, 16, 0, (char)0x80, 0, 0, (char)0xaa, 0, 0x38, (char)0x9b, 0x71};
 
 /* Reads what a chunk `fmt ` says; gives the first place in it that is wrong, or its size. */
@@ -172,11 +171,11 @@ static enum kpn_head read_start(struct kpn_wav *wav, const char *bytes, size_t *
 /* What the chunk `data` says, which begins at `at`. By a size of 0 there are no samples if the file says where it ends,
    and that is behind this chunk. */
 static enum kpn_head read_data(struct kpn_wav *wav, uint32_t size, size_t *used) {
-  bool is_empty = size == 0 && wav->at < wav->size && wav->size < UNKNOWN;
+  bool is_empty = size == 0 && wav->at < wav->size && wav->size < KPN_UNCOUNTED;
   if (!wav->has_sample) {
     return bad(wav, wav->at);
   }
-  wav->left = is_empty ? 0 : size == 0 || size >= UNKNOWN ? UINT64_MAX : size;
+  wav->left = is_empty ? 0 : size == 0 || size >= KPN_UNCOUNTED ? UINT64_MAX : size;
   wav->is_whole = true;
   *used = CHUNK;
   return KPN_HEAD_WHOLE;
@@ -203,6 +202,9 @@ static enum kpn_head read_chunk(struct kpn_wav *wav, enum kpn_sample *sample, co
   if (is_kind) {
     size_t end = read_kind(bytes + CHUNK, size, sample);
     wav->bad = end < size ? wav->at + CHUNK + end : 0;
+    wav->channels_at = wav->at + CHUNK + 2;
+    wav->channels = (unsigned)number_at(bytes + CHUNK + 2, 2);
+    wav->rate = (uint32_t)number_at(bytes + CHUNK + 4, 4);
     wav->has_sample = true;
   }
   wav->chunks++;

@@ -33,12 +33,17 @@ int64_t kpn_nearest_item(struct kpn_format format, int64_t item);
 /* Writes the sample of such an item, and gives where it ends. */
 char *kpn_write_sample(struct kpn_format format, char *to, int64_t item);
 
+/* From a size of so many bytes on, a chunk `data` has what comes; that is what a written head says. */
+#define KPN_UNCOUNTED UINT32_C(0x7fffe000)
+
 /* The head of a WAV file as far as it was read. */
 struct kpn_wav {
   bool has_riff, has_sample, is_whole;
   uint32_t size;           /* of the whole file from byte 8 on, as it says */
   size_t at, skipped, bad; /* the next byte; how many belong to a chunk that says nothing; a place that is wrong, or 0 */
-  unsigned chunks;
+  size_t channels_at;      /* the place that says how many channels there are */
+  unsigned chunks, channels;
+  uint32_t rate;           /* samples a second of each channel */
   uint64_t left;           /* the bytes of samples that are left, or a large number if nobody has counted them */
 };
 

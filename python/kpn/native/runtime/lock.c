@@ -67,7 +67,7 @@ void kpn_lock_begin(struct kpn_network *network) {
 }
 
 /* What a table has for all phases since the beginning. Its rows count from the first phase on. */
-static uint64_t since_entry(const struct kpn_network *network, const uint32_t *table, size_t width, size_t place) {
+static uint64_t since_entry(const struct kpn_network *network, const uint16_t *table, size_t width, size_t place) {
   const struct kpn_lock *lock = &network->lock;
   size_t count = network->plan->lock->phase_count;
   uint64_t whole = (lock->entry + lock->made) / count;

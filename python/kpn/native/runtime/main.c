@@ -12,7 +12,8 @@ static const char HELP[] =
     "usage: PROGRAM run [--source NAME=FILE].. [--sink NAME=OUT].. [--take K] [--max-commits N] [--trace OUT]\n"
     "                   [--certify] [--events N] [--check items]\n"
     "       PROGRAM stream [--source NAME=IN].. [--sink NAME=OUT].. [--format F].. [--format NAME=F].. [--clip]\n"
-    "                   [--rate N] [--channels N] [--take K] [--max-commits N] [--trace OUT] [--quiet]\n"
+    "                   [--rate N] [--channels N] [--take K] [--max-commits N] [--trace OUT] [--quiet] [--stats]\n"
+    "                   [--check items] [--sound]\n"
     "\n"
     "Runs the network that this program was compiled from. The commands and options are those of `kpn run` and\n"
     "`kpn stream`, and so are the reports. Nothing is proved of this program. But `kpn`, which is proved, can judge\n"
@@ -54,7 +55,8 @@ static int run_words(struct kpn_run *run, const struct kpn_plan *plan, bool is_s
 
 int kpn_main(const struct kpn_plan *plan, const char *program, int count, char **words) {
   kpn_fill_standard();
-  signal(SIGXFSZ, SIG_IGN); /* a file that may not grow is a failed write */
+  signal(SIGXFSZ, SIG_IGN); /* a file that may not grow is a failed write, and so is a pipe that nobody reads */
+  signal(SIGPIPE, SIG_IGN);
   if (!kpn_are_texts(count - 1, words + 1)) {
     return KPN_USAGE;
   }

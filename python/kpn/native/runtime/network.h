@@ -21,6 +21,22 @@
 #define KPN_INLINE static inline __attribute__((unused))
 #endif
 
+/* Where lock step is the usual way and memory is small, turns are made for their size, and what they do at a channel is
+   a call. */
+#ifndef KPN_SMALL_TURNS
+#define KPN_OF_TURN KPN_INLINE
+#define KPN_TURN static
+#else
+#define KPN_OF_TURN static __attribute__((noinline, unused))
+#if defined(__OPTIMIZE__) && defined(__clang__)
+#define KPN_TURN static __attribute__((minsize))
+#elif defined(__OPTIMIZE__) && defined(__GNUC__)
+#define KPN_TURN static __attribute__((optimize("Os")))
+#else
+#define KPN_TURN static
+#endif
+#endif
+
 /* For loops without checks: gcc makes no vectors of them under -O2. */
 #if defined(__OPTIMIZE__) && defined(__GNUC__) && !defined(__clang__)
 #define KPN_VECTORS __attribute__((optimize("O3"), noinline))
@@ -113,10 +129,10 @@ struct kpn_member {
   uint32_t laps;           /* in a period */
 };
 
-/* A channel between members, and how many items it carries in a period. */
+/* A channel between members, how many items it carries in a period, and how many are unread there at most. */
 struct kpn_inside {
   uint16_t channel;
-  uint32_t count;
+  uint32_t count, most;
 };
 
 struct kpn_region_plan {
@@ -148,7 +164,7 @@ struct kpn_process_plan {
 struct kpn_lock_plan {
   bool (*step)(struct kpn_network *network, unsigned phase); /* false: it can't be made, and nothing was changed */
   const uint16_t *rows, *waits, *unread;
-  const uint32_t *laps, *gots;
+  const uint16_t *laps, *gots;
   const uint16_t *slots;   /* of each channel: where its items lie between phases, from `base` on among the variables */
   const uint16_t *sources; /* the numbers of the sources */
   uint32_t base;
@@ -178,6 +194,8 @@ struct kpn_plan {
   bool is_policy_all, is_growth_double;
   bool is_one_talk;        /* a turn is a commit of `kpn run`: one talk, or its steps used up; waits are events
                               immediately */
+  const uint32_t *periods; /* the items of each channel in a period of all that is connected with it, 0 if that is not
+                              known; null in static memory */
 };
 
 /* Takes what has come to a sink. */
@@ -206,14 +224,14 @@ struct kpn_network {
 /* ---- what a turn needs */
 
 /* How many items a turn may get. */
-KPN_INLINE size_t kpn_unread(const struct kpn_channel *channel) {
+KPN_OF_TURN size_t kpn_unread(const struct kpn_channel *channel) {
   size_t count = channel->put - channel->got;
   return count < KPN_MOST_ITEMS ? count : KPN_MOST_ITEMS;
 }
 
 /* How many items a turn may put. Nobody reads behind a reader that has ended: there the ring is written round and
    round. */
-KPN_INLINE size_t kpn_free_room(const struct kpn_channel *channel) {
+KPN_INLINE size_t kpn_room_now(const struct kpn_channel *channel) {
   if (channel->is_shut) {
     return KPN_MOST_ITEMS;
   }
@@ -221,12 +239,16 @@ KPN_INLINE size_t kpn_free_room(const struct kpn_channel *channel) {
   return count < KPN_MOST_ITEMS ? count : KPN_MOST_ITEMS;
 }
 
+KPN_OF_TURN size_t kpn_free_room(const struct kpn_channel *channel) {
+  return kpn_room_now(channel);
+}
+
 void kpn_serve_reader(struct kpn_network *network, struct kpn_channel *channel);
 void kpn_serve_writer(struct kpn_network *network, struct kpn_channel *channel);
 void kpn_make_ready(struct kpn_network *network, unsigned process);
 
 /* Publishes what a turn has put up to a position. */
-KPN_INLINE void kpn_publish_put(struct kpn_network *network, struct kpn_channel *channel, size_t put) {
+KPN_OF_TURN void kpn_publish_put(struct kpn_network *network, struct kpn_channel *channel, size_t put) {
   if (put != channel->put) {
     network->commits += put - channel->put;
     channel->put = put;
@@ -242,7 +264,7 @@ KPN_INLINE size_t kpn_periods(size_t most, size_t items, size_t needed) {
 }
 
 /* Publishes what a turn has got up to a position. */
-KPN_INLINE void kpn_publish_got(struct kpn_network *network, struct kpn_channel *channel, size_t got) {
+KPN_OF_TURN void kpn_publish_got(struct kpn_network *network, struct kpn_channel *channel, size_t got) {
   if (got != channel->got) {
     network->commits += got - channel->got;
     channel->got = got;
@@ -296,8 +318,9 @@ KPN_INLINE int64_t kpn_remainder(int64_t a, int64_t b) {
   return a % b;
 }
 
-/* ---- regions */
+/* ---- regions, unless a network in static memory has none */
 
+#ifndef KPN_NO_REGIONS
 void kpn_gather(struct kpn_network *network);
 bool kpn_scatter_idle(struct kpn_network *network);
 void kpn_park(struct kpn_network *network, unsigned process);
@@ -305,16 +328,35 @@ void kpn_region_turn(struct kpn_network *network, unsigned region);
 void kpn_wake_region(struct kpn_network *network, unsigned region);
 void kpn_end_region(struct kpn_network *network, unsigned region);
 
-/* ---- lock step */
+/* How many items a channel inside a region has carried beside those of its positions: the region counts periods. */
+uint64_t kpn_carried_inside(const struct kpn_network *network, size_t channel);
+#else
+#define kpn_gather(network) ((void)(network))
+#define kpn_scatter_idle(network) ((void)(network), false)
+#define kpn_park(network, process) ((void)(network), (void)(process))
+#define kpn_region_turn(network, region) ((void)(network), (void)(region))
+#define kpn_wake_region(network, region) ((void)(network), (void)(region))
+#define kpn_end_region(network, region) ((void)(network), (void)(region))
+#define kpn_carried_inside(network, channel) ((void)(network), (void)(channel), UINT64_C(0))
+#endif
+
+/* ---- lock step, unless a network in static memory has none */
 
 /* Begins it if all processes wait as at the beginning of a phase; ends it; makes some phases, up to `most` commits in
    all. False says that it has ended, since there is work which takes the long way. */
+#ifndef KPN_NO_LOCK
 void kpn_lock_begin(struct kpn_network *network);
 void kpn_lock_end(struct kpn_network *network);
 bool kpn_lock_run(struct kpn_network *network, uint64_t most);
 
 /* Whether a source has more items than at the beginning of its phase. */
 bool kpn_lock_has_work(const struct kpn_network *network);
+#else
+#define kpn_lock_begin(network) ((void)(network))
+#define kpn_lock_end(network) ((void)(network))
+#define kpn_lock_run(network, most) ((void)(network), (void)(most), false)
+#define kpn_lock_has_work(network) ((void)(network), false)
+#endif
 
 /* ---- loops without checks. The items of a ring from a position on, as numbers of 32 bits; false if one has more than
    16 bits. And what they have put, from a place in the array up to another one, in a ring whose position is that of the

@@ -16,10 +16,12 @@ enum { KPN_USUAL_COMMITS = 10000000 };
 /* What is told of a run with a trace whose loops without checks give other items. */
 #define KPN_DIFFERED "not certified: two ways of the program give other items; please report the network and its input"
 
-/* A word NAME=FILE. */
+/* A word NAME=FILE, or with --sound NAME=FILE:PICKED. */
 struct kpn_end {
-  const char *name, *file;
-  unsigned channel;
+  const char *name;
+  char *file;
+  unsigned channel, picked;
+  bool is_picked;
 };
 
 /* A word FORMAT or NAME=FORMAT. */
@@ -34,7 +36,7 @@ struct kpn_words {
   struct kpn_format_word *formats;
   size_t source_count, sink_count, format_count;
   const char *trace;
-  bool has_take, is_certified, is_checked, has_most_commits, is_quiet, clips;
+  bool has_take, is_certified, is_checked, has_most_commits, is_quiet, clips, has_stats, is_sound;
   uint64_t take, most_commits, events, rate, channels;
 };
 

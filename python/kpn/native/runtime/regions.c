@@ -130,3 +130,15 @@ void kpn_region_turn(struct kpn_network *network, unsigned r) {
     scatter(network, r);
   }
 }
+
+uint64_t kpn_carried_inside(const struct kpn_network *network, size_t c) {
+  for (size_t r = 0; r < network->plan->region_count; r++) {
+    const struct kpn_region_plan *plan = &network->plan->regions[r];
+    for (size_t k = 0; k < plan->inside_count; k++) {
+      if (plan->inside[k].channel == c) {
+        return network->regions[r].periods * plan->inside[k].count;
+      }
+    }
+  }
+  return 0;
+}

@@ -80,19 +80,6 @@ uint32_t kpn_tell_processes(kpn_session *session, kpn_process_state *states, siz
   return KPN_OK;
 }
 
-/* How many items a channel inside a region has carried beside those of its positions: the region counts periods. */
-static uint64_t carried_inside(const struct kpn_network *network, size_t c) {
-  for (size_t r = 0; r < network->plan->region_count; r++) {
-    const struct kpn_region_plan *plan = &network->plan->regions[r];
-    for (size_t k = 0; k < plan->inside_count; k++) {
-      if (plan->inside[k].channel == c) {
-        return network->regions[r].periods * plan->inside[k].count;
-      }
-    }
-  }
-  return 0;
-}
-
 uint32_t kpn_tell_channel(kpn_session *session, size_t channel, kpn_channel_state *state) {
   if (!session || !state) return KPN_NULL;
   *state = (kpn_channel_state){0};
@@ -105,7 +92,7 @@ uint32_t kpn_tell_channel(kpn_session *session, size_t channel, kpn_channel_stat
   *state = (kpn_channel_state){
       .writer = is_source ? KPN_CALLER : own->writer,
       .reader = own->reader == KPN_OUTSIDE ? KPN_CALLER : own->reader,
-      .got = own->got + (size_t)carried_inside(network, channel),
+      .got = own->got + (size_t)kpn_carried_inside(network, channel),
       .unread = own->put - own->got,
       .is_closed = is_source && own->is_shut,
       .is_left = is_source ? network->processes[own->reader].being == KPN_OVER : own->is_shut};

@@ -1,7 +1,6 @@
 /* stream.c: the command `stream`, on items as they come. */
 #define _GNU_SOURCE
 #include <poll.h>
-#include <signal.h>
 #include <stdio.h>
 #include <stdlib.h>
 #include <string.h>
@@ -25,6 +24,21 @@ static void fail(struct stream *stream, unsigned c, int status, const char *line
   }
 }
 
+static void note_most(struct stream *stream) {
+  if (stream->most) {
+    kpn_note_most(stream);
+  }
+}
+
+/* Goes on until so many commits were made in all, or none is ready; for --stats it looks behind each turn. */
+static void go_on(struct stream *stream, uint64_t most) {
+  struct kpn_network *network = &stream->run->network;
+  do {
+    kpn_go(network, stream->most && network->commits + 1 < most ? network->commits + 1 : most);
+    note_most(stream);
+  } while (stream->most && network->ready_count && network->commits < most && !network->lacks_memory);
+}
+
 /* ---- items */
 
 static void take(struct kpn_network *network, unsigned c) {
@@ -35,8 +49,12 @@ static void take(struct kpn_network *network, unsigned c) {
   uint64_t most = run->words.has_take ? run->words.take : UINT64_MAX;
   bool was_short = output->count < most;
   while (channel->got != channel->put) {
+    int64_t item = channel->ring[channel->got & channel->mask];
+    if (output->count < most && stream->beside) {
+      kpn_give_beside(stream->beside, c, item);
+    }
     if (output->count < most) {
-      kpn_give_item(output, channel->ring[channel->got & channel->mask]);
+      kpn_give_item(output, item);
     }
     channel->got++;
   }
@@ -85,6 +103,14 @@ static bool look_at_outputs(struct stream *stream) {
   return stream->status == 0 && (is_read || !has_sink);
 }
 
+static void close_source(struct stream *stream, unsigned c) {
+  stream->inputs[c]->is_open = false;
+  if (stream->beside) {
+    kpn_close_beside(stream->beside, c);
+  }
+  kpn_close(&stream->run->network, c);
+}
+
 /* What stands behind the items of an input: its end, which closes the source, or what is wrong. */
 static void look_behind_items(struct stream *stream, unsigned c, enum kpn_input_state state) {
   char line[64];
@@ -92,13 +118,17 @@ static void look_behind_items(struct stream *stream, unsigned c, enum kpn_input_
     snprintf(line, sizeof line, "25 BadItem at %zu", stream->inputs[c]->used);
     fail(stream, c, KPN_REFUSED, line);
   } else if (state == KPN_BAD_HEAD) {
+    const struct kpn_wav *wav = &stream->inputs[c]->wav;
+    if (stream->inputs[c]->is_sound && wav->bad == wav->channels_at) {
+      kpn_refuse(0, "the file has %u channels: `--channels %u`, or %s=FILE:0 for one of them", wav->channels,
+                 wav->channels, plan_of(stream)->channels[c].name);
+    }
     snprintf(line, sizeof line, "55 BadHead at %zu", stream->inputs[c]->wav.bad);
     fail(stream, c, KPN_REFUSED, line);
   } else if (state == KPN_CUT_SAMPLE) {
     fail(stream, c, KPN_REFUSED, "29 CutSample");
   } else if (state == KPN_NO_MORE_ITEMS) {
-    stream->inputs[c]->is_open = false;
-    kpn_close(&stream->run->network, c);
+    close_source(stream, c);
   }
 }
 
@@ -116,9 +146,13 @@ static bool feed_what_is_there(struct stream *stream, unsigned c) {
       fail(stream, c, KPN_LACKS_MEMORY, "28 NoMemory");
       return true;
     }
+    if (state == KPN_ITEM && stream->beside) {
+      kpn_feed_beside(stream->beside, c, item);
+    }
     if (state != KPN_ITEM && has_fed) {
       input->start = start;
       input->used = used;
+      note_most(stream);
       kpn_fed(network, c);
       return true;
     }
@@ -128,6 +162,23 @@ static bool feed_what_is_there(struct stream *stream, unsigned c) {
     }
     has_fed = true;
   }
+}
+
+/* Passes items on to `kpn stream` beside this one; waits until it has taken what a source got, if that is one. */
+static void pass_beside(struct stream *stream, unsigned source) {
+  if (stream->beside && !kpn_pass_beside(stream->beside, source)) {
+    stream->has_differed = true;
+  }
+}
+
+/* Whether `kpn stream` beside this one lets a source get more. While processes are ready it is not waited for. */
+static bool may_feed(struct stream *stream, unsigned c) {
+  if (!stream->beside || kpn_has_room_beside(stream->beside, c) || stream->run->network.ready_count) {
+    return !stream->beside || kpn_has_room_beside(stream->beside, c);
+  }
+  flush_all(stream);
+  pass_beside(stream, c);
+  return true;
 }
 
 static void read_more(struct stream *stream, unsigned c) {
@@ -149,18 +200,17 @@ static unsigned awaited_source(const struct stream *stream, unsigned c) {
 /* Nobody waits for an open source, and none is ready. Under `policy all` a growth may follow once all inputs are used
    up. */
 static void close_all(struct stream *stream) {
-  struct kpn_network *network = &stream->run->network;
   for (unsigned c = 0; c < plan_of(stream)->channel_count; c++) {
     struct kpn_input *input = stream->inputs[c];
     while (plan_of(stream)->is_policy_all && input && input->is_open && stream->status == 0) {
+      pass_beside(stream, c);
       if (!feed_what_is_there(stream, c)) {
         flush_all(stream);
         read_more(stream, c);
       }
     }
     if (input && input->is_open) {
-      input->is_open = false;
-      kpn_close(network, c);
+      close_source(stream, c);
     }
   }
 }
@@ -171,7 +221,7 @@ static void serve_sources(struct stream *stream) {
   struct pollfd asked[KPN_MOST_CHANNELS];
   unsigned sources[KPN_MOST_CHANNELS], count = 0, channels = (unsigned)plan_of(stream)->channel_count;
   for (unsigned c = awaited_source(stream, 0); c < channels; c = awaited_source(stream, c + 1)) {
-    if (feed_what_is_there(stream, c)) {
+    if (!may_feed(stream, c) || feed_what_is_there(stream, c)) {
       return;
     }
     asked[count] = (struct pollfd){.fd = stream->inputs[c]->from, .events = POLLIN};
@@ -217,9 +267,10 @@ static bool is_over(struct stream *stream, uint64_t most) {
 static void go(struct stream *stream) {
   struct kpn_network *network = &stream->run->network;
   uint64_t most = stream->run->words.has_most_commits ? stream->run->words.most_commits : UINT64_MAX;
-  while (stream->status == 0 && !network->lacks_memory) {
+  while (stream->status == 0 && !stream->has_differed && !network->lacks_memory) {
     uint64_t slice = network->commits + SLICE;
-    kpn_go(network, slice < most ? slice : most);
+    go_on(stream, slice < most ? slice : most);
+    pass_beside(stream, KPN_MOST_CHANNELS);
     if (network->ready_count) {
       flush_all(stream);
     }
@@ -232,7 +283,7 @@ static void go(struct stream *stream) {
   }
   if (!network->lacks_memory) {
     uint64_t slice = network->commits + LAST_SLICE;
-    kpn_go(network, slice < most ? slice : most);
+    go_on(stream, slice < most ? slice : most);
   }
   stream->run->outcome = KPN_GOING;
 }
@@ -262,6 +313,23 @@ static bool write_told(void *to, const char *text, size_t length) {
   return kpn_write_all(STDERR_FILENO, text, length);
 }
 
+/* Says how the stream has ended. */
+static void report(const struct stream *stream, kpn_writer *writer, void *to) {
+  const struct kpn_plan *plan = plan_of(stream);
+  struct kpn_channels all = kpn_complete(&stream->run->network);
+  char line[512];
+  for (unsigned c = 0; c < plan->channel_count; c++) {
+    const struct kpn_output *output = stream->outputs[c];
+    if (output) {
+      bool is_complete = kpn_has_channel(&all, c) && !output->has_failed;
+      int length = snprintf(line, sizeof line, "sink %s: %llu items, %scomplete\n", plan->channels[c].name,
+                            (unsigned long long)output->taken, is_complete ? "" : "not ");
+      writer(to, line, (size_t)length);
+    }
+  }
+  kpn_report_end(stream->run, true, writer, to);
+}
+
 /* Says how the stream has ended, and gives the status by that. */
 static int conclude(struct stream *stream) {
   static const int statuses[] = {[KPN_CLOGGED] = 3, [KPN_JAMMED] = 4, [KPN_STOPPED] = 5};
@@ -270,20 +338,18 @@ static int conclude(struct stream *stream) {
   struct kpn_channels all = kpn_complete(&run->network);
   bool are_all = true, has_sink = false;
   for (unsigned c = 0; c < plan->channel_count; c++) {
-    struct kpn_output *output = stream->outputs[c];
-    if (!output) {
-      continue;
+    const struct kpn_output *output = stream->outputs[c];
+    if (output) {
+      has_sink = true;
+      are_all = are_all && (kpn_has_channel(&all, c) || output->has_gone ||
+                            (run->words.has_take && output->count >= run->words.take));
     }
-    if (!run->words.is_quiet) {
-      kpn_tell("sink %s: %llu items, %scomplete\n", plan->channels[c].name, (unsigned long long)output->taken,
-               kpn_has_channel(&all, c) && !output->has_failed ? "" : "not ");
-    }
-    has_sink = true;
-    are_all = are_all && (kpn_has_channel(&all, c) || output->has_gone ||
-                          (run->words.has_take && output->count >= run->words.take));
   }
   if (!run->words.is_quiet) {
-    kpn_report_end(run, true, write_told, NULL);
+    report(stream, write_told, NULL);
+  }
+  if (stream->most) {
+    kpn_tell_stats(stream);
   }
   if (run->outcome != KPN_ENOUGH && has_fault(&run->network)) {
     return KPN_FAULTED;
@@ -292,6 +358,41 @@ static int conclude(struct stream *stream) {
     return KPN_HAS_RING;
   }
   return (has_sink && are_all) || run->outcome < KPN_CLOGGED || run->outcome == KPN_ENOUGH ? 0 : statuses[run->outcome];
+}
+
+/* A text in memory, which stays short of one that is too long. */
+struct kept {
+  char *text;
+  size_t length, room;
+};
+
+static bool keep(void *to, const char *text, size_t length) {
+  struct kept *kept = to;
+  if (length >= kept->room - kept->length) {
+    return false;
+  }
+  memcpy(kept->text + kept->length, text, length);
+  kept->length += length;
+  kept->text[kept->length] = 0;
+  return true;
+}
+
+/* Ends `kpn stream` beside this one: where that has an outcome too, it has to tell the same. */
+static int end_beside(struct stream *stream) {
+  enum { ROOM = 1048576 };
+  bool has_gone = false;
+  unsigned outcome = stream->run->outcome;
+  for (unsigned c = 0; c < plan_of(stream)->channel_count; c++) {
+    has_gone = has_gone || (stream->outputs[c] && stream->outputs[c]->has_gone);
+  }
+  bool is_compared = !has_gone && (outcome == KPN_ENDED || outcome == KPN_CLOGGED || outcome == KPN_JAMMED);
+  struct kept kept = {is_compared ? malloc(ROOM) : NULL, 0, ROOM};
+  if (kept.text) {
+    report(stream, keep, &kept);
+  }
+  int status = kpn_end_beside(stream->beside, kept.text);
+  free(kept.text);
+  return status;
 }
 
 static int store_trace(struct stream *stream) {
@@ -317,15 +418,21 @@ static int run_stream(struct stream *stream) {
   network->taker = take;
   run->history.most = UINT64_MAX;
   network->history = run->words.trace ? &run->history : NULL;
+  stream->beside = run->words.is_checked ? kpn_begin_beside(run) : NULL;
+  if (run->words.is_checked && !stream->beside) {
+    return KPN_NOT_CERTIFIED;
+  }
   kpn_begin(network);
   if (!kpn_reserve_all(network, true)) {
     return kpn_refuse(KPN_LACKS_MEMORY, "42 NoMemory");
   }
-  signal(SIGPIPE, SIG_IGN);
   go(stream);
   flush_all(stream);
   end_all(stream);
   look_at_outputs(stream);
+  if (run->words.is_sound) {
+    kpn_end_sound(stream);
+  }
   if (network->lacks_memory) {
     return kpn_refuse(KPN_LACKS_MEMORY, "42 NoMemory");
   }
@@ -333,6 +440,8 @@ static int run_stream(struct stream *stream) {
     run->outcome = KPN_GOING;
   }
   int status = conclude(stream), stored = store_trace(stream);
+  int checked = stream->beside ? end_beside(stream) : 0;
+  stored = stored ? stored : checked;
   if (stream->status) {
     unsigned c = stream->wrong_channel;
     kpn_refuse(0, "%s", stream->wrong);
@@ -348,9 +457,10 @@ int kpn_command_stream(struct kpn_run *run) {
   struct stream stream = {.run = run,
                           .inputs = calloc(count, sizeof *stream.inputs),
                           .outputs = calloc(count, sizeof *stream.outputs),
-                          .files = calloc(count, sizeof *stream.files)};
+                          .files = calloc(count, sizeof *stream.files),
+                          .most = run->words.has_stats ? calloc(count, sizeof *stream.most) : NULL};
   int status = KPN_LACKS_MEMORY;
-  if (stream.inputs && stream.outputs && stream.files) {
+  if (stream.inputs && stream.outputs && stream.files && (stream.most || !run->words.has_stats)) {
     status = kpn_open_ends(&stream);
     status = status ? status : run_stream(&stream);
   } else {
@@ -366,5 +476,6 @@ int kpn_command_stream(struct kpn_run *run) {
   free(stream.inputs);
   free(stream.outputs);
   free(stream.files);
+  free(stream.most);
   return status;
 }

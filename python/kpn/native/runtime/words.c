@@ -92,7 +92,7 @@ static bool read_end(const char *option, const char *what, char *text, struct kp
     return false;
   }
   *cut = 0;
-  ends[(*count)++] = (struct kpn_end){text, cut + 1, 0};
+  ends[(*count)++] = (struct kpn_end){.name = text, .file = cut + 1};
   return true;
 }
 
@@ -118,6 +118,12 @@ static bool read_format(struct kpn_words *words, char *text) {
 static bool *flag_of(struct kpn_words *words, bool is_stream, const char *option) {
   if (!is_stream) {
     return strcmp(option, "--certify") == 0 ? &words->is_certified : NULL;
+  }
+  if (strcmp(option, "--stats") == 0) {
+    return &words->has_stats;
+  }
+  if (strcmp(option, "--sound") == 0) {
+    return &words->is_sound;
   }
   return strcmp(option, "--clip") == 0 ? &words->clips : strcmp(option, "--quiet") == 0 ? &words->is_quiet : NULL;
 }
@@ -167,7 +173,7 @@ static bool read_value(struct kpn_words *words, bool is_stream, enum option opti
 
 static bool may_have(bool is_stream, enum option option) {
   bool is_of_stream = option == FORMAT || option == RATE || option == CHANNELS;
-  return is_stream ? option != CHECK && option != EVENTS : !is_of_stream;
+  return is_stream ? option != EVENTS : !is_of_stream;
 }
 
 static unsigned option_of(bool is_stream, const char *name) {
@@ -176,6 +182,18 @@ static unsigned option_of(bool is_stream, const char *name) {
     option++;
   }
   return option;
+}
+
+/* Cuts FILE:PICKED, unless there is a file of the whole name. */
+static void pick_channel(struct kpn_end *source) {
+  char *cut = strrchr(source->file, ':');
+  size_t length = cut ? strlen(cut + 1) : 0;
+  if (length == 0 || length > 3 || strspn(cut + 1, "0123456789") != length || access(source->file, F_OK) == 0) {
+    return;
+  }
+  *cut = 0;
+  source->is_picked = true;
+  source->picked = (unsigned)atoi(cut + 1);
 }
 
 bool kpn_read_words(struct kpn_words *words, bool is_stream, int count, char **given) {
@@ -207,6 +225,9 @@ bool kpn_read_words(struct kpn_words *words, bool is_stream, int count, char **g
     if (!read_value(words, is_stream, option, value ? value : given[k])) {
       return false;
     }
+  }
+  for (size_t k = 0; words->is_sound && k < words->source_count; k++) {
+    pick_channel(&words->sources[k]);
   }
   if (words->events && !words->is_certified && !words->trace) {
     kpn_refuse(KPN_USAGE, "usage: --events N with --certify or --trace");

@@ -23,10 +23,21 @@ def chain(stream):
     return parts.saturate(stream, -32_768, 32_767)
 
 
-def build(channels=1):
-    """The chains of the channels of the source `x`, with the sink `y`."""
+def louder(stream, volumes, block):
+    """A stream at a volume that changes after each block of so many items: 256 is as loud as before."""
+    stream, volume = parts.control(stream, volumes, block)
+    return parts.saturate(parts.scale(parts.multiply(stream, volume), 256), -32_768, 32_767)
+
+
+def build(channels=1, block=0):
+    """The chains of the channels of the source `x`, with the sink `y`. If there is a block, the source `volume` has an
+    item for each block of so many samples of a channel."""
     net = kpn.Network()
-    net.sink('y', parts.merge([chain(it) for it in parts.deal(net.source('x'), channels)]))
+    sounds = [chain(it) for it in parts.deal(net.source('x'), channels)]
+    if block:
+        volumes = parts.fork(net.source('volume'), channels)
+        sounds = [louder(*pair, block) for pair in zip(sounds, volumes)]
+    net.sink('y', parts.merge(sounds))
     return net
 
 

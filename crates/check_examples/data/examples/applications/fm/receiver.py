@@ -19,10 +19,15 @@ def low_pass(count, cutoff):
     return [it / sum(taps) for it in taps]
 
 
-def build():
-    """The receiver of the source `iq`, with the sink `sound`."""
+def build(block=0):
+    """The receiver of the source `iq`, with the sink `sound`. If there is a block, the source `tune` has an item for each
+    block of so many complex samples: the frequency by which they are moved up first, times 2^32 / FS."""
     net = kpn.Network()
-    turns = parts.fm_demodulate(*parts.deal(net.source('iq'), 2), rounds=14)
+    re, im = parts.deal(net.source('iq'), 2)
+    if block:
+        re, step = parts.control(re, net.source('tune'), block)
+        re, im = parts.complex_multiply(re, im, *parts.nco(step, 2**30), shift=30)
+    turns = parts.fm_demodulate(re, im, rounds=14)
     # A frequency f is 2^32 f / FS there. The taps bring that of the deviation to the height.
     scale = HEIGHT * FS / (DEVIATION * 2**32)
     taps = kpn.Q(44)([scale * it for it in low_pass(60, 16_000)])
