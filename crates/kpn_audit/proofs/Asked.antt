@@ -1,37 +1,18 @@
--- A read or a write at which a process stands is at a port of it. An event of no process that is not one of the outside
--- is a growth.
-use Rattle.std.proofs.Common.{◌≡◌, ◌≢◌, ℕ, ◌<◌, Bool, true, false, ℤ, List, length, Option, refl, sym, subst, eq-eqb, arith}
-use Rattle.kpn_net.specs.Tables.{Tables, instance_at, program_of}
-use Rattle.kpn_net.specs.Faults.{IsNetwork}
-use Rattle.kpn_net.proofs.Networks.{IsProgram-of, IsInstance-of}
+-- What a process that stands at a read or a write is doing. An event of no process that is not one of the outside is a
+-- growth.
+use Rattle.std.proofs.Common.{◌≡◌, ◌≢◌, ℕ, Bool, true, false, ℤ, List, Option, refl, sym, subst, eq-eqb}
+use Rattle.kpn_net.specs.Tables.{Tables, instance_at}
 use Rattle.kpn_history.specs.declared.event.Event.{Event}
 use Rattle.kpn_history.specs.declared.event.Event.TheVariants.{Feed, Close, Take, Leave, Grow}
 use Rattle.kpn_history.specs.Talks.{is_of_process}
 use Rattle.kpn_history.specs.Channels.{is_growth_of}
 use Rattle.kpn_step.specs.declared.stop.Stop.TheVariants.{WantRead, WantWrite}
-use Rattle.kpn_step.proofs.MayStep.{at_port}
 use Rattle.kpn_chan.specs.Channel.{is_channel_full, next_item}
-use Rattle.kpn_machine.specs.Machine.{Machine, channel_in, frame_in, IsFree}
+use Rattle.kpn_machine.specs.Machine.{Machine, channel_in, IsFree}
 use Rattle.kpn_machine.specs.Changes.{IsChannelAt}
 use Rattle.kpn_machine.specs.Due.{Stands}
 use Rattle.kpn_audit.specs.declared.scene.Doing.TheVariants.{Reads, Writes}
 use Rattle.kpn_audit.specs.Scene.{IsDoing}
-
-module _ (t : Tables) (network : IsNetwork t) (s : Machine) (p : ℕ) (there : p < length t.instances) (port : ℕ)
-  where
-    pub in_port : Stands t s p (WantRead port) → port < length (instance_at t p).ins
-    in_port stands =
-        let below = (at_port (program_of t p) (IsProgram-of t network p there) (frame_in s p) (WantRead port) stands).0
-        in
-        let long = (IsInstance-of t network p there).ins in
-        omega (arith, below, long)
-
-    pub out_port : (v : ℤ) → Stands t s p (WantWrite port v) → port < length (instance_at t p).outs
-    out_port v stands =
-        let below =
-        (at_port (program_of t p) (IsProgram-of t network p there) (frame_in s p) (WantWrite port v) stands).0 in
-        let long = (IsInstance-of t network p there).outs in
-        omega (arith, below, long)
 
 -- what a free process at a read or a write is doing
 module _ (t : Tables) (H : List Event) (event : Event) (quota : ℕ) (s : Machine) (p c : ℕ) (free : IsFree s p)

@@ -1,33 +1,28 @@
 -- What holds once an event was made, and once a process was stepped.
-use Rattle.std.proofs.Common.{◌≡◌, ◌≢◌, ℕ, ◌+◌, ◌<◌, Bool, true, false, cond, eqb, ℤ, List, [], ◌∷◌, ◌++◌, length, None, SFits, w64, to_z, of_z, refl, sym, ap, ◌∙◌, subst, inl, inr}
+use Rattle.std.proofs.Common.{◌≡◌, ◌≢◌, ℕ, ◌+◌, ◌<◌, true, false, eqb, List, [], ◌∷◌, ◌++◌, length, Option, Some, None, refl, sym, ap, ◌∙◌, subst, inl, inr}
+use Rattle.std.specs.Prelude.{IfSome}
 use Rattle.std.proofs.lemmas.Bool.{eqb-true, eq-eqb, both_ways, false≢true}
-use Rattle.std.proofs.lemmas.Int.{to_z-of_z}
 use Rattle.kpn_net.specs.Tables.{Tables, program_of}
 use Rattle.kpn_net.specs.Faults.{IsNetwork}
 use Rattle.kpn_step.specs.declared.stop.Stop.{Stop}
 use Rattle.kpn_step.specs.Frame.{Frame}
-use Rattle.kpn_step.specs.Step.{Goes, step_of, Steps}
+use Rattle.kpn_step.specs.Step.{Steps}
 use Rattle.kpn_step.proofs.StepCases.{Steps-append}
-use Rattle.kpn_chan.specs.Channel.{ChannelState}
 use Rattle.kpn_history.specs.declared.event.Event.{Event}
 use Rattle.kpn_history.specs.declared.event.Event.TheVariants.{Get, Put, WaitEmpty, WaitFull, Ended}
-use Rattle.kpn_history.specs.Talks.{is_of, is_of_process}
-use Rattle.kpn_history.specs.Legal.{waiter}
-use Rattle.kpn_history.proofs.AfterEvent.{of_process}
+use Rattle.kpn_history.specs.Talks.{is_of}
+use Rattle.kpn_history.specs.Legal.{waiter, OwesStopGrowth, Legal}
 use Rattle.kpn_history.specs.Stops.{OwesNothing, OwesNoCycleGrowth, OwesNoStopGrowth, lets_go_on}
 use Rattle.kpn_history.proofs.Growth.{no_cycle_owed_after}
 use Rattle.kpn_history.proofs.OwedGrowth.{no_stop_owed_after}
 use Rattle.kpn_machine.specs.Changes.{IsFrameAfter}
-use Rattle.kpn_machine.specs.Machine.{Machine, end_in, wait_in, frame_in, with_frame, with_channel, IsFree}
-use Rattle.kpn_machine.specs.Due.{Stands}
+use Rattle.kpn_machine.specs.Machine.{Machine, end_in, wait_in, frame_in, with_frame, IsFree}
+use Rattle.kpn_machine.specs.Owed.{IsOwedAtStop, IsAwaitedBelowLimit}
 use Rattle.kpn_machine.specs.Run.{IsRun}
+use Rattle.kpn_machine.specs.declared.machine.growth.OwedGrowth.{OwedGrowth}
 use Rattle.kpn_audit.specs.declared.judged.Judged.{Judged}
 use Rattle.kpn_audit.specs.declared.judged.Judged.TheVariants.{Follows, Illegal, Budget}
-use Rattle.kpn_audit.specs.Judged.{StandsFree, AllGoBy, IsFollowed, IsMade, IsMoved, IsJudged}
-
--- words that are stored alike are equal
-pub same_word : (a b : ℤ) → SFits w64 a → SFits w64 b → of_z w64 a ≡ of_z w64 b → a ≡ b
-same_word a b f g e = sym (to_z-of_z w64 a f) ∙ ap (to_z w64) e ∙ to_z-of_z w64 b g
+use Rattle.kpn_audit.specs.Judged.{IsStopped, AllGoBy, Owes, IsMade, IsMoved, IsJudged}
 
 -- ---- frames
 
@@ -46,52 +41,29 @@ one_process (WaitFull r c) q p a b = sym (eqb-true r q a) ∙ eqb-true r p b
 one_process (Ended r how) q p a b = sym (eqb-true r q a) ∙ eqb-true r p b
 one_process e q p a b = absurd (false≢true a)
 
--- what happens to each frame
-abbrev pub FramesAfter : Tables → Event → (before after : Machine) → Type 0
-FramesAfter t e before after =
-    (q : ℕ) → q < length t.instances → IsFrameAfter t e q (frame_in before q) (frame_in after q)
-
-pub goes_made : (t : Tables) (before after : Machine) (p : ℕ) (stop : Stop) → StandsFree t before p stop
-    → (e : Event) → is_of p e ≡ true → FramesAfter t e before after → AllGoBy t e before after
-goes_made t before after p stop at e own frames q below =
+-- an event, made where its process has come to a stop
+pub goes_by : (t : Tables) (before after : Machine) (e : Event) (stop : Stop)
+    → ((p : ℕ) → is_of p e ≡ true → IsStopped t before p stop)
+    → ((q : ℕ) → q < length t.instances → IsFrameAfter t e q (frame_in before q) (frame_in after q))
+    → AllGoBy t e before after
+goes_by t before after e stop stopped frames q below =
     record {
       own = λ same.
-          let is : q ≡ p = one_process e q p same own in
+          let at = stopped q same in
           record {
             steps = 0;
             there = frame_in before q;
             comes = record {
               reached = refl;
               stop = stop;
-              stands = subst (λ x. Stands t before x stop) (sym is) at.stands;
-              is_no_pause = at.is_no_pause;
-              ends =
-                  subst (λ x. (next : Frame) → step_of (program_of t x).blocks (frame_in before x) ≢ Goes next)
-                  (sym is) at.ends;
+              stands = at.stands.stands;
+              is_no_pause = at.stands.is_no_pause;
+              ends = at.ends;
             };
             passes = frames q below;
           };
       other = λ differs. kept t e q (frame_in before q) (frame_in after q) differs (frames q below);
     }
-
-pub goes_outside : (t : Tables) (before after : Machine) (e : Event) → is_of_process e ≡ false
-    → FramesAfter t e before after → AllGoBy t e before after
-goes_outside t before after e none frames q below =
-    record {
-      own = λ same. absurd (both_ways (is_of_process e) none ((of_process e).1 (q, same)));
-      other = λ differs. kept t e q (frame_in before q) (frame_in after q) differs (frames q below);
-    }
-
--- room for an item moves no frame
-pub frames_kept : (b : Bool) (s m : Machine) (c : ℕ) (channel : ChannelState)
-    → m ≡ cond b (with_channel c channel s) s → (q : ℕ) → frame_in m q ≡ frame_in s q
-frames_kept true s m c channel e q = ap (λ x. frame_in x q) e
-frames_kept false s m c channel e q = ap (λ x. frame_in x q) e
-
-pub frames_from : (t : Tables) (e : Event) (s m after : Machine) → ((q : ℕ) → frame_in m q ≡ frame_in s q)
-    → FramesAfter t e m after → FramesAfter t e s after
-frames_from t e s m after same frames q below =
-    subst (λ f. IsFrameAfter t e q f (frame_in after q)) (same q) (frames q below)
 
 -- ---- events
 
@@ -100,18 +72,28 @@ pub nothing_owed : (t : Tables) (H : List Event) → OwesNoCycleGrowth t H → O
 nothing_owed t H cycle stop p d (inl owed) = cycle p d owed
 nothing_owed t H cycle stop p d (inr owed) = stop p d owed
 
+-- an event that is no wait makes no process wait
+pub no_waiter : (e : Event) → ((p c : ℕ) → e ≢ WaitEmpty p c) → ((p c : ℕ) → e ≢ WaitFull p c) → waiter e ≡ None
+no_waiter (WaitEmpty p c) empty full = absurd (empty p c refl)
+no_waiter (WaitFull p c) empty full = absurd (full p c refl)
+no_waiter e empty full = refl
+
 -- after an event that moves an item, or a growth, nothing is owed
-pub followed : (t : Tables) → IsNetwork t → (H : List Event) (e : Event) (before after : Machine)
-    → waiter e ≡ None
-    → lets_go_on e ≡ true → IsRun t (H ++ e ∷ []) after → AllGoBy t e before after → IsFollowed t H e before after None
-followed t network H e before after none on run goes =
-    record {
-      run = run;
-      owes =
-          nothing_owed t (H ++ e ∷ []) (no_cycle_owed_after t H e none)
-          (no_stop_owed_after t network H e run.legal on);
-      goes = goes;
-    }
+pub owes_nothing_after : (t : Tables) → IsNetwork t → (H : List Event) (e : Event) → waiter e ≡ None
+    → lets_go_on e ≡ true → Legal t (H ++ e ∷ []) → OwesNothing t (H ++ e ∷ [])
+owes_nothing_after t network H e none on legal =
+    nothing_owed t (H ++ e ∷ []) (no_cycle_owed_after t H e none) (no_stop_owed_after t network H e legal on)
+
+-- where none is owed for a cycle, what is found at a stop is owed
+pub owes_at_stop : (t : Tables) (H : List Event) (s : Machine) (found : Option OwedGrowth) → IsRun t H s
+    → OwesNoCycleGrowth t H → IfSome found (λ owed. IsOwedAtStop t s owed.process owed.channel)
+    → ((G : List Event) → IsRun t G s → OwesNoCycleGrowth t G
+    → IfSome found (λ owed. OwesStopGrowth t G owed.process owed.channel))
+    → ((G : List Event) → IsRun t G s → found ≡ None → OwesNoStopGrowth t G)
+    → IfSome found (λ owed. IsAwaitedBelowLimit t s owed.channel) → Owes t H s found
+owes_at_stop t H s None run cycle now growth nothing awaited = nothing_owed t H cycle (nothing H run refl)
+owes_at_stop t H s (Some owed) run cycle now growth nothing awaited =
+    record { there = now.there; now = awaited; owed = inr (growth H run cycle) }
 
 -- a step of a process leaves it free
 pub stays_free : (s after : Machine) (p : ℕ) (f : Frame) → after ≡ with_frame p f s → IsFree s p → IsFree after p

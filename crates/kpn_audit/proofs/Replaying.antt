@@ -1,6 +1,6 @@
 -- A list of events, one after another.
 use Rattle.std.proofs.Common.{◌≡◌, ◌≢◌, inl, inr, Result, Ok, ℕ, zero, suc, ◌+◌, ◌<◌, true, List, [], ◌∷◌, ◌++◌, length, take, get_or, Option, Some, None, slice_get, refl, sym, ap, ◌∙◌, subst, add-one, suc-add, arith}
-use Rattle.std.proofs.lemmas.Bool.{cases_order, eqb-true, both_ways, false≢true}
+use Rattle.std.proofs.lemmas.Bool.{cases_order, eqb-true, false≢true}
 use Rattle.kpn_lang.specs.Prefix.{IsPrefix}
 use Rattle.kpn_net.specs.Tables.{Tables, instance_at, program_of}
 use Rattle.kpn_net.specs.Faults.{IsNetwork}
@@ -9,15 +9,14 @@ use Rattle.kpn_step.specs.Step.{step_of, Steps}
 use Rattle.kpn_step.specs.Stops.{IsBetween}
 use Rattle.kpn_history.specs.declared.event.Event.{Event}
 use Rattle.kpn_history.specs.declared.event.Event.TheVariants.{Get, Put, WaitEmpty, WaitFull, Ended}
-use Rattle.kpn_history.specs.declared.event.How.{How}
 use Rattle.kpn_history.specs.Talks.{is_of}
-use Rattle.kpn_history.specs.Legal.{HasNumbers, CanGo, Legal}
+use Rattle.kpn_history.specs.Legal.{HasNumbers, Legal}
 use Rattle.kpn_history.specs.Stops.{OwesNothing}
-use Rattle.kpn_history.proofs.EndsOnce.{ended_exactly}
 use Rattle.kpn_history.proofs.Legality.{Legal-prefix}
-use Rattle.kpn_machine.specs.Machine.{Machine, end_in, frame_in, IsFree}
-use Rattle.kpn_machine.specs.Run.{IsEndOf, IsRun}
+use Rattle.kpn_machine.specs.Machine.{Machine, frame_in, IsFree}
+use Rattle.kpn_machine.specs.Run.{IsRun}
 use Rattle.kpn_machine.proofs.Due.{may_go}
+use Rattle.kpn_machine.proofs.Exact.{free_there}
 use Rattle.kpn_machine.specs.declared.machine.growth.OwedGrowth.{OwedGrowth}
 use Rattle.kpn_audit.specs.declared.judged.Judged.{Judged}
 use Rattle.kpn_audit.specs.declared.judged.Judged.TheVariants.{Follows, Illegal, Budget}
@@ -93,16 +92,6 @@ out_of_steps t network H s run owes places event quota p there own numbers free 
     }
 
 -- ---- within the steps
-
--- a process that can go is free
-free_there : (t : Tables) (H : List Event) (s : Machine) → IsRun t H s → (p : ℕ) → p < length t.instances
-    → CanGo t H p → IsFree s p
-free_there t H s run p there go =
-    record { lives = unended (end_in s p) (run.leads.ends p there); free = run.leads.waits p there ∙ go.free }
-  where
-    unended : (end : Option How) → IsEndOf H p end → end ≡ None
-    unended None h = refl
-    unended (Some how) h = absurd (both_ways _ go.lives ((ended_exactly H p).1 (how, h)))
 
 -- the process of an event is one of the network
 process_there : (t : Tables) (e : Event) (p : ℕ) → is_of p e ≡ true → HasNumbers t e → p < length t.instances

@@ -1,8 +1,7 @@
 -- What the auditor's code finds of one event. A reader of the public contract needs none of it.
-use Rattle.std.specs.Prelude.{◌≡◌, ◌≢◌, ℕ, ◌<◌, true, ℤ, List, [], ◌∷◌, ◌++◌, length, Option, Some, None}
+use Rattle.std.specs.Prelude.{◌≡◌, ◌≢◌, ℕ, ◌<◌, true, List, [], ◌∷◌, ◌++◌, length, Option, Some, None}
 use Rattle.kpn_net.specs.Tables.{Tables, program_of}
 use Rattle.kpn_step.specs.declared.stop.Stop.{Stop}
-use Rattle.kpn_step.specs.declared.stop.Stop.TheVariants.{WantRead, WantWrite, Paused}
 use Rattle.kpn_step.specs.Frame.{Frame}
 use Rattle.kpn_step.specs.Step.{Goes, step_of, Steps}
 use Rattle.kpn_step.specs.Stops.{IsBetween}
@@ -11,8 +10,7 @@ use Rattle.kpn_history.specs.Talks.{is_of}
 use Rattle.kpn_history.specs.Legal.{HasNumbers, Legal, OwesGrowth}
 use Rattle.kpn_history.specs.Stops.{OwesNothing}
 use Rattle.kpn_machine.specs.Machine.{Machine, frame_in, IsFree}
-use Rattle.kpn_machine.specs.Changes.{IsChannelAt}
-use Rattle.kpn_machine.specs.Due.{Stands}
+use Rattle.kpn_machine.specs.Due.{StandsFree}
 use Rattle.kpn_machine.specs.Owed.{IsAwaitedBelowLimit}
 use Rattle.kpn_machine.specs.Run.{IsRun}
 use Rattle.kpn_machine.specs.declared.machine.growth.OwedGrowth.{OwedGrowth}
@@ -20,24 +18,14 @@ use Rattle.kpn_audit.specs.declared.judged.Judged.{Judged}
 use Rattle.kpn_audit.specs.declared.judged.Judged.TheVariants.{Follows, Illegal, Budget}
 use Rattle.kpn_audit.specs.Place.{StopsWithin, GoesBy, IsPlaceAfter}
 
--- the stop is a read at a port that has this channel
-abbrev pub IsReadAt : (ports : List ℕ) → (c : ℕ) → Stop → Type 0
-IsReadAt ports c stop = (port : ℕ) × IsChannelAt ports port c × (stop ≡ WantRead port)
-
--- the stop is a write of this item at a port that has this channel
-abbrev pub IsWriteOf : (ports : List ℕ) → (c : ℕ) → (v : ℤ) → Stop → Type 0
-IsWriteOf ports c v stop = (port : ℕ) × IsChannelAt ports port c × (stop ≡ WantWrite port v)
-
 -- each process stands at its place after a history
 abbrev pub ArePlaces : Tables → List Event → Machine → Type 0
 ArePlaces t H s = (p : ℕ) → p < length t.instances → IsPlaceAfter t H p (frame_in s p)
 
--- a free process stands at this stop, which is no pause, and can make no step there
-pub record StandsFree (t : Tables) (s : Machine) (p : ℕ) (stop : Stop) : Type 0 where
+-- a process stands free at this stop, and can make no step there
+pub record IsStopped (t : Tables) (s : Machine) (p : ℕ) (stop : Stop) : Type 0 where
   pub there : p < length t.instances
-  pub free : IsFree s p
-  pub stands : Stands t s p stop
-  pub is_no_pause : stop ≢ Paused
+  pub stands : StandsFree t s p stop
   pub ends : (next : Frame) → step_of (program_of t p).blocks (frame_in s p) ≢ Goes next
 
 -- a growth that is owed after a history, by the history and by the machine

@@ -1,11 +1,11 @@
 //! Growth: what is owed once an event was made, and the event that takes it.
-ghost use Rattle.std.specs.Prelude.{◌≡◌, ◌<◌, List, [], ◌∷◌, ◌++◌, length, Some, None};
+ghost use Rattle.std.specs.Prelude.{◌≡◌, ◌<◌, List, [], ◌∷◌, ◌++◌, length, Some};
 ghost use Rattle.kpn_history.specs.declared.event.Event.{Event};
-ghost use Rattle.kpn_history.specs.Legal.{waiter};
-ghost use Rattle.kpn_machine.specs.Machine.{Machine as Seen, IsMachine};
+ghost use Rattle.kpn_history.specs.Legal.{HasNumbers, waiter};
+ghost use Rattle.kpn_machine.specs.Machine.{IsMachine};
 ghost use Rattle.kpn_machine.specs.Run.{IsRun};
 ghost use Rattle.kpn_machine.specs.Owed.{IsAwaitedBelowLimit};
-ghost use Rattle.kpn_audit.specs.Judged.{IsOwing, AllGoBy, IsMade};
+ghost use Rattle.kpn_audit.specs.Judged.{Owes, IsOwing, IsMade};
 
 use crate::judged::Judged;
 use kpn_history::Event;
@@ -13,35 +13,49 @@ use kpn_machine::{Machine, OwedGrowth};
 use kpn_net::Network;
 use std::alloc::Allocator;
 
-/// The wait of process `p`, which was just made, may follow, and this is what is owed then: for a cycle or for a stop.
-pub(crate) fn after_wait<A: Allocator>(machine: &Machine<A>, network: &Network, p: usize) -> Judged
+/// The growth that is owed after an event, which was just made: for a cycle or for a stop.
+pub(crate) fn owed_after<A: Allocator>(
+    machine: &Machine<A>,
+    network: &Network,
+    event: Event,
+) -> Option<OwedGrowth>
     requires shape { IsMachine network.now machine.now }
-    requires process { p < length network.now.instances }
-    ensures { (H : List Event) (event : Event) (before : Seen) → waiter event ≡ Some p
-        → IsRun network.now (H ++ event ∷ []) machine.now
-        → AllGoBy network.now event before machine.now
-        → IsMade network.now H event before machine.now result }
+    requires numbers { HasNumbers network.now event }
+    ensures { (H : List Event) → IsRun network.now (H ++ event ∷ []) machine.now
+        → Owes network.now (H ++ event ∷ []) machine.now result }
 {
     network.known();
-    match machine.owed(network, p) {
-        Some(channel) => Judged::Follows(Some(OwedGrowth {
-            process: p,
-            channel,
-        })),
-        None => Judged::Follows(machine.owed_at_stop(network)),
+    match event {
+        Event::Get(_, _, _) | Event::Put(_, _, _) | Event::Feed(_, _) | Event::Grow(_, _, _) =>
+            None,
+        Event::WaitEmpty(p, _) | Event::WaitFull(p, _) => owed_after_wait(
+            machine,
+            network,
+            p.into(),
+        ),
+        _ => machine.owed_at_stop(network),
     }
 }
 
-/// An event that was just made and is no wait may follow, and this is what is owed then: for a stop.
-pub(crate) fn after_event<A: Allocator>(machine: &Machine<A>, network: &Network) -> Judged
+/// The growth that is owed after a wait of process `p`.
+fn owed_after_wait<A: Allocator>(
+    machine: &Machine<A>,
+    network: &Network,
+    p: usize,
+) -> Option<OwedGrowth>
     requires shape { IsMachine network.now machine.now }
-    ensures { (H : List Event) (event : Event) (before : Seen) → waiter event ≡ None
+    requires process { p < length network.now.instances }
+    ensures { (H : List Event) (event : Event) → waiter event ≡ Some p
         → IsRun network.now (H ++ event ∷ []) machine.now
-        → AllGoBy network.now event before machine.now
-        → IsMade network.now H event before machine.now result }
+        → Owes network.now (H ++ event ∷ []) machine.now result }
 {
-    network.known();
-    Judged::Follows(machine.owed_at_stop(network))
+    match machine.owed(network, p) {
+        Some(channel) => Some(OwedGrowth {
+            process: p,
+            channel,
+        }),
+        None => machine.owed_at_stop(network),
+    }
 }
 
 /// Judges an event if this growth is owed: it has to be that growth, with the capacity that the channel has then.

@@ -1,21 +1,20 @@
 //! One event judged: first what can be judged before any step, then, once its process has come to a stop, whether it
-//! is due there.
-ghost use Rattle.std.specs.Prelude.{◌≡◌, ◌≢◌, ◌↔◌, ◌<◌, ℕ, true, false, List, length, IsTrue, IfOk, Some, None, Ok};
+//! is due there. If it is, it is made, and what is owed then is found.
+ghost use Rattle.std.specs.Prelude.{◌≡◌, ◌≢◌, ◌↔◌, ◌<◌, ℕ, true, List, length, IsTrue, IfOk, Some, None, Ok};
 ghost use Rattle.kpn_history.specs.declared.event.Event.{Event};
-ghost use Rattle.kpn_history.specs.Talks.{is_of, is_of_process};
+ghost use Rattle.kpn_history.specs.Talks.{is_of};
 ghost use Rattle.kpn_history.specs.Legal.{HasNumbers};
 ghost use Rattle.kpn_history.specs.Stops.{OwesNothing};
 ghost use Rattle.kpn_machine.specs.Machine.{IsMachine};
 ghost use Rattle.kpn_machine.specs.Owed.{IsAwaitedBelowLimit};
 ghost use Rattle.kpn_machine.specs.Run.{IsRun};
 ghost use Rattle.kpn_audit.specs.declared.judged.Judged.TheVariants.{Budget};
-ghost use Rattle.kpn_audit.specs.Judged.{StandsFree, Owes, IsFound, IsJudged, StopsInTime, IsInTime};
+ghost use Rattle.kpn_audit.specs.Judged.{IsStopped, Owes, IsFound, IsJudged, StopsInTime, IsInTime};
 
-use crate::growth::judge_owed;
+use crate::growth::{judge_owed, owed_after};
 use crate::judged::Judged;
 use crate::stepping::come_to_stop;
-use crate::{outside, processes};
-use kpn_history::{Event, How};
+use kpn_history::Event;
 use kpn_machine::{Machine, OwedGrowth};
 use kpn_net::Network;
 use kpn_step::Stop;
@@ -43,8 +42,9 @@ pub(crate) fn has_numbers(network: &Network, event: Event) -> bool
     }
 }
 
-/// Judges an event of a process, which stands at this stop.
-fn judge_at_stop<A: Allocator + Copy>(
+/// Judges an event if nothing is owed, where its process has come to this stop. One that is due is made. An event of no
+/// process needs no stop.
+fn judge_here<A: Allocator + Copy>(
     machine: &mut Machine<A>,
     network: &Network,
     event: Event,
@@ -53,27 +53,16 @@ fn judge_at_stop<A: Allocator + Copy>(
     requires shape { IsMachine network.now machine.old }
     requires numbers { HasNumbers network.now event }
     requires stopped { (p : ℕ) → is_of p event ≡ true
-        → StandsFree network.now machine.old p stop }
+        → IsStopped network.now machine.old p stop }
     ensures shape { IsMachine network.now machine.new }
-    ensures judged { is_of_process event ≡ true
-        → IfOk result (IsFound network.now event machine.old machine.new) }
+    ensures judged { IfOk result (IsFound network.now event machine.old machine.new) }
 {
-    match event {
-        Event::Get(p, c, item) => {
-            Ok(processes::get(machine, network, p.into(), c.into(), item, stop))
-        }
-        Event::Put(p, c, item) => {
-            processes::put(machine, network, p.into(), c.into(), item, stop)
-        }
-        Event::WaitEmpty(p, c) => {
-            Ok(processes::wait_on_empty(machine, network, p.into(), c.into(), stop))
-        }
-        Event::WaitFull(p, c) => {
-            processes::wait_on_full(machine, network, p.into(), c.into(), stop)
-        }
-        Event::Ended(p, how) => Ok(processes::end(machine, network, p.into(), how, stop)),
-        _ => Ok(Judged::Illegal),
+    network.known();
+    if !machine.is_due(network, event, stop) {
+        return Ok(Judged::Illegal);
     }
+    machine.apply(network, event)?;
+    Ok(Judged::Follows(owed_after(machine, network, event)))
 }
 
 /// Judges an event of process `p`: whether it may go on, at which stop it comes to stand, and what is due there.
@@ -95,31 +84,8 @@ fn judge_process<A: Allocator + Copy>(
         (IsJudged network.now H event quota machine.old machine.new) }
 {
     match come_to_stop(machine, network, p, quota) {
-        Ok(stop) => judge_at_stop(machine, network, event, stop),
+        Ok(stop) => judge_here(machine, network, event, stop),
         Err(judged) => Ok(judged),
-    }
-}
-
-/// Judges an event of the outside. A growth, which nothing owes, may not follow.
-fn judge_outside<A: Allocator + Copy>(
-    machine: &mut Machine<A>,
-    network: &Network,
-    event: Event,
-) -> Result<Judged, AllocError>
-    requires shape { IsMachine network.now machine.old }
-    requires numbers { HasNumbers network.now event }
-    requires outside { is_of_process event ≡ false }
-    ensures shape { IsMachine network.now machine.new }
-    ensures judged { IfOk result
-        (IsFound network.now event machine.old machine.new) }
-{
-    network.known();
-    match event {
-        Event::Feed(c, item) => outside::feed(machine, network, c.into(), item),
-        Event::Close(c) => Ok(outside::close(machine, network, c.into())),
-        Event::Take(c, item) => Ok(outside::take(machine, network, c.into(), item)),
-        Event::Leave(c) => Ok(outside::leave(machine, network, c.into())),
-        _ => Ok(Judged::Illegal),
     }
 }
 
@@ -143,7 +109,7 @@ fn judge_next<A: Allocator + Copy>(
     }
     match event.process() {
         Some(p) => judge_process(machine, network, p, event, quota),
-        None => judge_outside(machine, network, event),
+        None => judge_here(machine, network, event, Stop::Paused),
     }
 }
 

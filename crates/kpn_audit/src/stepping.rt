@@ -13,7 +13,7 @@ ghost use Rattle.kpn_machine.specs.Run.{IsRun};
 ghost use Rattle.kpn_machine.specs.Due.{Stands};
 ghost use Rattle.kpn_audit.specs.declared.judged.Judged.TheVariants.{Budget};
 ghost use Rattle.kpn_audit.specs.Place.{StopsWithin};
-ghost use Rattle.kpn_audit.specs.Judged.{StandsFree, StopsInTime, IsMoved, IsJudged};
+ghost use Rattle.kpn_audit.specs.Judged.{IsStopped, StopsInTime, IsMoved, IsJudged};
 
 use crate::judged::Judged;
 use kpn_machine::Machine;
@@ -83,7 +83,7 @@ pub(crate) fn come_to_stop<A: Allocator>(
     requires process { p < length network.now.instances }
     ensures shape { IsMachine network.now machine.new }
     ensures moved { IsMoved network.now p machine.old machine.new }
-    ensures stopped { IfOk result (λ stop. StandsFree network.now machine.new p stop) }
+    ensures stopped { IfOk result (λ stop. IsStopped network.now machine.new p stop) }
     ensures run { (H : List Event) → IsRun network.now H machine.old
         → IsRun network.now H machine.new }
     ensures in_time { result ≢ Err Budget → StopsInTime network.now machine.old quota p }

@@ -17,14 +17,13 @@ use Rattle.kpn_net.specs.declared.tables.End.TheVariants.{Process}
 use Rattle.kpn_net.specs.Tables.{Tables, channel_at, is_sink, reader_of, instance_at, program_of}
 use Rattle.kpn_net.specs.Faults.{IsNetwork}
 use Rattle.kpn_net.specs.Process.{Family, ran_on, talk_on, ProcessCanSay, ProcessComesTo, at_channel, ends_at_channel}
-use Rattle.kpn_net.proofs.Networks.{IsProgram-of, IsInstance-of, reader_of-sink}
+use Rattle.kpn_net.proofs.Networks.{reader_of-sink}
 use Rattle.kpn_step.specs.declared.stop.Stop.{Stop}
 use Rattle.kpn_step.specs.declared.stop.Stop.TheVariants as stop
 use Rattle.kpn_step.specs.Stops.{StandsAt}
 use Rattle.kpn_step.specs.After.{SaysNext, EndsThere}
 use Rattle.kpn_step.specs.Frame.{Frame}
 use Rattle.kpn_step.proofs.After.{talk_said, next_said, end_reached}
-use Rattle.kpn_step.proofs.MayStep.{at_port}
 use Rattle.kpn_chan.specs.Channel.{unread, next_item}
 use Rattle.kpn_history.specs.declared.event.How.{How}
 use Rattle.kpn_history.specs.declared.event.Event.{Event}
@@ -44,7 +43,7 @@ use Rattle.kpn_machine.specs.Machine.{Machine, channel_in, end_in, frame_in, IsF
 use Rattle.kpn_machine.specs.Run.{IsEndOf, StandsAfter, IsRun}
 use Rattle.kpn_machine.specs.Due.{Stands, ReadsFrom, WritesTo, stop_for, stop_of, IsDueNow}
 use Rattle.kpn_machine.proofs.Due.{unread_same, full_same}
-use Rattle.kpn_machine.proofs.Ports.{reads_below, reads_own}
+use Rattle.kpn_machine.proofs.Ports.{reads_below, reads_own, in_port, out_port}
 use Rattle.kpn_machine.proofs.Talking.{IsRestAfter-more}
 
 -- ---- what is said on channels was said at ports
@@ -138,15 +137,17 @@ module _ (t : Tables) (network : IsNetwork t) (H : List Event) (legal : Legal t 
 
 -- ---- events of a process
 
-module _ (t : Tables) (network : IsNetwork t) (H : List Event) (s : Machine) (run : IsRun t H s) where
-  is_free : (p : ℕ) → p < length t.instances → CanGo t H p → IsFree s p
-  is_free p there go =
-      record { lives = unended (end_in s p) (run.leads.ends p there); free = run.leads.waits p there ∙ go.free }
-    where
-      unended : (end : Option How) → IsEndOf H p end → end ≡ None
-      unended None h = refl
-      unended (Some how) h = absurd (both_ways _ go.lives ((ended_exactly H p).1 (how, h)))
+-- a process that can go is free
+pub free_there : (t : Tables) (H : List Event) (s : Machine) → IsRun t H s → (p : ℕ) → p < length t.instances
+    → CanGo t H p → IsFree s p
+free_there t H s run p there go =
+    record { lives = unended (end_in s p) (run.leads.ends p there); free = run.leads.waits p there ∙ go.free }
+  where
+    unended : (end : Option How) → IsEndOf H p end → end ≡ None
+    unended None h = refl
+    unended (Some how) h = absurd (both_ways _ go.lives ((ended_exactly H p).1 (how, h)))
 
+module _ (t : Tables) (network : IsNetwork t) (H : List Event) (s : Machine) (run : IsRun t H s) where
   gives : (c : ℕ) (v : ℤ) → c < length t.channels → (channel_in s c).is_retired ≡ false → IsOldest H c v
       → next_item (channel_in s c) ≡ Some v
   gives c v below alive oldest =
@@ -160,7 +161,7 @@ module _ (t : Tables) (network : IsNetwork t) (H : List Event) (s : Machine) (ru
 
   pub must_be_free : (p : ℕ) → p < length t.instances → (e : Event) → is_of p e ≡ true → Legal t (H ++ e ∷ [])
       → IsFree s p
-  must_be_free p there e own legal = is_free p there (can_go t H e legal p own)
+  must_be_free p there e own legal = free_there t H s run p there (can_go t H e legal p own)
 
   -- the reader of a channel that has not ended
   still_read : (p c : ℕ) → c < length t.channels → reader_of t c ≡ Process p → has_ended H p ≡ false
@@ -184,24 +185,12 @@ module _ (t : Tables) (network : IsNetwork t) (H : List Event) (s : Machine) (ru
       by_items false is (x ∷ xs) none = absurd (cc)
 
   module _ (p : ℕ) (there : p < length t.instances) where
-    in_range : (port : ℕ) → Stands t s p (stop.WantRead port) → port < length (instance_at t p).ins
-    in_range port stands =
-        let named =
-        (at_port (program_of t p) (IsProgram-of t network p there) (frame_in s p) (stop.WantRead port) stands).0 in
-        omega (arith, named, (IsInstance-of t network p there).ins)
-
-    out_range : (port : ℕ) (v : ℤ) → Stands t s p (stop.WantWrite port v) → port < length (instance_at t p).outs
-    out_range port v stands =
-        let named =
-        (at_port (program_of t p) (IsProgram-of t network p there) (frame_in s p) (stop.WantWrite port v) stands).0 in
-        omega (arith, named, (IsInstance-of t network p there).outs)
-
     reads_at : (port i c : ℕ) → Stands t s p (stop.WantRead port) → slice_index (instance_at t p).ins i ≡ c → i ≡ port
         → ReadsFrom t s p c
     reads_at port i c stands own same =
         record {
           port = port;
-          channel = (in_range port stands, ap (λ x. slice_index (instance_at t p).ins x) (sym same) ∙ own);
+          channel = (in_port t network s p there port stands, ap (λ x. slice_index (instance_at t p).ins x) (sym same) ∙ own);
           stands =
               stands;
         }
@@ -223,7 +212,7 @@ module _ (t : Tables) (network : IsNetwork t) (H : List Event) (s : Machine) (ru
         record {
           port = port;
           channel =
-              (out_range port v stood, ap (λ x. slice_index (instance_at t p).outs x) (sym next.0) ∙ named);
+              (out_port t network s p there port v stood, ap (λ x. slice_index (instance_at t p).outs x) (sym next.0) ∙ named);
           stands = stood;
         }
     put_to at (said.Got i w) rest c v stands own next = absurd cc
@@ -277,7 +266,7 @@ module _ (t : Tables) (network : IsNetwork t) (H : List Event) (s : Machine) (ru
               (said.Got c v) parts.2.1 in
               let reads =
               got_from at next.0 (map (λ d. read_in d (Get p c v)) (instance_at t p).ins) c v stands next.1 next.2 in (
-                is_free p there parts.1.due,
+                free_there t H s run p there parts.1.due,
                 reads,
                 gives c v parts.1.numbers.1
                     (still_read p c parts.1.numbers.1 (reads_own t network s p there c reads) parts.1.due.lives)
@@ -292,7 +281,7 @@ module _ (t : Tables) (network : IsNetwork t) (H : List Event) (s : Machine) (ru
               let parts = (Legal-exactly t H (Put p c v)).0 legal in
               let next =
               asked (read_on H) (λ d. []) (λ d. sym (append-nil (read_on H d))) (said.Put c v) parts.2.1 in (
-                is_free p there parts.1.due,
+                free_there t H s run p there parts.1.due,
                 put_to at next.0 (map (λ d. []) (instance_at t p).ins) c v stands next.1 next.2,
                 full_same t H c (channel_in s c) (run.leads.channels c parts.1.numbers.1) ∙ parts.2.0,
               )
@@ -308,7 +297,7 @@ module _ (t : Tables) (network : IsNetwork t) (H : List Event) (s : Machine) (ru
           waits legal =
               let parts = (Legal-exactly t H (WaitEmpty p c)).0 legal in
               let end = reached (ending.Starved c) parts.1.due.1.starved in (
-                is_free p there parts.1.due.0,
+                free_there t H s run p there parts.1.due.0,
                 starved_at at end.0 (map (λ d. []) (instance_at t p).ins) c stands end.1 end.2,
                 unread_same t H c (channel_in s c) (run.leads.channels c parts.1.numbers.1)
                     ∙ nothing _ parts.1.due.1.empty,
@@ -323,7 +312,7 @@ module _ (t : Tables) (network : IsNetwork t) (H : List Event) (s : Machine) (ru
               let v = parts.1.due.1.item in
               let next =
               asked (read_on H) (λ d. []) (λ d. sym (append-nil (read_on H d))) (said.Put c v) parts.1.due.1.next in (
-                is_free p there parts.1.due.0,
+                free_there t H s run p there parts.1.due.0,
                 (v, put_to at next.0 (map (λ d. []) (instance_at t p).ins) c v stands next.1 next.2),
                 full_same t H c (channel_in s c) (run.leads.channels c parts.1.numbers.1) ∙ parts.1.due.1.full,
               )
@@ -335,7 +324,7 @@ module _ (t : Tables) (network : IsNetwork t) (H : List Event) (s : Machine) (ru
           ends legal =
               let parts = (Legal-exactly t H (Ended p how)).0 legal in
               let end = reached (ending_of how) parts.1.due.1 in (
-                is_free p there parts.1.due.0,
+                free_there t H s run p there parts.1.due.0,
                 ended_at at end.0 (map (λ d. []) (instance_at t p).ins) how stands end.1 end.2,
               )
       due_here event own legal = absurd (false≢true own)

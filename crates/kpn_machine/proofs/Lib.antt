@@ -1,3 +1,4 @@
+pub mod Applying
 pub mod Calls
 pub mod Due
 pub mod Ending

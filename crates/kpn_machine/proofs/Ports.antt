@@ -1,21 +1,38 @@
--- The channel that a process is about to read or write is one of the network, and its own.
-use Rattle.std.proofs.Common.{◌≡◌, ℕ, ◌<◌, ℤ, List, length, subst}
+-- The port at which a process reads or writes is one of its own. The channel that it is about to read or write is one of
+-- the network, and its own.
+use Rattle.std.proofs.Common.{◌≡◌, ℕ, ◌<◌, ℤ, List, length, subst, arith}
 use Rattle.std.specs.List.{Contains}
 use Rattle.std.proofs.lemmas.List.Elements.{Contains-get_or}
 use Rattle.kpn_net.specs.declared.tables.End.TheVariants.{Process}
 use Rattle.kpn_net.specs.Tables.{Tables, writer_of, reader_of, instance_at, program_of}
 use Rattle.kpn_net.specs.Faults.{IsNetwork}
-use Rattle.kpn_net.proofs.Networks.{IsProgram-of}
+use Rattle.kpn_net.proofs.Networks.{IsProgram-of, IsInstance-of}
 use Rattle.kpn_net.proofs.PortsApart.{reads_its_ins, writes_its_outs, in_is_there, out_is_there}
 use Rattle.kpn_step.specs.declared.stop.Stop.TheVariants.{WantRead, WantWrite}
 use Rattle.kpn_step.specs.Stops.{StandsAtRead, StandsAtWrite}
 use Rattle.kpn_step.proofs.MayStep.{at_port}
 use Rattle.kpn_machine.specs.Machine.{Machine, frame_in}
 use Rattle.kpn_machine.specs.Changes.{IsChannelAt}
-use Rattle.kpn_machine.specs.Due.{ReadsFrom, WritesTo}
+use Rattle.kpn_machine.specs.Due.{Stands, ReadsFrom, WritesTo}
 
 among : (ports : List ℕ) (port c : ℕ) → IsChannelAt ports port c → Contains ports c
 among ports port c at = subst (λ x. Contains ports x) at.1 (Contains-get_or ports port 0 at.0)
+
+module _ (t : Tables) (network : IsNetwork t) (s : Machine) (p : ℕ) (there : p < length t.instances) (port : ℕ)
+  where
+    pub in_port : Stands t s p (WantRead port) → port < length (instance_at t p).ins
+    in_port stands =
+        let below = (at_port (program_of t p) (IsProgram-of t network p there) (frame_in s p) (WantRead port) stands).0
+        in
+        let long = (IsInstance-of t network p there).ins in
+        omega (arith, below, long)
+
+    pub out_port : (v : ℤ) → Stands t s p (WantWrite port v) → port < length (instance_at t p).outs
+    out_port v stands =
+        let below =
+        (at_port (program_of t p) (IsProgram-of t network p there) (frame_in s p) (WantWrite port v) stands).0 in
+        let long = (IsInstance-of t network p there).outs in
+        omega (arith, below, long)
 
 module _ (t : Tables) (network : IsNetwork t) (s : Machine) (p : ℕ) (there : p < length t.instances) (c : ℕ)
   where

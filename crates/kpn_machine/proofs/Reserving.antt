@@ -1,13 +1,15 @@
 -- What makes room on a channel changes nothing that a history records.
-use Rattle.std.proofs.Common.{◌≡◌, ℕ, ◌<◌, ◌≤◌, Bool, true, false, not, cond, IsTrue, List, length, None, is_some, Some, refl, sym, ap, ◌∙◌, subst, inl, inr, length-set}
+use Rattle.std.proofs.Common.{◌≡◌, ℕ, ◌<◌, ◌≤◌, Bool, true, false, not, cond, IsTrue, ℤ, List, [], ◌∷◌, length, None, is_some, Some, refl, sym, ap, ◌∙◌, subst, inl, inr, length-set}
 use Rattle.std.proofs.lemmas.Bool.{cases_eq}
 use Rattle.std.proofs.lemmas.List.{get_or-set_same, get_or-set_other, set-get_or}
 use Rattle.kpn_net.specs.declared.wait.Wait.TheVariants.{Full}
 use Rattle.kpn_net.specs.Tables.{Tables, channel_at, is_source}
-use Rattle.kpn_chan.specs.Channel.{ChannelState, opened, with_room, roomy, with_reserved}
+use Rattle.kpn_chan.specs.Channel.{ChannelState, opened, with_room, roomy, with_reserved, most_after}
 use Rattle.kpn_history.specs.declared.event.Event.{Event}
+use Rattle.kpn_history.specs.Channels.{written_in}
 use Rattle.kpn_machine.specs.Machine.{Machine, channel_in, wait_in, IsMachine, with_channel}
 use Rattle.kpn_machine.specs.Run.{HoldsChannel, IsRun}
+use Rattle.kpn_machine.specs.Changes.{IsChannelAfter, Changes}
 
 -- a channel with as much room as before or more, and else the same
 pub record HasRoomOf (before after : ChannelState) : Type 0 where
@@ -21,6 +23,10 @@ pub record HasRoomOf (before after : ChannelState) : Type 0 where
 has_room_reserved : (before : ChannelState) → HasRoomOf before (with_room before)
 has_room_reserved before =
     record { journal = refl; read = refl; capacity = refl; retired = refl; most = refl; reserved = λ is. refl }
+
+most_same : (xs : List ℤ) (before : ChannelState) → most_after xs (with_room before) ≡ most_after xs before
+most_same [] before = refl
+most_same (x ∷ xs) before = refl
 
 -- a channel that was made roomy, whether or not that was refused
 pub has_room_made : (b reserved : Bool) (before after : ChannelState)
@@ -133,6 +139,34 @@ module _ (s : Machine) (c : ℕ) (there : c < length s.channels) where
         subst (λ x. IsRun t H x) (sym is)
         (room_run (with_room (channel_in s c)) (has_room_reserved (channel_in s c)) t H run)
     IsRun-reserved H false after is run = subst (λ x. IsRun t H x) (sym is) run
+
+    -- what an event changes after that, it changes before that
+    pub Changes-reserved : (e : Event) (b : Bool) (middle after : Machine)
+        → middle ≡ cond b (with_channel c (with_room (channel_in s c)) s) s → Changes t e middle after
+        → Changes t e s after
+    Changes-reserved e true middle after is changes =
+        let h = subst (λ x. Changes t e x after) is changes in
+        record {
+          channels = λ d below.
+              each_channel (with_room (channel_in s c)) (has_room_reserved (channel_in s c))
+              (λ d x. IsChannelAfter t e d x (channel_in after d)
+              → IsChannelAfter t e d (channel_in s d) (channel_in after d))
+              (λ d same. same)
+              (λ same here. record {
+                journal = here.journal;
+                read = here.read;
+                capacity = here.capacity;
+                retired = here.retired;
+                reserved = λ none was. here.reserved none refl;
+                most = here.most ∙ most_same (written_in c e) (channel_in s c);
+                kept = here.kept;
+              }) d (h.channels d below);
+          closed = h.closed;
+          waits = h.waits;
+          ends = h.ends;
+          frames = h.frames;
+        }
+    Changes-reserved e false middle after is changes = subst (λ x. Changes t e x after) is changes
 
   -- the channel that was made roomy, in the terms of the machine after that
   pub room_after : (b : Bool) (channel before : ChannelState) (after : Machine)

@@ -1,5 +1,5 @@
 -- When an event may follow, as a property of the machine before it.
-use Rattle.std.specs.Prelude.{◌≡◌, ℕ, true, false, ℤ, [], Some}
+use Rattle.std.specs.Prelude.{◌≡◌, ◌≢◌, ℕ, true, false, ℤ, List, [], Some}
 use Rattle.kpn_lang.specs.declared.talk.Ending.{Ending}
 use Rattle.kpn_lang.specs.declared.talk.Ending.TheVariants as ending
 use Rattle.kpn_net.specs.Tables.{Tables, instance_at, program_of, channel_at, is_source, is_sink}
@@ -19,6 +19,12 @@ use Rattle.kpn_machine.specs.Changes.{IsChannelAt}
 -- process p is at this stop
 abbrev pub Stands : Tables → Machine → (p : ℕ) → Stop → Type 0
 Stands t s p stop = StandsAt (program_of t p).blocks (frame_in s p) stop
+
+-- process p is free and at this stop, which is no pause
+pub record StandsFree (t : Tables) (s : Machine) (p : ℕ) (stop : Stop) : Type 0 where
+  pub free : IsFree s p
+  pub stands : Stands t s p stop
+  pub is_no_pause : stop ≢ Paused
 
 -- process p is at a read from channel c
 pub record ReadsFrom (t : Tables) (s : Machine) (p c : ℕ) : Type 0 where
@@ -58,3 +64,31 @@ IsDueNow t s (Close c) = (is_source (channel_at t c) ≡ true) × (closed_in s c
 IsDueNow t s (Take c v) = (is_sink (channel_at t c) ≡ true) × (next_item (channel_in s c) ≡ Some v)
 IsDueNow t s (Leave c) = (is_sink (channel_at t c) ≡ true) × ((channel_in s c).is_retired ≡ false)
 IsDueNow t s (Grow p d n) = ⊥
+
+-- ---- what the code tests of it; a reader of the public contracts needs none of it
+
+-- the stop is a read at a port that has this channel
+abbrev pub IsReadAt : (ports : List ℕ) → (c : ℕ) → Stop → Type 0
+IsReadAt ports c stop = (port : ℕ) × IsChannelAt ports port c × (stop ≡ WantRead port)
+
+-- the stop is a write of this item at a port that has this channel
+abbrev pub IsWriteAt : (ports : List ℕ) → (c : ℕ) → (v : ℤ) → Stop → Type 0
+IsWriteAt ports c v stop = (port : ℕ) × IsChannelAt ports port c × (stop ≡ WantWrite port v)
+
+-- the stop asks for the event, if it is one of a process
+abbrev pub AsksFor : Tables → Stop → Event → Type 0
+AsksFor t stop (Get p c v) = IsReadAt (instance_at t p).ins c stop
+AsksFor t stop (Put p c v) = IsWriteAt (instance_at t p).outs c v stop
+AsksFor t stop (WaitEmpty p c) = IsReadAt (instance_at t p).ins c stop
+AsksFor t stop (WaitFull p c) = (v : ℤ) × IsWriteAt (instance_at t p).outs c v stop
+AsksFor t stop (Ended p how) = stop ≡ stop_of how
+AsksFor t stop event = Unit {0}
+
+-- its channel is ready for the event; one of the outside then is due
+abbrev pub IsReady : Tables → Machine → Event → Type 0
+IsReady t s (Get p c v) = next_item (channel_in s c) ≡ Some v
+IsReady t s (Put p c v) = is_channel_full (channel_in s c) ≡ false
+IsReady t s (WaitEmpty p c) = unread (channel_in s c) ≡ []
+IsReady t s (WaitFull p c) = is_channel_full (channel_in s c) ≡ true
+IsReady t s (Ended p how) = Unit {0}
+IsReady t s event = IsDueNow t s event

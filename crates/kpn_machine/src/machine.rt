@@ -15,6 +15,7 @@ use kpn_step::Frame;
 use std::alloc::{AllocError, Allocator, Global};
 use std::marker::Model;
 
+mod applying;
 mod complete;
 mod growth;
 mod joining;

@@ -1,11 +1,13 @@
 -- The growth that is owed is made, and nothing else may follow.
 use Rattle.std.proofs.Common.{◌≡◌, None, refl, subst}
+use Rattle.std.proofs.lemmas.Bool.{false≢true}
 use Rattle.kpn_net.specs.Tables.{larger_capacity}
+use Rattle.kpn_step.specs.declared.stop.Stop.TheVariants.{Paused}
 use Rattle.kpn_history.specs.Channels.{capacity_or_zero}
 use Rattle.kpn_history.specs.declared.event.Event.TheVariants.{Grow}
 use Rattle.kpn_audit.specs.Judged.{IsFollowed}
 use Rattle.kpn_audit.proofs.Refused.{only_growth}
-use Rattle.kpn_audit.proofs.Followed.{followed, goes_outside}
+use Rattle.kpn_audit.proofs.Followed.{owes_nothing_after, goes_by}
 use Rattle.kpn_audit.proofs.growth.judge_owed.Goals as goal
 use Rattle.kpn_audit.proofs.growth.judge_owed.Goals.{then-from-owed-via-then-from-owed, then-from-owed-via-else-from-owed+then-from-owed-2}
 
@@ -35,10 +37,14 @@ returns-then-grown-capacity-clause-judged g c H run owing =
     let growth = Grow c.args.owed.process c.args.owed.channel c.grow-grown.result.capacity in
     let same : growth ≡ c.args.event = cc in
     let s = c.args.machine.now in
-    subst (λ e. IsFollowed t H e s c.grow-grown.new.self None) same
-    (followed t c.known.ensures H growth s c.grow-grown.new.self refl refl
-    (c.grow-grown.ensures.run H run owing.owed)
-    (goes_outside t s c.grow-grown.new.self growth refl c.grow-grown.ensures.changes.frames))
+    let after = c.grow-grown.new.self in
+    let next = c.grow-grown.ensures.run H run owing.owed in
+    subst (λ e. IsFollowed t H e s after None) same
+    (record {
+      run = next;
+      owes = owes_nothing_after t c.known.ensures H growth refl refl next.legal;
+      goes = goes_by t s after growth Paused (λ p own. absurd (false≢true own)) c.grow-grown.ensures.changes.frames;
+    })
 
 pub returns-else-grown-capacity-clause-judged : goal.returns-else-grown-capacity-clause-judged
 returns-else-grown-capacity-clause-judged g c H run owing legal =

@@ -1,6 +1,7 @@
 -- The numbers are there, and the event is judged by whom it is of.
 use Rattle.std.proofs.lemmas.Bool.{both_ways}
 use Rattle.std.proofs.lemmas.Result.{IfOk-weaker}
+use Rattle.kpn_history.proofs.AfterEvent.{of_process}
 use Rattle.kpn_audit.proofs.Followed.{judged_if_made}
 use Rattle.kpn_audit.proofs.Refused.{has_its_numbers}
 use Rattle.kpn_audit.proofs.judging.judge_next.Goals as goal
@@ -12,7 +13,10 @@ returns-then-not-has_numbers-clause-judged g c H run owes legal =
 
 pub returns-in-None-clause-judged : goal.returns-in-None-clause-judged
 returns-in-None-clause-judged g c H run owes =
-    IfOk-weaker c.judge_outside.result _ _
+    IfOk-weaker c.judge_here.result _ _
     (λ found made. judged_if_made c.args.network.now H c.args.event c.args.quota c.args.machine.now
-    c.judge_outside.new.machine found (made H run owes))
-    c.judge_outside.ensures.judged
+    c.judge_here.new.machine found (made H run owes))
+    c.judge_here.ensures.judged
+
+pub judge_here-requires-clause-stopped : goal.judge_here-requires-clause-stopped
+judge_here-requires-clause-stopped g c p own = absurd (both_ways _ c.in-None.ensures.none ((of_process c.args.event).1 (p, own)))

@@ -1,8 +1,8 @@
 -- The port is one of the process, and its channel one of the network.
 use Rattle.std.proofs.Common.{ap, ◌∙◌, arith}
 use Rattle.kpn_chan.specs.Channel.{next_item}
-use Rattle.kpn_machine.proofs.Ports.{reads_below}
-use Rattle.kpn_audit.proofs.Asked.{in_port, reads_there}
+use Rattle.kpn_machine.proofs.Ports.{in_port, reads_below}
+use Rattle.kpn_audit.proofs.Asked.{reads_there}
 use Rattle.kpn_audit.proofs.seeing.reads.Goals as goal
 
 pub in_channel-c-requires-clause-port : goal.in_channel-c-requires-clause-port
