@@ -1,4 +1,4 @@
-//! Texts that end early or go on behind their end, and one that gets the memory that it wants.
+//! Texts that end early.
 
 use kpn_text::{TextFault, read_network};
 use std::alloc::Global;
@@ -21,24 +21,4 @@ fn a_text_that_ends_early_is_refused(rt: HostRuntime) -> Result<(), Fail> {
         }
     }
     Ok(())
-}
-
-/// Nothing but blanks and comments may stand behind the network.
-#[test]
-fn refutes_accepts_words_after_the_network(rt: HostRuntime) -> Result<(), Fail> {
-    for (text, fault) in [
-        ("network { } # the end", None),
-        ("network { } x", Some(TextFault::Grammar(12))),
-        ("network { }\n\nnetwork { }", Some(TextFault::Grammar(13))),
-        ("network { };", Some(TextFault::Grammar(11))),
-    ] {
-        assert!(rt; fault_of(rt.alloc(), text.as_bytes()) == fault, "{text}");
-    }
-    Ok(())
-}
-
-/// While there is memory, a network is read.
-#[test]
-fn refutes_always_out_of_memory(rt: HostRuntime) {
-    assert!(rt; fault_of(rt.alloc(), COPY.as_bytes()).is_none());
 }

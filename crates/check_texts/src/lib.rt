@@ -4,8 +4,6 @@
 #![tactic(auto)]
 
 #[cfg(test)]
-mod cells;
-#[cfg(test)]
 mod documents;
 #[cfg(test)]
 mod items;
@@ -13,7 +11,5 @@ mod items;
 mod lines;
 #[cfg(test)]
 mod memory;
-#[cfg(test)]
-mod precedence;
 #[cfg(test)]
 mod tokens;
