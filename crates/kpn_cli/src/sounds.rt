@@ -6,7 +6,7 @@ use crate::keeping::MOST_GIVEN;
 use crate::pieces::{file_in, is_of, is_plain, name_in, push_made};
 use crate::words::SeenBytes;
 use kpn_command_base::{EndKind, StreamRequest};
-use kpn_command_stream::word_for;
+use kpn_command_stream::{USUAL_RATE, word_for};
 use kpn_shelf::STANDARD;
 use kpn_stream_devices::ItemFormat;
 use kpn_text::Document;
@@ -16,12 +16,10 @@ use std::io::Read;
 use std::rt::Files;
 
 // What a head that is written says without an option.
-const USUAL_RATE: u32 = 48_000;
-
 const USUAL_CHANNELS: u16 = 1;
 
 // How many chunks of a head are looked at.
-const MOST_CHUNKS: u32 = 1_000;
+const CHUNKS_LOOKED_AT: u32 = 1_000;
 
 // What a head says of its samples.
 #[derive(Clone, Copy)]
@@ -155,7 +153,7 @@ fn sound_at<R: Files>(file: &str, known: &SeenBytes<'_>, rt: &R) -> Option<Sound
 
 fn sound_in(bytes: &[u8]) -> Option<Sound> {
     let mut rest = bytes.get(12..)?;
-    for _chunk in 0..MOST_CHUNKS {
+    for _chunk in 0..CHUNKS_LOOKED_AT {
         let behind = rest.get(8..)?;
         if rest.starts_with(b"fmt ") {
             return described(behind);

@@ -19,7 +19,7 @@ use Rattle.kpn_stream_devices.specs.declared.head.Head.{Head}
 use Rattle.kpn_stream_devices.specs.declared.head.Head.TheVariants.{Open, Bad, Whole}
 use Rattle.kpn_stream_devices.specs.Head.{head_at}
 use Rattle.kpn_stream_devices.specs.declared.inputs.SourceInput.{SourceInput}
-use Rattle.kpn_stream_devices.specs.SourceInputs.{device_left, most_read, Grows, InputGives, IsInputAsked, IsSparing, HaveMoved, FailsToRead, ReadsOnly, WaitsForDevice, kept_fault}
+use Rattle.kpn_stream_devices.specs.SourceInputs.{device_left, most_read, HasReadOn, InputGives, IsInputAsked, IsSparing, HaveMoved, FailsToRead, ReadsOnly, WaitsForDevice, kept_fault}
 use Rattle.kpn_stream_devices.specs.declared.inputs.Failed.{Failed}
 use Rattle.kpn_stream_devices.specs.declared.inputs.Failed.TheVariants as look_fault
 use Rattle.kpn_stream_devices.specs.SinkOutputs.{HandsOn, TakesItem}
@@ -291,7 +291,7 @@ module _ {I F : Type 0} (left : I → Option (List ℕ)) (left_in : F → Option
         )
 
         -- some more move
-        pub more_after : HaveMoved left left_in between (record moved { window = w }) read after → Grows w after.window
+        pub more_after : HaveMoved left left_in between (record moved { window = w }) read after → HasReadOn w after.window
             → moved.failed ≡ None → IsInputAsked left left_in first input read after
         more_after more grows none =
             let next = subst (λ (x : Window). HaveMoved left left_in between (record moved { window = x }) read after) same more in

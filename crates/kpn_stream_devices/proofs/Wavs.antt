@@ -15,7 +15,7 @@ use Rattle.kpn_stream_devices.specs.declared.head.Head.{Head}
 use Rattle.kpn_stream_devices.specs.declared.head.Head.TheVariants.{Open, Bad, Whole}
 use Rattle.kpn_stream_devices.specs.Formats.{sample_width, sample_value}
 use Rattle.kpn_stream_devices.specs.Head.{head_at, least_unknown}
-use Rattle.kpn_stream_devices.specs.Window.{Window, one_after, with_one, left_of, IfKnown, IsEndKnown, SampleGives, SamplesGoOn, DataGives, WavGives, WavTells, WindowTells, data_of, end_told, fills_up, is_end}
+use Rattle.kpn_stream_devices.specs.Window.{Window, one_after, with_one, left_of, IfKnown, IsEndKnown, SampleGives, SamplesGoOn, DataGives, WavGives, WavTells, WindowTells, data_of, end_told, fills_up, ends_samples}
 use Rattle.kpn_stream_devices.proofs.Heads.{head_at_again}
 use Rattle.kpn_stream_devices.proofs.Telling.{value_again, counts, sample_gives}
 
@@ -27,8 +27,8 @@ abbrev pub shorter : Wav → (width : ℕ) → Wav
 shorter wav width = record wav { left = wav.left - width }
 
 -- the answer behind the last sample, by whether that is the end
-abbrev told_by : (is_end : Bool) → Result (Option ℤ) SourceFault
-told_by is_end = if is_end then Ok None else Err CutSample
+abbrev told_by : (ends_samples : Bool) → Result (Option ℤ) SourceFault
+told_by ends_samples = if ends_samples then Ok None else Err CutSample
 
 -- the end, by whether nothing is left that is counted, whether any is counted, and what else is left
 abbrev end_by : (is_none is_counted fills_up : Bool) → Bool
@@ -206,7 +206,7 @@ module _ (w : Window) (count : ℕ) (wav : Wav) (head : head_at w.wav w.unused �
 
   -- what is left behind the last sample is the end, or a part of one
   end_tells : AllRead → length (take wav.left us) < sample_width wav.sample → (at_end : Bool)
-      → is_end wav (take wav.left us) ≡ at_end → WavTells w (told_by at_end) w
+      → ends_samples wav (take wav.left us) ≡ at_end → WavTells w (told_by at_end) w
   end_tells all few true is written = record {
     counted = refl;
     given = few_tells (Ok None) all (λ rest. is) (λ after. tt);
@@ -216,14 +216,14 @@ module _ (w : Window) (count : ℕ) (wav : Wav) (head : head_at w.wav w.unused �
     given = few_tells (Err CutSample) all (λ rest. (few, is)) (λ after. tt);
   }
 
-  same_end : min wav.left (length us) < sample_width wav.sample → is_end wav (take wav.left us) ≡ is_end wav us
+  same_end : min wav.left (length us) < sample_width wav.sample → ends_samples wav (take wav.left us) ≡ ends_samples wav us
   same_end few = elim (cases_lt wav.left least_unknown) [
     | inl less ↦
         ap (λ b. end_by (nat_eq wav.left 0) b (ends (take wav.left us))) (lt-ltb wav.left least_unknown less)
         ∙ counted_end (nat_eq wav.left 0) (ends (take wav.left us)) (ends us)
         ∙ sym (ap (λ b. end_by (nat_eq wav.left 0) b (ends us)) (lt-ltb wav.left least_unknown less))
     | inr least ↦
-        ap (is_end wav) (take_all wav.left us (omega (arith, few, least, few_wide wav.sample)))
+        ap (ends_samples wav) (take_all wav.left us (omega (arith, few, least, few_wide wav.sample)))
   ]
     where
       ends : List ℕ → Bool
@@ -232,7 +232,7 @@ module _ (w : Window) (count : ℕ) (wav : Wav) (head : head_at w.wav w.unused �
   -- so the answer is right where no more come
   pub few_tell : AllRead → min wav.left (length us) < sample_width wav.sample → WavTells w (end_told wav us) w
   few_tell all few =
-      end_tells all (omega (arith, few, length-take wav.left us)) (is_end wav us) (same_end few)
+      end_tells all (omega (arith, few, length-take wav.left us)) (ends_samples wav us) (same_end few)
 
 -- the answer of any WAV file
 pub any_tells : (result : Option (Result (Option ℤ) SourceFault)) (format : ItemFormat) (written : WavFormat)

@@ -140,8 +140,8 @@ pub record HaveMoved {I F : Type 0} (left : I → Option (List ℕ)) (left_in : 
   pub failed : after.failed ≡ input.failed
 
 -- bytes of one read stand behind those that were there
-abbrev pub Grows : (before after : Window) → Type 0
-Grows before after = (last : List ℕ) × (after.unused ≡ before.unused ++ last) × (length last ≤ most_read)
+abbrev pub HasReadOn : (before after : Window) → Type 0
+HasReadOn before after = (last : List ℕ) × (after.unused ≡ before.unused ++ last) × (length last ≤ most_read)
 
 -- so far bytes have moved, no more than were needed, and none if the answer was at hand
 pub record IsInputAsked {I F : Type 0} (left : I → Option (List ℕ)) (left_in : F → Option (List ℕ)) (standard : I)

@@ -109,18 +109,18 @@ fills_up wav bytes =
     nat_lt 1 (sample_width wav.sample) && (nat_eq (wav.left % 2) 0
     && (nat_eq (length bytes) 1 && nat_eq (get_or bytes 0 0) 0))
 
-abbrev pub is_end : Wav → List ℕ → Bool
-is_end wav bytes =
+abbrev pub ends_samples : Wav → List ℕ → Bool
+ends_samples wav bytes =
     if nat_eq wav.left 0 then true
     else if nat_lt wav.left least_unknown then false else (nat_eq (length bytes) 0 || fills_up wav bytes)
 
 -- samples are given as in other inputs, up to their end; before it the input is cut where too few bytes are left
 abbrev pub DataGives : Wav → (before after : List ℕ) → Result (Option ℤ) SourceFault → Type 0
 DataGives wav before after (Ok (Some item)) = SampleGives wav.sample before after (Ok (Some item))
-DataGives wav before after (Ok None) = is_end wav before ≡ true
+DataGives wav before after (Ok None) = ends_samples wav before ≡ true
 DataGives wav before after (Err (BadItem number)) = SampleGives wav.sample before after (Err (BadItem number))
 DataGives wav before after (Err CutSample) =
-    (length before < sample_width wav.sample) × (is_end wav before ≡ false)
+    (length before < sample_width wav.sample) × (ends_samples wav before ≡ false)
 DataGives wav before after (Err (BadHead at)) = ⊥
 DataGives wav before after (Err Read) = ⊤
 DataGives wav before after (Err NoMemory) = ⊤
@@ -207,4 +207,4 @@ WavTells before answer after = (written : WavFormat) → WindowTells (format.Wav
 
 -- the answer where no more bytes come than these, which are too few for a sample
 abbrev pub end_told : Wav → List ℕ → Result (Option ℤ) SourceFault
-end_told wav bytes = if is_end wav bytes then Ok None else Err CutSample
+end_told wav bytes = if ends_samples wav bytes then Ok None else Err CutSample

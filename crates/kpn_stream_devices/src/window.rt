@@ -2,7 +2,7 @@
 ghost use Rattle.std.specs.Prelude.{◌≡◌, ◌+◌, ◌<◌, ◌≤◌, ◌++◌, [], true, false, Ok, Err, Some, None, drop, length, vec_len, IfOk, OnOk, OnErr, IfSome, MatchOption, position, ◌==◌, min};
 ghost use Rattle.kpn_stream_devices.specs.Formats.{sample_width};
 ghost use Rattle.kpn_stream_devices.specs.Head.{HasHead, head_at};
-ghost use Rattle.kpn_stream_devices.specs.Window.{end_told, fills_up, fresh, is_end, one_after, with_one, NeedsMore, HeadNeedsMore, LineNeedsMore, SampleNeedsMore, WindowTells, WavNeedsMore, WavTells};
+ghost use Rattle.kpn_stream_devices.specs.Window.{end_told, fills_up, fresh, ends_samples, one_after, with_one, NeedsMore, HeadNeedsMore, LineNeedsMore, SampleNeedsMore, WindowTells, WavNeedsMore, WavTells};
 ghost use Rattle.kpn_stream_devices.specs.declared.head.Head.TheVariants.{Whole};
 ghost use Rattle.kpn_stream_devices.specs.declared.formats.ItemFormat.TheVariants.{Lines, Samples};
 
@@ -315,7 +315,7 @@ impl Window {
 fn end_told(wav: Wav, bytes: &[u8]) -> Answer
     ensures { result ≡ end_told wav bytes.now }
 {
-    if is_end(wav, bytes) {
+    if ends_samples(wav, bytes) {
         return Ok(None);
     }
     Err(SourceFault::CutSample)
@@ -323,8 +323,8 @@ fn end_told(wav: Wav, bytes: &[u8]) -> Answer
 
 /// Whether these bytes are what is left behind the last sample: of a counted file nothing that is counted, and of
 /// another one nothing but what fills it up.
-fn is_end(wav: Wav, bytes: &[u8]) -> bool
-    ensures { result ≡ is_end wav bytes.now }
+fn ends_samples(wav: Wav, bytes: &[u8]) -> bool
+    ensures { result ≡ ends_samples wav bytes.now }
 {
     if wav.left == 0 {
         return true;
