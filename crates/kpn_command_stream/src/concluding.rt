@@ -214,7 +214,14 @@ fn summary_with(
 {
     let ends = ends?;
     let states = over.states.as_slice();
-    summary_of(alloc, document, &ends, states, over.rings.as_slice(), over.outcome)
+    summary_of(
+        alloc,
+        document,
+        &ends,
+        states,
+        over.rings.as_slice(),
+        over.outcome,
+    )
 }
 
 /// Writes a text, as much of it as is taken, if there was memory for it.
