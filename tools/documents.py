@@ -4,13 +4,15 @@
 - A file, a folder and a crate have to be there. A name in backquotes has to be in a source, a definition, a proof, a
   script or an example. A name with a file in brackets behind it has to be in that file; if the file has definitions, it
   has to be defined there.
-- docs/GUARANTEES.md: in "By `f`: `clause`" the function `f` has to be in a crate of its section, with such a clause.
+- docs/GUARANTEES.md: in the second column of a claim, `f`: `clause`, the function `f` has to be in a crate of the
+  heading or in the crate before its `::`, with such a clause. README.md has such names in brackets after its claims.
 - docs/LIBRARY.md: each piece of code has to be in the file that is named before it.
 - A link has to lead to a file or a heading. In `RUNS.md, "Growth"` the document has to have such a heading.
 - The table of crates has to have as many edits and tests of each crate as there are.
 - No line is longer than 120 columns, except rows of tables.
 """
 import argparse
+import functools
 import pathlib
 import re
 import sys
@@ -29,8 +31,9 @@ LINK = re.compile(r'\]\(([^)]*)\)')
 HEADING = re.compile(r'(\w+)\.md, "([^"]+)"')
 # Parts of a path that stand for something else, or that a build makes.
 STANDS_FOR = set('PWD CRATE mine MODULE FILE NAME NAME.antt NAME.edit FILE.antt MODULE.rt m out rlib'.split())
-# What a claim depends on, the head of a function, the clauses in it, and a name.
-BY = re.compile(r'\bBy (.*?)\.(?=\s|$)')
+# What carries a claim in GUARANTEES and in README, the head of a function, the clauses in it, and a name.
+ROW = re.compile(r'^\|.* \| *(.*?) *\|$', re.M)
+BRACKETS = re.compile(r'^\d\. .*?\((`[^)]*)\)\.$', re.M | re.S)
 HEAD = re.compile(r'\bfn (\w+)(.*?)(?:^\s*\{\}?$|\{\n|;\n)', re.S | re.M)
 CLAUSE = re.compile(r'\bensures\*? (\w+) \{')
 PLAIN = re.compile(r'`((?:\w+::)*\w+)`')
@@ -105,13 +108,21 @@ def wrong_links(document):
 
 
 def sections_of(document):
-    """The crates that a heading names, and the points below it, each on one line."""
+    """The crates that a heading names, and what carries each claim in the tables below it. A point of a list is there
+    too, since a claim belongs into a table.
+    """
     parts = re.split(r'^## (.*)$', document.read_text(), flags=re.M)
     for heading, body in zip(parts[1::2], parts[2::2]):
-        crates = [it for it in re.findall(r'\w+', heading) if (TOP / 'crates' / it).is_dir()]
-        yield crates, [' '.join(it.split('\n\n')[0].split()) for it in re.split(r'^- ', body, flags=re.M)[1:]]
+        crates = [it for it in re.findall(r'\w+', heading) if is_crate(it)]
+        cells = [it for it in ROW.findall(body) if it != 'By' and set(it) != {'-'}]
+        yield crates, cells + re.findall(r'^- .*', body, re.M) if crates else cells
 
 
+def is_crate(name):
+    return (TOP / 'crates' / name).is_dir()
+
+
+@functools.cache
 def clauses_in(crates):
     """The functions of some crates, each with the names of its clauses; modules, types and traits have none."""
     found = {}
@@ -124,17 +135,19 @@ def clauses_in(crates):
     return found
 
 
-def wrong_claims(document):
-    """What a claim depends on and is not there."""
-    for crates, points in sections_of(document):
-        clauses = clauses_in(crates)
-        for part in (part for point in points for by in BY.findall(point) for part in by.split(';')):
+def wrong_claims(sections):
+    """What is said to carry a claim and is not there."""
+    for crates, cells in sections:
+        carried = [it for it in cells if PLAIN.search(it) and not it.startswith('- ')]
+        yield from (f'a claim without a function beside it: {it}' for it in cells if it not in carried)
+        for part in (part for cell in carried for part in cell.split(';')):
             owners, _, named = part.partition(': ')
-            owners = [it.split('::')[-1] for it in PLAIN.findall(owners)]
+            paths = [it.split('::') for it in PLAIN.findall(owners)]
+            inside = tuple(it[0] for it in paths if len(it) > 1 and is_crate(it[0])) or tuple(crates)
+            clauses, owners = clauses_in(inside), [it[-1] for it in paths]
             known = set().union(*(clauses.get(it, ()) for it in owners))
-            yield from (f'no function {it} in {", ".join(crates)}' for it in owners if it not in clauses)
-            yield from (f'no clause {it} of {", ".join(owners)}' for it in PLAIN.findall(named)
-                        if owners and it not in known and it not in clauses)
+            yield from (f'no function {it} in {", ".join(inside)}' for it in owners if it not in clauses)
+            yield from (f'no clause {it} of {", ".join(owners)}' for it in PLAIN.findall(named) if it not in known)
 
 
 def wrong_counts(document):
@@ -163,7 +176,9 @@ def main():
         wrong += [f'{document.name}: {it}' for it in [*wrong_places(text, paths), *wrong_links(document)]]
         wrong += [f'{document.name}: {file} has no such code:\n{code}' for file, code in CODE.findall(text)
                   if code not in (TOP / file).read_text()]
-    wrong += [f'GUARANTEES.md: {it}' for it in wrong_claims(TOP / 'docs/GUARANTEES.md')]
+    wrong += [f'GUARANTEES.md: {it}' for it in wrong_claims(sections_of(TOP / 'docs/GUARANTEES.md'))]
+    claims = BRACKETS.findall((TOP / 'README.md').read_text())
+    wrong += [f'README.md: {it}' for it in wrong_claims([(['kpn_book'], claims)])]
     wrong += [f'PROVING.md: {it}' for it in wrong_counts(TOP / 'docs/PROVING.md')]
     print('\n'.join(wrong) or 'all that the documents name is there')
     return 1 if wrong else 0

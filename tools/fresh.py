@@ -1,18 +1,19 @@
 #!/usr/bin/env python3
 """Types what README.md, python/README.md and documents say, in a fresh clone of the commit, and looks at the answers.
 
-usage: tools/fresh.py [--built TREE]
+usage: tools/fresh.py [--built TREE | --unproved]
 
 Of README.md and of docs/GUIDE.md and docs/COMPILED.md it runs each block that begins with a command or with `import`,
 in their order. Under a `$` the lines below have to come out. Of python/README.md it runs the block that sets up the
-package, and all Python there and in python/SDF.md but the lines of matplotlib. It also makes the plant as C++, and installs all below a
-prefix. Left out are lines that call `rt`, `tools/check.py` or `./kpn --unproved`, since they only prove or build again,
-those about a NET, and those with `dot` if it is not there.
+package, and all Python there and in python/SDF.md but the lines of matplotlib. It also makes the plant as C++, and
+installs all below a prefix. Left out are lines that call `rt`, `tools/check.py` or `./kpn --unproved`, since they only
+prove or build again, those about a NET, and those with `dot` if it is not there.
 
 It needs git, the kit, `cc` and `c++`, `pkg-config`, and Python with `venv` and `pip`; no network. It is run by hand,
 and no part of the gate. The program is proved first, and then the library for C, which takes as long as README says.
 With --built it takes both, and the libraries below, of a TREE with the same sources, where `./kpn` and
-`tools/clib.py build out/c` have been called. It ends with 1 at once if it would have to prove anything then.
+`tools/clib.py build out/c` have been called. It ends with 1 at once if it would have to prove anything then. With
+--unproved it takes the program that `tools/unproved.py` has made here, and leaves out the lines about the library for C.
 """
 from __future__ import annotations
 
@@ -33,6 +34,7 @@ import prover
 TOP = pathlib.Path(__file__).resolve().parent.parent
 COMMAND = re.compile(r'(?:\$ )?(?:\./|tools/|cc |c\+\+ |pip |python3 |export |printf )')
 LEFT_OUT = re.compile(r'\brt |tools/check\.py|--unproved|\bNET\b|libplant')
+OF_LIBRARY = re.compile(r'clib\.py|libkpn|/plant|pkg-config|PKG_CONFIG|kpn install|installed')
 DOCUMENTS = ('README.md', 'docs/GUIDE.md', 'docs/COMPILED.md')
 # What README says in words only.
 SAID = [
@@ -83,11 +85,13 @@ def python_of(text: str) -> list[str]:
 class Clone:
     """A fresh clone, and an environment of Python for it."""
 
-    def __init__(self, room: pathlib.Path, built: pathlib.Path | None) -> None:
-        self.tree, self.exports, self.wrong = room / 'combrieks', [], 0
+    def __init__(self, room: pathlib.Path, built: pathlib.Path | None, unproved: bool) -> None:
+        self.tree, self.exports, self.wrong, self.has_library = room / 'combrieks', [], 0, not unproved
         subprocess.run(['git', 'clone', '-q', TOP, self.tree], check=True)
         if built:
             self.take(built)
+        if unproved:
+            self.take_unproved()
         subprocess.run([sys.executable, '-m', 'venv', room / 'python'], check=True)
         self.start = f'cd {self.tree}; PATH={room}/python/bin:$PATH; '
 
@@ -108,7 +112,15 @@ class Clone:
             sys.exit(f'{other[0]} is not that of the commit')
         shared.touch()
 
+    def take_unproved(self) -> None:
+        """Takes the program of this tree that is not proved. It is newer than the sources of the clone."""
+        for name, place in (('needed', 'out/needed'), ('kpn', 'crates/kpn/out/kpn')):
+            (self.tree / place).parent.mkdir(exist_ok=True)
+            shutil.copy(TOP / 'out/unproved' / name, self.tree / place)
+
     def call(self, command: str, wanted: list[str]) -> None:
+        if not self.has_library and OF_LIBRARY.search(command):
+            return
         if command.startswith('export '):
             self.exports.append(command)
             return
@@ -147,10 +159,12 @@ class Clone:
 
 def main() -> int:
     parser = argparse.ArgumentParser(description=__doc__, formatter_class=argparse.RawDescriptionHelpFormatter)
-    parser.add_argument('--built', type=pathlib.Path)
+    which = parser.add_mutually_exclusive_group()
+    which.add_argument('--built', type=pathlib.Path)
+    which.add_argument('--unproved', action='store_true')
     asked = parser.parse_args()
     with tempfile.TemporaryDirectory(prefix='kpn-fresh-') as name:
-        clone = Clone(pathlib.Path(name), asked.built)
+        clone = Clone(pathlib.Path(name), asked.built, asked.unproved)
         clone.type_all()
         print(f'{clone.wrong} wrong')
     return 1 if clone.wrong else 0

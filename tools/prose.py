@@ -5,10 +5,11 @@ usage: tools/prose.py [--long N] [--words] [FILE ..]
 
 Without a file it looks at README.md, docs/, bench/RESULTS.md, python/ and mpi/. For each document it writes the number
 of its words, of the sentences, the longest and the mean one, the share of sentences over 25 words, and the share of
-words that are code in backquotes. Code blocks and tables are left out of all but the number of words. In a sentence, a
-piece of code counts as one word. A heading is no sentence, and a point of a list ends one. With `--long N` it also
-writes each sentence of more than N words, with `--words` each place of a word of DIALECT. It warns of a page that has
-grown by a fifth since its number in PAGES was set. It cuts nothing, and is run by hand.
+words that are code in backquotes. Code blocks, and cells of tables without a full stop at their end, are left out of all
+but the number of words. In a sentence, a piece of code counts as one word. A heading is no sentence, and a point of a
+list ends one. With `--long N` it also writes each sentence of more than N words, with `--words` each place of a word of
+DIALECT. It warns of a page that has grown by a fifth since its number in PAGES was set. It cuts nothing, and is run by
+hand.
 """
 import argparse
 import pathlib
@@ -57,12 +58,14 @@ CODE = re.compile(r'``.+?``|`[^`]*`')
 
 
 def prose_of(text):
-    """The paragraphs of a text, each on one line, with headings apart; code blocks and tables are left out."""
+    """The paragraphs of a text and the whole sentences in its tables, each on one line, with headings apart."""
     paragraphs, headings, in_list = [''], [], False
     for line in re.sub(r'^ *```.*?^ *```$', '', text, flags=re.S | re.M).splitlines():
         is_code = line.startswith('    ') and not in_list
         if line.startswith('#'):
             headings.append(line)
+        if line.startswith('|'):
+            paragraphs += [cell.strip() for cell in line.split('|') if cell.strip().endswith('.')]
         if not line.strip() or line.startswith(('#', '|')) or is_code:
             paragraphs.append('')
             in_list = in_list and not line.startswith('#')
@@ -107,7 +110,7 @@ def show(document, asked):
     lengths = [length for length, _ in sentences if length] or [0]
     over, mean = sum(it > LONG for it in lengths) / len(lengths), sum(lengths) / len(lengths)
     dialect = list(dialect_in(name, text))
-    words = len(text.split())
+    words = len(WORD.findall(text))
     print(f'{name:<24}{words:>7,}{len(lengths):>11,}{max(lengths):>9}{mean:>7.1f}{over:>9.1%}'
           f'{share_of_code(paragraphs):>8.0%}{len(dialect):>9}')
     if asked.long is not None:
