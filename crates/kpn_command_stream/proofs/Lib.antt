@@ -4,4 +4,3 @@ pub mod Ringed
 pub mod Counted
 pub mod Worded
 pub mod Refusing
-pub mod Ended
