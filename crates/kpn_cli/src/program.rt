@@ -22,8 +22,9 @@ use std::time::Clock;
 /// that the user called the program by. It returns the status of the program: 0 for success and for help, 1 for a
 /// refused input, a device that fails or an illegal trace, 2 for words that are not understood, 3 for a run that has
 /// clogged, 4 for one that has jammed, 5 for one that has stopped or an audit without steps left, 6 for want of memory,
-/// 7 for workers that came to no outcome, 8 for a stream of which a process has faulted. What a quiet stream does not
-/// tell is added to `unsaid`. Only a run by workers may wait.
+/// 7 for workers that came to no outcome, 8 for a stream of which a process has faulted, 9 for a stream with a ring.
+/// What a quiet stream does not say is added to `unsaid`. A run by workers waits for its threads, and a stream for those
+/// that open and read its ends.
 pub fn command<
     R: Threads + Wait + Clock + Sync,
     S: Shelf + Ports,

@@ -116,8 +116,8 @@ fn and<'a>(
 
 // What help says below the commands.
 const STATUSES: &str = "\
-`kpn --words always|never|terminal COMMAND` says when words for a person follow what is told, as which
-file it is about and what to do: always, never, or on a terminal, as without it.
+`kpn --words always|never|terminal COMMAND` says when words for a person follow a line of kpn, such as
+which file it is about and what to do: always, never, or on a terminal, as without it.
 
 Statuses: 0 for success, 1 for a refused input or a device that fails, 2 for words that are not
 understood, 6 for want of memory; explain, draw, run, stream, audit, stats and timeline have more. If an
@@ -182,8 +182,8 @@ fn check_words<'a>(alloc: Global) -> Result<Command<'a>, AllocError>
 }
 
 const EXPLAIN_HELP: &str = "\
-If the description is right, writes the line of `kpn check`. Else writes `FILE:LINE:COLUMN: ` and what
-is wrong, then the line of the file with a caret below the place, and one line of advice. Lines and
+If the description is right, writes the line of `kpn check`. Otherwise writes `FILE:LINE:COLUMN: ` and
+what is wrong, then the line of the file with a caret below the place, and one line of advice. Lines and
 columns count from 1, and a column counts bytes. The part in brackets is the fault as the other commands
 report it.
 
@@ -232,7 +232,7 @@ fn print_words<'a>(alloc: Global) -> Result<Command<'a>, AllocError>
 const DRAW_HELP: &str = "\
 Writes a directed graph in the language of Graphviz: `kpn draw FILE | dot -Tsvg` makes a picture. A
 box is a process, with the name of its instance, of its program, and its parameters. An arrow is a
-channel, from its writer to its reader, with its name and capacity. An ellipse is the outside at a
+channel, from its writer to its reader, with its name and capacity. An ellipse is the outer end of a
 source or a sink. What stands side by side in the network is drawn one below the other; with --across it
 is drawn side by side.
 
@@ -303,9 +303,9 @@ first K items. The trace is stored first, then the sinks in the order of the des
 can't be stored, no report is written, and the files before it stay.
 
 With --workers the processes are stepped side by side. What is then written of `ended` and `enough`
-is the same for any number of them. Workers are faster than one thread in long runs if channels have
-capacities of 32 and more, or if processes compute for a microsecond or longer between two reads or
-writes, and else about as fast.
+is the same for any number of them. Workers are faster than one thread in long runs if the channels
+have the capacities of `kpn print --capacities fast`, or if processes compute for a microsecond or longer
+between two reads or writes. Otherwise they may be slower.
 
 The file of a source has an item on each line: an optional `-` and 1 to 19 digits.
 
@@ -573,7 +573,7 @@ fn stats_word<'a>(alloc: Global) -> Arg<'a>
     ensures { IsArg stats_flag result }
 {
     let help =
-        "Tells at the end what each channel did, and how each process ended or what it waits for";
+        "Writes at the end what each channel did, and how each process ended or what it waits for";
     flag(alloc, STATS, "stats", help)
 }
 
