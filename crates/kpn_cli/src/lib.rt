@@ -13,7 +13,6 @@ mod options;
 mod pieces;
 mod program;
 mod room;
-mod sounds;
 mod stopped;
 mod usage;
 mod waits;

@@ -14,5 +14,4 @@ mod stats;
 mod summary;
 
 pub use command::stream_command;
-pub use devices::USUAL_RATE;
 pub use formats::word_for;
