@@ -139,7 +139,9 @@ fn beside_batches<J: Job>(
         return Ok(0);
     };
     let mut worker = Worker::new(seat, 10);
-    worker.pace.away = Some(away);
+    let mut pace = worker.pace;
+    pace.away = Some(away);
+    worker.pace = pace;
     let mut turns: u64 = 0;
     'batches: for _batch in 0..10 {
         if worker.turns.claim(&mut desk)? {
