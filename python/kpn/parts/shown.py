@@ -22,6 +22,7 @@ CALLS: Dict[str, str] = {
     'complex_multiply': 'complex_multiply(x, y, z, w, shift=15)',
     'compressor': 'compressor(x, 8000, 4, 48, 4800)',
     'constant': 'constant(net, 5)',
+    'control': 'control(x, y, 4)',
     'count': 'count(net)',
     'dc_block': 'dc_block(x, 48000)',
     'dct': 'dct(x)',
