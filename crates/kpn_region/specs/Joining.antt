@@ -32,7 +32,7 @@ pub record IsClaimOf (t : Tables) (c : ℕ) (claim : SideState) (channel : Chann
   pub room : KeepsCapacity claim channel
   pub drained : claim.is_drained ≡ true → IsUnclaimedSink t c claim channel
 
--- no item was taken that was put behind one that was not claimed
+-- no item was taken that was put after one that was not claimed
 abbrev pub TakesInOrder : SideState → ChannelState → Type 0
 TakesInOrder side channel = (side.taken ≤ side.claimed) ⊎ (side.claimed ≡ length (unread channel))
 
