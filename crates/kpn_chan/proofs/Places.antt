@@ -268,7 +268,7 @@ all_enter len cap n taken gone kept count rest is left behind counted few fits =
       | inr none ↦ omega (arith, behind, counted, none)
     ]
 
--- what stays in a ring once so many items have left it and others have entered, and those that did both did neither
+-- what stays in a ring once this many items have left it and others have entered, and those that did both did neither
 pub passes_through : (xs ys : List ℤ) (taken gone count : ℕ) → gone ≡ min taken (length xs)
     → count ≡ length (drop (taken - gone) ys)
     → drop (length xs - (length xs - gone)) xs ++ take count (drop (taken - gone) ys) ≡ drop taken (xs ++ ys)

@@ -353,7 +353,7 @@ impl<A: Allocator> Channel<A> {
         self.journal.keeps
     }
 
-    /// Whether so many items can be joined without memory: the channel is roomy, they are at most 4,096, and all items
+    /// Whether this many items can be joined without memory: the channel is roomy, they are at most 4,096, and all items
     /// can be counted then. To a source none can be joined while its reader is there.
     #[tactic(auto, using(crate::proofs::Places::bounded_with_chunk))]
     pub fn has_places_for(&self, count: usize) -> bool
@@ -514,8 +514,8 @@ fn widen<A: Allocator + Copy>(
     ring.resize(places)
 }
 
-/// So many items leave a ring, if there is one, and these enter it after the others. Those that enter and leave do
-/// neither. The most items that were ever there become so many, if they were fewer.
+/// This many items leave a ring, if there is one, and these enter it after the others. Those that enter and leave do
+/// neither. The most items that were ever there become this many, if they were fewer.
 fn pass_through<A: Allocator>(
     ring: &mut Option<HeapCircularBuffer<i64, A>>,
     most: &mut usize,

@@ -327,7 +327,7 @@ impl<A: Allocator> Chunks<A> {
         self.last.split_at(place - self.full.len() * CHUNK).1
     }
 
-    /// The first so many items. The error is that memory ran out.
+    /// The first items, this many. The error is that memory ran out.
     pub(crate) fn copy_first<B: Allocator>(
         &self,
         alloc: B,

@@ -76,7 +76,7 @@ abbrev pub is_growth_of : (c : ℕ) → Event → Bool
 is_growth_of c (Grow p d n) = nat_eq d c
 is_growth_of c event = false
 
--- a capacity after so many growths
+-- a capacity after this many growths
 abbrev pub after_growths : Tables → (times cap : ℕ) → ℕ
 after_growths t zero cap = cap
 after_growths t (suc times) cap = larger_capacity t (after_growths t times cap)

@@ -152,7 +152,7 @@ pub(crate) fn apply(op: Op, left: i64, right: i64) -> Result<i64, Fault>
     }
 }
 
-/// The index of a cell that a number is, if there are so many cells.
+/// The index of a cell that a number is, if there are this many cells.
 #[inline(always)]
 pub fn index_in(size: usize, number: i64) -> Result<usize, Fault>
     ensures ok { IfOk result (λ index. (number ≡ pos index) × (index < size)) }

@@ -106,7 +106,7 @@ module _ (t : Tables) (p : ℕ) where
             sides_are = refl;
           }
 
-  -- steps after so many events, after which nothing came of the stop
+  -- steps after this many events, after which nothing came of the stop
   pub goes_and_stops : (n : ℕ) (f g h after : Frame) (sides later last : List SideState) (events more most : List Event)
       (steps : ℕ) (stop : Stop) → MakesEvents t p n f sides events g later more
       → IsAdvance (advanced_of (program_of t p) g h steps stop) → (after ≡ h) × (last ≡ later) × (most ≡ more)

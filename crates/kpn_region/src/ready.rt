@@ -18,7 +18,7 @@ pub(crate) struct Ready {
 }
 
 impl Ready {
-    /// The set without processes, of so many.
+    /// The set without processes, of this many.
     pub(crate) fn new(processes: usize) -> Ready {
         Ready {
             words: [0; WORDS],

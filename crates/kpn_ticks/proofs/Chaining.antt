@@ -269,7 +269,7 @@ module _ (t : Tables) (network : IsNetwork t) where
     shares : length w.shares ≡ length t.instances
     here : IsNoneOrIn w.tick (ticks H w.process)
 
-  -- so many gets and puts are left, one for each tick
+  -- this many gets and puts are left, one for each tick
   abbrev CountsTo : List Move → Walk → Type 0
   CountsTo moves w = sum (walk_back t w moves).shares ≡ sum w.shares + w.tick
 

@@ -206,7 +206,7 @@ pub fn clocks_after(
     Ok(clocks)
 }
 
-// So many zeros.
+// This many zeros.
 pub(crate) fn zeros(alloc: Global, n: usize) -> Result<Vec<usize>, AllocError>
     ensures { IfOk result (λ zeros. zeros.items ≡ replicate n 0) }
 {
