@@ -18,7 +18,7 @@ use Rattle.kpn_chan.specs.declared.channel.TheConstants.{FIRST_PLACES}
 use Rattle.circular_buffer.specs.Buffer.{Buffer, buffer}
 use Rattle.kpn_chan.specs.declared.chunks.TheConstants.{CHUNK}
 
--- the first item stays if others are put behind it
+-- the first item stays if others are put after it
 first_stays : (xs ys : List ℤ) → 0 < length xs → slice_get (xs ++ ys) 0 ≡ slice_get xs 0
 first_stays [] ys some = absurd omega (arith, some)
 first_stays (x ∷ xs) ys some = refl
@@ -106,7 +106,7 @@ module _ {A : Type 0} where
       let lies = drop-chunk xs full (place / CHUNK) (place % CHUNK) d ys below (omega arith) in
       found_at (all xs ++ ys) chunk lies.0 place (place % CHUNK) there (ap (λ n. drop n (all xs ++ ys)) is ∙ lies.1)
 
-  -- the item at a place behind them
+  -- the item at a place after them
   pub at_last : (xs : List (Vec ℤ A)) (ys : List ℤ) → AreFull xs → (place : ℕ) → length xs * CHUNK ≤ place
       → slice_get ys (place - length xs * CHUNK) ≡ slice_get (all xs ++ ys) place
   at_last xs ys full place past =
@@ -125,7 +125,7 @@ module _ {A : Type 0} where
       let lies = drop-chunk xs full (place / CHUNK) (place % CHUNK) d ys below (omega arith) in
       begins_with _ _ lies.0 (ap (λ n. drop n (all xs ++ ys)) is ∙ lies.1)
 
-  -- those from a place behind them
+  -- those from a place after them
   pub last_piece : (xs : List (Vec ℤ A)) (ys : List ℤ) → AreFull xs → (place : ℕ) → length xs * CHUNK ≤ place
       → let piece = drop (place - length xs * CHUNK) ys in
       piece ≡ take (length piece) (drop place (all xs ++ ys))
@@ -133,7 +133,7 @@ module _ {A : Type 0} where
       let piece = drop (place - length xs * CHUNK) ys in
       begins_with (drop place (all xs ++ ys)) piece [] (drop-last xs full place ys past ∙ sym (append-nil piece))
 
--- a list of the first items, with the first items of what comes behind it, is again a list of the first items
+-- a list of the first items, with the first items of what comes after it, is again a list of the first items
 pub copied_more : (l xs piece : List ℤ) (m : ℕ) → xs ≡ take (length xs) l
     → piece ≡ take (length piece) (drop (length xs) l)
     → xs ++ take m piece ≡ take (length (xs ++ take m piece)) l
@@ -268,7 +268,7 @@ all_enter len cap n taken gone kept count rest is left behind counted few fits =
       | inr none ↦ omega (arith, behind, counted, none)
     ]
 
--- what stays in a ring once so many items have left it and others have entered, and those that did both did neither
+-- what stays in a ring once this many items have left it and others have entered, and those that did both did neither
 pub passes_through : (xs ys : List ℤ) (taken gone count : ℕ) → gone ≡ min taken (length xs)
     → count ≡ length (drop (taken - gone) ys)
     → drop (length xs - (length xs - gone)) xs ++ take count (drop (taken - gone) ys) ≡ drop taken (xs ++ ys)

@@ -34,7 +34,7 @@ already_read c = take c.read c.journal
 abbrev pub unread : ChannelState → List ℤ
 unread c = drop c.read c.journal
 
--- whether so many unread items fill a channel of this capacity
+-- whether this many unread items fill a channel of this capacity
 abbrev pub fills : ℕ → Option ℕ → Bool
 fills count None = false
 fills count (Some capacity) = nat_le capacity count
@@ -47,7 +47,7 @@ is_channel_full c = not c.is_retired && fills (length (unread c)) c.capacity
 abbrev pub next_item : ChannelState → Option ℤ
 next_item c = if c.is_retired then None else slice_get (unread c) 0
 
--- the item that a read returns after so many others
+-- the item that a read returns after this many others
 abbrev pub item_after : ℕ → ChannelState → Option ℤ
 item_after k c = if c.is_retired then None else slice_get (unread c) k
 
@@ -133,14 +133,14 @@ roomy reserved c = record c { is_reserved = reserved; is_roomy = true; is_wide =
 abbrev pub with_reserved : Bool → ChannelState → ChannelState
 with_reserved reserved c = record c { is_reserved = reserved }
 
--- whether so many items can be joined without memory; to a source none can, while its reader is there
+-- whether this many items can be joined without memory; to a source none can, while its reader is there
 abbrev pub has_places_for : ℕ → ChannelState → Bool
 has_places_for count c =
     nat_eq count 0
     || (c.is_roomy
     && ((c.is_retired || is_some c.capacity) && (nat_le count CHUNK && nat_le (length c.journal + count) MOST_GONE)))
 
--- so many items may be counted as read and these be put, at once, if no more than so many were unread meanwhile. There
+-- `taken` items may be counted as read and these be put, at once, if no more than `most` were unread meanwhile. There
 -- are places for the items, and what is read was put. If the reader is there, what is unread is within the capacity
 pub record MayJoin (taken : ℕ) (items : List ℤ) (most : ℕ) (c : ChannelState) : Type 0 where
   pub places : has_places_for (length items) c ≡ true
@@ -153,7 +153,7 @@ pub record MayJoin (taken : ℕ) (items : List ℤ) (most : ℕ) (c : ChannelSta
 abbrev pub most_with_batch : (most : ℕ) → ChannelState → ℕ
 most_with_batch most c = if c.is_retired then c.most else max c.most most
 
--- the channel once so many items more are read, and these are put
+-- the channel once this many items more are read, and these are put
 abbrev pub batch_joined : (taken : ℕ) → List ℤ → (most : ℕ) → (reserved is_roomy : Bool) → ChannelState → ChannelState
 batch_joined taken items most reserved is_roomy c =
     record c {

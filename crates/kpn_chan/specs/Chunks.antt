@@ -45,7 +45,7 @@ module _ {A : Type 0} where
     pub last : vec_capacity c.last ≡ CHUNK
     pub next : vec_capacity c.next ≡ CHUNK
 
-  -- there are places for so many items more, and they can be counted
+  -- there are places for this many items more, and they can be counted
   pub record HasPlacesFor (count : ℕ) (c : Chunks A) : Type 0 where
     pub next : c.keeps ≡ true → HasNext c
     pub few : count ≤ CHUNK

@@ -32,7 +32,7 @@ abbrev pub HasPlaces : Option (Buffer ℤ) → (capacity : Option ℕ) → Type 
 HasPlaces None capacity = ⊤
 HasPlaces (Some ring) capacity = unwrap_or capacity 0 ≤ ring.capacity
 
--- so many items may leave a ring, and these enter it behind the others
+-- this many items may leave a ring, and these enter it after the others
 abbrev pub MayPass : (taken : ℕ) → List ℤ → Option (Buffer ℤ) → Type 0
 MayPass taken items None = ⊤
 MayPass taken items (Some ring) =

@@ -175,7 +175,7 @@ impl<A: Allocator + Copy> Channel<A> {
         Ok(())
     }
 
-    /// Counts `taken` items more as read, and puts these behind the others, at once. Items that are put and read never
+    /// Counts `taken` items more as read, and puts these after the others, at once. Items that are put and read never
     /// enter the ring. `most` items were unread meanwhile, or fewer. It takes no memory.
     ///
     /// The contract leaves open whether an item is reserved, and whether the channel is roomy, unless nothing is put.
@@ -270,7 +270,7 @@ impl<A: Allocator> Channel<A> {
         ring.get(k).copied()
     }
 
-    /// The items that a reader may get, in two slices: those of the second come behind those of the first.
+    /// The items that a reader may get, in two slices: those of the second come after those of the first.
     pub fn readable(&self) -> (&[i64], &[i64])
         ensures { result.0.now ++ result.1.now ≡ readable self.now }
     {
@@ -353,7 +353,7 @@ impl<A: Allocator> Channel<A> {
         self.journal.keeps
     }
 
-    /// Whether so many items can be joined without memory: the channel is roomy, they are at most 4,096, and all items
+    /// Whether this many items can be joined without memory: the channel is roomy, they are at most 4,096, and all items
     /// can be counted then. To a source none can be joined while its reader is there.
     #[tactic(auto, using(crate::proofs::Places::bounded_with_chunk))]
     pub fn has_places_for(&self, count: usize) -> bool
@@ -514,8 +514,8 @@ fn widen<A: Allocator + Copy>(
     ring.resize(places)
 }
 
-/// So many items leave a ring, if there is one, and these enter it behind the others. Those that enter and leave do
-/// neither. The most items that were ever there become so many, if they were fewer.
+/// This many items leave a ring, if there is one, and these enter it after the others. Those that enter and leave do
+/// neither. The most items that were ever there become this many, if they were fewer.
 fn pass_through<A: Allocator>(
     ring: &mut Option<HeapCircularBuffer<i64, A>>,
     most: &mut usize,

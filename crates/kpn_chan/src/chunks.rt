@@ -54,7 +54,7 @@ impl<A: Allocator + Copy> Chunks<A> {
         }
     }
 
-    /// Makes room for one more item behind the last one. The error is that memory ran out.
+    /// Makes room for one more item after the last one. The error is that memory ran out.
     #[inline(always)]
     pub(crate) fn reserve_one(&mut self) -> Result<(), AllocError>
         requires { IsChunks self.old }
@@ -148,7 +148,7 @@ impl<A: Allocator + Copy> Chunks<A> {
         Ok(())
     }
 
-    /// Puts these behind the others, at most as many as a chunk has. It takes no memory, and returns whether what
+    /// Puts these after the others, at most as many as a chunk has. It takes no memory, and returns whether what
     /// `make_next` has made ready is still there.
     pub(crate) fn append(&mut self, items: &[i64]) -> bool
         requires chunks { IsChunks self.old }
@@ -182,7 +182,7 @@ impl<A: Allocator + Copy> Chunks<A> {
         false
     }
 
-    /// What is in memory becomes past, and these behind it.
+    /// What is in memory becomes past, and these after it.
     fn pass(&mut self, items: &[i64])
         requires chunks { IsChunks self.old }
         requires keeps { self.old.keeps ≡ false }
@@ -200,7 +200,7 @@ impl<A: Allocator + Copy> Chunks<A> {
 }
 
 impl<A: Allocator> Chunks<A> {
-    /// What is in memory becomes past, behind what is past already.
+    /// What is in memory becomes past, after what is past already.
     pub(crate) fn into_past(self) -> Past<i64>
         requires { self.full.items ≡ [] }
         ensures { result.items ≡ all_of self }
@@ -217,7 +217,7 @@ impl<A: Allocator> Chunks<A> {
         self.full.len() * CHUNK + self.last.capacity() + self.next.capacity()
     }
 
-    /// Whether there is room for one more item behind the last one.
+    /// Whether there is room for one more item after the last one.
     pub(crate) fn has_room(&self) -> bool
         ensures { result ≡ has_room self.now }
     {
@@ -327,7 +327,7 @@ impl<A: Allocator> Chunks<A> {
         self.last.split_at(place - self.full.len() * CHUNK).1
     }
 
-    /// The first so many items. The error is that memory ran out.
+    /// The first items, this many. The error is that memory ran out.
     pub(crate) fn copy_first<B: Allocator>(
         &self,
         alloc: B,
@@ -347,7 +347,7 @@ impl<A: Allocator> Chunks<A> {
     }
 }
 
-/// Puts items behind those of a chunk, which has places for them.
+/// Puts items after those of a chunk, which has places for them.
 fn push_all<A: Allocator>(chunk: &mut Vec<i64, A>, items: &[i64])
     requires { vec_len chunk.old + length items.now ≤ vec_capacity chunk.old }
     ensures items { chunk.new.items ≡ chunk.old.items ++ items.now }

@@ -155,7 +155,7 @@ impl<A: Allocator> Journal<A> {
         self.chunks.piece_at(place)
     }
 
-    /// A list of the first so many items. The error is that memory ran out.
+    /// A list of the first items, this many. The error is that memory ran out.
     pub fn copy_first<B: Allocator>(
         &self,
         alloc: B,

@@ -7,7 +7,7 @@ pub fn journal_is_read_then_unread()
     ensures { (c : ChannelState) → c.journal ≡ already_read c ++ unread c }
 {}
 
-/// Items are read in the order in which they were put: a put adds its item behind all that is unread. A read takes the
+/// Items are read in the order in which they were put: a put adds its item after all that is unread. A read takes the
 /// first unread item, which then comes last of what was read.
 pub fn first_in_first_out()
     ensures put { (c : ChannelState) (item : ℤ) (reserved : Bool) → c.read ≤ length c.journal

@@ -5,7 +5,7 @@ ghost use Rattle.std.specs.Borrow.{ftrue};
 use std::fmt;
 use std::marker::{Model, PhantomData};
 
-/// What was put behind each other, oldest first, and is no longer in memory. A clause reads it as `items`.
+/// What was put one after the other, oldest first, and is no longer in memory. A clause reads it as `items`.
 #[derive(Drop)]
 pub struct Past<T> {
     of: PhantomData<T>,

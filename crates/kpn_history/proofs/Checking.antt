@@ -8,7 +8,7 @@ use Rattle.kpn_history.specs.declared.event.Event.{Event}
 use Rattle.kpn_history.specs.Waiting.{waits_of, IsBlockedCycle}
 use Rattle.kpn_history.proofs.Searching.{way-round, Way, Round, way, Allows, way-allows}
 
--- so many steps lead round any cycle
+-- this many steps lead round any cycle
 abbrev pub way_round : Tables → List Event → (p : ℕ) → Way
 way_round t B p = way t (waits_of t B) p (suc (length t.instances)) [] p
 

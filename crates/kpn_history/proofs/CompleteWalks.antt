@@ -29,7 +29,7 @@ pub record Passed (t : Tables) (H : List Event) (steps at : ℕ) : Type 0 where
   pub there : (p : ℕ) → Contains among p → p < length t.instances
   pub each : (p : ℕ) → Contains among p → (wait_of t H p ≡ Empty at) ⊎ StarvesAmong t H among p
 
--- a walk has come from one channel to another in so many steps: the one is complete if and only if the other is
+-- a walk has come from one channel to another in this many steps: the one is complete if and only if the other is
 pub record Walked (t : Tables) (H : List Event) (from steps at : ℕ) : Type 0 where
   pub same : IsComplete t H from ↔ IsComplete t H at
   pub passed : IsComplete t H at ⊎ Passed t H steps at

@@ -17,7 +17,7 @@ use Rattle.kpn_history.proofs.Legality.{Legal-last, Legal-consistent}
 use Rattle.kpn_history.proofs.Running.{CanSay-reads, CanSay-writes, ComesTo-reads}
 
 -- a process reads the channels that it gets from and waits on as empty. It writes those that it puts on and waits on as
--- full. The outside feeds and closes sources, and takes from sinks and leaves them
+-- full. The caller feeds and closes sources, and takes from sinks and leaves them
 abbrev pub Owns : Tables → Event → Type 0
 Owns t (Get p c v) = Reads t p c
 Owns t (Put p c v) = Writes t p c
@@ -34,7 +34,7 @@ Owns t (Grow p d n) = p < length t.instances
 pub said_by : (b p : ℕ) (talk : Said) → b ≡ p → cond (eqb b p) (talk ∷ []) [] ≡ talk ∷ []
 said_by b p talk e = ap (λ x. cond x (talk ∷ []) []) (eq-eqb b p e)
 
--- what a process says in the last event of a legal history it can say behind what it said before
+-- what a process says in the last event of a legal history it can say after what it said before
 pub CanSay-last : (t : Tables) (B : List Event) (e : Event) → Legal t (B ++ e ∷ []) → (p : ℕ) → p < length t.instances
     → (spoken : Said) → said_in p e ≡ spoken ∷ [] → ProcessCanSay t p (read_on (B ++ e ∷ [])) (talk_of B p ++ spoken ∷ [])
 CanSay-last t B e legal p below spoken is =

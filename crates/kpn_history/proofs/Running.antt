@@ -117,7 +117,7 @@ final_if_last i (Faulted fault) ending e last more = tt
 final_if_last i (Starved port) ending e last more = absurd (subst IsLast (sym e) last)
 final_if_last i Cut ending e last more = absurd (subst IsLast (sym e) last)
 
--- the items behind each list of a process's in ports, on a longer family
+-- the items after each list of a process's in ports, on a longer family
 abbrev pub more_for : (t : Tables) (p : ℕ) (X Y : Family) → IsFamilyPrefix X Y → ℕ → List ℤ
 more_for t p X Y b =
     added (map X (instance_at t p).ins) (map Y (instance_at t p).ins) (ArePrefixes-map (instance_at t p).ins X Y b)

@@ -83,7 +83,7 @@ abbrev onward : (p : ℕ) → (seen : List ℕ) → (ℕ → Way) → Option ℕ
 onward p seen next None = Off
 onward p seen next (Some r) = turned (nat_eq r p) (member r seen) r (next r)
 
--- the way from q back to p, over at most so many processes
+-- the way from q back to p, over at most this many processes
 abbrev pub way : Tables → List Wait → (p : ℕ) → (steps : ℕ) → (seen : List ℕ) → (q : ℕ) → Way
 way t waits p zero seen q = Lost
 way t waits p (suc steps) seen q =

@@ -123,7 +123,7 @@ module _ (t : Tables) (network : IsNetwork t) (B : List Event) (p c : ℕ) (writ
   after_end q how Source is = stays_full t B (Ended q how) c full refl refl refl (ap (takes_end c (Ended q how)) is)
   after_end q how Sink is = stays_full t B (Ended q how) c full refl refl refl (ap (takes_end c (Ended q how)) is)
 
-  -- of an event of another process, or of the outside
+  -- of an event of another process, or of the caller
   full_after : (e : Event) → Legal t (B ++ e ∷ []) → is_of p e ≡ false
       → is_full t (B ++ e ∷ []) c ≡ not (wakes_writer t c e)
   full_after (Get q d v) legal other =

@@ -15,7 +15,7 @@ abbrev pub capacity_then : Tables → (c : ℕ) → Event → Option ℕ → Opt
 capacity_then t c (Grow p d n) capacity = if nat_eq d c then option_map (larger_capacity t) capacity else capacity
 capacity_then t c event capacity = capacity
 
--- the event takes this end of the channel away: the process ends, or the outside leaves the sink
+-- the event takes this end of the channel away: the process ends, or the caller leaves the sink
 abbrev pub takes_end : (c : ℕ) → Event → End → Bool
 takes_end c event (Process p) = is_end_of p event
 takes_end c event Source = false

@@ -43,12 +43,12 @@ fed t H c = if is_source (channel_at t c) then written_on H c else []
 
 -- ---- which ends are there
 
--- the outside closes a source
+-- the caller closes a source
 abbrev pub is_close_of : (c : ℕ) → Event → Bool
 is_close_of c (Close d) = nat_eq d c
 is_close_of c event = false
 
--- the outside leaves a sink
+-- the caller leaves a sink
 abbrev pub is_leave_of : (c : ℕ) → Event → Bool
 is_leave_of c (Leave d) = nat_eq d c
 is_leave_of c event = false
@@ -59,7 +59,7 @@ is_closed H c = list_any (is_close_of c) H
 abbrev pub is_left : List Event → (c : ℕ) → Bool
 is_left H c = list_any (is_leave_of c) H
 
--- the end of a channel lives: a process that has not ended, or the outside if it has not left the sink
+-- the end of a channel lives: a process that has not ended, or the caller if it has not left the sink
 abbrev pub lives : List Event → (c : ℕ) → End → Bool
 lives H c (Process p) = not (has_ended H p)
 lives H c Source = false
@@ -76,7 +76,7 @@ abbrev pub is_growth_of : (c : ℕ) → Event → Bool
 is_growth_of c (Grow p d n) = nat_eq d c
 is_growth_of c event = false
 
--- a capacity after so many growths
+-- a capacity after this many growths
 abbrev pub after_growths : Tables → (times cap : ℕ) → ℕ
 after_growths t zero cap = cap
 after_growths t (suc times) cap = larger_capacity t (after_growths t times cap)

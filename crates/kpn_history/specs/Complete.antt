@@ -13,7 +13,7 @@ use Rattle.kpn_history.specs.Talks.{has_ended}
 use Rattle.kpn_history.specs.Channels.{written_on, fed, is_closed}
 use Rattle.kpn_history.specs.Waiting.{wait_of}
 
--- this writer puts nothing more on the channel: it is a finished process, or the outside, which has closed the source
+-- this writer puts nothing more on the channel: it is a finished process, or the caller, which has closed the source
 abbrev pub PutsNoMore : (finished : ℕ → Type 0) → List Event → (c : ℕ) → (writer : End) → Type 0
 PutsNoMore finished H c (Process p) = finished p
 PutsNoMore finished H c Source = is_closed H c ≡ true

@@ -110,12 +110,12 @@ pub record ComesToWrite (t : Tables) (B : List Event) (p c : ℕ) : Type 0 where
   pub next : ProcessCanSay t p (read_on B) (talk_of B p ++ said.Put c item ∷ [])
   pub full : is_full t B c ≡ true
 
--- the outside may feed a source or close it
+-- the caller may feed a source or close it
 pub record MayFeed (t : Tables) (B : List Event) (c : ℕ) : Type 0 where
   pub source : is_source (channel_at t c) ≡ true
   pub not_closed : is_closed B c ≡ false
 
--- the outside may take from a sink or leave it
+-- the caller may take from a sink or leave it
 pub record MayTake (t : Tables) (B : List Event) (c : ℕ) : Type 0 where
   pub sink : is_sink (channel_at t c) ≡ true
   pub not_left : is_left B c ≡ false

@@ -24,7 +24,7 @@ KeepsConsistent t B (Take c v) = IsOldest B c v
 KeepsConsistent t B event = Unit {0}
 
 -- the channel of an event belongs to whatever made the event. A process is the reader of a channel that it gets from or
--- waits on as empty, and the writer of one that it puts on or waits on as full. The outside feeds and closes sources,
+-- waits on as empty, and the writer of one that it puts on or waits on as full. The caller feeds and closes sources,
 -- and takes from sinks and leaves them
 abbrev pub IsOwn : Tables → Event → Type 0
 IsOwn t (Get p c v) = reader_of t c ≡ Process p

@@ -11,7 +11,7 @@ use Rattle.kpn_history.specs.declared.event.How.TheVariants as how
 use Rattle.kpn_history.specs.declared.event.Event.{Event}
 use Rattle.kpn_history.specs.declared.event.Event.TheVariants.{Get, Put, WaitEmpty, WaitFull, Ended, Feed, Close, Take, Leave, Grow}
 
--- the process whose event this is; those of the outside and growths are of no process
+-- the process whose event this is; those of the caller and growths are of no process
 abbrev pub process_of : Event → Option ℕ
 process_of (Get p c v) = Some p
 process_of (Put p c v) = Some p
@@ -33,7 +33,7 @@ channel_of (Take c v) = Some c
 channel_of (Leave c) = Some c
 channel_of (Grow p c n) = Some c
 
--- the events of a process; those of the outside and growths are of no process
+-- the events of a process; those of the caller and growths are of no process
 abbrev pub is_of : (p : ℕ) → Event → Bool
 is_of p (Get q c v) = nat_eq q p
 is_of p (Put q c v) = nat_eq q p

@@ -20,7 +20,7 @@ pub fn who_is_finished()
 {}
 
 /// The journal of a complete channel is the least solution there, for all lists from which the sources were fed:
-/// on a closed source the items that it was fed, on an open one these and any others behind them. Capacities play no
+/// on a closed source the items that it was fed, on an open one these and any others after them. Capacities play no
 /// part.
 pub fn complete_is_least()
     ensures { (t : Tables) → IsNetwork t → (H : List Event) → Legal t H

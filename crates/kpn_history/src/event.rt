@@ -4,7 +4,7 @@ ghost use Rattle.kpn_history.specs.Talks.{is_of, is_of_process, process_of, chan
 
 use kpn_lang::Fault;
 
-/// One event of a run: what a process did or met, or what the outside did. Processes and channels go by
+/// One event of a run: what a process did or met, or what the caller did. Processes and channels go by
 /// their numbers in the network, processes first.
 #[derive(Clone, Copy, Debug, PartialEq, Eq)]
 pub enum Event {
@@ -18,13 +18,13 @@ pub enum Event {
     WaitFull(u16, u16),
     /// `Ended(process, how)`: the process ended.
     Ended(u16, How),
-    /// `Feed(channel, item)`: the outside put an item on a source.
+    /// `Feed(channel, item)`: the caller put an item on a source.
     Feed(u16, i64),
-    /// `Close(channel)`: the outside closed a source.
+    /// `Close(channel)`: the caller closed a source.
     Close(u16),
-    /// `Take(channel, item)`: the outside took the oldest unread item of a sink.
+    /// `Take(channel, item)`: the caller took the oldest unread item of a sink.
     Take(u16, i64),
-    /// `Leave(channel)`: the outside left a sink.
+    /// `Leave(channel)`: the caller left a sink.
     Leave(u16),
     /// `Grow(process, channel, capacity)`: the capacity of the channel became larger, since the process waits.
     /// `capacity` is the new one.
@@ -47,7 +47,7 @@ pub enum How {
 }
 
 impl Event {
-    /// The process whose event this is; none if it is an event of the outside or a growth.
+    /// The process whose event this is; none if it is an event of the caller or a growth.
     pub fn process(self) -> Option<usize>
         ensures exact { result ≡ process_of self }
         ensures own { IfSome result (λ p. is_of p self ≡ true) }

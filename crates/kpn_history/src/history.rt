@@ -114,7 +114,7 @@ impl<A: Allocator> History<A> {
         self.events.capacity() - self.events.len()
     }
 
-    /// Puts an event behind the others. It takes no memory.
+    /// Puts an event after the others. It takes no memory.
     #[inline(always)]
     pub fn push(&mut self, event: Event)
         requires { 0 < self.old.room }
@@ -125,7 +125,7 @@ impl<A: Allocator> History<A> {
         self.events.push_reserved(event);
     }
 
-    /// Puts these events behind the others, at once. It takes no memory.
+    /// Puts these events after the others, at once. It takes no memory.
     pub fn append(&mut self, events: &[Event])
         requires { length events.now ≤ self.old.room }
         ensures events { self.new.events ≡ self.old.events ++ events.now }
@@ -196,7 +196,7 @@ fn forget<A: Allocator>(
     events.clear();
 }
 
-/// These events become past, behind those that are.
+/// These events become past, after those that are.
 fn pass(past: &mut Past<Event>, newest: &mut Option<Event>, events: &[Event])
     requires { newest.old ≡ last_or None past.old.items }
     ensures past { past.new.items ≡ past.old.items ++ events.now }

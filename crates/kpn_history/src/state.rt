@@ -67,7 +67,7 @@ impl<A: Allocator> View<A> {
     }
 }
 
-/// How a run has come to a stop, once no growth is owed and nothing more can happen except that the outside leaves a
+/// How a run has come to a stop, once no growth is owed and nothing more can happen except that the caller leaves a
 /// sink.
 #[derive(Clone, Copy, Debug, PartialEq)]
 pub enum Verdict {

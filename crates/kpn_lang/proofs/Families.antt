@@ -1,4 +1,4 @@
--- Families of lists that grow: which items come behind them, and what a read leaves of them.
+-- Families of lists that grow: which items come after them, and what a read leaves of them.
 use Rattle.std.proofs.Common.{◌≡◌, ℕ, ◌<◌, ℤ, List, [], ◌∷◌, ◌++◌, length, set, sym, ap, ◌∙◌, inl, inr, get_or-set_same, get_or-set_other}
 use Rattle.std.proofs.lemmas.List.{get_or_past, append-nil, append_cancel_left}
 use Rattle.std.proofs.lemmas.Bool.{cases_lt, cases_eq}
@@ -7,7 +7,7 @@ use Rattle.kpn_lang.specs.Prefix.{ArePrefixes}
 use Rattle.kpn_lang.specs.Laws.{Grows}
 use Rattle.kpn_lang.proofs.Prefixes.{IsPrefix-from_rest, rest_of_prefix}
 
--- no items behind any list
+-- no items after any list
 abbrev pub nothing : ℕ → List ℤ
 nothing port = []
 
@@ -19,7 +19,7 @@ pub ArePrefixes-from_grows : (more : ℕ → List ℤ) (lists longer : Lists) �
 ArePrefixes-from_grows more lists longer g =
     λ port. IsPrefix-from_rest (list_at lists port) (more port) (list_at longer port) (sym (g.each port))
 
--- what comes behind each list of a longer family
+-- what comes after each list of a longer family
 abbrev pub added : (lists longer : Lists) → ArePrefixes lists longer → ℕ → List ℤ
 added lists longer p port = (rest_of_prefix (list_at lists port) (list_at longer port) (p port)).0
 
@@ -28,7 +28,7 @@ pub Grows-from_prefixes : (lists longer : Lists) (p : ArePrefixes lists longer) 
 Grows-from_prefixes lists longer p =
     record { each = λ port. sym (rest_of_prefix (list_at lists port) (list_at longer port) (p port)).1 }
 
--- nothing comes behind a list that stays
+-- nothing comes after a list that stays
 pub nil_from_same : (xs rest : List ℤ) → xs ≡ xs ++ rest → rest ≡ []
 nil_from_same xs rest e = append_cancel_left xs rest [] (sym e ∙ sym (append-nil xs))
 

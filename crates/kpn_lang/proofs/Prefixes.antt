@@ -36,7 +36,7 @@ pub IsPrefix-append : {A : Type 0} (xs rest : List A) → IsPrefix xs (xs ++ res
 IsPrefix-append [] rest = tt
 IsPrefix-append (x ∷ xs) rest = (refl, IsPrefix-append xs rest)
 
--- the rest that, behind the one, makes the other
+-- the rest that, after the one, makes the other
 pub rest_of_prefix : {A : Type 0} (xs ys : List A) → IsPrefix xs ys → (rest : List A) × (xs ++ rest ≡ ys)
 rest_of_prefix [] ys p = (ys, refl)
 rest_of_prefix (x ∷ xs) [] p = absurd p

@@ -26,7 +26,7 @@ pub record ComesTo (process : Process) (lists : Lists) (ending : Ending) (talk :
   pub said : (process turns lists).talk ≡ talk
   pub whole : ending ≢ Cut
 
--- the variables at the start, and the cells behind them: the parameters, zeros, and the first values of the cells
+-- the variables at the start, and the cells after them: the parameters, zeros, and the first values of the cells
 abbrev pub start_of : Parts → List ℤ → List ℤ
 start_of parts pars = pars ++ replicate (parts.vars - length pars) (pos 0) ++ cells_of parts
 

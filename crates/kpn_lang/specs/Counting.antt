@@ -2,7 +2,7 @@
 -- it. To read what the language is, nobody needs it.
 use Rattle.std.specs.Prelude.{ℕ, ◌+◌, ◌-◌, nat_le, nat_eq, if◌then◌else◌, List, [], ◌∷◌, Option, Some, None}
 
--- what remains of a budget after so many nodes; nothing if there are more
+-- what remains of a budget after this many nodes; nothing if there are more
 abbrev pub budget_after : (budget nodes : ℕ) → Option ℕ
 budget_after budget nodes = if nat_le nodes budget then Some (budget - nodes) else None
 

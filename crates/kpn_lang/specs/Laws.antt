@@ -8,11 +8,11 @@ use Rattle.kpn_lang.specs.Run.{Ran, Lists, list_at}
 use Rattle.kpn_lang.specs.Prefix.{IsPrefix}
 use Rattle.kpn_lang.specs.Alone.{Process, got_at}
 
--- each list is the old one with these items behind it
+-- each list is the old one with these items after it
 pub record Grows (more : ℕ → List ℤ) (lists longer : Lists) : Type 0 where
   pub each : (port : ℕ) → list_at longer port ≡ list_at lists port ++ more port
 
--- an end that items behind the lists do not change: if the run starved, none come behind the list of that port
+-- an end that items after the lists do not change: if the run starved, none come after the list of that port
 abbrev pub IsFinal : (ℕ → List ℤ) → Ending → Type 0
 IsFinal more Done = Unit {0}
 IsFinal more (Faulted fault) = Unit {0}

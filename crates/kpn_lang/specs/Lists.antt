@@ -2,7 +2,7 @@
 use Rattle.std.specs.Prelude.{ℕ, ℤ, List, [], ◌∷◌, Option, drop, slice_get, slice_set}
 use Rattle.kpn_lang.specs.Run.{Lists, list_at}
 
--- what remains of each list behind its place
+-- what remains of each list after its place
 abbrev pub remaining : Lists → (places : List ℕ) → Lists
 remaining [] places = []
 remaining (items ∷ lists) [] = []

@@ -19,7 +19,7 @@ pub record Parts : Type 0 where
   pub tables : List ℤ
   pub blocks : List (List Statement)
 
--- the cells at the start, which have the numbers behind the variables: those of the arrays, which are free to be set,
+-- the cells at the start, which have the numbers after the variables: those of the arrays, which are free to be set,
 -- and then those of the tables
 abbrev pub cells_of : Parts → List ℤ
 cells_of p = replicate p.free (pos 0) ++ p.tables

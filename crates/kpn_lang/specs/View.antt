@@ -20,11 +20,11 @@ abbrev pub parts_with : (ins outs pars vars : ℕ) → List (Vec Stmt) → Parts
 parts_with ins outs pars vars blocks =
     record { ins = ins; outs = outs; pars = pars; vars = vars; free = 0; tables = []; blocks = blocks_of blocks }
 
--- how many variables a program has, of which so many have names: with cells there are at least 64
+-- how many variables a program has, of which this many have names: with cells there are at least 64
 abbrev pub vars_with : (named cells : ℕ) → ℕ
 vars_with named cells = if nat_eq cells 0 then named else max named MAX_VARIABLES
 
--- the same with so many cells of arrays, and the values of tables
+-- the same with this many cells of arrays, and the values of tables
 abbrev pub parts_with_cells : (ins outs pars vars free : ℕ) → List ℤ → List (Vec Stmt) → Parts
 parts_with_cells ins outs pars vars free tables blocks =
     record {

@@ -44,7 +44,7 @@ pub fn longer_lists()
         → EndsAlike more (process n lists) (process m longer) }
 {}
 
-/// A family of lists begins with another if and only if it is the other with some items behind each list.
+/// A family of lists begins with another if and only if it is the other with some items after each list.
 pub fn lists_that_grow()
     ensures added { (lists longer : Lists) → ArePrefixes lists longer
         → ((more : ℕ → List ℤ) × Grows more lists longer) }

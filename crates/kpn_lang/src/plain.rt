@@ -45,7 +45,7 @@ impl Run {
         self.ending
     }
 
-    /// The variables at the end, the parameters first, and the cells behind them.
+    /// The variables at the end, the parameters first, and the cells after them.
     pub fn variables(&self) -> &[i64]
         ensures { result.now ≡ self.now.variables }
     {

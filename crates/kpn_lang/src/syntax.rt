@@ -1,4 +1,4 @@
-//! The syntax of processes: expressions as trees, statements that name blocks by number. Behind the variables of a
+//! The syntax of processes: expressions as trees, statements that name blocks by number. After the variables of a
 //! process are the cells of its arrays and tables. They have the numbers that come next.
 
 /// An operator of two operands.

@@ -1,7 +1,7 @@
 //! What a process says while it runs: the items that it gets and puts, and how its run ends.
 use crate::value::Fault;
 
-/// One thing that a process says to the outside: an item that it got at an in port, or one that it
+/// One thing that a process says: an item that it got at an in port, or one that it
 /// put on an out port, as `Got(port, item)`.
 #[derive(Clone, Copy, Debug, PartialEq, Eq)]
 pub enum Said {

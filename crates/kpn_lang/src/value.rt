@@ -152,7 +152,7 @@ pub(crate) fn apply(op: Op, left: i64, right: i64) -> Result<i64, Fault>
     }
 }
 
-/// The index of a cell that a number is, if there are so many cells.
+/// The index of a cell that a number is, if there are this many cells.
 #[inline(always)]
 pub fn index_in(size: usize, number: i64) -> Result<usize, Fault>
     ensures ok { IfOk result (λ index. (number ≡ pos index) × (index < size)) }
@@ -174,7 +174,7 @@ pub fn eval(expr: &Expr, variables: &[i64]) -> Result<i64, Fault>
     eval_in(expr, variables, &[])
 }
 
-/// The value of an expression if the variables, and the cells behind them, have these values.
+/// The value of an expression if the variables, and the cells after them, have these values.
 pub fn eval_in(expr: &Expr, variables: &[i64], cells: &[i64]) -> Result<i64, Fault>
     requires { let vars = length variables.now in
         IsTrue (names_within vars (vars + length cells.now) (term_of expr.now)) }

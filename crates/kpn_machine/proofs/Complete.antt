@@ -19,7 +19,7 @@ use Rattle.kpn_history.proofs.CompleteWalks.{Walked, walk_starts, complete_sourc
 use Rattle.kpn_machine.specs.Machine.{Machine, closed_in, wait_in, end_in, IsMachine}
 use Rattle.kpn_machine.specs.Run.{IsEndOf, IsRun}
 
--- in each history that leads here, a walk has come from one channel to another in so many steps
+-- in each history that leads here, a walk has come from one channel to another in this many steps
 abbrev pub WalkedHere : Tables → Machine → (from steps at : ℕ) → Type 0
 WalkedHere t s from steps at = (H : List Event) → IsRun t H s → Walked t H from steps at
 

@@ -201,7 +201,7 @@ module _ (t : Tables) (network : IsNetwork t) (H : List Event) (s : Machine) (ru
           comes_last (ending_of how) (IsLast-ending_of how) stands,
         ) tt
 
-  -- ---- events of the outside
+  -- ---- events of the caller
 
   module _ (c : ℕ) (below : c < length t.channels) where
     still_open : closed_in s c ≡ false → is_closed H c ≡ false

@@ -329,7 +329,7 @@ module _ (t : Tables) (network : IsNetwork t) (H : List Event) (s : Machine) (ru
               )
       due_here event own legal = absurd (false≢true own)
 
-  -- ---- events of the outside, and growths
+  -- ---- events of the caller, and growths
 
   pub due_outside : OwesNothing t H → (e : Event) → is_of_process e ≡ false → Legal t (H ++ e ∷ []) → IsDueNow t s e
   due_outside owes (Feed c v) own legal =

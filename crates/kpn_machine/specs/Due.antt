@@ -51,7 +51,7 @@ stop_of how = stop_for (ending_of how)
 -- ---- when an event is due
 
 -- an event of a process: the process is free, its next statement asks for the event, and its channel is ready for it.
--- An event of the outside: the source is not closed, the sink has this item next, or the sink has not been left. This
+-- An event of the caller: the source is not closed, the sink has this item next, or the sink has not been left. This
 -- is for moments that owe no growth, so no growth is due. For a growth see IsOwed
 abbrev pub IsDueNow : Tables → Machine → Event → Type 0
 IsDueNow t s (Get p c v) = IsFree s p × ReadsFrom t s p c × (next_item (channel_in s c) ≡ Some v)

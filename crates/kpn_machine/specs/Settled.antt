@@ -20,7 +20,7 @@ pub record IsOutsideDone (t : Tables) (s : Machine) : Type 0 where
   pub sinks : (c : ℕ) → c < length t.channels → is_sink (channel_at t c) ≡ true
       → (unread (channel_in s c) ≡ []) ⊎ ((channel_in s c).is_retired ≡ true)
 
--- nothing goes on by itself, and the outside has done all that it may
+-- nothing goes on by itself, and the caller has done all that it may
 pub record IsSettledNow (t : Tables) (s : Machine) : Type 0 where
   pub processes : HaveStoppedIn t s
   pub outside : IsOutsideDone t s

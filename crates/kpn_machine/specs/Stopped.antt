@@ -19,7 +19,7 @@ is_quiet_at s p = is_some (end_in s p) || is_empty_wait (wait_in s p)
 abbrev pub has_stopped : Machine → (p : ℕ) → Bool
 has_stopped s p = is_some (end_in s p) || not (is_free (wait_in s p))
 
--- the outside may still feed the channel or close it, or take an item from it
+-- the caller may still feed the channel or close it, or take an item from it
 abbrev pub awaits_outside : Tables → Machine → (c : ℕ) → Bool
 awaits_outside t s c =
     if is_source (channel_at t c) then not (closed_in s c)

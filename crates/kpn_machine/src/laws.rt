@@ -50,7 +50,7 @@ pub fn an_event_leads_to_one()
 {}
 
 /// After a run that owes no growth, an event may follow if and only if the machine says that it is due. For an
-/// event of the outside this always holds. For one of a process, the process has to be free and at a stop that is no
+/// event of the caller this always holds. For one of a process, the process has to be free and at a stop that is no
 /// pause. If a growth is owed, nothing else may follow.
 pub fn exactly_what_is_due()
     ensures may { (t : Tables) → IsNetwork t → (H : List Event) (s : Machine) → IsRun t H s

@@ -367,7 +367,7 @@ reader_of-Reads t network p c w =
     (IsAmong-right (Process p) (cond (is_sink (channel_at t c)) (Sink ∷ []) []) _
     (IsAmong-port (λ i. i.ins) t p c w.process w.place))
 
--- the outside's ends are no processes
+-- the caller's ends are no processes
 outside_source : (b : Bool) (p : ℕ) → IsAmong (Process p) (cond b (Source ∷ []) []) → ⊥
 outside_source true p (inl e) = absurd cc
 outside_source true p (inr h) = h
@@ -408,12 +408,12 @@ Reads-reader_of t p c e =
           }
     ]
 
--- the writer of a source is the outside
+-- the writer of a source is the caller
 pub writer_of-source : (t : Tables) (c : ℕ) → is_source (channel_at t c) ≡ true → writer_of t c ≡ Source
 writer_of-source t c e =
     ap (λ b. get_or (cond b (Source ∷ []) [] ++ ends_from (λ i. i.outs) c 0 t.instances) 0 Sink) e
 
--- the reader of a sink is the outside
+-- the reader of a sink is the caller
 pub reader_of-sink : (t : Tables) (c : ℕ) → is_sink (channel_at t c) ≡ true → reader_of t c ≡ Sink
 reader_of-sink t c e = ap (λ b. get_or (cond b (Sink ∷ []) [] ++ ends_from (λ i. i.ins) c 0 t.instances) 0 Source) e
 
@@ -426,7 +426,7 @@ no_process end h ports c p instances among =
     ends_from-HasPort end ports c p instances (record { program = 0; ins = []; outs = []; pars = [] }) among in
     h (p + r.number) r.is
 
--- if the outside is the writer, the channel is a source
+-- if the caller is the writer, the channel is a source
 pub source-writer_of : (t : Tables) (c : ℕ) → writer_of t c ≡ Source → is_source (channel_at t c) ≡ true
 source-writer_of t c e =
     which (is_source (channel_at t c)) refl (IsAmong-first Source Sink (writers_of t c) e (λ f. absurd cc))
@@ -437,7 +437,7 @@ source-writer_of t c e =
     which true e h = e
     which false e h = absurd (no_process Source (λ p f. absurd cc) (λ i. i.outs) c 0 t.instances h)
 
--- if the outside is the reader, the channel is a sink
+-- if the caller is the reader, the channel is a sink
 pub sink-reader_of : (t : Tables) (c : ℕ) → reader_of t c ≡ Sink → is_sink (channel_at t c) ≡ true
 sink-reader_of t c e =
     which (is_sink (channel_at t c)) refl (IsAmong-first Sink Source (readers_of t c) e (λ f. absurd cc))

@@ -37,7 +37,7 @@ pub length-lists_of : (t : Tables) (X : Family) (lists : List (List ℤ)) → li
     → length lists ≡ length t.channels
 length-lists_of t X lists e = ap length e ∙ length-map-range_with_len X 0 (length t.channels)
 
--- an item behind one of the lists
+-- an item after one of the lists
 pub set-lists : (lists : List (List ℤ)) (n : ℕ) (F : Family) (d : ℕ) (v : ℤ) → lists ≡ map F (range_with_len 0 n)
     → d < n
     → set lists d (get_or lists d [] ++ v ∷ []) ≡ map (λ c. F c ++ cond (eqb d c) (v ∷ []) []) (range_with_len 0 n)

@@ -94,13 +94,13 @@ Keeps-joined sides ends ports i p side other k h below e =
     e ∙ ap (λ s. side_with s (Process p)) (get_or_default sides c other Nobody below) in
     rw read (Keeps-port sides ends ports i c p k h (get_or_default ports i 0 c h) below)
 
--- ---- the outside's ends
+-- ---- the caller's ends
 
 -- the tables with only the first instances
 abbrev pub first_instances : ℕ → Tables → Tables
 first_instances p t = record t { instances = take p t.instances }
 
--- the outside's ends at the first channels
+-- the caller's ends at the first channels
 abbrev pub outside_writers : Tables → (n c : ℕ) → List End
 outside_writers t n c = cond (ltb c n) (cond (is_source (channel_at t c)) (Source ∷ []) []) []
 
@@ -230,7 +230,7 @@ readers_of-more t i c x h e =
     ∙ sym (ends_from-more (λ y. y.ins) c 0 i t.instances x h)
     ∙ ap (λ n. ends_from (λ y. y.ins) c 0 (take n t.instances)) (let z : suc i ≡ i + 1 = omega arith in z))
 
--- ---- the outside
+-- ---- the caller
 
 -- the first channels with one more
 ltb-more_other : (c i : ℕ) → (c ≡ i → ⊥) → ltb c (i + 1) ≡ ltb c i

@@ -10,7 +10,7 @@ use Rattle.kpn_net.specs.Tables.{Tables, channel_at, is_source, writer_of}
 use Rattle.kpn_net.specs.Faults.{channel_numbers}
 use Rattle.kpn_net.specs.Process.{Family, out_of}
 
--- what an end writes on a channel when the processes run on a family: a process puts its items, the outside none
+-- what an end writes on a channel when the processes run on a family: a process puts its items, the caller none
 abbrev pub written_by : Tables → (n : ℕ) → Family → (c : ℕ) → End → List ℤ
 written_by t n X c (Process p) = out_of t p n X c
 written_by t n X c Source = []

@@ -52,13 +52,13 @@ any_has_cells t = list_any (λ program. nat_lt 0 (program.free + length program.
 
 -- ---- the ends of a channel
 
--- the outside writes it
+-- the caller writes it
 abbrev pub is_source : ChannelSpec → Bool
 is_source (channel.Inner cap) = false
 is_source channel.Source = true
 is_source (channel.Sink cap) = false
 
--- the outside reads it
+-- the caller reads it
 abbrev pub is_sink : ChannelSpec → Bool
 is_sink (channel.Inner cap) = false
 is_sink channel.Source = false
@@ -89,11 +89,11 @@ abbrev pub ends_from : (Instance → List ℕ) → (c p : ℕ) → List Instance
 ends_from ports c p [] = []
 ends_from ports c p (instance ∷ instances) = ends_among c p (ports instance) ++ ends_from ports c (suc p) instances
 
--- all that writes a channel: the outside, if it is a source, and a process for each place among its out ports
+-- all that writes a channel: the caller, if it is a source, and a process for each place among its out ports
 abbrev pub writers_of : Tables → ℕ → List End
 writers_of t c = (if is_source (channel_at t c) then Source ∷ [] else []) ++ ends_from (λ i. i.outs) c 0 t.instances
 
--- all that reads a channel: the outside, if it is a sink, and a process for each place among its in ports
+-- all that reads a channel: the caller, if it is a sink, and a process for each place among its in ports
 abbrev pub readers_of : Tables → ℕ → List End
 readers_of t c = (if is_sink (channel_at t c) then Sink ∷ [] else []) ++ ends_from (λ i. i.ins) c 0 t.instances
 

@@ -21,7 +21,7 @@ pub fn networks_are_bounded()
     ensures channels { (t : Tables) → IsNetwork t → length t.channels ≤ MAX_CHANNELS }
 {}
 
-/// Each channel of a network has exactly one writer and exactly one reader. The outside writes the
+/// Each channel of a network has exactly one writer and exactly one reader. The caller writes the
 /// sources and reads the sinks, and nothing else.
 pub fn one_writer_and_one_reader()
     ensures writer { (t : Tables) → IsNetwork t → (c : ℕ) → c < length t.channels

@@ -216,14 +216,14 @@ impl Network {
         self.readers[c]
     }
 
-    /// Whether channel `c` is a source, which the outside writes. A channel that is not there is no source.
+    /// Whether channel `c` is a source, which the caller writes. A channel that is not there is no source.
     pub fn is_source(&self, c: usize) -> bool
         ensures { result ≡ is_source (channel_at self.now c) }
     {
         matches!(self.parts.channels.get(c), Some(ChannelSpec::Source))
     }
 
-    /// Whether channel `c` is a sink, which the outside reads. A channel that is not there is no sink.
+    /// Whether channel `c` is a sink, which the caller reads. A channel that is not there is no sink.
     pub fn is_sink(&self, c: usize) -> bool
         ensures { result ≡ is_sink (channel_at self.now c) }
     {

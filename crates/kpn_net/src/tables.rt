@@ -6,9 +6,9 @@ use kpn_lang::Sequence;
 pub enum ChannelSpec {
     /// From process to process, with this capacity.
     Inner(u32),
-    /// Fed by the outside. It has no capacity.
+    /// Fed by the caller. It has no capacity.
     Source,
-    /// Emptied by the outside, with this capacity.
+    /// Emptied by the caller, with this capacity.
     Sink(u32),
 }
 
@@ -48,8 +48,8 @@ pub struct Instance {
 pub enum End {
     /// The process with this number.
     Process(usize),
-    /// The outside, which feeds a source.
+    /// The caller, which feeds a source.
     Source,
-    /// The outside, which empties a sink.
+    /// The caller, which empties a sink.
     Sink,
 }

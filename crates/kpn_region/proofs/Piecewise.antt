@@ -95,7 +95,7 @@ and_true : (b : Bool) → (b && true) ≡ b
 and_true true = refl
 and_true false = refl
 
--- a channel before the n-th, the n-th itself, or one behind it
+-- a channel before the n-th, the n-th itself, or one after it
 data Place (c n : ℕ) : Type 0 where
   earlier : ltb c n ≡ true → eqb n c ≡ false → ltb c (n + 1) ≡ true → Place c n
   itself : c ≡ n → ltb c n ≡ false → eqb n c ≡ true → ltb c (n + 1) ≡ true → Place c n

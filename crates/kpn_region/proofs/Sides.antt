@@ -254,7 +254,7 @@ pub kept_of : (b : Batch) → IsBatch b → (c : ℕ) → c < length b.tables.ch
 kept_of b is c below channel agrees =
     kept_in_batch c b is below (claim_counts b.tables c (side_at b.now c) channel agrees)
 
--- the items behind those that were claimed are those that the region has put
+-- the items after those that were claimed are those that the region has put
 pub put_of : (found side : SideState) → found ≡ side → (claimed : ℕ) (items put : List ℤ) → claimed ≡ found.claimed
     → items ≡ found.items → put ≡ drop claimed items → put ≡ items_put side
 put_of found side same claimed items put c i p =

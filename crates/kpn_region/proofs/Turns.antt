@@ -106,7 +106,7 @@ module _ (t : Tables) (p : ℕ) where
             sides_are = refl;
           }
 
-  -- steps behind so many events, after which nothing came of the stop
+  -- steps after this many events, after which nothing came of the stop
   pub goes_and_stops : (n : ℕ) (f g h after : Frame) (sides later last : List SideState) (events more most : List Event)
       (steps : ℕ) (stop : Stop) → MakesEvents t p n f sides events g later more
       → IsAdvance (advanced_of (program_of t p) g h steps stop) → (after ≡ h) × (last ≡ later) × (most ≡ more)
@@ -175,7 +175,7 @@ module _ (t : Tables) (p c : ℕ) (v : ℤ) (f g : Frame) (sides : List SideStat
         there = refl;
       }))
 
-  -- the put, and the take behind it, if there is one
+  -- the put, and the take after it, if there is one
   put_and_taken : (then : List SideState) (more : List Event) → PassesWrite t p c v f g
       → length (untaken (side_in sides c)) < (side_in sides c).room
       → as_claimed (with_item_put v (side_in sides c)) ≡ as_claimed (side_in sides c) → (taken : Option ℤ)

@@ -32,7 +32,7 @@ pub record IsClaimOf (t : Tables) (c : ℕ) (claim : SideState) (channel : Chann
   pub room : KeepsCapacity claim channel
   pub drained : claim.is_drained ≡ true → IsUnclaimedSink t c claim channel
 
--- no item was taken that was put behind one that was not claimed
+-- no item was taken that was put after one that was not claimed
 abbrev pub TakesInOrder : SideState → ChannelState → Type 0
 TakesInOrder side channel = (side.taken ≤ side.claimed) ⊎ (side.claimed ≡ length (unread channel))
 
@@ -70,7 +70,7 @@ has_put_items side = nat_lt side.claimed (length side.items)
 abbrev pub has_taken : SideState → Bool
 has_taken side = nat_lt 0 side.taken
 
--- the most items that were ever unread, if these were the most that the region saw, and so many more that it did not
+-- the most items that were ever unread, if these were the most that the region saw, and this many more that it did not
 -- see; as before if it has put none
 abbrev pub most_with : (unseen most before : ℕ) → ℕ
 most_with unseen zero before = before

@@ -117,7 +117,7 @@ pub record RegionPuts (t : Tables) (p c : ℕ) (v : ℤ) (before after : Local) 
   pub passes : PassesWrite t p c v (frame_at before p) to
   pub there : after ≡ with_local_frame p to (with_side c (with_item_put v (side_at before c)) before)
 
--- the outside takes the next item of channel c, which is v and a sink that the region empties
+-- the caller takes the next item of channel c, which is v and a sink that the region empties
 pub record RegionTakes (c : ℕ) (v : ℤ) (before after : Local) : Type 0 where
   pub channel : c < length before.sides
   pub drained : (side_at before c).is_drained ≡ true

@@ -62,7 +62,7 @@ pub record HasPart (p : ℕ) (f : Frame) (sides : List SideState) (s : Local) : 
 abbrev pub with_part : (p : ℕ) → Frame → List SideState → Local → Local
 with_part p f sides s = record s { frames = slice_set s.frames p f; sides = sides }
 
--- process p has made so many events: whatever events led to the state before, with these they lead to the state after
+-- process p has made this many events: whatever events led to the state before, with these they lead to the state after
 pub record MakesEvents (t : Tables) (p n : ℕ) (f : Frame) (sides : List SideState) (events : List Event)
     (g : Frame) (sides_then : List SideState) (events_then : List Event) : Type 0 where
   pub fit : IsTrue (fits (program_of t p) g)

@@ -180,7 +180,7 @@ fn empties_a_sink<A: Allocator, B: Allocator>(
     !side.is_drained() || (sink && !channel.is_retired() && side.claimed() == 0)
 }
 
-/// Whether no item was taken that was put behind one that was not claimed.
+/// Whether no item was taken that was put after one that was not claimed.
 fn takes_in_order<A: Allocator, B: Allocator>(side: &RegionSide<A>, channel: &Channel<B>) -> bool
     ensures { result ≡ takes_in_order side.now channel.now }
 {

@@ -12,13 +12,13 @@ pub(crate) struct Ready {
     words: [u64; WORDS],
     // how many of them are in use
     used: usize,
-    // the word of the process that came last, and the bits behind it
+    // the word of the process that came last, and the bits after it
     word: usize,
     behind: u64,
 }
 
 impl Ready {
-    /// The set without processes, of so many.
+    /// The set without processes, of this many.
     pub(crate) fn new(processes: usize) -> Ready {
         Ready {
             words: [0; WORDS],
@@ -43,7 +43,7 @@ impl Ready {
         }
     }
 
-    /// Takes out the process that comes next behind the last one.
+    /// Takes out the process that comes next after the last one.
     #[inline(always)]
     pub(crate) fn next(&mut self) -> Option<usize> {
         let mut at = self.word;

@@ -187,7 +187,7 @@ impl<A: Allocator> RegionSide<A> {
         ((self.items.len() - self.taken) as u64) < self.room
     }
 
-    /// Puts an item behind the others. The error is that memory ran out, and then the channel is as before.
+    /// Puts an item after the others. The error is that memory ran out, and then the channel is as before.
     #[inline(always)]
     pub(crate) fn put(&mut self, item: i64) -> Result<(), AllocError>
         ensures after { self.new ≡ (if is_ok result then with_item_put item self.old else self.old) }

@@ -14,10 +14,10 @@ use kpn_net::Network;
 use kpn_step::{Frame, Stop};
 use std::alloc::{AllocError, Allocator};
 
-/// So many events a process makes at most before the next one has its turn.
+/// This many events a process makes at most before the next one has its turn.
 const TURN: u32 = 256;
 
-/// So many if no channel of the region is wide. Then the next one can't go on for long, and a try in vain costs as much
+/// This many if no channel of the region is wide. Then the next one can't go on for long, and a try in vain costs as much
 /// as an event.
 pub(crate) const SHORT_TURN: u32 = 2;
 
@@ -30,12 +30,12 @@ pub(crate) struct Traffic<A: Allocator> {
     pub(crate) sides: Vec<RegionSide<A>, A>,
     pub(crate) events: Vec<Event, A>,
     pub(crate) ready: Ready,
-    // so many events a process makes at most before the next one has its turn
+    // this many events a process makes at most before the next one has its turn
     pub(crate) most: u32,
 }
 
-/// So many events a process makes at most, once a channel more is in the region: one with so many items and so much room,
-/// and maybe a sink that is emptied.
+/// This many events a process makes at most, once a channel more is in the region: one with these items and this room, and
+/// maybe a sink that is emptied.
 pub(crate) fn turn_with(most: u32, items: usize, room: u64, drains: bool) -> u32 {
     if !drains && room.saturating_add(items as u64) >= WIDE {
         TURN
@@ -88,7 +88,7 @@ pub(crate) struct Turned {
 }
 
 impl<A: Allocator> Traffic<A> {
-    /// Reserves memory for so many gets and puts. A put may bring a take with it.
+    /// Reserves memory for this many gets and puts. A put may bring a take with it.
     #[inline(always)]
     pub(crate) fn reserve(&mut self, n: u32) -> Result<(), AllocError>
         ensures events { self.new.events.items ≡ self.old.events.items }

@@ -4,7 +4,7 @@ ghost use Rattle.std.specs.Cmp.Lexicographic.{pointwise};
 
 use arrayvec::ArrayVec;
 
-// So many elements of a list are copied and compared one by one.
+// This many elements of a list are copied and compared one by one.
 const SHORT_LENGTH: usize = 4;
 
 /// Makes a list equal to another. It writes only what is used.

@@ -103,7 +103,7 @@ spells_digits ds n numeral short value fits =
       in_range = fits;
     }
 
--- and behind a minus its negative
+-- and after a minus its negative
 spells_minus : (ds : List ℕ) (n : ℕ) → IsNumeral 10 ds → length ds ≤ MAX_DIGITS → digits_value 10 ds ≡ suc n
     → FitsSigned w64 (negsuc n) → SpellsItem (45 ∷ ds) (negsuc n)
 spells_minus ds n numeral short value fits = record {

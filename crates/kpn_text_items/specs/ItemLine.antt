@@ -12,7 +12,7 @@ IsShortNumeral ds = IsNumeral 10 ds × (length ds ≤ MAX_DIGITS)
 abbrev pub without_minus : List ℕ → List ℕ
 without_minus line = if starts_with_minus line then drop 1 line else line
 
--- the number that the digits write in base ten, and behind a `-` its negative
+-- the number that the digits write in base ten, and after a `-` its negative
 abbrev pub line_value : List ℕ → ℤ
 line_value line =
     let number = pos (digits_value 10 (without_minus line)) in if starts_with_minus line then neg_ℤ number else number

@@ -269,7 +269,7 @@ module _ (t : Tables) (network : IsNetwork t) where
     shares : length w.shares ≡ length t.instances
     here : IsNoneOrIn w.tick (ticks H w.process)
 
-  -- so many gets and puts are left, one for each tick
+  -- this many gets and puts are left, one for each tick
   abbrev CountsTo : List Move → Walk → Type 0
   CountsTo moves w = sum (walk_back t w moves).shares ≡ sum w.shares + w.tick
 
@@ -282,7 +282,7 @@ module _ (t : Tables) (network : IsNetwork t) where
   by_tests P true false past w both first second = second refl
   by_tests P false b past w both first second = first refl
 
-  -- one get or put of a process behind these events
+  -- one get or put of a process after these events
   one_move : (B : List Event) → AllCount B → (p latest tick : ℕ) (other : WaitCause) → p < length t.instances → 0 < tick
       → IsNoneOrIn (tick - 1) (ticks B (awaited_process t p (wait_cause latest tick other))) → (w : Walk)
       → length w.shares ≡ length t.instances

@@ -65,7 +65,7 @@ has_effect t s now (Feed c v) can = refl
 has_effect t s now (Take c v) can = refl
 has_effect t s now event can = absurd can
 
--- ---- the tick of an event behind another one
+-- ---- the tick of an event after another one
 
 latest_stays : (event : Event) (n : ℕ) (s : Clocks) (q : ℕ) → Differ (process_of event) (Some q)
     → latest_of (effect event n s) q ≡ latest_of s q

@@ -45,7 +45,7 @@ at_beginning (x ∷ xs) (z ∷ zs) (suc k) d p below = at_beginning xs zs k d p.
 
 -- ---- a list that events make
 
--- it goes on by this element behind some beginning of the events
+-- it goes on by this element after some beginning of the events
 pub record GoesOn {A : Type 0} (say : Event → List A) (xs : List A) (a : A) (G : List Event) : Type 0 where
   pub before : List Event
   pub event : Event

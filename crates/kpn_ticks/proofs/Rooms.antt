@@ -218,7 +218,7 @@ reads_no_more t network b H G B D c q reads legal legal_B legal_D begins other t
     let there = gets_counted t network b c q reads D legal_D in
     omega (arith, whole, part, here, there)
 
--- ---- what the outside writes and reads
+-- ---- what the caller writes and reads
 
 pub not_source : (end : End) → end ≡ Source → (q : ℕ) → end ≢ Process q
 not_source end is q there = let clash : Source ≡ Process q = sym is ∙ there in absurd cc

@@ -36,7 +36,7 @@ pub record Agree (t : Tables) (b : Bool) (B G : List Event) : Type 0 where
   pub written : (c q : ℕ) → writer_of t c ≡ Process q → IsPrefix (seen (wrote t c) t b B) (seen (wrote t c) t b G)
   pub read : (c q : ℕ) → reader_of t c ≡ Process q → IsPrefix (seen (took t c) t b B) (seen (took t c) t b G)
 
--- H comes behind B to an event of p to which G comes behind D
+-- H comes after B to an event of p to which G comes after D
 pub record DoMeet (t : Tables) (b : Bool) (H G B D : List Event) (e : Event) (p : ℕ) : Type 0 where
   pub network : IsNetwork t
   pub legal : Legal t H
@@ -199,7 +199,7 @@ module _ (t : Tables) (b : Bool) (H G B D : List Event) (p c : ℕ) (v : ℤ) (m
       (capacities_counted t m.network b c p writes B legal_B ∙ sym (written_length t b c B legal_B) ∙ as_many
       ∙ written_length t b c D legal_D ∙ sym (capacities_counted t m.network b c p writes D legal_D))
 
-  -- there is room in time if the outside reads the channel
+  -- there is room in time if the caller reads the channel
   in_time_for : (X : List Event) → Legal t X → ((q : ℕ) → reader_of t c ≢ Process q)
       → room_for (clocks_after t b X) c Sink ≤ latest_of (clocks_after t b X) p
   in_time_for X legal none =

@@ -8,7 +8,7 @@ use Rattle.kpn_history.specs.Talks.{talk_of}
 use Rattle.kpn_history.specs.Channels.{is_growth_of}
 use Rattle.kpn_ticks.specs.Ticks.{Clocks, get_tick, put_tick, clocks_with_event, start}
 
--- what each of these events shows, behind those before it
+-- what each of these events shows, after those before it
 abbrev pub seen_from : {A : Type 0} → (Clocks → Event → List A) → Tables → Clocks → List Event → List A
 seen_from see t s [] = []
 seen_from see t s (event ∷ events) = see s event ++ seen_from see t (clocks_with_event t s event) events

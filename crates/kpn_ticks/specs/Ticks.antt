@@ -41,7 +41,7 @@ room_there None written read reader = 0
 room_there (Some cap) written read reader =
     if nat_lt (length written) cap then 0 else slice_index_or read (length written - cap) reader
 
--- the latest tick of the reader of a channel; the outside takes no time
+-- the latest tick of the reader of a channel; the caller takes no time
 abbrev pub latest_at : Clocks → End → ℕ
 latest_at s (Process p) = latest_of s p
 latest_at s Source = 0

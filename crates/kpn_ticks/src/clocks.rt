@@ -206,7 +206,7 @@ pub fn clocks_after(
     Ok(clocks)
 }
 
-// So many zeros.
+// This many zeros.
 pub(crate) fn zeros(alloc: Global, n: usize) -> Result<Vec<usize>, AllocError>
     ensures { IfOk result (λ zeros. zeros.items ≡ replicate n 0) }
 {
@@ -240,7 +240,7 @@ fn no_capacities(alloc: Global, channels: usize) -> Result<Vec<Option<u32>>, All
     vec![in alloc; None; channels]
 }
 
-// Puts a tick behind those of a channel.
+// Puts a tick after those of a channel.
 fn push_tick(lists: &mut Vec<Sequence<usize>>, c: usize, tick: usize) -> Result<(), AllocError>
     ensures { OnOk result (lists.new.items ≡ with_tick lists.old.items c tick) }
 {

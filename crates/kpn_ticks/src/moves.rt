@@ -47,7 +47,7 @@ impl Log {
         Ok(log)
     }
 
-    // Before the first event, with room for so many gets and puts.
+    // Before the first event, with room for this many gets and puts.
     fn new(alloc: Global, network: &Network, most: usize) -> Result<Log, AllocError>
         ensures { IfOk result (λ log. logged log ≡ course_of network.now []) }
     {

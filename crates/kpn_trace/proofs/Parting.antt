@@ -53,7 +53,7 @@ pub is_there : (s : ℕ) (xs ys : List ℕ) → LacksByte s (xs ++ s ∷ ys) →
 is_there s [] ys lacks = lacks_first s s ys lacks refl
 is_there s (x ∷ xs) ys lacks = is_there s xs ys (lacks_rest s x (xs ++ s ∷ ys) lacks)
 
--- what comes before the first such byte, and what behind it
+-- what comes before the first such byte, and what after it
 pub cut : (s : ℕ) (w v a b : List ℕ) → LacksByte s w → LacksByte s v → w ++ s ∷ a ≡ v ++ s ∷ b → (w ≡ v) × (a ≡ b)
 cut s [] [] a b lacks also e = (refl, cc)
 cut s [] (y ∷ v) a b lacks also e =
@@ -121,7 +121,7 @@ item_lacks s (negsuc n) low fits =
     both (eqb 45 s) (list_any (λ b. eqb b s) (decimal (suc n))) minus
     (decimal_lacks s (suc n) low (omega (arith, ints)))
 
--- one number and what follows behind a space
+-- one number and what follows after a space
 pub front : (m n : ℕ) (a b : List ℕ) → m < 2 ^ 16 → n < 2 ^ 16 → decimal m ++ 32 ∷ a ≡ decimal n ++ 32 ∷ b
     → (m ≡ n) × (a ≡ b)
 front m n a b small few e =

@@ -126,7 +126,7 @@ same_version One Two e =
 same_version Two One e =
     let clash : ◌≡◌ {A = Bool} false true = ap (λ xs. bytes_eq xs (version_line One)) e in absurd (false≢true clash)
 
--- what comes behind the first line
+-- what comes after the first line
 abbrev behind_version : Version → Policy → Growth → (more : List ℕ) → List ℕ
 behind_version One p g more = more
 behind_version Two p g more = rules_line p g ++ 10 ∷ more
@@ -159,7 +159,7 @@ no_rules bytes line rest second more_lines split lacks two then few none v p g h
     by_version Two is behind =
         none p g (cut 10 second (rules_line p g) more_lines more few (no_feed_in_rules p g) (sym then ∙ behind)).0
 
--- the same if the first line has no second one behind it
+-- the same if the first line has no second one after it
 pub no_second : (bytes line rest : List ℕ) → bytes ≡ line ++ 10 ∷ rest → LacksByte 10 line
     → line ≡ version_line Two → LacksByte 10 rest → HasBadHead bytes
 no_second bytes line rest split lacks two few v p g head more e =
@@ -286,7 +286,7 @@ trace_spells_one bytes x y spells also =
           (subst (λ v. events_text x.version x.events ≡ events_text v y.events) (sym same.version) same.rest);
     }
 
--- something that no line of an event begins comes behind no part of a whole text
+-- something that no line of an event begins comes after no part of a whole text
 no_bad_rest : (v : Version) (before events : List Event) (rest : List ℕ) → All (IsInRange v) before
     → All (IsInRange v) events → events_text v before ++ rest ≡ events_text v events → (rest ≡ [] → ⊥)
     → ((event : Event) (more : List ℕ) → IsInRange v event → rest ≡ event_text v event ++ more → ⊥) → ⊥

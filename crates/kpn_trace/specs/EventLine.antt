@@ -68,7 +68,7 @@ abbrev pub growth_words : Version → (p c n : ℕ) → List (List ℕ)
 growth_words One p c n = decimal p ∷ decimal c ∷ []
 growth_words Two p c n = decimal p ∷ decimal c ∷ decimal n ∷ []
 
--- the words behind the kind: numbers and items in decimal, without leading zeros
+-- the words after the kind: numbers and items in decimal, without leading zeros
 abbrev pub arguments_of : Version → Event → List (List ℕ)
 arguments_of version (Get p c v) = decimal p ∷ decimal c ∷ signed_decimal v ∷ []
 arguments_of version (Put p c v) = decimal p ∷ decimal c ∷ signed_decimal v ∷ []

@@ -67,7 +67,7 @@ abbrev pub HasBadHead : (bytes : List ℕ) → Type 0
 HasBadHead bytes = (version : Version) (p : Policy) (g : Growth) → IsHead version p g → (more : List ℕ)
     → bytes ≢ head_text version p g ++ more
 
--- behind the lines of some events comes something that does not begin with a line of an event; it begins on this line,
+-- after the lines of some events comes something that does not begin with a line of an event; it begins on this line,
 -- counted from 1
 pub record HasBadLine (bytes : List ℕ) (line : ℕ) : Type 0 where
   pub version : Version

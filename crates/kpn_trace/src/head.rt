@@ -29,7 +29,7 @@ impl HeadRead {
     }
 }
 
-/// What the first lines of a trace say, and the bytes behind them.
+/// What the first lines of a trace say, and the bytes after them.
 pub fn head_before(bytes: &[u8]) -> Option<(HeadRead, &[u8])>
     ensures { MatchOption result (HasBadHead bytes.now) (λ read.
         IsHead read.0.version read.0.policy read.0.growth

@@ -80,7 +80,7 @@ fn event_of(version: Version, line: &[u8]) -> Option<Event>
     event_of_kind(version, kind, parts)
 }
 
-/// The event of a kind that the words behind it spell.
+/// The event of a kind that the words after it spell.
 fn event_of_kind(version: Version, kind: Kind, parts: &[u8]) -> Option<Event>
     ensures { MatchOption result
         ((event : Event) → IsInRange version event → event_kind event ≡ kind
@@ -123,7 +123,7 @@ fn event_of_kind(version: Version, kind: Kind, parts: &[u8]) -> Option<Event>
     }
 }
 
-/// The growth that the words behind its kind spell.
+/// The growth that the words after its kind spell.
 fn growth_of(version: Version, parts: &[u8]) -> Option<Event>
     ensures { MatchOption result
         ((event : Event) → IsInRange version event → event_kind event ≡ kind.Grow

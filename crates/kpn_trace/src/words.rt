@@ -8,7 +8,7 @@ use itoa::Buffer;
 use kpn_limits::MAX_CAPACITY;
 use kpn_text_items::item_of_line;
 
-/// What comes before the first such byte, and what comes behind it.
+/// What comes before the first such byte, and what comes after it.
 pub fn parted(bytes: &[u8], byte: u8) -> Option<(&[u8], &[u8])>
     ensures { MatchOption result (LacksByte byte bytes.now) (λ parts.
         (bytes.now ≡ parts.0.now ++ byte ∷ parts.1.now) × LacksByte byte parts.0.now) }
@@ -78,7 +78,7 @@ pub fn capacity(word: &[u8]) -> Option<u32>
     Some(n)
 }
 
-/// A number with a space behind it, and what follows.
+/// A number with a space after it, and what follows.
 pub fn number_before(bytes: &[u8]) -> Option<(u16, &[u8])>
     ensures { MatchOption result
         ((n : ℕ) (more : List ℕ) → n < 2 ^ 16 → bytes.now ≢ decimal n ++ 32 ∷ more)

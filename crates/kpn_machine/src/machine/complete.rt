@@ -35,7 +35,7 @@ impl<A: Allocator> Machine<A> {
             };
             at = next;
         }
-        // after so many steps it goes round in a ring of empty waits, unless it has come to a source
+        // after this many steps it goes round in a ring of empty waits, unless it has come to a source
         if network.is_source(at) {
             self.is_closed(at)
         } else {

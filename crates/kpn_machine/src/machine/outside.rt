@@ -1,4 +1,4 @@
-//! The events of the outside, which feeds sources and closes them, and takes from sinks and leaves them.
+//! The events of the caller, which feeds sources and closes them, and takes from sinks and leaves them.
 ghost use Rattle.std.specs.Prelude.{◌≡◌, ◌<◌, ℕ, true, false, List, [], ◌∷◌, ◌++◌, length, IsTrue, IsSome, Some};
 ghost use Rattle.kpn_net.specs.Tables.{channel_at, is_source, is_sink};
 ghost use Rattle.kpn_chan.specs.Channel.{next_item};
@@ -16,7 +16,7 @@ use kpn_net::Network;
 use std::alloc::Allocator;
 
 impl<A: Allocator> Machine<A> {
-    /// The outside puts an item on a source that is not closed and has room reserved for it. It returns the process
+    /// The caller puts an item on a source that is not closed and has room reserved for it. It returns the process
     /// that this wakes, which is the reader of the source, if it waited on it as empty.
     pub fn feed(&mut self, network: &Network, c: usize, item: i64) -> Option<usize>
         requires shape { IsMachine network.now self.old }
@@ -36,7 +36,7 @@ impl<A: Allocator> Machine<A> {
         self.waits.wake_reader(network, c)
     }
 
-    /// The outside closes a source that is not closed.
+    /// The caller closes a source that is not closed.
     pub fn close(&mut self, network: &Network, c: usize)
         requires shape { IsMachine network.now self.old }
         requires channel { c < length network.now.channels }
@@ -51,7 +51,7 @@ impl<A: Allocator> Machine<A> {
         self.closed[c] = true;
     }
 
-    /// The outside takes the next item of a sink. This wakes the writer of the sink, if it waited on it as
+    /// The caller takes the next item of a sink. This wakes the writer of the sink, if it waited on it as
     /// full.
     pub fn take(&mut self, network: &Network, c: usize) -> Got
         requires shape { IsMachine network.now self.old }
@@ -74,7 +74,7 @@ impl<A: Allocator> Machine<A> {
         Got { item, woken }
     }
 
-    /// The outside leaves a sink that it has not left. It returns the process that this wakes, which is the writer of
+    /// The caller leaves a sink that it has not left. It returns the process that this wakes, which is the writer of
     /// the sink, if it waited on it as full.
     pub fn leave(&mut self, network: &Network, c: usize) -> Option<usize>
         requires shape { IsMachine network.now self.old }

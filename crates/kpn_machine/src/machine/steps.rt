@@ -33,7 +33,7 @@ impl<A: Allocator> Machine<A> {
         frame.run(network.program(p), quota)
     }
 
-    /// Takes process `p` to this frame, the end of so many steps from its own, and their stop.
+    /// Takes process `p` to this frame, the end of this many steps from its own, and their stop.
     pub fn step_to(&mut self, network: &Network, p: usize, to: &Frame, made: (u32, Stop))
         requires shape { IsMachine network.now self.old }
         requires process { p < length network.now.instances }

@@ -1,4 +1,4 @@
--- The items behind a beginning are the rest of the longer list.
+-- The items after a beginning are the rest of the longer list.
 use Rattle.kpn_lang.proofs.Families.{added, Grows-from_prefixes, ArePrefixes-from_grows}
 use Rattle.kpn_lang.proofs.laws.lists_that_grow.Goals as goal
 

@@ -1,4 +1,4 @@
--- Each end that the clauses name is one that the items behind the lists leave as it is.
+-- Each end that the clauses name is one that the items after the lists leave as it is.
 use Rattle.kpn_lang.proofs.Families.{nil_from_grows}
 use Rattle.kpn_lang.proofs.Processes.{talk_further, ends_alike}
 use Rattle.kpn_lang.proofs.laws.longer_lists.Goals as goal
