@@ -408,8 +408,9 @@ class Streams(WithFolder):
         for given, program, status, told in (
                 ('4\n9\n', PROGRAM, 0, 'checked: the items and the end are those'),
                 ('4\nx\n', PROGRAM, 1, 'checked: the items are those'),
-                ('4\n9\n', '/bin/true', 9, 'not checked: the items of the sink `o`'),
-                ('4\n9\n', '/nowhere/kpn', 9, 'not checked: the items of the sink `o`')):
+                # the two sinks are compared side by side: either may be the first that differs
+                ('4\n9\n', '/bin/true', 9, 'not checked: the items of the sink `'),
+                ('4\n9\n', '/nowhere/kpn', 9, 'not checked: the items of the sink `')):
             done = subprocess.run(words, cwd=self.folder, input=given, capture_output=True, text=True, timeout=60,
                                   env={**os.environ, 'KPN_PROGRAM': program})
             self.assertEqual((done.returncode, f'kpn: {told}' in done.stderr), (status, True), done.stderr)
