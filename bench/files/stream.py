@@ -262,10 +262,19 @@ def wav_files_cut_anywhere(folder):
         start = file.index(b'data') + 8
         for end in range(len(file) + 1):
             out, err, status = stream(folder, '--format', 's=wav', input=file[:end])
-            count, rest = divmod(min(max(end - start, 0), 3 * width), width)
-            expect(out, lines(numbers[:count]))
-            told = b'55 BadHead at %d' % end if end < start else b'29 CutSample' if rest else b''
+            expect(out, lines(numbers[:max(end - start, 0) // width]))
+            told = b'55 BadHead at %d' % end if end < start else b'29 CutSample' if end < start + 3 * width else b''
             expect((b'kpn: ' + told in err, status), (bool(told), bool(told)))
+
+
+@case(quick=True)
+def wav_pipes_that_are_filled_up(folder):
+    for count, last in itertools.product((1, 2, 3), (b'\0', b'\1')):
+        samples = b''.join(number.to_bytes(3, 'little') for number in range(count))
+        file = wav(3, [])[:-4] + b'\0\xf0\xff\x7f' + samples + last
+        out, err, status = stream(folder, '--format', 's=wav', input=file)
+        is_cut = count % 2 == 0 or last != b'\0'
+        expect((out, b'29 CutSample' in err, status), (lines(range(count)), is_cut, int(is_cut)))
 
 
 @case()
@@ -282,12 +291,12 @@ def wav_files_in_pieces(folder):
 def wav_files_of_sox(folder):
     if not shutil.which('sox'):
         return
-    sounds = ['synth', '1', 'sine', '440', 'sine', '660']
-    for bits, word in ((16, 'wav'), (24, 'wav24')):
-        made = ['sox', '-n', '-r', '44100', '-c', '2', '-b', str(bits), '-t', 'wav', '-', *sounds]
+    for bits, word, channels, length in ((16, 'wav', 2, '1'), (24, 'wav24', 2, '1'), (24, 'wav24', 1, '44099s')):
+        made = ['sox', '-n', '-r', '44100', '-c', str(channels), '-b', str(bits), '-t', 'wav', '-', 'synth', length,
+                *['sine', '440', 'sine', '660'][:2 * channels]]
         file = subprocess.run(made, capture_output=True).stdout
         out, err, status = stream(folder, '--format', 's=wav', '--format', f'z={word}', '--rate', '44100',
-                                  '--channels', '2', '--quiet', input=file)
+                                  '--channels', str(channels), '--quiet', input=file)
         expect((err, status), (b'', 0))
         read = ['sox', '-t', 'wav', '-', '-t', 'raw', '-']
         first, back = (subprocess.run(read, input=it, capture_output=True) for it in (file, out))
@@ -346,6 +355,7 @@ def standard_input_that_refuses(folder):
     with open('/dev/null', 'wb') as writes:
         expect(stream(folder, stdin=writes), told)
     expect(stream(folder, preexec_fn=lambda: os.dup2(os.open('.', os.O_RDONLY), 0)), told)
+    expect(stream(folder, '--source', 's=/dev/stdin', preexec_fn=close_each([0])), (b'', TELLS_READ % b'/dev/stdin', 1))
 
 
 @case(quick=True)
@@ -354,6 +364,8 @@ def standard_output_that_refuses(folder):
     given = ('--source', 's=items')
     told = (tells_write(b'-'), 1)
     expect(stream(folder, *given, stdout=None, preexec_fn=lambda: os.close(1))[1:], told)
+    expect(stream(folder, *given, '--sink', 'z=/dev/stdout', stdout=None, preexec_fn=close_each([1]))[1:],
+           (b'kpn: 27 Write\n', 1))
     with open('/dev/null', 'rb') as reads, open('/dev/full', 'wb') as full:
         expect(stream(folder, *given, stdout=reads)[1:], told)
         expect(stream(folder, *given, stdout=full)[1:], told)

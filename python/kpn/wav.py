@@ -9,16 +9,17 @@ import os
 import pathlib
 import secrets
 import shutil
+import struct
 import sys
 import wave
-from typing import Any, List, Sequence, Union, overload
+from typing import Any, List, NamedTuple, Optional, Sequence, Tuple, Union, overload
 
 from .errors import KpnError, whole
 
 # The path of a file.
 Path = Union[str, 'os.PathLike[str]']
 # The tag of whole samples, and that of the form of a head that says what they are by these bytes at its place.
-WHOLE, EXTENSIBLE = b'\x01\x00', b'\xfe\xff'
+WHOLE, EXTENSIBLE = 1, 0xFFFE
 PLACE_OF_KIND, WHOLE_KIND = 24, bytes.fromhex('0100000000001000800000aa00389b71')
 # The bytes of a sample, by its bits.
 WIDTHS = {16: 2, 24: 3}
@@ -27,7 +28,7 @@ LARGEST_FRAME, LARGEST_SECOND = 65_535, 2**32 - 1
 # The most bytes of all samples of a file, whose head has 36 more in 32 bits.
 LARGEST_DATA = 2**32 - 1 - 36
 # From this size on a head tells nothing: programs that write to a pipe do not know it before.
-UNKNOWN_SIZE = 0x7FFFF000
+UNKNOWN_SIZE = 0x7FFFE000
 # What helps with a file of another kind.
 CONVERT = 'convert it to whole samples of 16 or 24 bits'
 
@@ -43,25 +44,26 @@ class Wav(collections.abc.Sequence):  # type: ignore[type-arg]
 
     def __init__(self, path: Path):
         self.path = os.fspath(path)
+        data = pathlib.Path(self.path).read_bytes()
         try:
-            data = pathlib.Path(self.path).read_bytes()
-            with wave.open(io.BytesIO(plain(data))) as found:
-                self.rate, count, width = found.getframerate(), found.getnchannels(), found.getsampwidth()
-                frames = found.getnframes()
-                data = found.readframes(frames)
-        except (wave.Error, EOFError, RuntimeError) as error:
-            remedy = f': {CONVERT}' if 'format' in str(error) else ''
-            why = f'{error}{remedy}' if str(error) else 'it ends too early'
-            raise KpnError(f'{self.path} is no WAV file of 16 or 24 bits: {why}') from None
-        if width not in WIDTHS.values():
-            raise KpnError(f'{self.path} is no WAV file of 16 or 24 bits: it has samples of {8 * width} bits: '
-                           f'{CONVERT}')
-        size = frames * width * count
-        if len(data) < size and frames < UNKNOWN_SIZE // (width * count):
-            raise KpnError(f'{self.path} is no whole WAV file: it ends within its samples: {len(data)} of {size} bytes')
-        self.bits = 8 * width
-        samples = samples_of(data, width, count)
-        self._channels = [samples[channel::count] for channel in range(count)]
+            head = head_of(data)
+        except ValueError as error:
+            raise KpnError(f'{self.path} is no WAV file of 16 or 24 bits: {error}') from None
+        self.bits, self.rate = head.bits, head.rate
+        samples = samples_of(self.data_of(data, head), WIDTHS[self.bits], head.channels)
+        self._channels = [samples[channel::head.channels] for channel in range(head.channels)]
+
+    def data_of(self, data: bytes, head: Head) -> bytes:
+        """The bytes of the samples, and of none a part."""
+        data = data[head.start:None if head.size is None else head.start + head.size]
+        if head.size is not None and len(data) < head.size:
+            raise KpnError(f'{self.path} is no whole WAV file: it ends within its samples: {len(data)} of {head.size} '
+                           'bytes')
+        over = len(data) % WIDTHS[head.bits]
+        # A byte 0 fills up an odd number of bytes.
+        if over and (head.size is not None or len(data) % 2 or data[-1]):
+            raise KpnError(f'{self.path} is no whole WAV file: it ends within a sample')
+        return data
 
     def __repr__(self) -> str:
         return f'<Wav {self.path}: {len(self)} channels of {len(self[0])} samples, {self.bits} bits, {self.rate} Hz>'
@@ -85,35 +87,78 @@ class Wav(collections.abc.Sequence):  # type: ignore[type-arg]
         return self._channels[0]
 
 
-def plain(data: bytes) -> bytes:
-    """A file with the simple tag of whole samples if its head has their extensible one, as many of 24 bits have.
+class Head(NamedTuple):
+    """What the head of a WAV file says, and where its samples begin.
 
-    Before Python 3.12 `wave` reads the simple one only.
+    `size` is how many bytes they have, and None if the program that wrote the file did not know it.
     """
-    place = 12
+    bits: int
+    channels: int
+    rate: int
+    start: int
+    size: Optional[int]
+
+
+def head_of(data: bytes) -> Head:
+    """The head of a WAV file of whole samples. Raises ValueError, which says what is wrong."""
+    if data[:4] != b'RIFF':
+        raise ValueError('it does not start with RIFF')
+    if data[8:12] != b'WAVE'[:max(0, len(data) - 8)]:
+        raise ValueError('it is no WAVE')
+    whole, place, kind = number_at(data, 4), 12, None
     while place + 8 <= len(data):
-        name, head = data[place:place + 4], place + 8
-        if name == b'fmt ' and data[head:head + 2] == EXTENSIBLE:
-            kind = data[head + PLACE_OF_KIND:head + PLACE_OF_KIND + len(WHOLE_KIND)]
-            return data[:head] + WHOLE + data[head + 2:] if kind == WHOLE_KIND else data
-        size = int.from_bytes(data[place + 4:head], 'little')
-        place = head + size + size % 2
-    return data
+        name, size, body = data[place:place + 4], number_at(data, place + 4), place + 8
+        if name == b'data' and kind:
+            is_empty = size == 0 and place < whole < UNKNOWN_SIZE
+            return Head(*kind, body, size if is_empty or 0 < size < UNKNOWN_SIZE else None)
+        if name == b'data':
+            raise ValueError('it does not say what its samples are')
+        if name == b'fmt ':
+            kind = kind_of(data[body:body + size])
+        place = body + size + size % 2
+    raise ValueError('it ends too early')
+
+
+def number_at(data: bytes, place: int) -> int:
+    return int.from_bytes(data[place:place + 4], 'little')
+
+
+def kind_of(chunk: bytes) -> Tuple[int, int, int]:
+    """The bits, the channels and the samples a second that a chunk `fmt ` says."""
+    if len(chunk) < 16:
+        raise ValueError('it ends too early')
+    tag, channels, rate, _, frame, bits = struct.unpack('<HHIIHH', chunk[:16])
+    kind = chunk[PLACE_OF_KIND:PLACE_OF_KIND + len(WHOLE_KIND)]
+    if tag != WHOLE and (tag != EXTENSIBLE or kind != WHOLE_KIND):
+        raise ValueError(f'unknown format: {tag}: {CONVERT}')
+    if bits not in WIDTHS:
+        raise ValueError(f'it has samples of {bits} bits: {CONVERT}')
+    if channels == 0 or frame != channels * WIDTHS[bits]:
+        raise ValueError(f'it has {channels} channels in {frame} bytes')
+    return bits, channels, rate
 
 
 def samples_of(data: bytes, width: int, channels: int) -> array.array[int]:
-    """The samples in these bytes, of so many bytes each, as `wave` gives them: in the order of the machine.
+    """The samples in these bytes, of so many bytes each.
 
     What is left of a frame at the end is dropped.
     """
     data = data[:len(data) - len(data) % (width * channels)]
-    if width == 3:
-        # The highest bytes of numbers of 32 bits, which have the sign.
-        wide, first = bytearray(len(data) // 3 * 4), int(sys.byteorder == 'little')
-        for place in range(3):
-            wide[place + first::4] = data[place::3]
-        return array.array('q', (it >> 8 for it in array.array('i', bytes(wide))))
-    return array.array('q', array.array('h', data))
+    if width == 2:
+        return array.array('q', from_little('h', data))
+    # The highest bytes of numbers of 32 bits, which have the sign.
+    wide = bytearray(len(data) // 3 * 4)
+    for place in range(3):
+        wide[place + 1::4] = data[place::3]
+    return array.array('q', (it >> 8 for it in from_little('i', bytes(wide))))
+
+
+def from_little(kind: str, data: bytes) -> array.array[int]:
+    """The numbers that these bytes write, the lowest byte of each first."""
+    made = array.array(kind, data)
+    if sys.byteorder == 'big':
+        made.byteswap()
+    return made
 
 
 def bytes_of(samples: array.array[int], width: int) -> bytes:

@@ -108,12 +108,34 @@ class Inputs(Files):
     def test_a_file_of_a_size_that_its_program_did_not_know(self):
         for bits in (16, 24):
             path = file_with(self.folder, [(1, 2), (3, 4)], bits)
-            data = path.read_bytes()[:-1]
-            for size in (0x7FFFF000, 0x7FFFFFFF, 0xFFFFFFFF):
+            data = path.read_bytes()
+            for size in (0, 0x7FFFE000, 0x7FFFFFFF, 0xFFFFFFFF):
                 # With the sizes of all that follows and of the samples.
                 ends = struct.pack('<I', min(size + 36, 0xFFFFFFFF)), struct.pack('<I', size)
-                path.write_bytes(data[:4] + ends[0] + data[8:40] + ends[1] + data[44:])
-                self.assertEqual([list(it) for it in kpn.Wav(path)], [[1], [2]])
+                head = data[:4] + ends[0] + data[8:40] + ends[1]
+                path.write_bytes(head + data[44:])
+                self.assertEqual([list(it) for it in kpn.Wav(path)], [[1, 3], [2, 4]])
+                path.write_bytes(head + data[44:-1])
+                with self.assertRaisesRegex(kpn.KpnError, 'no whole WAV file: it ends within a sample'):
+                    kpn.Wav(path)
+
+    def test_a_byte_that_fills_up_is_no_sample(self):
+        for count in (1, 2, 3):
+            path = file_with(self.folder, [(it,) for it in range(count)], 24)
+            data = path.read_bytes()
+            for last in (b'\0', b'\1'):
+                path.write_bytes(data[:40] + b'\xff' * 4 + data[44:] + last)
+                if count % 2 and last == b'\0':
+                    self.assertEqual(list(kpn.Wav(path)[0]), list(range(count)))
+                else:
+                    with self.assertRaisesRegex(kpn.KpnError, 'no whole WAV file: it ends within a sample'):
+                        kpn.Wav(path)
+
+    def test_an_empty_piece_of_samples_before_another_piece(self):
+        path = file_with(self.folder, [])
+        data = path.read_bytes() + b'LIST' + struct.pack('<I', 2) + b'xy'
+        path.write_bytes(data[:4] + struct.pack('<I', len(data) - 8) + data[8:])
+        self.assertEqual(list(kpn.Wav(path)[0]), [])
 
     def test_a_piece_without_its_last_byte(self):
         path = file_with(self.folder, [(1,)])

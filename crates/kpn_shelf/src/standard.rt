@@ -3,7 +3,7 @@
 use crate::place::Node;
 use crate::source::{Device, ThreadedInput};
 use std::fs;
-use std::fs::{File, OpenOptions};
+use std::fs::File;
 use std::os::fd::{AsRawFd, IntoRawFd};
 use std::rt::{Files, Stdin};
 use std::time::Clock;
@@ -11,6 +11,8 @@ use std::time::Clock;
 const STANDARD_INPUT: &str = "/dev/stdin";
 
 const NOTHING: &str = "/dev/null";
+
+const FOLDER: &str = "/";
 
 /// Standard input, by this handle.
 pub fn standard_input<R: Files<File = File> + Clock + AllocGlobal>(
@@ -30,32 +32,16 @@ fn never_waits<R: Files>(rt: &R) -> bool {
 }
 
 /// Opens standard input, output and error where the program was started without them, so that no file gets their
-/// numbers. A read of such an input fails, and so does a write to such an output.
+/// numbers. They are a folder then: no read of it succeeds and no write, by the descriptor or by a path of it, as
+/// `/dev/stdin`.
 pub fn fill_standard<R: Files<File = File>>(rt: &R) {
     for _number in 0..3 {
-        if !fill_one(rt) {
-            return;
+        match fs::open(rt, FOLDER) {
+            // A new file always gets the lowest free number.
+            Ok(file) if file.as_raw_fd() < 3 => keep(file),
+            _ => return,
         }
     }
-}
-
-// Fills the lowest free number if it is one of the three. A new file always gets the lowest.
-fn fill_one<R: Files<File = File>>(rt: &R) -> bool {
-    let Ok(file) = OpenOptions::new().write(true).open(rt, NOTHING) else {
-        return false;
-    };
-    match file.as_raw_fd() {
-        0 => keep(file),
-        1 | 2 => {
-            drop(file);
-            match fs::open(rt, NOTHING) {
-                Ok(file) => keep(file),
-                Err(_) => return false,
-            }
-        }
-        _ => return false,
-    }
-    true
 }
 
 // Leaves a file open until the program ends.

@@ -1,11 +1,12 @@
 -- What the unused bytes of a window tell of a WAV file.
-use Rattle.std.proofs.Common.{◌≡◌, ℕ, ◌+◌, ◌-◌, ◌<◌, ◌≤◌, ◌⊎◌, true, List, [], ◌++◌, length, take, drop, length-append, length-take, length-drop, Option, Some, None, Result, Ok, Err, refl, sym, ap, ◌∙◌, subst, inl, inr, arith}
-use Rattle.std.specs.Prelude.{ℤ, IfSome, min, nat_eq, Bool, false, if◌then◌else◌}
-use Rattle.std.proofs.lemmas.Bool.{cases_eq, eq-eqb}
-use Rattle.std.proofs.lemmas.List.{append-nil, drop-append-le, drop-drop, drop-take, take-append-drop, take-append-le, drop_all, take_all}
+use Rattle.std.proofs.Common.{◌≡◌, ℕ, ◌+◌, ◌-◌, ◌<◌, ◌≤◌, ◌⊎◌, true, List, [], ◌++◌, length, take, drop, length-append, length-take, Option, Some, None, Result, Ok, Err, refl, sym, ap, ◌∙◌, subst, inl, inr, arith}
+use Rattle.std.specs.Prelude.{ℤ, IfSome, min, nat_eq, ◌||◌, Bool, false, if◌then◌else◌}
+use Rattle.std.proofs.lemmas.Bool.{cases_lt, lt-ltb}
+use Rattle.std.proofs.lemmas.List.{append-nil, drop-append-le, drop-drop, drop-take, take-append-drop, take-append-le, take_all}
 use Rattle.kpn_stream.specs.declared.faults.SourceFault.{SourceFault}
 use Rattle.kpn_stream.specs.declared.faults.SourceFault.TheVariants.{BadItem, BadHead, CutSample}
 use Rattle.kpn_stream_devices.specs.declared.formats.SampleFormat.{SampleFormat}
+use Rattle.kpn_stream_devices.specs.declared.formats.SampleFormat.TheVariants.{U8, S8, S16, S24, S32, S64, F32}
 use Rattle.kpn_stream_devices.specs.declared.formats.WavFormat.{WavFormat}
 use Rattle.kpn_stream_devices.specs.declared.formats.ItemFormat.{ItemFormat}
 use Rattle.kpn_stream_devices.specs.declared.formats.ItemFormat.TheVariants as item_format
@@ -13,8 +14,8 @@ use Rattle.kpn_stream_devices.specs.declared.head.Wav.{Wav}
 use Rattle.kpn_stream_devices.specs.declared.head.Head.{Head}
 use Rattle.kpn_stream_devices.specs.declared.head.Head.TheVariants.{Open, Bad, Whole}
 use Rattle.kpn_stream_devices.specs.Formats.{sample_width, sample_value}
-use Rattle.kpn_stream_devices.specs.Head.{head_at}
-use Rattle.kpn_stream_devices.specs.Window.{Window, one_after, with_one, left_of, IfKnown, IsEndKnown, SampleGives, SamplesGoOn, WavGives, WavTells, WindowTells, data_of, end_told}
+use Rattle.kpn_stream_devices.specs.Head.{head_at, least_unknown}
+use Rattle.kpn_stream_devices.specs.Window.{Window, one_after, with_one, left_of, IfKnown, IsEndKnown, SampleGives, SamplesGoOn, DataGives, WavGives, WavTells, WindowTells, data_of, end_told, fills_up, is_end}
 use Rattle.kpn_stream_devices.proofs.Heads.{head_at_again}
 use Rattle.kpn_stream_devices.proofs.Telling.{value_again, counts, sample_gives}
 
@@ -25,12 +26,26 @@ used_wav count wav w = record (with_one (drop count w.unused) w) { wav = Some wa
 abbrev pub shorter : Wav → (width : ℕ) → Wav
 shorter wav width = record wav { left = wav.left - width }
 
--- the answer at the end, by what is none
-abbrev told_by : (is_used is_left : Bool) → Result (Option ℤ) SourceFault
-told_by is_used is_left = if is_used then Ok None else if is_left then Ok None else Err CutSample
+-- the answer behind the last sample, by whether that is the end
+abbrev told_by : (is_end : Bool) → Result (Option ℤ) SourceFault
+told_by is_end = if is_end then Ok None else Err CutSample
 
-not_zero : (m : ℕ) → (m ≡ 0 → ⊥) → nat_eq m 0 ≡ false
-not_zero m some = grind arith
+-- the end, by whether nothing is left that is counted, whether any is counted, and what else is left
+abbrev end_by : (is_none is_counted fills_up : Bool) → Bool
+end_by is_none is_counted fills_up = if is_none then true else if is_counted then false else fills_up
+
+counted_end : (is_none also other : Bool) → end_by is_none true also ≡ end_by is_none true other
+counted_end true also other = refl
+counted_end false also other = refl
+
+few_wide : (sample : SampleFormat) → sample_width sample ≤ 8
+few_wide U8 = omega arith
+few_wide S8 = omega arith
+few_wide S16 = omega arith
+few_wide S24 = omega arith
+few_wide S32 = omega arith
+few_wide S64 = omega arith
+few_wide (F32 power) = omega arith
 
 -- ---- a head that is not there
 
@@ -82,12 +97,12 @@ module _ (w : Window) (count : ℕ) (wav : Wav) (head : head_at w.wav w.unused �
   data_is ds = ap (take wav.left) (drop-append-le count w.unused ds within)
 
   gives : (ds : List ℕ) (after : Option Wav) (rest : List ℕ) (answer : Result (Option ℤ) SourceFault)
-      → SampleGives wav.sample (take wav.left (us ++ ds)) (data_of (head_at after rest) rest) answer
+      → DataGives wav (take wav.left (us ++ ds)) (data_of (head_at after rest) rest) answer
       → SamplesGoOn wav.sample answer after
       → WavGives (head_at w.wav (w.unused ++ ds)) (w.unused ++ ds) after rest answer
   gives ds after rest answer given goes_on =
       subst (λ (h : Head). WavGives h (w.unused ++ ds) after rest answer) (sym (head_stays ds)) (
-        subst (λ (samples : List ℕ). SampleGives wav.sample samples (data_of (head_at after rest) rest) answer)
+        subst (λ (samples : List ℕ). DataGives wav samples (data_of (head_at after rest) rest) answer)
             (sym (data_is ds)) given,
         goes_on,
       )
@@ -120,6 +135,16 @@ module _ (w : Window) (count : ℕ) (wav : Wav) (head : head_at w.wav w.unused �
   goes_on wide None number answer given none =
       subst (λ a. SamplesGoOn wav.sample a (Some (shorter wav wide))) (sym (none refl)) tt
 
+  data_gives : (before after : List ℕ) (item : Option ℤ) (number : ℕ) (answer : Result (Option ℤ) SourceFault)
+      → IfSome item (λ v. answer ≡ Ok (Some v)) → (item ≡ None → answer ≡ Err (BadItem number))
+      → SampleGives wav.sample before after answer → DataGives wav before after answer
+  data_gives before after (Some v) number answer given none gives =
+      subst (λ a. DataGives wav before after a) (sym given)
+      (subst (λ a. SampleGives wav.sample before after a) given gives)
+  data_gives before after None number answer given none gives =
+      subst (λ a. DataGives wav before after a) (sym (none refl))
+      (subst (λ a. SampleGives wav.sample before after a) (none refl) gives)
+
   -- a sample whose bytes were read
   sample_told : (answer : Result (Option ℤ) SourceFault) → sample_width wav.sample ≤ length us
       → sample_width wav.sample ≤ wav.left → IfSome (sample_value wav.sample us) (λ v. answer ≡ Ok (Some v))
@@ -138,11 +163,14 @@ module _ (w : Window) (count : ℕ) (wav : Wav) (head : head_at w.wav w.unused �
       told (Some ds) known =
           gives ds (Some (shorter wav (sample_width wav.sample))) (drop (count + sample_width wav.sample) w.unused ++ ds)
           answer
+          (data_gives (take wav.left (us ++ ds))
+          (take (wav.left - sample_width wav.sample) (drop (count + sample_width wav.sample) w.unused ++ ds))
+          (sample_value wav.sample us) (one_after w.used) answer given none
           (sample_gives wav.sample (take wav.left (us ++ ds))
           (take (wav.left - sample_width wav.sample) (drop (count + sample_width wav.sample) w.unused ++ ds))
           (omega (arith, some, enough, length-take wav.left (us ++ ds), length-append us ds)) (one_after w.used)
           (sample_value wav.sample us) answer (rest_is (sample_width wav.sample) ds some enough)
-          (first_is ds some enough) given none)
+          (first_is ds some enough) given none))
           (goes_on (sample_width wav.sample) (sample_value wav.sample us) (one_after w.used) answer given none)
 
   pub wav_tells : (after : Window) (item : Option ℤ) (answer : Result (Option ℤ) SourceFault) (width number : ℕ)
@@ -166,60 +194,45 @@ module _ (w : Window) (count : ℕ) (wav : Wav) (head : head_at w.wav w.unused �
   all_read ds (inr many) known = take-append-le wav.left us ds many
 
   few_tells : (answer : Result (Option ℤ) SourceFault) → AllRead
-      → ((rest : List ℕ) → SampleGives wav.sample (take wav.left us) rest answer)
+      → ((rest : List ℕ) → DataGives wav (take wav.left us) rest answer)
       → ((after : Option Wav) → SamplesGoOn wav.sample answer after)
       → (device : Option (List ℕ)) → IsEndKnown w device → IfKnown (left_of w device) (left_of w device)
       (λ l r. WavGives (head_at w.wav l) l w.wav r answer)
   few_tells answer all given on None known = tt
   few_tells answer all given on (Some ds) known =
       gives ds w.wav (w.unused ++ ds) answer
-      (subst (λ (samples : List ℕ). SampleGives wav.sample samples (data_of (head_at w.wav (w.unused ++ ds)) (w.unused ++ ds)) answer)
+      (subst (λ (samples : List ℕ). DataGives wav samples (data_of (head_at w.wav (w.unused ++ ds)) (w.unused ++ ds)) answer)
       (sym (all_read ds all known)) (given (data_of (head_at w.wav (w.unused ++ ds)) (w.unused ++ ds)))) (on w.wav)
 
-  nothing : (n : ℕ) (xs : List ℕ) → (length xs ≡ 0) ⊎ (n ≡ 0) → take n xs ≡ []
-  nothing n xs none = none_taken (take n xs) (none_long none)
+  -- what is left behind the last sample is the end, or a part of one
+  end_tells : AllRead → length (take wav.left us) < sample_width wav.sample → (at_end : Bool)
+      → is_end wav (take wav.left us) ≡ at_end → WavTells w (told_by at_end) w
+  end_tells all few true is written = record {
+    counted = refl;
+    given = few_tells (Ok None) all (λ rest. is) (λ after. tt);
+  }
+  end_tells all few false is written = record {
+    counted = refl;
+    given = few_tells (Err CutSample) all (λ rest. (few, is)) (λ after. tt);
+  }
+
+  same_end : min wav.left (length us) < sample_width wav.sample → is_end wav (take wav.left us) ≡ is_end wav us
+  same_end few = elim (cases_lt wav.left least_unknown) [
+    | inl less ↦
+        ap (λ b. end_by (nat_eq wav.left 0) b (ends (take wav.left us))) (lt-ltb wav.left least_unknown less)
+        ∙ counted_end (nat_eq wav.left 0) (ends (take wav.left us)) (ends us)
+        ∙ sym (ap (λ b. end_by (nat_eq wav.left 0) b (ends us)) (lt-ltb wav.left least_unknown less))
+    | inr least ↦
+        ap (is_end wav) (take_all wav.left us (omega (arith, few, least, few_wide wav.sample)))
+  ]
     where
-      none_long : (length xs ≡ 0) ⊎ (n ≡ 0) → length (take n xs) ≡ 0
-      none_long (inl none) = omega (arith, none, length-take n xs)
-      none_long (inr none) = omega (arith, none, length-take n xs)
-
-      none_taken : (ys : List ℕ) → length ys ≡ 0 → ys ≡ []
-      none_taken ys is = sym (take_all 0 ys (omega (arith, is)))
-
-  -- none is left
-  pub end_tells : AllRead → (length us ≡ 0) ⊎ (wav.left ≡ 0) → WavTells w (Ok None) w
-  end_tells all none written = record {
-    counted = refl;
-    given = few_tells (Ok None) all (λ rest. nothing wav.left us none) (λ after. tt);
-  }
-
-  -- or only a part of one
-  pub cut_tells : AllRead → 0 < length us → 0 < wav.left → min wav.left (length us) < sample_width wav.sample
-      → WavTells w (Err CutSample) w
-  cut_tells all some also few written = record {
-    counted = refl;
-    given = few_tells (Err CutSample) all
-        (λ rest. (omega (arith, some, also, length-take wav.left us), omega (arith, few, length-take wav.left us)))
-        (λ after. tt);
-  }
+      ends : List ℕ → Bool
+      ends bytes = nat_eq (length bytes) 0 || fills_up wav bytes
 
   -- so the answer is right where no more come
-  pub few_tell : AllRead → (n : ℕ) → n ≡ length us → min wav.left (length us) < sample_width wav.sample
-      → WavTells w (end_told n wav.left) w
-  few_tell all n is few = elim (cases_eq n 0) [
-    | inl none ↦
-        subst (λ b. WavTells w (told_by b (nat_eq wav.left 0)) w) (sym (eq-eqb n 0 none))
-        (end_tells all (inl (omega (arith, is, none))))
-    | inr some ↦ elim (cases_eq wav.left 0) [
-      | inl none ↦
-          subst (λ b. WavTells w (told_by b (nat_eq wav.left 0)) w) (sym (not_zero n some))
-          (subst (λ b. WavTells w (told_by false b) w) (sym (eq-eqb wav.left 0 none)) (end_tells all (inr none)))
-      | inr also ↦
-          subst (λ b. WavTells w (told_by b (nat_eq wav.left 0)) w) (sym (not_zero n some))
-          (subst (λ b. WavTells w (told_by false b) w) (sym (not_zero wav.left also))
-          (cut_tells all (omega (arith, is, some)) (omega (arith, also)) few))
-    ]
-  ]
+  pub few_tell : AllRead → min wav.left (length us) < sample_width wav.sample → WavTells w (end_told wav us) w
+  few_tell all few =
+      end_tells all (omega (arith, few, length-take wav.left us)) (is_end wav us) (same_end few)
 
 -- the answer of any WAV file
 pub any_tells : (result : Option (Result (Option ℤ) SourceFault)) (format : ItemFormat) (written : WavFormat)

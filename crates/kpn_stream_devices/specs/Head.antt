@@ -18,6 +18,10 @@ most_bytes = 1048576
 abbrev pub most_chunks : ℕ
 most_chunks = 1000
 
+-- from so many bytes of samples on nobody has counted them: there are as many as come
+abbrev pub least_unknown : ℕ
+least_unknown = 2147475456
+
 -- the number that so many bytes from a place on write
 abbrev pub number_at : (width at : ℕ) → List ℕ → ℕ
 number_at width at bytes = little_number width (drop at bytes)
@@ -84,8 +88,8 @@ format_of bytes at size =
 -- large number, or by 0 if the whole file, from byte 8 on, does not end behind this chunk.
 abbrev pub left_of : (whole at size : ℕ) → ℕ
 left_of whole at size =
-    if nat_eq size 0 && nat_lt at whole && nat_lt whole 2147475456 then 0
-    else if nat_eq size 0 || nat_le 2147475456 size then 2 ^ 64 - 1 else size
+    if nat_eq size 0 && nat_lt at whole && nat_lt whole least_unknown then 0
+    else if nat_eq size 0 || nat_le least_unknown size then 2 ^ 64 - 1 else size
 
 -- the chunk `data`
 abbrev pub data_of : (whole at size : ℕ) → Option SampleFormat → Head

@@ -1,5 +1,5 @@
 -- The bytes of an input that were read and not yet used, and what an input gives.
-use Rattle.std.specs.Prelude.{◌≡◌, ℕ, zero, suc, ◌+◌, ◌<◌, ◌≤◌, ◌==◌, nat_eq, if◌then◌else◌, take, drop, position, ◌^◌, ◌-◌, min, ℤ, Bool, false, true, List, [], ◌∷◌, length, Option, Some, None, Result, Ok, Err, ⊤}
+use Rattle.std.specs.Prelude.{◌≡◌, ℕ, zero, suc, ◌+◌, ◌<◌, ◌≤◌, ◌%◌, ◌==◌, nat_eq, nat_lt, ◌&&◌, ◌||◌, if◌then◌else◌, get_or, take, drop, position, ◌^◌, ◌-◌, min, ℤ, Bool, false, true, List, [], ◌∷◌, length, Option, Some, None, Result, Ok, Err, ⊤}
 use Rattle.std.specs.Str.Lines.{lines}
 use Rattle.std.specs.Io.KnownBytes.{prepend_known, IsAtEnd}
 use Rattle.kpn_text_items.specs.ItemLine.{SpellsItem}
@@ -14,7 +14,7 @@ use Rattle.kpn_stream_devices.specs.declared.head.Head.TheVariants.{Open, Bad, W
 use Rattle.kpn_stream.specs.declared.faults.SourceFault.{SourceFault}
 use Rattle.kpn_stream.specs.declared.faults.SourceFault.TheVariants.{Read, BadItem, CutSample, BadHead, NoMemory}
 use Rattle.kpn_stream_devices.specs.Formats.{sample_width, sample_value}
-use Rattle.kpn_stream_devices.specs.Head.{head_at}
+use Rattle.kpn_stream_devices.specs.Head.{head_at, least_unknown}
 
 -- the bytes that were read and not used, whether the input has ended behind them, how many lines or samples were used,
 -- and what is left of a WAV file of which samples were used
@@ -102,14 +102,37 @@ TellsBad at (Err (BadHead byte)) = byte ≡ at
 TellsBad at (Err Read) = ⊤
 TellsBad at (Err NoMemory) = ⊤
 
--- The samples behind the head are given as if nothing else were there, of which there are as many as it says, or fewer
--- if the input ends before. Of one that is wrong, or that the input ends within, the place is told.
+-- this is what is left behind the last sample: nothing of what the head counts; or, if it counts nothing, no byte, or a
+-- byte 0 that fills up an odd number of bytes
+abbrev pub fills_up : Wav → List ℕ → Bool
+fills_up wav bytes =
+    nat_lt 1 (sample_width wav.sample) && (nat_eq (wav.left % 2) 0
+    && (nat_eq (length bytes) 1 && nat_eq (get_or bytes 0 0) 0))
+
+abbrev pub is_end : Wav → List ℕ → Bool
+is_end wav bytes =
+    if nat_eq wav.left 0 then true
+    else if nat_lt wav.left least_unknown then false else (nat_eq (length bytes) 0 || fills_up wav bytes)
+
+-- samples are given as in other inputs, up to their end; before it the input is cut where too few bytes are left
+abbrev pub DataGives : Wav → (before after : List ℕ) → Result (Option ℤ) SourceFault → Type 0
+DataGives wav before after (Ok (Some item)) = SampleGives wav.sample before after (Ok (Some item))
+DataGives wav before after (Ok None) = is_end wav before ≡ true
+DataGives wav before after (Err (BadItem number)) = SampleGives wav.sample before after (Err (BadItem number))
+DataGives wav before after (Err CutSample) =
+    (length before < sample_width wav.sample) × (is_end wav before ≡ false)
+DataGives wav before after (Err (BadHead at)) = ⊥
+DataGives wav before after (Err Read) = ⊤
+DataGives wav before after (Err NoMemory) = ⊤
+
+-- The samples behind the head are given as if nothing else were there, as many as it counts, and an input that ends
+-- before is cut. Of a head that is wrong, or that the input ends within, the place is told.
 abbrev pub WavGives : Head → (before : List ℕ) (after : Option Wav) (rest : List ℕ) → Result (Option ℤ) SourceFault
     → Type 0
 WavGives Open before after rest answer = TellsBad (length before) answer
 WavGives (Bad at) before after rest answer = TellsBad at answer
 WavGives (Whole count wav) before after rest answer =
-    SampleGives wav.sample (data_of (Whole count wav) before) (data_of (head_at after rest) rest) answer
+    DataGives wav (data_of (Whole count wav) before) (data_of (head_at after rest) rest) answer
     × SamplesGoOn wav.sample answer after
 
 abbrev pub FormatGives : ItemFormat → (wav : Option Wav) (before : List ℕ) (after : Option Wav) (rest : List ℕ)
@@ -182,6 +205,6 @@ pub record WindowTells (format : ItemFormat) (before : Window) (answer : Result 
 abbrev pub WavTells : (before : Window) (answer : Result (Option ℤ) SourceFault) (after : Window) → Type 0
 WavTells before answer after = (written : WavFormat) → WindowTells (format.Wav written) before answer after
 
--- the answer where no more bytes come than these, which are too few for a sample: all are used, or a part is left
-abbrev pub end_told : (count left : ℕ) → Result (Option ℤ) SourceFault
-end_told count left = if nat_eq count 0 then Ok None else if nat_eq left 0 then Ok None else Err CutSample
+-- the answer where no more bytes come than these, which are too few for a sample
+abbrev pub end_told : Wav → List ℕ → Result (Option ℤ) SourceFault
+end_told wav bytes = if is_end wav bytes then Ok None else Err CutSample

@@ -13,7 +13,7 @@ const MOST_HEAD_BYTES: usize = 1_048_576;
 const MOST_CHUNKS: u32 = 1_000;
 
 /// From so many bytes on, `data` has what comes: a program that writes to a pipe can't know how much that is.
-const UNKNOWN: usize = 0x7fff_e000;
+pub(crate) const UNKNOWN: u64 = 0x7fff_e000;
 
 // The names of chunks, as numbers.
 const RIFF: u32 = 0x4646_4952;
@@ -33,7 +33,7 @@ const WHOLE_KIND: u64 = 0x0010_0000_0000_0001;
 
 const WHOLE_KIND_END: u64 = 0x719b_3800_aa00_0080;
 
-/// What is left of the samples of a WAV file: so many bytes, or fewer if the file ends before.
+/// What is left of the samples of a WAV file: so many bytes, or from `UNKNOWN` on as many as come.
 #[derive(Clone, Copy)]
 pub struct Wav {
     pub sample: SampleFormat,
@@ -135,13 +135,14 @@ fn data_of(whole: usize, at: usize, size: usize, sample: Option<SampleFormat>) -
 fn left_of(whole: usize, at: usize, size: usize) -> u64
     ensures { result ≡ left_of whole at size }
 {
-    if size == 0 && at < whole && whole < UNKNOWN {
+    if size == 0 && at < whole && (whole as u64) < UNKNOWN {
         return 0;
     }
+    let size = size as u64;
     if size == 0 || size >= UNKNOWN {
         return u64::MAX;
     }
-    size as u64
+    size
 }
 
 /// What the chunk `fmt ` at this place tells, which has so many bytes.

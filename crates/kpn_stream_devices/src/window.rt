@@ -2,12 +2,12 @@
 ghost use Rattle.std.specs.Prelude.{◌≡◌, ◌+◌, ◌<◌, ◌≤◌, ◌++◌, [], true, false, Ok, Err, Some, None, drop, length, vec_len, IfOk, OnOk, OnErr, IfSome, MatchOption, position, ◌==◌, min};
 ghost use Rattle.kpn_stream_devices.specs.Formats.{sample_width};
 ghost use Rattle.kpn_stream_devices.specs.Head.{HasHead, head_at};
-ghost use Rattle.kpn_stream_devices.specs.Window.{end_told, fresh, one_after, with_one, NeedsMore, HeadNeedsMore, LineNeedsMore, SampleNeedsMore, WindowTells, WavNeedsMore, WavTells};
+ghost use Rattle.kpn_stream_devices.specs.Window.{end_told, fills_up, fresh, is_end, one_after, with_one, NeedsMore, HeadNeedsMore, LineNeedsMore, SampleNeedsMore, WindowTells, WavNeedsMore, WavTells};
 ghost use Rattle.kpn_stream_devices.specs.declared.head.Head.TheVariants.{Whole};
 ghost use Rattle.kpn_stream_devices.specs.declared.formats.ItemFormat.TheVariants.{Lines, Samples};
 
 use crate::formats::{ItemFormat, SampleFormat};
-use crate::head::{Head, Wav, head_of};
+use crate::head::{Head, UNKNOWN, Wav, head_of};
 use kpn_stream::SourceFault;
 use kpn_text_items::{item_of_line, line_feed, without_carriage_return};
 use std::alloc::{AllocError, Global};
@@ -300,28 +300,46 @@ impl Window {
         ensures told { IfSome result (λ answer. WavTells self.now answer self.now) }
         ensures needs { result ≡ None → WavNeedsMore self.now }
     {
-        let count = self.unused().len() - start;
-        if count as u64 >= wav.left {
-            return Some(end_told(count, wav.left));
+        let bytes = &self.unused()[start..];
+        if bytes.len() as u64 >= wav.left {
+            return Some(end_told(wav, bytes));
         }
         if self.is_over {
-            return Some(end_told(count, wav.left));
+            return Some(end_told(wav, bytes));
         }
         None
     }
 }
 
-/// The answer where so many bytes are too few for a sample, or so few are left of the file, and no more come.
-fn end_told(count: usize, left: u64) -> Answer
-    ensures { result ≡ end_told count left }
+/// The answer where no more bytes come than these, which are too few for a sample.
+fn end_told(wav: Wav, bytes: &[u8]) -> Answer
+    ensures { result ≡ end_told wav bytes.now }
 {
-    if count == 0 {
-        return Ok(None);
-    }
-    if left == 0 {
+    if is_end(wav, bytes) {
         return Ok(None);
     }
     Err(SourceFault::CutSample)
+}
+
+/// Whether these bytes are what is left behind the last sample: of a counted file nothing that is counted, and of
+/// another one nothing but what fills it up.
+fn is_end(wav: Wav, bytes: &[u8]) -> bool
+    ensures { result ≡ is_end wav bytes.now }
+{
+    if wav.left == 0 {
+        return true;
+    }
+    if wav.left < UNKNOWN {
+        return false;
+    }
+    bytes.is_empty() || fills_up(wav, bytes)
+}
+
+/// Whether this is a byte 0 that fills up an odd number of bytes to an even one, and no sample.
+fn fills_up(wav: Wav, bytes: &[u8]) -> bool
+    ensures { result ≡ fills_up wav bytes.now }
+{
+    wav.sample.width() > 1 && wav.left % 2 == 0 && bytes.len() == 1 && bytes[0] == 0
 }
 
 /// The answer of a line or a sample, counted from 1, that spells this item, or none.

@@ -101,7 +101,8 @@ static enum kpn_input_state next_of_wav(struct kpn_input *input, int64_t *item) 
   }
   if (length < width || input->wav.left < width) {
     bool is_over = input->has_ended || length >= input->wav.left;
-    return !is_over ? KPN_NO_ITEM_YET : length == 0 || input->wav.left == 0 ? KPN_NO_MORE_ITEMS : KPN_CUT_SAMPLE;
+    bool is_end = kpn_is_wav_end(&input->wav, input->format, input->bytes + input->start, length);
+    return !is_over ? KPN_NO_ITEM_YET : is_end ? KPN_NO_MORE_ITEMS : KPN_CUT_SAMPLE;
   }
   kpn_read_sample(input->format, input->bytes + input->start, item);
   input->wav.left -= width;

@@ -13,8 +13,8 @@ struct kpn_file {
   bool is_open, is_begun; /* something was written */
 };
 
-/* Opens standard input, output and error where they are closed, so that no file gets their numbers: reads and writes
-   there fail. */
+/* Opens standard input, output and error where they are closed, so that no file gets their numbers. They are a folder
+   then: reads and writes fail, also by a path. */
 void kpn_fill_standard(void);
 
 /* Whether an output would be written over another file. `others` are files that are read or written. */

@@ -233,6 +233,11 @@ enum kpn_head kpn_read_head(struct kpn_wav *wav, enum kpn_sample *sample, const 
   }
 }
 
+bool kpn_is_wav_end(const struct kpn_wav *wav, struct kpn_format format, const char *bytes, size_t length) {
+  bool is_odd = kpn_sample_width(format) > 1 && wav->left % 2 == 0;
+  return wav->left == 0 || (wav->left >= UNKNOWN && (length == 0 || (length == 1 && is_odd && bytes[0] == 0)));
+}
+
 void kpn_write_head(char *to, struct kpn_format format, uint32_t rate, uint16_t channels) {
   size_t width = kpn_sample_width(format), frame = channels * width;
   memcpy(to, "RIFF\x24\xf0\xff\x7fWAVEfmt \x10\0\0\0\1\0", 22);

@@ -39,7 +39,7 @@ struct kpn_wav {
   uint32_t size;           /* of the whole file from byte 8 on, as it says */
   size_t at, skipped, bad; /* the next byte; how many belong to a chunk that says nothing; a place that is wrong, or 0 */
   unsigned chunks;
-  uint64_t left;           /* the bytes of samples behind it */
+  uint64_t left;           /* the bytes of samples that are left, or a large number if nobody has counted them */
 };
 
 /* What the bytes behind the head that was read tell. */
@@ -48,6 +48,10 @@ enum kpn_head { KPN_HEAD_OPEN, KPN_HEAD_BAD, KPN_HEAD_WHOLE };
 /* Reads on in a head, and tells how many bytes were used. A bad place is in `bad`. */
 enum kpn_head kpn_read_head(struct kpn_wav *wav, enum kpn_sample *sample, const char *bytes, size_t length,
                             size_t *used);
+
+/* Whether these bytes are all that stands behind the last sample: none that is counted; or, where nobody has counted,
+   none but a byte 0 that fills up an odd number of bytes. */
+bool kpn_is_wav_end(const struct kpn_wav *wav, struct kpn_format format, const char *bytes, size_t length);
 
 /* Writes the head of a WAV file whose sizes are not known. */
 enum { KPN_HEAD_BYTES = 44 };
