@@ -13,13 +13,13 @@ use Rattle.kpn_stream.specs.declared.faults.SinkFault.{SinkFault}
 use Rattle.kpn_stream.specs.declared.faults.SinkFault.TheVariants.{Gone, NoSample, Write}
 use Rattle.kpn_stream.specs.declared.faults.SinkFault.TheVariants as sink_fault
 use Rattle.kpn_stream_devices.specs.Formats.{HasText, item_bytes, text_of, written_item}
-use Rattle.kpn_stream_devices.specs.Window.{Window, FormatGives, WavGives, CountsUsed, IfKnown, WindowGives, IsEndKnown, NeedsMore, WindowTells, left_of}
+use Rattle.kpn_stream_devices.specs.Window.{Window, FormatGives, WavGives, CountsUsed, HeadNeedsMore, IfKnown, WindowGives, IsEndKnown, NeedsMore, WindowTells, left_of}
 use Rattle.kpn_stream_devices.specs.declared.head.Wav.{Wav as Left}
 use Rattle.kpn_stream_devices.specs.declared.head.Head.{Head}
 use Rattle.kpn_stream_devices.specs.declared.head.Head.TheVariants.{Open, Bad, Whole}
 use Rattle.kpn_stream_devices.specs.Head.{head_at}
 use Rattle.kpn_stream_devices.specs.declared.inputs.SourceInput.{SourceInput}
-use Rattle.kpn_stream_devices.specs.SourceInputs.{device_left, InputGives, IsInputAsked, HaveMoved, FailsToRead, ReadsOnly, WaitsForDevice, kept_fault}
+use Rattle.kpn_stream_devices.specs.SourceInputs.{device_left, most_read, Grows, InputGives, IsInputAsked, IsSparing, HaveMoved, FailsToRead, ReadsOnly, WaitsForDevice, kept_fault}
 use Rattle.kpn_stream_devices.specs.declared.inputs.Failed.{Failed}
 use Rattle.kpn_stream_devices.specs.declared.inputs.Failed.TheVariants as look_fault
 use Rattle.kpn_stream_devices.specs.SinkOutputs.{HandsOn, TakesItem}
@@ -122,6 +122,52 @@ if_some P all us vs ws bytes (Some ds) None read kept took = absurd kept
 if_some P all us vs ws bytes (Some ds) (Some es) None kept took = absurd took
 if_some P all us vs ws bytes (Some ds) (Some es) (Some fs) kept took = all (us ++ ds) (ws ++ fs)
 
+-- ---- no more is read than is needed
+
+-- too few bytes are too few in the window that had them, if that is open
+needs_same : (format : ItemFormat) (w first : Window) → first.is_over ≡ false → w.wav ≡ first.wav → NeedsMore format w
+    → NeedsMore format (record first { unused = w.unused })
+needs_same Lines w first is_open same needs = (is_open, needs.1, needs.2)
+needs_same (Samples sample) w first is_open same needs = (is_open, needs.1)
+needs_same (Wav written) w first is_open same needs =
+    (is_open, subst (λ (wav : Option Left). HeadNeedsMore (head_at wav w.unused) w.unused) same needs.1)
+
+-- bytes that a read took from its device, of which it may keep none
+abbrev pub Lost : (before left : List ℕ) → Type 0
+Lost before left = (last : List ℕ) × (before ≡ last ++ left) × (length last ≤ most_read)
+
+pub lost_none : (before left : Option (List ℕ)) → Keeps before left → IfKnown before left Lost
+lost_none None left kept = tt
+lost_none (Some ds) None kept = absurd kept
+lost_none (Some ds) (Some es) kept = ([], sym kept, omega arith)
+
+pub lost_some : (bytes : List ℕ) (before left : Option (List ℕ)) → length bytes ≤ most_read
+    → Consumes before left bytes → IfKnown before left Lost
+lost_some bytes None left few took = tt
+lost_some bytes (Some ds) None few took = absurd took
+lost_some bytes (Some ds) (Some es) few took = (bytes, took, few)
+
+-- what was seen, and what is left
+spared : (P : List ℕ → Type 0) (us vs : List ℕ) (device between : Option (List ℕ))
+    → Keeps (prepend_known us device) (prepend_known vs between) → P vs
+    → IfKnown (prepend_known us device) between (λ all rest. (seen : List ℕ) × (all ≡ seen ++ rest) × P seen)
+spared P us vs None between kept is = tt
+spared P us vs (Some ds) None kept is = absurd kept
+spared P us vs (Some ds) (Some es) kept is = (vs, sym kept, is)
+
+spared_lost : (P : List ℕ → Type 0) (us vs : List ℕ) (device between read : Option (List ℕ))
+    → Keeps (prepend_known us device) (prepend_known vs between) → IfKnown between read Lost
+    → ((last : List ℕ) → length last ≤ most_read → P (vs ++ last))
+    → IfKnown (prepend_known us device) read (λ all rest. (seen : List ℕ) × (all ≡ seen ++ rest) × P seen)
+spared_lost P us vs None between read kept lost is = tt
+spared_lost P us vs (Some ds) None read kept lost is = absurd kept
+spared_lost P us vs (Some ds) (Some es) None kept lost is = absurd lost
+spared_lost P us vs (Some ds) (Some es) (Some fs) kept lost is = (
+  vs ++ lost.0,
+  sym kept ∙ ap (λ bs. vs ++ bs) lost.1 ∙ sym (append_assoc vs lost.0 fs),
+  is lost.0 lost.2,
+)
+
 -- an input does not wait for its device once a look has failed
 pub none_is_some : (failed : Failed) → ◌≡◌ {A = Option Failed} None (Some failed) → ⊥
 none_is_some failed same = absurd cc
@@ -153,6 +199,7 @@ module _ {I F : Type 0} (left : I → Option (List ℕ)) (left_in : F → Option
     format = refl;
     only = reads_none standard input.file;
     counted = fault_counts failed _ _ refl;
+    lost = lost_none _ _ (Keeps-refl _);
     at_hand = λ some. (refl, refl);
     known = λ known. known;
     given = λ format. device_fails format failed input.window input.window _ _ (Keeps-refl _);
@@ -174,6 +221,8 @@ module _ {I F : Type 0} (left : I → Option (List ℕ)) (left_in : F → Option
         known = λ known. known;
         failed = refl;
       };
+      sparing = inl refl;
+      was_open = λ is_open. is_open;
       at_hand = λ at_hand. (refl, refl);
     }
 
@@ -195,6 +244,7 @@ module _ {I F : Type 0} (left : I → Option (List ℕ)) (left_in : F → Option
             (λ (f : ItemFormat). WindowGives f moved.window (device_left left left_in between moved.file) answer w
             (device_left left left_in between moved.file)) so_far.moved.format
             (tells.given _ (so_far.moved.known known)));
+        sparing = spared (IsSparing input.format input.window) _ _ _ _ so_far.moved.kept so_far.sparing;
         at_hand = λ at_hand.
             let is = so_far.at_hand at_hand in (is.0, ap (λ (i : SourceInput F). i.file) is.1);
         failed = so_far.moved.failed;
@@ -212,6 +262,7 @@ module _ {I F : Type 0} (left : I → Option (List ℕ)) (left_in : F → Option
         counted = fault_counts look_fault.Read _ _ so_far.moved.used;
         known = so_far.moved.known;
         given = λ known. device_fails input.format look_fault.Read input.window moved.window _ _ so_far.moved.kept;
+        sparing = spared (IsSparing input.format input.window) _ _ _ _ so_far.moved.kept so_far.sparing;
         at_hand = λ at_hand.
             let is = so_far.at_hand at_hand in (is.0, ap (λ (i : SourceInput F). i.file) is.1);
         failed = so_far.moved.failed;
@@ -226,10 +277,23 @@ module _ {I F : Type 0} (left : I → Option (List ℕ)) (left_in : F → Option
         needed at_hand none =
             at_hand (subst (λ (i : SourceInput F). NeedsMore i.format i.window) (so_far.at_hand at_hand).1 needs, none)
 
+        -- so the bytes that were there need more, and those of one read may follow
+        needs_first : (last : List ℕ) → length last ≤ most_read
+            → IsSparing input.format input.window (moved.window.unused ++ last)
+        needs_first last few = inr (
+          moved.window.unused,
+          last,
+          refl,
+          few,
+          needs_same input.format moved.window input.window
+              (so_far.was_open (needs_open moved.format moved.window needs)) so_far.moved.wav
+              (subst (λ (f : ItemFormat). NeedsMore f moved.window) so_far.moved.format needs),
+        )
+
         -- some more move
-        pub more_after : HaveMoved left left_in between (record moved { window = w }) read after
+        pub more_after : HaveMoved left left_in between (record moved { window = w }) read after → Grows w after.window
             → moved.failed ≡ None → IsInputAsked left left_in first input read after
-        more_after more none =
+        more_after more grows none =
             let next = subst (λ (x : Window). HaveMoved left left_in between (record moved { window = x }) read after) same more in
             record {
               moved = record {
@@ -242,6 +306,10 @@ module _ {I F : Type 0} (left : I → Option (List ℕ)) (left_in : F → Option
                 known = λ known. next.known (so_far.moved.known known);
                 failed = next.failed ∙ so_far.moved.failed;
               };
+              sparing =
+                  subst (IsSparing input.format input.window)
+                  (sym (grows.1 ∙ ap (λ (x : Window). x.unused ++ grows.0) same)) (needs_first grows.0 grows.2);
+              was_open = λ is_open. so_far.was_open (needs_open moved.format moved.window needs);
               at_hand = λ at_hand.
                   absurd (needed at_hand (subst (λ
                   (i : SourceInput F). i.failed ≡ None) (so_far.at_hand at_hand).1 none));
@@ -258,6 +326,8 @@ module _ {I F : Type 0} (left : I → Option (List ℕ)) (left_in : F → Option
               format = last.format ∙ so_far.moved.format;
               only = reads_more first between read input.file moved.file after.file so_far.moved.only last.only;
               counted = counts_after (Err fault) _ _ _ so_far.moved.used last.counted;
+              sparing =
+                  spared_lost (IsSparing input.format input.window) _ _ _ _ _ so_far.moved.kept last.lost needs_first;
               known = λ known. last.known (so_far.moved.known known);
               given = λ known. gives_after input.format input.window moved.window after.window _ _ _ (Err fault)
                   so_far.moved.wav so_far.moved.kept (last.given input.format);

@@ -1,5 +1,5 @@
 -- The inputs of a stream, as the devices of its sources.
-use Rattle.std.specs.Prelude.{◌≡◌, ◌⊎◌, ℕ, nat_eq, ℤ, List, position, get_or, slice_set, Option, Some, None, Result, Ok, Err, ⊤}
+use Rattle.std.specs.Prelude.{◌≡◌, ◌⊎◌, ◌≤◌, ◌++◌, ℕ, nat_eq, ℤ, List, length, position, get_or, slice_set, false, Option, Some, None, Result, Ok, Err, ⊤}
 use Rattle.kpn_stream_devices.specs.declared.formats.ItemFormat.{ItemFormat}
 use Rattle.kpn_stream.specs.declared.faults.SourceFault.{SourceFault}
 use Rattle.kpn_stream.specs.declared.faults.SourceFault.TheVariants as source_fault
@@ -7,7 +7,7 @@ use Rattle.kpn_stream_devices.specs.declared.inputs.Failed.{Failed}
 use Rattle.kpn_stream_devices.specs.declared.inputs.Failed.TheVariants as look_fault
 use Rattle.kpn_stream_devices.specs.declared.inputs.SourceInput.{SourceInput}
 use Rattle.kpn_stream_devices.specs.declared.inputs.SourceInputs.{SourceInputs}
-use Rattle.kpn_stream_devices.specs.Window.{WindowGives, CountsUsed, IsEndKnown, NeedsMore, WindowTells, left_of}
+use Rattle.kpn_stream_devices.specs.Window.{Window, WindowGives, CountsUsed, IfKnown, IsEndKnown, NeedsMore, WindowTells, left_of}
 use Rattle.std.specs.Io.KnownBytes.{Keeps}
 
 -- what a device has left: the file, or else standard input
@@ -31,6 +31,18 @@ abbrev pub kept_fault : Failed → SourceFault
 kept_fault look_fault.Read = source_fault.Read
 kept_fault look_fault.NoMemory = source_fault.NoMemory
 
+-- one read asks for so many bytes
+abbrev pub most_read : ℕ
+most_read = 8192
+
+-- An input has read no more than it needed. Behind its unused bytes it has seen none; or it has, and without those of
+-- the last read they are too few to tell.
+abbrev pub IsSparing : ItemFormat → Window → (seen : List ℕ) → Type 0
+IsSparing format w seen =
+    (seen ≡ w.unused)
+    ⊎ ((before last : List ℕ) × (seen ≡ before ++ last) × (length last ≤ most_read)
+    × NeedsMore format (record w { unused = before }))
+
 -- What one input gives. Given are standard input and the input, each as it was and as it is afterwards.
 pub record InputGives {I F : Type 0} (left : I → Option (List ℕ)) (left_in : F → Option (List ℕ)) (standard : I)
     (input : SourceInput F) (answer : Result (Option ℤ) SourceFault) (read : I) (after : SourceInput F) : Type 0 where
@@ -44,6 +56,10 @@ pub record InputGives {I F : Type 0} (left : I → Option (List ℕ)) (left_in :
   pub given : IsEndKnown input.window (device_left left left_in standard input.file)
       → WindowGives input.format input.window (device_left left left_in standard input.file) answer
       after.window (device_left left left_in read after.file)
+  -- the device is asked only while the bytes without those of the last read need more
+  pub sparing : IfKnown (left_of input.window (device_left left left_in standard input.file))
+      (device_left left left_in read after.file)
+      (λ all rest. (seen : List ℕ) × (all ≡ seen ++ rest) × IsSparing input.format input.window seen)
   -- no device is asked if the answer is at hand
   pub at_hand : (WaitsForDevice input → ⊥) → (read ≡ standard) × (after.file ≡ input.file)
   -- a fault that a look has met is never forgotten, and is told unless the bytes before it tell an answer
@@ -123,10 +139,16 @@ pub record HaveMoved {I F : Type 0} (left : I → Option (List ℕ)) (left_in : 
       → IsEndKnown after.window (device_left left left_in read after.file)
   pub failed : after.failed ≡ input.failed
 
--- so far bytes have moved, and none if the answer was at hand
+-- bytes of one read stand behind those that were there
+abbrev pub Grows : (before after : Window) → Type 0
+Grows before after = (last : List ℕ) × (after.unused ≡ before.unused ++ last) × (length last ≤ most_read)
+
+-- so far bytes have moved, no more than were needed, and none if the answer was at hand
 pub record IsInputAsked {I F : Type 0} (left : I → Option (List ℕ)) (left_in : F → Option (List ℕ)) (standard : I)
     (input : SourceInput F) (read : I) (after : SourceInput F) : Type 0 where
   pub moved : HaveMoved left left_in standard input read after
+  pub sparing : IsSparing input.format input.window after.window.unused
+  pub was_open : after.window.is_over ≡ false → input.window.is_over ≡ false
   pub at_hand : (WaitsForDevice input → ⊥) → (read ≡ standard) × (after ≡ input)
 
 -- a read fails, or there is no memory for what it gave; or a look has failed before, and no device is asked
@@ -136,6 +158,8 @@ pub record FailsToRead {I F : Type 0} (left : I → Option (List ℕ)) (left_in 
   pub format : after.format ≡ input.format
   pub only : ReadsOnly standard read input.file after.file
   pub counted : CountsUsed (Err fault) input.window.used after.window.used
+  pub lost : IfKnown (device_left left left_in standard input.file) (device_left left left_in read after.file)
+      (λ before left. (last : List ℕ) × (before ≡ last ++ left) × (length last ≤ most_read))
   pub at_hand : (input.failed ≡ None → ⊥) → (read ≡ standard) × (after ≡ input)
   pub known : IsEndKnown input.window (device_left left left_in standard input.file)
       → IsEndKnown after.window (device_left left left_in read after.file)

@@ -4,7 +4,7 @@ ghost use Rattle.std.specs.Io.{ReadsAtMost};
 ghost use Rattle.std.specs.Io.KnownBytes.{ReadConsumes};
 ghost use Rattle.kpn_shelf.specs.NonblockingRead.{LookConsumes, LooksAtMost};
 ghost use Rattle.kpn_stream.specs.declared.devices.Readiness.TheVariants as look;
-ghost use Rattle.kpn_stream_devices.specs.SourceInputs.{device_left, input_of, kept_fault, FailsToRead, HaveMoved, InputGives, InputLooks, ReadsOnly, WaitsForDevice};
+ghost use Rattle.kpn_stream_devices.specs.SourceInputs.{device_left, input_of, kept_fault, FailsToRead, Grows, HaveMoved, InputGives, InputLooks, ReadsOnly, WaitsForDevice};
 
 use crate::formats::ItemFormat;
 use crate::window::{Answer, Window};
@@ -190,6 +190,7 @@ fn read_on<I: Read, F: Read + Drop>(
     requires { input.old.window.is_over ≡ false }
     ensures moved { OnOk result (HaveMoved I.remaining F.remaining standard.old input.old
         standard.new input.new) }
+    ensures grown { OnOk result (Grows input.old.window input.new.window) }
     ensures unfailed { OnOk result (input.old.failed ≡ None) }
     ensures fault { IfErr result (FailsToRead I.remaining F.remaining standard.old input.old
         standard.new input.new) }
@@ -219,6 +220,7 @@ fn read_more<I: Read, F: Read + Drop>(
     requires unfailed { input.old.failed ≡ None }
     ensures moved { OnOk result (HaveMoved I.remaining F.remaining standard.old input.old
         standard.new input.new) }
+    ensures grown { OnOk result (Grows input.old.window input.new.window) }
     ensures fault { IfErr result (FailsToRead I.remaining F.remaining standard.old input.old
         standard.new input.new) }
 {

@@ -26,7 +26,7 @@ loop-read-preserved g c = record {
   asked =
       more_after g.I.Read.remaining g.F.Read.remaining c.args.standard.now c.args.input.now
       c.loop-read.standard c.loop-read.input c.loop-read.invariant.asked c.next.new.self (search rules) (search rules)
-      c.read_on.new.standard c.read_on.new.input (search rules) (search rules);
+      c.read_on.new.standard c.read_on.new.input (search rules) (search rules) (search rules);
   unfailed = λ some. sym c.loop-read.invariant.asked.moved.failed ∙ search rules;
 }
 
