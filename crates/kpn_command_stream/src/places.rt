@@ -3,7 +3,7 @@ ghost use Rattle.std.specs.Prelude.{◌≡◌, ◌↔◌, false, true, length, m
 ghost use Rattle.kpn_command_base.specs.Sources.{is_end};
 ghost use Rattle.kpn_stream.specs.Ending.{end_numbers};
 ghost use Rattle.kpn_command_stream.specs.Causes.{IsUnnamed, IsUnplaced, IsUnplacedBy, MayWriteInto};
-ghost use Rattle.kpn_command_stream.specs.EndPlaces.{AllPlaced, ArePlacesOfEnds, HaveOwnInputs, name_for, standard};
+ghost use Rattle.kpn_command_stream.specs.EndPlaces.{AllPlaced, ArePlacesOfEnds, HaveOwnInputs, ShareAnInput, name_for, standard};
 
 use crate::formats::format_for;
 use crate::refusal::StreamRefusal;
@@ -49,8 +49,8 @@ pub(crate) fn places_of<'a>(
     ensures placed { IfOk result (λ places. ArePlacesOfEnds ends document.now
         (map (λ o. o.name.now) options.now) (map (λ o. o.file.now) options.now)
         (map (λ word. word.now) formats.now) places.items) }
-    ensures cause { IfErr result
-        (IsUnplaced ends document.now (map (λ o. o.name.now) options.now)) }
+    ensures cause { IfErr result (IsUnplaced ends document.now
+        (map (λ o. o.name.now) options.now) (map (λ word. word.now) formats.now)) }
 {
     let named = ends_of(alloc, document, ends, options)?;
     places_by(alloc, document, ends, &named, formats)
@@ -68,7 +68,8 @@ fn places_by<'a>(
         (map (λ word. word.now) formats.now)
         (end_numbers (is_end ends) document.now.tables) places.items) }
     ensures cause { IfErr result (IsUnplacedBy ends named.now
-        (length (end_numbers (is_end ends) document.now.tables))) }
+        (length (end_numbers (is_end ends) document.now.tables))
+        (map (λ word. word.now) formats.now)) }
 {
     let numbers = end_numbers_of(alloc, document.network())?;
     match ends {
@@ -88,7 +89,8 @@ fn place_each<'a>(
 ) -> Result<Vec<EndPlace<'a>>, StreamRefusal>
     ensures placed { IfOk result (λ places. AllPlaced document.now named.now
         (map (λ word. word.now) formats.now) channels.now places.items) }
-    ensures cause { IfErr result (IsUnplacedBy ends named.now (length channels.now)) }
+    ensures cause { IfErr result (IsUnplacedBy ends named.now (length channels.now)
+        (map (λ word. word.now) formats.now)) }
 {
     let mut places = Vec::new(alloc);
     for number in 0..channels.len() {
@@ -184,7 +186,8 @@ fn is_written<S: Shelf>(shelf: &S, path: &str) -> Result<bool, AllocError>
 
 /// Whether two sources have one input that is no plain file.
 pub(crate) fn share_an_input<S: Ports>(shelf: &S, places: &[EndPlace<'_>]) -> bool
-    ensures { result ≡ false → HaveOwnInputs (S.are_two_inputs shelf.now) places.now }
+    ensures own { result ≡ false → HaveOwnInputs (S.are_two_inputs shelf.now) places.now }
+    ensures shared { result ≡ true → ShareAnInput (S.may_share shelf.now) places.now }
 {
     for i in 0..places.len() {
         if has_input(shelf, &places[..i], places[i].name) {
@@ -196,8 +199,10 @@ pub(crate) fn share_an_input<S: Ports>(shelf: &S, places: &[EndPlace<'_>]) -> bo
 
 /// Whether one of these has the input of this name, and that is no plain file.
 fn has_input<S: Ports>(shelf: &S, places: &[EndPlace<'_>], name: &str) -> bool
-    ensures { result ≡ false
+    ensures own { result ≡ false
         → All (λ place. S.are_two_inputs shelf.now place.name.now name.now) places.now }
+    ensures shared { result ≡ true
+        → ¬ All (λ place. ¬ S.may_share shelf.now place.name.now name.now) places.now }
 {
     for place in places {
         if shelf.is_one_input(place.name, name) {

@@ -54,7 +54,7 @@ pub(crate) fn run<'n, S: Shelf + Ports, I: NonblockingRead, O: Write>(
     requires none { lost.old.items ≡ [] }
     requires room { length places.now.sinks.items ≤ vec_capacity lost.old }
     ensures ran { IfOk result (λ streamed. RanAt (S.may_give shelf.now)
-        (names_of S.are_two_inputs S.comes_from S.goes_to)
+        (names_of S.are_two_inputs S.may_share S.comes_from S.goes_to)
         (known_of I.remaining S.Input.remaining O.contents S.Output.contents) request.now
         document.now.tables places.now input.old input.new out.old out.new
         streamed.ending streamed.book lost.new.items) }
