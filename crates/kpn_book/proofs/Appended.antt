@@ -37,6 +37,7 @@ counts_one e before after is = record {
   machine = is.machine;
   schedule = is.schedule;
   commits = ap (λ n. n + 1) is.commits;
+  keeps_events = is.keeps_events;
 }
 
 pub counts_all : (events : List Event) (before after : Book) → AppendsAll events before after

@@ -9,6 +9,7 @@ use Rattle.kpn_step.specs.declared.stop.Stop.TheVariants as stop
 use Rattle.kpn_lang.specs.Parts.{Parts}
 use Rattle.kpn_step.specs.Stops.{Advanced, IsAdvance, IsAtPort, IsWithinQuota, advanced_of}
 use Rattle.kpn_history.specs.declared.event.Event.{Event}
+use Rattle.kpn_history.specs.Recorded.{Recorded}
 use Rattle.kpn_history.specs.declared.state.State.TheVariants.{Ready, Held}
 use Rattle.kpn_history.specs.Talks.{is_of_process, process_events}
 use Rattle.kpn_net.specs.Faults.{IsNetwork}
@@ -32,7 +33,7 @@ use Rattle.kpn_book.specs.Stepping.{ClaimsAndSteps, StepsNext, StepsInVain}
 use Rattle.kpn_book.proofs.Appended.{claimed_is_held}
 use Rattle.kpn_book.proofs.Reserved.{handles_unreserved, is_reserved_here}
 use Rattle.kpn_machine.specs.Changes.{IsChannelAt}
-use Rattle.kpn_book.proofs.Following.{held_is_there, recorded}
+use Rattle.kpn_book.proofs.Following.{held_is_there, recorded, moved, same_recorded}
 use Rattle.kpn_book.proofs.Answering.{put_back_in_step, put_back_released, sound_after, events_at_stop, commits_at_stop, IsAtStop}
 
 -- ---- memory that is reserved
@@ -367,17 +368,17 @@ reserves_write p s port v c b a room is at below two same = (
   inr (λ paused. no_pause s port v is paused, (c, below, same)),
 )
 
-pub reserves_item : {T E : Type 0} (p : ℕ) (s : Stop) (port : ℕ) (v : ℤ) (c : ℕ) (b : Book) (H : List Event)
+pub reserves_item : {T E : Type 0} (p : ℕ) (s : Stop) (port : ℕ) (v : ℤ) (c : ℕ) (b : Book) (h : Recorded)
     → (o : Machine) (room : ℕ) (r : Result T E) → s ≡ stop.WantWrite port v
     → IsChannelAt (instance_at b.tables p).outs port c → c < length b.machine.channels → 2 ≤ room
-    → H ≡ b.history → o ≡ (if is_ok r then with_channel c (with_room (channel_in b.machine c)) b.machine
-    else b.machine) → reserves_by p s r b room (recorded b H o b.schedule)
-reserves_item p s port v c b H o room (Ok _) is at below two same after =
-    reserves_write p s port v c b (recorded b H o b.schedule) room is at below two
-    (ap (λ z. recorded b z o b.schedule) same ∙ ap (λ z. recorded b b.history z b.schedule) after)
-reserves_item p s port v c b H o room (Err _) is at below two same after = (
+    → h.events ≡ b.history → h.is_kept ≡ b.keeps_events → o ≡ (if is_ok r then with_channel c (with_room (channel_in b.machine c)) b.machine
+    else b.machine) → reserves_by p s r b room (recorded b h o b.schedule)
+reserves_item p s port v c b h o room (Ok _) is at below two same kept after =
+    reserves_write p s port v c b (recorded b h o b.schedule) room is at below two
+    (same_recorded b h o b.schedule b.history same kept ∙ ap (λ z. moved b z b.schedule) after)
+reserves_item p s port v c b h o room (Err _) is at below two same kept after = (
   λ paused. no_pause s port v is paused,
-  ap (λ z. recorded b z o b.schedule) same ∙ ap (λ z. recorded b b.history z b.schedule) after,
+  same_recorded b h o b.schedule b.history same kept ∙ ap (λ z. moved b z b.schedule) after,
 )
 
 -- ---- a process at its stop

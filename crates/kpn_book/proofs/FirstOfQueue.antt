@@ -30,7 +30,7 @@ use Rattle.kpn_book.specs.declared.open_book.Hold.TheVariants as hold
 use Rattle.kpn_book.specs.Open.{first_claimed, IsNextHeld, next_by, IsHeldBy, held_by, IsSound, if_sink, sink_of, sink_by, is_but_reserved, AnsweredFirst, HandlesFirst, IsTurn}
 use Rattle.kpn_book.proofs.CommitCounts.{held_more}
 use Rattle.kpn_book.proofs.Appended.{claimed_is_held, tables_stay, history_then, commits_stay, base_tables, base_history, base_commits}
-use Rattle.kpn_book.proofs.Following.{recorded}
+use Rattle.kpn_book.proofs.Following.{moved}
 use Rattle.kpn_book.proofs.Answering.{asked_otherwise, handles_counted, kept_counted, fits_after}
 use Rattle.kpn_book.proofs.Committing.{kept_moved, kept_claimed, kept_reserved, held_reserved, tables_reserved, history_reserved, commits_reserved, count_reserved, stepped_kept, stepped_held, steps_next}
 
@@ -80,9 +80,9 @@ pub first_by : (p : ℕ) (b : Book) → IsNextHeld p b → slice_get b.schedule.
 first_by p b is = ap (λ xs. slice_get xs 0) is.holds.queue
 
 pub claimed_by : (p : ℕ) (b : Book) → IsNextHeld p b → (s : Schedule) → s ≡ with_state p Held (first_held p b.schedule)
-    → IsClaimed p b (recorded b b.history b.machine s)
+    → IsClaimed p b (moved b b.machine s)
 claimed_by p b is s same =
-    subst (λ x. IsClaimed p b (recorded b b.history b.machine x)) (sym (same ∙ held_once p b.schedule))
+    subst (λ x. IsClaimed p b (moved b b.machine x)) (sym (same ∙ held_once p b.schedule))
     (record { holds = is.holds; same = refl })
 
 -- ---- on which sink it has put an item
@@ -187,10 +187,10 @@ module _ (quota p : ℕ) (b : Book) (kept : IsKept b) (holds : HoldsFirst p b.sc
 
   -- held, at the end of its steps
   abbrev pub stepped : Book
-  stepped = first_claimed p (recorded b b.history s b.schedule)
+  stepped = first_claimed p (moved b s b.schedule)
 
   is_stepped : stepped ≡ standing_at p x.to was
-  is_stepped = ap (λ z. recorded was was.history z was.schedule) after
+  is_stepped = ap (λ z. moved was z was.schedule) after
 
   claimed_was : IsClaimed p b was
   claimed_was = claimed b kept p holds more
@@ -205,16 +205,16 @@ module _ (quota p : ℕ) (b : Book) (kept : IsKept b) (holds : HoldsFirst p b.sc
   first_sound = record { in_step = first_kept.in_step; nothing_owed = first_kept.nothing_owed }
 
   -- if memory has run out, it is not held
-  pub kept_in_vain : IsKept (recorded b b.history s b.schedule)
+  pub kept_in_vain : IsKept (moved b s b.schedule)
   kept_in_vain =
       let there = holds.there in
       let long = kept.in_step.processes in
-      subst IsKept (sym (ap (λ z. recorded b b.history z b.schedule) after))
+      subst IsKept (sym (ap (λ z. moved b z b.schedule) after))
       (kept_moved b kept p (omega (arith, there, long)) x advance (record { program = own.program; from = own.from }))
 
   -- and stays the first
   pub turn_in_vain : x.stop ≢ stop.Paused → slice_get b.schedule.queue 0 ≡ Some p
-      → StepsUncommitted quota b (recorded b b.history s b.schedule)
+      → StepsUncommitted quota b (moved b s b.schedule)
   turn_in_vain wants first = record {
     process = p;
     first = first;
@@ -223,7 +223,7 @@ module _ (quota p : ℕ) (b : Book) (kept : IsKept b) (holds : HoldsFirst p b.sc
     advances = advance;
     within = within;
     wants = wants;
-    there = ap (λ z. recorded b b.history z b.schedule) after;
+    there = ap (λ z. moved b z b.schedule) after;
   }
 
   module _ (sink : Option ℕ) (a : Book) (h : HandlesFirst p x.stop sink stepped a) where

@@ -3,6 +3,7 @@ use Rattle.std.proofs.Common.{◌≡◌, ℕ, ◌+◌, ◌<◌, true, false, eqb
 use Rattle.std.proofs.lemmas.Bool.{eqb-true, false≢true}
 use Rattle.kpn_net.specs.Faults.{IsNetwork}
 use Rattle.kpn_history.specs.declared.event.Event.{Event}
+use Rattle.kpn_history.specs.Recorded.{Recorded}
 use Rattle.kpn_history.specs.Talks.{is_of}
 use Rattle.kpn_history.specs.Legal.{Legal}
 use Rattle.kpn_history.specs.declared.state.State.TheVariants.{Held}
@@ -29,12 +30,23 @@ next_book e machine b =
       machine = machine;
       schedule = schedule_after b.tables b.machine.waits e b.schedule;
       commits = b.commits;
+      keeps_events = b.keeps_events;
     }
 
+-- the book with this machine and schedule
+abbrev pub moved : Book → Machine → Schedule → Book
+moved b s order = record b { machine = s; schedule = order }
+
 -- the book with this history, machine and schedule
-abbrev pub recorded : Book → List Event → Machine → Schedule → Book
-recorded b H s order =
-    record { tables = b.tables; history = H; machine = s; schedule = order; commits = b.commits }
+abbrev pub recorded : Book → Recorded → Machine → Schedule → Book
+recorded b h s order = record (moved b s order) { history = h.events; keeps_events = h.is_kept }
+
+-- a book whose history has other memory is the same book
+pub same_recorded : (b : Book) (h : Recorded) (s : Machine) (order : Schedule) (H : List Event) → h.events ≡ H
+    → h.is_kept ≡ b.keeps_events → recorded b h s order ≡ record (moved b s order) { history = H }
+same_recorded b h s order H events kept =
+    ap (λ xs. record (moved b s order) { history = xs; keeps_events = h.is_kept }) events
+    ∙ ap (λ k. record (moved b s order) { history = H; keeps_events = k }) kept
 
 -- the process of an event is held
 pub own_held : (b : Book) (p : ℕ) → IsHeld b p → (q : ℕ) → eqb p q ≡ true → IsHeld b q
@@ -72,7 +84,7 @@ module _ (b : Book) (network : IsNetwork b.tables) (step : IsInStep b) (e : Even
       (legal : Legal b.tables (b.history ++ e ∷ [])) where
     follows_next : Follows e b (next_book e s b)
     follows_next = record {
-      appends = record { tables = refl; history = refl; machine = changes; schedule = refl; commits = refl };
+      appends = record { tables = refl; history = refl; machine = changes; schedule = refl; commits = refl; keeps_events = refl };
       in_step = record {
         run = IsRun-next b.tables network b.history e b.machine s step.run legal changes shape;
         processes =
@@ -106,13 +118,13 @@ may_be_woken b network step e own ends s ps is woken =
 -- the machine changes, an event is pushed, its process moves, and others are woken
 pub followed : (b : Book) → IsNetwork b.tables → IsInStep b → (e : Event) → ((q : ℕ) → is_of q e ≡ true → IsHeld b q)
     → EndsThere b.tables e → (s : Machine) → Changes b.tables e b.machine s → IsMachine b.tables s
-    → Legal b.tables (b.history ++ e ∷ []) → (pushed : Event) (H : List Event) (own order : Schedule) (ws : List ℕ)
-    → pushed ≡ e → H ≡ b.history ++ pushed ∷ [] → own ≡ own_part e b.schedule → order ≡ all_made_ready ws own
-    → ws ≡ woken_by b.tables b.machine.waits e → Follows e b (recorded b H s order)
-followed b network step e own ends s changes shape legal pushed H moved order ws is history moves wakes woken =
-    follows b network step e own ends s changes shape legal (recorded b H s order)
-    (ap (λ x. recorded b x s order) (history ∙ ap (λ x. b.history ++ x ∷ []) is)
-    ∙ ap (recorded b (b.history ++ e ∷ []) s)
+    → Legal b.tables (b.history ++ e ∷ []) → (pushed : Event) (h : Recorded) (own order : Schedule) (ws : List ℕ)
+    → pushed ≡ e → h.events ≡ b.history ++ pushed ∷ [] → h.is_kept ≡ b.keeps_events → own ≡ own_part e b.schedule
+    → order ≡ all_made_ready ws own → ws ≡ woken_by b.tables b.machine.waits e → Follows e b (recorded b h s order)
+followed b network step e own ends s changes shape legal pushed h own_then order ws is history kept moves wakes woken =
+    follows b network step e own ends s changes shape legal (recorded b h s order)
+    (same_recorded b h s order (b.history ++ e ∷ []) (history ∙ ap (λ x. b.history ++ x ∷ []) is) kept
+    ∙ ap (λ x. record (moved b s x) { history = b.history ++ e ∷ [] })
     (wakes ∙ ap (all_made_ready ws) moves ∙ ap (λ xs. all_made_ready xs (own_part e b.schedule)) woken))
 
 -- the numbers of a network fit in an event

@@ -6,7 +6,7 @@ use Rattle.std.proofs.lemmas.List.{get_or_past}
 use Rattle.std.proofs.lemmas.List.Sums.{sum_by-append}
 use Rattle.kpn_net.specs.declared.wait.Wait.{Wait}
 use Rattle.kpn_net.specs.declared.wait.Wait.TheVariants.{Nobody, Empty, Full}
-use Rattle.kpn_history.specs.declared.event.Event.{Event}
+use Rattle.kpn_history.specs.Recorded.{Recorded}
 use Rattle.kpn_history.specs.Talks.{is_of_process, process_events}
 use Rattle.kpn_history.specs.Stops.{OwesNothing}
 use Rattle.kpn_machine.specs.Machine.{Machine, end_in, wait_in, frame_in}
@@ -21,6 +21,7 @@ use Rattle.kpn_book.specs.Book.{Book}
 use Rattle.kpn_book.specs.Kept.{IsStateBy, IsKept}
 use Rattle.kpn_book.specs.BatchCommits.{with_batch}
 use Rattle.kpn_book.proofs.Queueing.{range_has}
+use Rattle.kpn_book.proofs.Following.{recorded, moved, same_recorded}
 use Rattle.kpn_book.proofs.Regions.{length_woken, held_at_most, agrees_then, stands_so}
 
 -- a batch ends a wait, or leaves it
@@ -93,41 +94,15 @@ module _ (b : Batch) (book : Book) (s : Machine) (kept : IsKept book) (joins : J
       ]
 
 -- a book with the events, the schedule and the count of a batch
-pub joined_book : (b : Batch) (s : Machine) (book : Book) (H : List Event) (order : Schedule) (n : ℕ)
-    → H ≡ book.history ++ b.events → order ≡ region_woken (is_in_region b.now) s.waits book.schedule
-    → n ≡ process_events b.events
-    → record {
-      tables = book.tables;
-      history = H;
-      machine = s;
-      schedule = order;
-      commits = book.commits + n;
-    } ≡ with_batch b s book
-joined_book b s book H order n history schedule count =
-    ap
-    (λ xs. record {
-      tables = book.tables;
-      history = xs;
-      machine = s;
-      schedule = order;
-      commits = book.commits + n;
-    })
-    history
+pub joined_book : (b : Batch) (s : Machine) (book : Book) (h : Recorded) (order : Schedule) (n : ℕ)
+    → h.events ≡ book.history ++ b.events → h.is_kept ≡ book.keeps_events → order ≡ region_woken (is_in_region b.now) s.waits book.schedule
+    → n ≡ process_events b.events → record (recorded book h s order) { commits = book.commits + n } ≡ with_batch b s book
+joined_book b s book h order n history kept schedule count =
+    ap (λ (x : Book). record x { commits = book.commits + n }) (same_recorded book h s order (book.history ++ b.events) history kept)
+    ∙ ap (λ x. record (moved book s x) { history = book.history ++ b.events; commits = book.commits + n }) schedule
     ∙ ap
-    (λ x. record {
-      tables = book.tables;
+    (λ x. record (moved book s (region_woken (is_in_region b.now) s.waits book.schedule)) {
       history = book.history ++ b.events;
-      machine = s;
-      schedule = x;
-      commits = book.commits + n;
-    })
-    schedule
-    ∙ ap
-    (λ x. record {
-      tables = book.tables;
-      history = book.history ++ b.events;
-      machine = s;
-      schedule = region_woken (is_in_region b.now) s.waits book.schedule;
       commits = book.commits + x;
     })
     count

@@ -35,4 +35,6 @@ pub mod InARow
 pub mod Told
 pub mod Turning
 pub mod Completing
+pub mod Remembered
+pub mod Settled
 mod Release

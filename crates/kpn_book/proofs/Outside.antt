@@ -5,6 +5,7 @@ use Rattle.kpn_net.specs.Tables.{channel_at, is_source, is_sink}
 use Rattle.kpn_net.specs.Faults.{IsNetwork}
 use Rattle.kpn_chan.specs.Channel.{ChannelState, unread, next_item, with_room}
 use Rattle.kpn_history.specs.declared.event.Event.{Event}
+use Rattle.kpn_history.specs.Recorded.{Recorded}
 use Rattle.kpn_history.specs.declared.event.Event.TheVariants as event
 use Rattle.kpn_machine.specs.Machine.{Machine, channel_in, closed_in, with_channel, IsMachine}
 use Rattle.kpn_machine.specs.Changes.{Changes}
@@ -15,7 +16,7 @@ use Rattle.kpn_book.specs.Appending.{Appends, Happens, all_made_ready, woken_by}
 use Rattle.kpn_book.specs.Refusals.{IsAtBound, Feeds, Closes, closes_by, Takes, Leaves, leaves_by}
 use Rattle.kpn_book.specs.Open.{Follows, IsSound, reserved_on}
 use Rattle.kpn_book.specs.Kept.{IsKept}
-use Rattle.kpn_book.proofs.Following.{recorded, followed, own_none}
+use Rattle.kpn_book.proofs.Following.{recorded, moved, same_recorded, followed, own_none}
 use Rattle.kpn_book.proofs.Committing.{kept_reserved_on, source_there}
 use Rattle.kpn_book.proofs.Reserved.{appends_unreserved}
 
@@ -39,17 +40,19 @@ module _ (b : Book) (kept : IsKept b) (c : ℕ) (there : c < length b.tables.cha
   in_closed = subst (λ n. c < n) (sym kept.in_step.run.shape.closed) there
 
 -- a book with room for more events is the same book
-module _ (b : Book) (H : List Event) (same : H ≡ b.history) where
-  pub kept_with_memory : IsKept b → IsKept (recorded b H b.machine b.schedule)
-  kept_with_memory kept = subst (λ x. IsKept (recorded b x b.machine b.schedule)) (sym same) kept
+module _ (b : Book) (h : Recorded) (events : h.events ≡ b.history) (keeps : h.is_kept ≡ b.keeps_events) where
+  same : recorded b h b.machine b.schedule ≡ b
+  same = same_recorded b h b.machine b.schedule b.history events keeps
 
-  pub sound_reserved : IsKept b → IsSound (recorded b H b.machine b.schedule)
+  pub kept_with_memory : IsKept b → IsKept (recorded b h b.machine b.schedule)
+  kept_with_memory kept = subst IsKept (sym same) kept
+
+  pub sound_reserved : IsKept b → IsSound (recorded b h b.machine b.schedule)
   sound_reserved kept =
-      subst (λ x. IsSound (recorded b x b.machine b.schedule)) (sym same)
-      (record { in_step = kept.in_step; nothing_owed = kept.nothing_owed })
+      subst IsSound (sym same) (record { in_step = kept.in_step; nothing_owed = kept.nothing_owed })
 
-  pub follows_reserved : (e : Event) (m : Book) → Follows e (recorded b H b.machine b.schedule) m → Follows e b m
-  follows_reserved e m follows = subst (λ x. Follows e (recorded b x b.machine b.schedule) m) same follows
+  pub follows_reserved : (e : Event) (m : Book) → Follows e (recorded b h b.machine b.schedule) m → Follows e b m
+  follows_reserved e m follows = subst (λ x. Follows e x m) same follows
 
 pub closed : (b a : Book) (c : ℕ) → is_source (channel_at b.tables c) ≡ true → closed_in b.machine c ≡ false
     → Happens (event.Close c) b a → Closes c b a
@@ -75,20 +78,20 @@ pub fed_follows : (b : Book) → IsNetwork b.tables → IsKept b → (c : ℕ) (
     → is_source (channel_at b.tables c) ≡ true
     → closed_in b.machine c ≡ false → (o s : Machine)
     → o ≡ with_channel c (with_room (channel_in b.machine c)) b.machine
-    → Changes b.tables (event.Feed c v) o s → IsMachine b.tables s → (pushed : Event) (H : List Event)
-    → (order : Schedule) (ws : List ℕ) → pushed ≡ event.Feed c v → H ≡ b.history ++ pushed ∷ []
-    → order ≡ all_made_ready ws b.schedule → ws ≡ woken_by b.tables o.waits (event.Feed c v)
-    → Follows (event.Feed c v) (recorded b b.history o b.schedule) (recorded b H s order)
-fed_follows b network kept c v source not_closed o s is changes shape pushed H order ws same history wakes woken =
+    → Changes b.tables (event.Feed c v) o s → IsMachine b.tables s → (pushed : Event) (h : Recorded)
+    → (order : Schedule) (ws : List ℕ) → pushed ≡ event.Feed c v → h.events ≡ b.history ++ pushed ∷ []
+    → h.is_kept ≡ b.keeps_events → order ≡ all_made_ready ws b.schedule → ws ≡ woken_by b.tables o.waits (event.Feed c v)
+    → Follows (event.Feed c v) (moved b o b.schedule) (recorded b h s order)
+fed_follows b network kept c v source not_closed o s is changes shape pushed h order ws same history keeps wakes woken =
     let there = source_there b.tables c source in
     let long = kept.in_step.run.shape.channels in
     let below : c < length b.machine.channels = omega (arith, there, long) in
-    let x = recorded b b.history o b.schedule in
-    let now = kept_with_item b x c below (ap (λ z. recorded b b.history z b.schedule) is) kept in
+    let x = moved b o b.schedule in
+    let now = kept_with_item b x c below (ap (λ z. moved b z b.schedule) is) kept in
     followed x network now.in_step (event.Feed c v) (own_none x) tt s changes shape
     (Legal-due b.tables network b.history o now.in_step.run now.nothing_owed (event.Feed c v) there
     (source, ap (λ z. closed_in z c) is ∙ not_closed))
-    pushed H b.schedule order ws same history refl wakes woken
+    pushed h b.schedule order ws same history keeps refl wakes woken
 
 -- nothing is unread on a sink that was not left and has no item
 pub nothing_to_take : (ch : ChannelState) → ch.is_retired ≡ false → is_some (next_item ch) ≡ false → unread ch ≡ []

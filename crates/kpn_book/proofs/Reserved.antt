@@ -85,6 +85,7 @@ module _ (b : Book) (c : ℕ) (below : c < length b.machine.channels) where
     };
     schedule = is.schedule;
     commits = is.commits;
+    keeps_events = is.keeps_events;
   }
 
   waits_unreserved : (p : ℕ) (s : Stop) (wait : Event) → HasToWait (reserved_on c b) p s wait → HasToWait b p s wait

@@ -59,6 +59,7 @@ pub record Appends (e : Event) (before after : Book) : Type 0 where
   pub machine : Changes before.tables e before.machine after.machine
   pub schedule : after.schedule ≡ schedule_after before.tables before.machine.waits e before.schedule
   pub commits : after.commits ≡ before.commits
+  pub keeps_events : after.keeps_events ≡ before.keeps_events
 
 -- the second book is the first with these events more, one after the other
 abbrev pub AppendsAll : List Event → (before after : Book) → Type 0

@@ -17,4 +17,5 @@ with_batch b s book =
       machine = s;
       schedule = region_woken (is_in_region b.now) s.waits book.schedule;
       commits = book.commits + process_events b.events;
+      keeps_events = book.keeps_events;
     }

@@ -1,5 +1,5 @@
 -- The book of a run: what has happened in it, what this has led to, and which process to step next.
-use Rattle.std.specs.Prelude.{◌≡◌, ℕ, ◌+◌, ◌<◌, List, length, count_by}
+use Rattle.std.specs.Prelude.{◌≡◌, ℕ, ◌+◌, ◌<◌, Bool, List, length, count_by}
 use Rattle.kpn_net.specs.Tables.{Tables}
 use Rattle.kpn_step.specs.Frame.{Frame}
 use Rattle.kpn_history.specs.declared.state.State.TheVariants.{Held}
@@ -8,14 +8,15 @@ use Rattle.kpn_history.specs.Views.{is_held}
 use Rattle.kpn_machine.specs.Machine.{Machine, with_frame}
 use Rattle.kpn_book.specs.Schedule.{Schedule, state_at, HoldsFirst, made_ready}
 
--- the network, the events so far, the machine to which they lead, the schedule of the processes, and how many
--- commits were made
+-- the network, the events so far, the machine to which they lead, the schedule of the processes, how many commits were
+-- made, and whether the events are kept in memory
 pub record Book : Type 0 where
   pub tables : Tables
   pub history : List Event
   pub machine : Machine
   pub schedule : Schedule
   pub commits : ℕ
+  pub keeps_events : Bool
 
 -- somebody steps the process
 pub record IsHeld (b : Book) (p : ℕ) : Type 0 where

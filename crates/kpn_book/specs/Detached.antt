@@ -12,4 +12,5 @@ book_on t detached =
       machine = detached.machine;
       schedule = detached.schedule;
       commits = detached.commits;
+      keeps_events = detached.history.is_kept;
     }

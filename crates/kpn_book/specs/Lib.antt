@@ -22,3 +22,4 @@ pub mod Reports
 pub mod Running
 pub mod RunHere
 pub mod Releasing
+pub mod Remembering

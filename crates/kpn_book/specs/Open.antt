@@ -34,6 +34,7 @@ book_of parts =
       machine = parts.machine;
       schedule = parts.schedule;
       commits = parts.commits;
+      keeps_events = parts.history.is_kept;
     }
 
 -- the next item of channel c is reserved

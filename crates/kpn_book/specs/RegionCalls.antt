@@ -1,11 +1,16 @@
 -- The commit of a region: its events are appended at once, and its processes are settled as they stand then.
-use Rattle.std.specs.Prelude.{ℕ, ◌+◌, ◌<◌, ◌^◌, Bool, length}
+use Rattle.std.specs.Prelude.{◌≡◌, ℕ, ◌+◌, ◌<◌, ◌≤◌, ◌^◌, Bool, true, false, List, ◌++◌, length}
+use Rattle.std.specs.List.{list_all}
+use Rattle.kpn_history.specs.declared.event.Event.{Event}
+use Rattle.kpn_history.specs.declared.event.Event.TheVariants.{Get, Put, WaitEmpty, WaitFull, Ended, Grow}
+use Rattle.kpn_history.specs.Talks.{process_events}
 use Rattle.kpn_machine.specs.Machine.{Machine}
+use Rattle.kpn_region.specs.Local.{is_in_region}
 use Rattle.kpn_region.specs.Batch.{Batch}
 use Rattle.kpn_region.specs.Joining.{AgreesWith, Joins}
 use Rattle.kpn_book.specs.declared.answers.Refused.{Refused}
 use Rattle.kpn_book.specs.declared.answers.Refused.TheVariants.{Stranger, NoMemory}
-use Rattle.kpn_book.specs.Book.{Book}
+use Rattle.kpn_book.specs.Book.{Book, IsHeld}
 use Rattle.kpn_book.specs.Regions.{SettleBelow}
 use Rattle.kpn_book.specs.BatchCommits.{with_batch}
 
@@ -32,3 +37,27 @@ pub record CommitsRegion (b : Batch) (memory : Bool) (before after : Book) : Typ
   pub joined : Machine
   pub joins : Joins b before.machine joined
   pub settle : SettleBelow b (with_batch b joined before) (length before.tables.instances) memory after
+
+-- ---- what that comes to
+
+-- an event of a process of the region, or a growth
+abbrev pub is_at_stop : (within : ℕ → Bool) → Event → Bool
+is_at_stop within (Get p c v) = within p
+is_at_stop within (Put p c v) = within p
+is_at_stop within (WaitEmpty p c) = within p
+is_at_stop within (WaitFull p c) = within p
+is_at_stop within (Ended p how) = within p
+is_at_stop within (Grow p c n) = true
+is_at_stop within event = false
+
+-- the events of the batch are appended, and then those of the stops at which so many processes were committed. No
+-- process of the region is held any more
+pub record CommitsAtStops (b : Batch) (before after : Book) : Type 0 where
+  pub tables : after.tables ≡ before.tables
+  pub events : List Event
+  pub history : after.history ≡ (before.history ++ b.events) ++ events
+  pub own : list_all (is_at_stop (is_in_region b.now)) events ≡ true
+  pub processes : ℕ
+  pub commits : after.commits ≡ before.commits + process_events b.events + processes
+  pub few : processes ≤ length before.tables.instances
+  pub none_held : (p : ℕ) → is_in_region b.now p ≡ true → ¬ IsHeld after p

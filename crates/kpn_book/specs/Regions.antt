@@ -91,7 +91,8 @@ abbrev pub goes_to : (memory : Bool) → (p : ℕ) → Option Stop → (before a
 goes_to memory p (Some s) before after = commits_or_not memory p s before after
 goes_to memory p None before after = (memory ≡ true) × (after ≡ put_back p before)
 
--- the batch has to do with process p now: it is of the region, and held
+-- process p is of the region, and held. By whom no state says, so a batch settles also one that another has claimed
+-- since
 abbrev pub has_part : Batch → (p : ℕ) → Book → Bool
 has_part b p book = is_in_region b.now p && is_held (state_at book.schedule.states p)
 

@@ -55,6 +55,7 @@ TellsEach holds _ _ = ⊥
 pub record IsWrittenFrom (b : Book) (outcome : Outcome) (report : Report) : Type 0 where
   pub is : report.outcome ≡ outcome
   pub history : events_of report ≡ b.history
+  pub kept : report.history.is_kept ≡ b.keeps_events
   pub commits : report.commits ≡ b.commits
   pub view : Agrees b.tables b.history report.view
   pub states : report.view.states ≡ b.schedule.states

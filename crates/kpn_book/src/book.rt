@@ -8,11 +8,11 @@ ghost use Rattle.kpn_chan.specs.declared.unread.Unread.TheVariants.{Forgotten};
 ghost use Rattle.kpn_history.specs.Channels.{read_on, is_closed};
 ghost use Rattle.kpn_history.specs.Views.{AreCounts, Agrees};
 ghost use Rattle.kpn_history.specs.Ends.{IsVerdict};
-ghost use Rattle.kpn_history.specs.Keeping.{keeps_items};
 ghost use Rattle.kpn_machine.specs.Machine.{channel_in, frame_in, AreKept};
 ghost use Rattle.kpn_book.specs.Schedule.{all_ready};
 ghost use Rattle.kpn_book.specs.Kept.{IsBook};
 ghost use Rattle.kpn_book.specs.Bounded.{most_places};
+ghost use Rattle.kpn_book.specs.Remembering.{Remembers};
 ghost use Rattle.kpn_book.specs.Snapshot.{ShowsARun, IsBelowKahn, IsKahnAtRest};
 
 use crate::open_book::OpenBook;
@@ -36,8 +36,9 @@ mod waiting;
 /// The value under the lock of a run: its network, the history so far, the machine to which it leads, the
 /// schedule of the processes, and how many commits were made.
 ///
-/// Contracts see these five. Each call leaves a book of which `known` holds. A call that is refused leaves the book as
-/// it was, except for `step_next` and `run_on`: what they have done before memory ran out stays.
+/// Contracts see these five, and whether the events are kept. Each call leaves a book of which `known` holds, and keeps
+/// what the book keeps (`laws::what_is_kept`). A call that is refused leaves the book as it was, except for `step_next`
+/// and `run_on`: what they have done before memory ran out stays.
 #[derive(Debug)]
 pub struct Book<'n, A: Allocator = Global> {
     parts: OpenBook<'n, A>,
@@ -81,7 +82,7 @@ impl<'n, A: Allocator + Copy> Book<'n, A> {
             (p : ℕ) → p < length t.instances → frame_in book.machine p
             ≡ start_frame (program_of t p) (instance_at t p).pars) }
         ensures book { IfOk result (λ book. IsBook book) }
-        ensures kept { IfOk result (λ book. AreKept book.machine) }
+        ensures kept { IfOk result (λ book. Remembers Keeping.All book) }
     {
         Book::keeping(alloc, network, Keeping::All)
     }
@@ -97,8 +98,7 @@ impl<'n, A: Allocator + Copy> Book<'n, A> {
             (p : ℕ) → p < length t.instances → frame_in book.machine p
             ≡ start_frame (program_of t p) (instance_at t p).pars) }
         ensures book { IfOk result (λ book. IsBook book) }
-        ensures kept { IfOk result (λ book. (c : ℕ) → c < length book.machine.channels
-            → (channel_in book.machine c).is_kept ≡ keeps_items keeping network.now c) }
+        ensures kept { IfOk result (λ book. Remembers keeping book) }
     {
         let machine = Machine::keeping(alloc, network, keeping)?;
         let schedule = Schedule::new(alloc, network.instances())?;
@@ -146,16 +146,18 @@ impl<'n, A: Allocator> Book<'n, A> {
         self.parts.commits
     }
 
-    /// The events so far.
+    /// The events so far. They are kept if the book keeps them.
     pub fn history(&self) -> &History<A>
-        ensures { result.now.events ≡ self.now.history }
+        ensures events { result.now.events ≡ self.now.history }
+        ensures kept { result.now.is_kept ≡ self.now.keeps_events }
     {
         &self.parts.history
     }
 
     /// Moves the events so far out of the book.
     pub fn into_history(self) -> History<A>
-        ensures { result.events ≡ self.entry.history }
+        ensures events { result.events ≡ self.entry.history }
+        ensures kept { result.is_kept ≡ self.entry.keeps_events }
     {
         let Book { parts } = self;
         parts.history
@@ -269,6 +271,7 @@ impl<'n> Book<'n> {
         ensures agrees { IfOk result (λ told. Agrees self.entry.tables self.entry.history told.0) }
         ensures states { IfOk result (λ told. told.0.states ≡ self.entry.schedule.states) }
         ensures history { IfOk result (λ told. told.1.events ≡ self.entry.history) }
+        ensures kept { IfOk result (λ told. told.1.is_kept ≡ self.entry.keeps_events) }
     {
         let Book { parts } = self;
         let channels = parts.network.channels();
@@ -281,6 +284,7 @@ impl<'n> Book<'n> {
     pub fn into_states(self, alloc: Global) -> Result<(Sequence<State>, History), AllocError>
         ensures states { IfOk result (λ told. told.0 ≡ self.entry.schedule.states) }
         ensures history { IfOk result (λ told. told.1.events ≡ self.entry.history) }
+        ensures kept { IfOk result (λ told. told.1.is_kept ≡ self.entry.keeps_events) }
     {
         let Book { parts } = self;
         let states = parts.schedule.copy_states(alloc)?;

@@ -1,6 +1,7 @@
 //! A run on the calling thread only.
-ghost use Rattle.std.specs.Prelude.{◌≡◌, ◌≤◌, length, IfOk};
+ghost use Rattle.std.specs.Prelude.{◌≡◌, ◌≤◌, length, IsTrue, IfOk};
 ghost use Rattle.kpn_net.specs.Iteration.{sources};
+ghost use Rattle.kpn_history.specs.Keeping.{keeps_all};
 ghost use Rattle.kpn_book.specs.Reports.{events_of, AreSupplied, IsReport};
 ghost use Rattle.kpn_book.specs.RunHere.{IsReportHere};
 ghost use Rattle.kpn_book.specs.Running.{IsLeftToItself, ComesToOutcome};
@@ -33,6 +34,7 @@ pub fn run_here(
     ensures supplied { IfOk result (λ report.
         AreSupplied network.now lists.now (events_of report)) }
     ensures commits { IfOk result (λ report. report.commits ≤ limits.now.commits) }
+    ensures kept { IfOk result (λ report. IsTrue report.history.is_kept) }
 {
     match run_here_keeping(alloc, network, lists, limits, Keeping::All) {
         Ok(report) => Ok(report),
@@ -56,6 +58,7 @@ pub fn run_here_keeping(
     ensures supplied { IfOk result (λ report.
         AreSupplied network.now lists.now (events_of report)) }
     ensures commits { IfOk result (λ report. report.commits ≤ limits.now.commits) }
+    ensures kept { IfOk result (λ report. report.history.is_kept ≡ keeps_all keeping) }
 {
     let mut book = Book::keeping(alloc, network, keeping)?;
     feed_sources(&mut book, network, lists)?;

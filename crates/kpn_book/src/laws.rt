@@ -1,5 +1,5 @@
 //! What holds of every book, as contracts of functions that do nothing. The layers above cite them.
-ghost use Rattle.std.specs.Prelude.{◌≡◌, ◌≢◌, ℕ, ◌+◌, ◌<◌, ◌≤◌, false, List, [], ◌∷◌, ◌++◌, length, map, count_by, Some};
+ghost use Rattle.std.specs.Prelude.{◌≡◌, ℕ, ◌+◌, ◌<◌, ◌≤◌, Bool, false, List, [], ◌∷◌, ◌++◌, length, map, count_by, Option, Some};
 ghost use Rattle.kpn_lang.specs.declared.talk.Said.{Said};
 ghost use Rattle.kpn_lang.specs.Alone.{alone};
 ghost use Rattle.kpn_net.specs.declared.tables.Policy.TheVariants.{All};
@@ -23,12 +23,18 @@ ghost use Rattle.kpn_history.specs.Stops.{CanGrow, IsJammedAtLimit, WaitsForBloc
 ghost use Rattle.kpn_history.specs.Ends.{WaitsOnFull, IsQuiet, IsSettled, IsVerdict};
 ghost use Rattle.kpn_history.specs.Views.{IsStateOf, AreCounts};
 ghost use Rattle.kpn_machine.specs.Machine.{channel_in, frame_in, is_empty_wait, is_full_wait};
+ghost use Rattle.kpn_region.specs.Batch.{Batch};
 ghost use Rattle.kpn_book.specs.Schedule.{state_at};
 ghost use Rattle.kpn_book.specs.declared.answers.Done.{Done};
 ghost use Rattle.kpn_book.specs.Book.{Book, IsHeld, IsClaimed};
-ghost use Rattle.kpn_book.specs.Appending.{AppendsAll};
+ghost use Rattle.kpn_book.specs.Appending.{AppendsAll, Happens};
 ghost use Rattle.kpn_book.specs.Commits.{Commits};
 ghost use Rattle.kpn_book.specs.Kept.{IsBook};
+ghost use Rattle.kpn_book.specs.Stepping.{StepsNext};
+ghost use Rattle.kpn_book.specs.InARow.{RunsInRow, RunsInVain};
+ghost use Rattle.kpn_book.specs.RegionCalls.{CommitsRegion, CommitsAtStops};
+ghost use Rattle.kpn_book.specs.RegionClaims.{ClaimsRegion};
+ghost use Rattle.kpn_book.specs.Remembering.{RemembersAsMuch};
 
 // ---- at each moment
 
@@ -139,7 +145,36 @@ pub fn what_a_commit_does()
         → Commits p a answer before after → after.commits ≡ before.commits + 1 }
 {}
 
+/// The commit of a region appends the events of its batch, and then those of its stops: each is an event of one of its
+/// processes, or a growth. It counts a commit for each get and put of the batch and for each process that it commits at
+/// its stop. No process of the region is held then: each is ready, waits or has ended, as the history says.
+pub fn what_a_region_commit_does()
+    ensures { (b : Batch) (memory : Bool) (before after : Book) → IsBook before
+        → b.tables ≡ before.tables → CommitsRegion b memory before after → CommitsAtStops b before after }
+{}
+
 /// A process that is claimed is held.
 pub fn a_claimed_process()
     ensures { (p : ℕ) (before after : Book) → IsClaimed p before after → IsHeld after p }
+{}
+
+/// What a book keeps in memory, it keeps through each call: events that are appended or happen, commits, steps and rows
+/// of steps, and the claim and the commit of a region.
+pub fn what_is_kept()
+    ensures appended { (events : List Event) (before after : Book) → AppendsAll events before after
+        → RemembersAsMuch before after }
+    ensures happens { (e : Event) (before after : Book) → Happens e before after
+        → RemembersAsMuch before after }
+    ensures commits { (p : ℕ) (a : Advanced) (answer : Done) (before after : Book)
+        → Commits p a answer before after → RemembersAsMuch before after }
+    ensures steps { (quota : ℕ) (answer : Done) (before after : Book)
+        → StepsNext quota answer before after → RemembersAsMuch before after }
+    ensures rows { (quota most : ℕ) (sink : Option ℕ) (before after : Book)
+        → RunsInRow quota most sink before after → RemembersAsMuch before after }
+    ensures in_vain { (quota most : ℕ) (before after : Book)
+        → RunsInVain quota most before after → RemembersAsMuch before after }
+    ensures claims { (of : List ℕ) (most : ℕ) (drains : Bool) (b : Batch) (before after : Book)
+        → ClaimsRegion of most drains b before after → RemembersAsMuch before after }
+    ensures regions { (b : Batch) (memory : Bool) (before after : Book) → b.tables ≡ before.tables
+        → CommitsRegion b memory before after → RemembersAsMuch before after }
 {}

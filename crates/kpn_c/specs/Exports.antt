@@ -21,6 +21,7 @@ use Rattle.kpn_c.specs.declared.processes.ProcessState.{ProcessState}
 use Rattle.kpn_c.specs.States.{state_as}
 use Rattle.kpn_history.specs.declared.stored.Version.TheVariants.{Two}
 use Rattle.kpn_book.specs.RunHere.{IsNewBook}
+use Rattle.kpn_book.specs.Remembering.{Remembers}
 use Rattle.kpn_trace.specs.TraceText.{trace_text}
 use Rattle.kpn_text_names.specs.Names.{number_of}
 use Rattle.kpn_text.specs.declared.fault.TextFault.{TextFault}
@@ -31,7 +32,7 @@ use Rattle.kpn_c.specs.Slices.{PutsToFront}
 use Rattle.kpn_c.specs.Texts.{IsText}
 use Rattle.kpn_c.specs.declared.codes.FaultPlace.{FaultPlace}
 use Rattle.kpn_c.specs.declared.slot.Slot.{Slot}
-use Rattle.kpn_c.specs.Sessions.{KeepsAllOrNothing, slot_with}
+use Rattle.kpn_c.specs.Sessions.{keeping_of, slot_with}
 
 -- the session that was handed in leads to the one that is handed back
 abbrev pub Leads : (Session → Session → Type 0) → (before after : Option Slot) → Type 0
@@ -181,7 +182,7 @@ pub record IsNewSession (keeps : Bool) (text : List ℕ) (slot : Option Slot) : 
   pub spelled : SpellsDocument text session.document
   pub first : IsNewBook session.document.tables session.book
   pub keeps_so : session.keeps ≡ keeps
-  pub kept : KeepsAllOrNothing keeps session.book
+  pub kept : Remembers (keeping_of keeps) session.book
 
 -- such a session is handed out, or what was there stays, and the fault is told or memory ran out
 abbrev pub Opens : (keeps : Bool) → (text : List ℕ) → (code : ℕ) → FaultPlace → (before after : Option Slot) → Type 0

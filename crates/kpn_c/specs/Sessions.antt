@@ -1,8 +1,9 @@
 -- A box with a session, what a session keeps, and what a call gives that is lent its book.
-use Rattle.std.specs.Prelude.{◌≡◌, ◌<◌, ℕ, Bool, List, length, Option, Some, None, IsSome}
+use Rattle.std.specs.Prelude.{◌≡◌, Bool, true, false, List, Option, Some, None, IsSome}
 use Rattle.std.specs.Borrow.{MutBor}
 use Rattle.std.specs.Fn.{Once}
-use Rattle.kpn_machine.specs.Machine.{channel_in}
+use Rattle.kpn_history.specs.declared.keeping.Keeping.{Keeping}
+use Rattle.kpn_history.specs.declared.keeping.Keeping.TheVariants.{All, Nothing}
 use Rattle.kpn_book.specs.Book.{Book}
 use Rattle.kpn_c.specs.Session.{Session}
 use Rattle.kpn_c.specs.declared.slot.Slot.{Slot}
@@ -16,10 +17,10 @@ IsOpen (Some slot) = IsSome slot.session
 abbrev pub slot_with : Session → Option Slot
 slot_with session = Some (record { session = Some session })
 
--- the items of each channel are kept, or those of none
-abbrev pub KeepsAllOrNothing : Bool → Book → Type 0
-KeepsAllOrNothing keeps b =
-    (c : ℕ) → c < length b.machine.channels → (channel_in b.machine c).is_kept ≡ keeps
+-- all that happens is kept, or nothing
+abbrev pub keeping_of : (keeps : Bool) → Keeping
+keeping_of true = All
+keeping_of false = Nothing
 
 -- what a call that is lent a book and a slice asks for and gives back
 abbrev pub Lent : Type 0 → Type 0

@@ -5,7 +5,6 @@ ghost use Rattle.std.specs.Str.{IsUtf8};
 ghost use Rattle.kpn_text_names.specs.Names.{number_of};
 ghost use Rattle.kpn_history.specs.Ends.{IsVerdict};
 ghost use Rattle.kpn_net.specs.Tables.{Tables};
-ghost use Rattle.kpn_history.specs.Keeping.{keeps_items};
 ghost use Rattle.kpn_history.specs.declared.stored.Version.TheVariants.{Two};
 ghost use Rattle.kpn_trace.specs.TraceText.{trace_text};
 ghost use Rattle.kpn_text.specs.Spells.{SpellsDocument};
@@ -15,9 +14,10 @@ ghost use Rattle.kpn_book.specs.Kept.{IsBook};
 ghost use Rattle.kpn_book.specs.Detached.{book_on};
 ghost use Rattle.kpn_book.specs.Refusals.{Closes, RefusesClose, Leaves, RefusesLeave};
 ghost use Rattle.kpn_book.specs.RunHere.{IsNewBook};
+ghost use Rattle.kpn_book.specs.Remembering.{Remembers};
 ghost use Rattle.kpn_c.specs.Calls.{FeedsEach, StepsEach, TakesEach, TellsCompleteness};
 ghost use Rattle.kpn_c.specs.Moving.{Moves};
-ghost use Rattle.kpn_c.specs.Sessions.{KeepsAllOrNothing, GivesWithRoom};
+ghost use Rattle.kpn_c.specs.Sessions.{keeping_of, GivesWithRoom};
 ghost use Rattle.kpn_c.specs.Slices.{PutsToFront};
 ghost use Rattle.kpn_c.specs.States.{state_as, LooksInto};
 ghost use Rattle.kpn_c.specs.Telling.{TellsState, PutsChannelName, PutsProcessName, counts_of};
@@ -74,7 +74,7 @@ impl Session {
         ensures spelled { IfOk result (λ session. SpellsDocument text.now session.document) }
         ensures first { IfOk result (λ session. IsNewBook session.document.tables session.book) }
         ensures keeps { IfOk result (λ session. session.keeps ≡ keeps) }
-        ensures kept { IfOk result (λ session. KeepsAllOrNothing keeps session.book) }
+        ensures kept { IfOk result (λ session. Remembers (keeping_of keeps) session.book) }
         ensures fault { IfErr result (Refuses text.now) }
     {
         let document = read_network(alloc, text)?;
@@ -392,7 +392,8 @@ fn attached(document: &Box<Document>, detached: Detached) -> Book<'_>
 /// A book at its start, which keeps all or nothing.
 fn first_book(alloc: Global, network: &Network, keeps: bool) -> Result<Detached, AllocError>
     ensures first { IfOk result (λ detached. IsNewBook network.now (book_on network.now detached)) }
-    ensures kept { IfOk result (λ detached. KeepsAllOrNothing keeps (book_on network.now detached)) }
+    ensures kept { IfOk result (λ detached.
+        Remembers (keeping_of keeps) (book_on network.now detached)) }
 {
     let book = Book::keeping(alloc, network, keeping_of(keeps))?;
     Ok(book.detach())
@@ -400,7 +401,7 @@ fn first_book(alloc: Global, network: &Network, keeps: bool) -> Result<Detached,
 
 /// What a session keeps: all or nothing.
 fn keeping_of(keeps: bool) -> Keeping
-    ensures { (t : Tables) (c : ℕ) → keeps_items result t c ≡ keeps }
+    ensures { result ≡ keeping_of keeps }
 {
     if keeps {
         Keeping::All

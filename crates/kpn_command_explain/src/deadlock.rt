@@ -6,7 +6,7 @@ ghost use Rattle.kpn_command_explain.specs.TraceAnswers.{BeginsByRings, TellsRin
 
 use kpn_audit::Audit;
 use kpn_command_base::Pushed;
-use kpn_deadlock::rings;
+use kpn_deadlock::{awaited, rings};
 use kpn_lang::Sequence;
 use kpn_net::{End, Wait};
 use kpn_text::Document;
@@ -105,7 +105,7 @@ fn push_ring(text: &mut String, document: &Document, audit: &Audit, members: &[u
 // On which channel a process waits, and for whom.
 fn push_wait(text: &mut String, document: &Document, audit: &Audit, p: usize) -> Pushed {
     let name = document.instance_name(p);
-    let (Some(c), Some(next)) = (channel_of(audit, p), awaited(document, audit, p)) else {
+    let (Some(c), Some(next)) = (channel_of(audit, p), awaited_by(document, audit, p)) else {
         return text.push_str(name);
     };
     let channel = document.channel_name(c);
@@ -122,17 +122,9 @@ fn channel_of(audit: &Audit, p: usize) -> Option<usize> {
 }
 
 // The process for which a process waits.
-fn awaited(document: &Document, audit: &Audit, p: usize) -> Option<usize> {
-    let network = document.network();
-    let end = match audit.waits.as_slice().get(p).copied() {
-        Some(Wait::Empty(c)) if c < network.channels() => network.writer_of(c),
-        Some(Wait::Full(c)) if c < network.channels() => network.reader_of(c),
-        _ => return None,
-    };
-    match end {
-        End::Process(q) => Some(q),
-        End::Source | End::Sink => None,
-    }
+fn awaited_by(document: &Document, audit: &Audit, p: usize) -> Option<usize> {
+    let wait = audit.waits.as_slice().get(p).copied()?;
+    awaited(document.network(), wait)
 }
 
 // Whether a process is a member of a ring.
@@ -154,7 +146,7 @@ fn is_held(document: &Document, audit: &Audit, rings: &[Sequence<usize>], p: usi
         if is_member(rings, at) {
             return true;
         }
-        let Some(next) = awaited(document, audit, at) else {
+        let Some(next) = awaited_by(document, audit, at) else {
             return false;
         };
         at = next;

@@ -2,10 +2,12 @@
 //! through one of them, and its smallest full channel.
 #![tactic(auto)]
 
+mod awaiting;
 pub mod laws;
 mod waits;
 mod walk;
 
+pub use awaiting::awaited;
 pub use kpn_net::{Found, Wait};
 pub use waits::Waits;
 pub use walk::{cycle_through, scan_all, smallest_waited};

@@ -1,13 +1,14 @@
 //! The cycle through a process, found by a walk along the waits, and a scan of all processes.
 ghost use Rattle.std.specs.Prelude.{◌≡◌, ℕ, ◌<◌, ◌++◌, List, [], ◌∷◌, length, IfSome};
 ghost use Rattle.std.specs.Option.{option_to_list};
-ghost use Rattle.kpn_net.specs.Waits.{AreWaits, awaited, awaited_as_full, full_channel, IsSmallest, FindsSmallest};
+ghost use Rattle.kpn_net.specs.Waits.{AreWaits, awaited_as_full, full_channel, IsSmallest, FindsSmallest};
 ghost use Rattle.kpn_net.specs.Finding.{Finds};
 ghost use Rattle.kpn_cycle.specs.Scan.{cap_in, ScanFinds};
 ghost use Rattle.kpn_cycle.specs.WalkSoFar.{found_on, IsOnChannelBelow};
 
+use crate::awaiting::awaited;
 use crate::waits::Waits;
-use kpn_net::{End, Found, Network, Wait};
+use kpn_net::{Found, Network, Wait};
 use std::alloc::Allocator;
 
 /// The cycle of waiting processes in which process `p` waits for the next and the last for `p`, and its smallest full
@@ -91,23 +92,6 @@ fn on_cycle(smallest: Option<usize>) -> Found
     match smallest {
         Some(c) => Found::Full(c),
         None => Found::AllEmpty,
-    }
-}
-
-/// The process that this wait is for: on an empty channel its writer, on a full one its reader. It is `None` if that is
-/// the outside.
-fn awaited(network: &Network, wait: Wait) -> Option<usize>
-    requires { IsOnChannelBelow (length network.now.channels) wait }
-    ensures { result ≡ awaited network.now wait }
-{
-    let end = match wait {
-        Wait::Nobody => return None,
-        Wait::Empty(c) => network.writer_of(c),
-        Wait::Full(c) => network.reader_of(c),
-    };
-    match end {
-        End::Process(q) => Some(q),
-        End::Source | End::Sink => None,
     }
 }
 

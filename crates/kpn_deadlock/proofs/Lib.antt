@@ -2,5 +2,4 @@ pub mod Final
 pub mod Searching
 pub mod Telling
 pub mod Stated
-pub mod Ends
 pub mod Least

@@ -7,4 +7,5 @@ pub mod laws;
 mod search;
 
 pub use among::rings_among;
+pub use kpn_cycle::awaited;
 pub use search::{cycles, rings};

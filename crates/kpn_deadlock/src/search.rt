@@ -1,12 +1,12 @@
 //! The cycles and the rings among waiting processes, found by a walk along the waits from each process.
 ghost use Rattle.std.specs.Prelude.{◌≡◌, IfOk, All};
-ghost use Rattle.kpn_net.specs.Tables.{writer_of, reader_of};
-ghost use Rattle.kpn_net.specs.Waits.{wait_at, process_at, awaited};
+ghost use Rattle.kpn_net.specs.Waits.{wait_at};
 ghost use Rattle.kpn_deadlock.specs.Ring.{AreFinal};
 ghost use Rattle.kpn_deadlock.specs.Told.{AreCycles, AreRings, FindsFrom, IsCycleFrom, IsRingFrom, with_found, is_wait_for_item, all_await_items};
 
+use kpn_cycle::awaited;
 use kpn_lang::Sequence;
-use kpn_net::{End, Network, Wait};
+use kpn_net::{Network, Wait};
 use std::alloc::{AllocError, Allocator};
 
 /// The cycles of waiting processes: the members of each, from the one of least number on. Each of them waits for the
@@ -113,53 +113,6 @@ fn wait_at(waits: &[Wait], p: usize) -> Wait
     ensures { result ≡ wait_at waits.now p }
 {
     waits.get(p).copied().unwrap_or(Wait::Nobody)
-}
-
-/// The process that this wait is for: on an empty channel its writer, on a full one its reader. It is `None` if that is
-/// the outside, and if there is no such channel.
-fn awaited(network: &Network, wait: Wait) -> Option<usize>
-    ensures { result ≡ awaited network.now wait }
-{
-    match wait {
-        Wait::Nobody => None,
-        Wait::Empty(c) => writer_of(network, c),
-        Wait::Full(c) => reader_of(network, c),
-    }
-}
-
-/// The process that writes a channel, if there is one.
-#[tactic(auto, using(crate::proofs::Ends::no_writer))]
-fn writer_of(network: &Network, c: usize) -> Option<usize>
-    ensures { result ≡ process_at (writer_of network.now c) }
-{
-    network.known();
-    if c < network.channels() {
-        process_at(network.writer_of(c))
-    } else {
-        None
-    }
-}
-
-/// The process that reads a channel, if there is one.
-#[tactic(auto, using(crate::proofs::Ends::no_reader))]
-fn reader_of(network: &Network, c: usize) -> Option<usize>
-    ensures { result ≡ process_at (reader_of network.now c) }
-{
-    network.known();
-    if c < network.channels() {
-        process_at(network.reader_of(c))
-    } else {
-        None
-    }
-}
-
-fn process_at(end: End) -> Option<usize>
-    ensures { result ≡ process_at end }
-{
-    match end {
-        End::Process(p) => Some(p),
-        End::Source | End::Sink => None,
-    }
 }
 
 /// Whether all these processes wait on empty channels.

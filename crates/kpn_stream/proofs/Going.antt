@@ -18,6 +18,7 @@ use Rattle.kpn_book.specs.Stepping.{StepsNext}
 use Rattle.kpn_book.specs.InARow.{StepsInRow, no_step, one_step_more, ends_row, RunsInRow, RunsInVain}
 use Rattle.kpn_book.specs.declared.outcome.Limits.{Limits}
 use Rattle.kpn_book.proofs.Happening.{happens_tables, happens_history}
+use Rattle.kpn_book.proofs.Remembered.{much-trans, happens_much, steps_much}
 use Rattle.kpn_book.proofs.Stepped.{step_tables, step_history}
 use Rattle.kpn_stream.specs.declared.faults.SourceFault.{SourceFault}
 use Rattle.kpn_stream.specs.declared.faults.SinkFault.{SinkFault}
@@ -39,7 +40,13 @@ none_weaker f g weaker [] none = tt
 none_weaker f g weaker (e ∷ es) none = (weaker e none.0, none_weaker f g weaker es none.1)
 
 pub besides-refl : (kind : Event → Bool) (b : Book) → HappensBesides kind b b
-besides-refl kind b = record { tables = refl; events = []; history = sym (append-nil b.history); none = tt }
+besides-refl kind b = record {
+  tables = refl;
+  events = [];
+  history = sym (append-nil b.history);
+  none = tt;
+  remembers = λ keeping is. is;
+}
 
 pub besides-trans : (kind : Event → Bool) (a b c : Book) → HappensBesides kind a b → HappensBesides kind b c
     → HappensBesides kind a c
@@ -50,6 +57,7 @@ besides-trans kind a b c first second = record {
       second.history ∙ ap (λ H. H ++ second.events) first.history
       ∙ append_assoc a.history first.events second.events;
   none = none_join kind first.events second.events first.none second.none;
+  remembers = much-trans a b c first.remembers second.remembers;
 }
 
 no_source : (x y : Bool) → (x || y) ≡ false → x ≡ false
@@ -66,6 +74,7 @@ besides_sources a b is = record {
   events = is.events;
   history = is.history;
   none = none_weaker is_of_outside is_of_source (λ e. no_source (is_of_source e) (is_of_sink e)) is.events is.none;
+  remembers = is.remembers;
 }
 
 pub besides_sinks : (a b : Book) → HappensBesides is_of_outside a b → HappensBesides is_of_sink a b
@@ -74,6 +83,7 @@ besides_sinks a b is = record {
   events = is.events;
   history = is.history;
   none = none_weaker is_of_outside is_of_sink (λ e. no_sink (is_of_source e) (is_of_sink e)) is.events is.none;
+  remembers = is.remembers;
 }
 
 pub elsewhere_no_source : (e : Event) → is_elsewhere e ≡ false → is_of_source e ≡ false
@@ -89,6 +99,7 @@ besides_elsewhere a b is = record {
   events = is.events;
   history = is.history;
   none = none_weaker is_elsewhere is_of_source elsewhere_no_source is.events is.none;
+  remembers = is.remembers;
 }
 
 growth_of_none : (e : Event) → is_no_growth e ≡ false → is_of_outside e ≡ false
@@ -115,6 +126,7 @@ happens_besides kind no_growth e other before after is = record {
   events = e ∷ is.growth;
   history = happens_history e before after is;
   none = (other, growth_none kind no_growth before.tables (before.history ++ e ∷ []) is.growth is.owed);
+  remembers = happens_much e before after is;
 }
 
 -- sources stay open
@@ -333,6 +345,7 @@ step_besides quota answer before after steps = record {
   none =
       commit_none (standing_at steps.process steps.advance.to steps.between) steps.process steps.advance.stop answer
       steps.commits.handles.events steps.commits.handles.answers;
+  remembers = steps_much quota answer before after steps;
 }
 
 row_besides : (quota : ℕ) (first : Book) {n : ℕ} {b : Book} → StepsInRow quota first n b
@@ -388,6 +401,8 @@ in_vain limits quota most before after fits is = record {
       events = so_far.events;
       history = so_far.history;
       none = so_far.none;
+      remembers = λ keeping is.
+          let kept = so_far.remembers keeping is in record { events = kept.events; items = kept.items };
     }
 
 -- steps in a row, also if memory runs out behind them
@@ -493,6 +508,7 @@ module _ {S K : Type 0} (gives : S → ℕ → Result (Option ℤ) SourceFault �
   looks_go_on b r s k around = record {
     tables = refl;
     commits = λ below. below;
+    remembers = λ keeping is. is;
     sources_go_on = λ first fed. fed_looked gives looks first b.tables b.history r fed around;
     sinks_go_on = none_yet;
     calls_go_on = λ t same u j called.
@@ -511,6 +527,7 @@ module _ {S K : Type 0} (gives : S → ℕ → Result (Option ℤ) SourceFault �
   goes_on-trans ended a b c r s u i j k one two = record {
     tables = two.tables ∙ one.tables;
     commits = λ below. two.commits (one.commits below);
+    remembers = much-trans a b c one.remembers two.remembers;
     sources_go_on = λ first fed. two.sources_go_on first (one.sources_go_on first fed);
     sinks_go_on = served-trans takes flushes limits.take a.history i b.history j one.sinks_go_on two.sinks_go_on;
     calls_go_on = λ t same s k called.
@@ -526,6 +543,7 @@ module _ {S K : Type 0} (gives : S → ℕ → Result (Option ℤ) SourceFault �
   serves_goes_on ended a b s i j is = record {
     tables = is.besides.tables;
     commits = λ below. let same = is.commits in omega arith;
+    remembers = is.besides.remembers;
     sources_go_on = λ first fed.
         subst (λ f. Fed b.tables gives looks first b.history f s) (sym is.no_source)
         (fed_besides gives looks first None s a b (besides_elsewhere a b is.besides) fed);
@@ -545,6 +563,7 @@ module _ {S K : Type 0} (gives : S → ℕ → Result (Option ℤ) SourceFault �
   steps_go_on a b s k is = record {
     tables = is.besides.tables;
     commits = is.commits;
+    remembers = is.besides.remembers;
     sources_go_on = λ first fed.
         fed_besides gives looks first None s a b (besides_sources a b is.besides) fed;
     sinks_go_on =
@@ -582,6 +601,7 @@ module _ {S K : Type 0} (gives : S → ℕ → Result (Option ℤ) SourceFault �
   reads_at_once c ended a b r s k hand is = record {
     tables = is.besides.tables;
     commits = λ below. let same = is.commits in omega arith;
+    remembers = is.besides.remembers;
     sources_go_on = is.sources_go_on;
     sinks_go_on = sinks_wait c ended a b r s k is;
     calls_go_on = λ t same u j called.
@@ -611,6 +631,7 @@ module _ {S K : Type 0} (gives : S → ℕ → Result (Option ℤ) SourceFault �
   reads_flushed c ended a b d r u s i j xs serves all handed_on stopped around is = record {
     tables = is.besides.tables ∙ serves.besides.tables;
     commits = λ below. let same = is.commits in let as_before = serves.commits in omega arith;
+    remembers = much-trans a b d serves.besides.remembers is.besides.remembers;
     sources_go_on = λ first fed.
         is.sources_go_on first
         (fed_looked gives looks first b.tables b.history r

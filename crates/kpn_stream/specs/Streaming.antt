@@ -5,6 +5,7 @@ use Rattle.kpn_history.specs.declared.event.Event.{Event}
 use Rattle.kpn_history.specs.declared.event.Event.TheVariants.{Leave}
 use Rattle.kpn_book.specs.Book.{Book}
 use Rattle.kpn_book.specs.Appending.{Happens}
+use Rattle.kpn_book.specs.Remembering.{RemembersAsMuch}
 use Rattle.kpn_stream.specs.declared.faults.SourceFault.{SourceFault}
 use Rattle.kpn_stream.specs.declared.faults.SourceFault.TheVariants as source_fault
 use Rattle.kpn_stream.specs.declared.faults.SinkFault.{SinkFault}
@@ -21,6 +22,7 @@ pub record HappensBesides (kind : Event → Bool) (before after : Book) : Type 0
   pub events : List Event
   pub history : after.history ≡ before.history ++ events
   pub none : NoneIs kind events
+  pub remembers : RemembersAsMuch before after
 
 -- the stream goes on, or has ended so
 abbrev pub MayEnd : Limits → Option StreamEnding → Book → Type 0
@@ -106,6 +108,7 @@ pub record StreamGoesOn {S K : Type 0} (gives : S → ℕ → Result (Option ℤ
     (before after : Book) (sources read : S) (sinks served : K) : Type 0 where
   pub tables : after.tables ≡ before.tables
   pub commits : before.commits ≤ limits.commits → after.commits ≤ limits.commits
+  pub remembers : RemembersAsMuch before after
   pub sources_go_on : (first : S) → Fed before.tables gives looks first before.history None sources
       → Fed after.tables gives looks first after.history (failed_source ended) read
   pub sinks_go_on : ServedSince takes flushes limits.take before.history sinks after.history (failed_sink ended) served

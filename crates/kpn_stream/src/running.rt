@@ -3,6 +3,7 @@ ghost use Rattle.std.specs.Prelude.{◌≡◌, ◌≤◌, [], Some, None, IfOk, 
 ghost use Rattle.kpn_net.specs.Tables.{is_source, is_sink};
 ghost use Rattle.kpn_history.specs.Ends.{IsSettled};
 ghost use Rattle.kpn_book.specs.Kept.{IsBook};
+ghost use Rattle.kpn_book.specs.Remembering.{Remembers};
 ghost use Rattle.kpn_stream.specs.Devices.{Fed, Served, EndsFlushed, Called};
 ghost use Rattle.kpn_stream.specs.Ending.{end_numbers, failed_source, failed_sink, IsEnding, HasNoOutcome, AreTaken, LeavesNothing};
 ghost use Rattle.kpn_stream.specs.Streaming.{StreamGoesOn, MayEndWell, Serves};
@@ -56,6 +57,7 @@ pub fn stream<'n, S: Sources, K: Sinks>(
         IsEnding limits.now streamed.ending streamed.book) }
     ensures taken { IfOk result (λ streamed. LeavesNothing streamed.ending streamed.book) }
     ensures commits { IfOk result (λ streamed. streamed.book.commits ≤ limits.now.commits) }
+    ensures kept { IfOk result (λ streamed. Remembers keeping streamed.book) }
     ensures no_source { OnErr result (sources.new ≡ sources.old) }
     ensures no_sink { OnErr result (sinks.new ≡ sinks.old) }
 {

@@ -1,8 +1,10 @@
-use Rattle.std.proofs.Common.{subst, arith}
+use Rattle.std.proofs.Common.{◌∙◌, subst, arith}
 use Rattle.std.proofs.lemmas.Result.{IfOk-weaker}
 use Rattle.kpn_net.specs.Faults.{IsNetwork}
 use Rattle.kpn_net.specs.Iteration.{given_by}
 use Rattle.kpn_book.proofs.Supplying.{IsFedBelow-first, IsLeftToItself-fed}
+use Rattle.kpn_book.specs.RunHere.{supplies}
+use Rattle.kpn_book.proofs.Remembered.{happen_much, turns_much}
 use Rattle.kpn_book.proofs.Told.{IsReport-told, AreSupplied-told, IsReportHere-told}
 use Rattle.kpn_book.proofs.here.run_here_keeping.Goals as goal
 
@@ -58,3 +60,15 @@ returns-clause-commits c =
     let none = c.in_ok-feed_sources.ensures.fed.commits in
     let most = c.in_ok-outcome.ensures.within (omega arith) in
     IfOk-weaker c.report_of.result _ _ (λ report tells. let same = tells.commits in omega arith) c.report_of.ensures
+
+pub returns-clause-kept : goal.returns-clause-kept
+returns-clause-kept c =
+    let t = c.args.network.now in
+    let first = c.in_ok-book.book in
+    let fed = c.feed_sources.new.book in
+    let at_start =
+    happen_much (supplies t (given_by t c.args.lists.now)) first fed c.in_ok-feed_sources.ensures.supplies
+    c.args.keeping c.in_ok-book.ensures.kept in
+    let at_end =
+    turns_much c.args.limits.now fed c.in_ok-outcome.ensures.made c.args.keeping at_start in
+    IfOk-weaker c.report_of.result _ _ (λ report tells. tells.kept ∙ at_end.events) c.report_of.ensures

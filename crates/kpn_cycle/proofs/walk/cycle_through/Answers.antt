@@ -49,13 +49,6 @@ returns-clause-exact g c =
     walk-long c.args.network.now c.args.waits.now (cap_in c.args.caps.now) c.args.p c.loop-step._step c.loop-step.at
     c.loop-step.smallest c.loop-step.invariant.walked (omega arith)
 
-pub awaited-requires : goal.awaited-requires
-awaited-requires g c =
-    let t = c.args.network.now in
-    rw c.get-wait.ensures
-    (on_channel t c.known.ensures c.loop-step.at (wait_at c.args.waits.now c.loop-step.at)
-    (c.requires.waits.own c.loop-step.at c.loop-step.invariant.process))
-
 pub smallest_with-smallest-requires-clause-wait : goal.smallest_with-smallest-requires-clause-wait
 smallest_with-smallest-requires-clause-wait g c =
     let t = c.args.network.now in

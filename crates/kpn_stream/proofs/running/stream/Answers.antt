@@ -54,3 +54,6 @@ returns-clause-ending g c = c.run-ending.ensures.ending.0
 
 pub returns-clause-taken : goal.returns-clause-taken
 returns-clause-taken g c = c.run-ending.ensures.ending.1
+
+pub returns-clause-kept : goal.returns-clause-kept
+returns-clause-kept g c = c.run-ending.ensures.remembers c.args.keeping c.in_ok-book.ensures.kept

@@ -12,20 +12,20 @@ use Rattle.kpn_book.proofs.book.Book.close_source.Goals as goal
 
 pub close-requires-clause-sound : goal.close-requires-clause-sound
 close-requires-clause-sound g c =
-    sound_reserved (book_of c.self.inside.parts) c.reserve.new.self.events c.in_ok-reserve.ensures.events
+    sound_reserved (book_of c.self.inside.parts) c.reserve.new.self c.in_ok-reserve.ensures.events c.in_ok-reserve.ensures.kept
     c.self.invariant
 
 pub grow_at_stop-grown-requires-clause-no_cycle : goal.grow_at_stop-grown-requires-clause-no_cycle
 grow_at_stop-grown-requires-clause-no_cycle g c =
     let b = book_of c.self.inside.parts in
-    no_cycle_then (event.Close c.args.source) (recorded b c.reserve.new.self.events b.machine b.schedule)
+    no_cycle_then (event.Close c.args.source) (recorded b c.reserve.new.self b.machine b.schedule)
     (book_of c.close.new.self) c.close.ensures.follows refl
 
 pub invariant_of-self-2 : goal.invariant_of-self-2
 invariant_of-self-2 g c =
     let b = book_of c.self.inside.parts in
     kept_grown b (book_of c.close.new.self) _ (event.Close c.args.source) c.grow_at_stop-grown.result c.self.invariant
-    (follows_reserved b c.reserve.new.self.events c.in_ok-reserve.ensures.events (event.Close c.args.source)
+    (follows_reserved b c.reserve.new.self c.in_ok-reserve.ensures.events c.in_ok-reserve.ensures.kept (event.Close c.args.source)
     (book_of c.close.new.self)
     c.close.ensures.follows) refl c.grow_at_stop-grown.ensures.grows
 
@@ -38,7 +38,7 @@ returns-clause-done g c =
     subst (λ x. Closes c.args.source x a) c.self.view_is
     (closed b a c.args.source source not_closed
     (happens (event.Close c.args.source) b (book_of c.close.new.self) a c.grow_at_stop-grown.result
-    (follows_reserved b c.reserve.new.self.events c.in_ok-reserve.ensures.events (event.Close c.args.source)
+    (follows_reserved b c.reserve.new.self c.in_ok-reserve.ensures.events c.in_ok-reserve.ensures.kept (event.Close c.args.source)
     (book_of c.close.new.self)
     c.close.ensures.follows) c.grow_at_stop-grown.ensures.grows))
 
@@ -50,4 +50,4 @@ is_closed-requires g c =
 
 pub invariant_of-self : goal.invariant_of-self
 invariant_of-self g c =
-    kept_with_memory (book_of c.self.inside.parts) c.reserve.new.self.events c.reserve.ensures.events c.self.invariant
+    kept_with_memory (book_of c.self.inside.parts) c.reserve.new.self c.reserve.ensures.events c.reserve.ensures.kept c.self.invariant

@@ -9,7 +9,7 @@ use Rattle.kpn_book.specs.Book.{Book}
 use Rattle.kpn_book.specs.Commits.{IsOwnAdvance, Commits}
 use Rattle.kpn_book.specs.Kept.{IsKept}
 use Rattle.kpn_book.specs.Open.{book_of}
-use Rattle.kpn_book.proofs.Following.{recorded}
+use Rattle.kpn_book.proofs.Following.{moved}
 use Rattle.kpn_book.proofs.Answering.{IsAtStop, is_counted}
 use Rattle.kpn_book.proofs.Committing.{own_reserved, port_reserved, goes_to_stop, kept_reserved}
 use Rattle.kpn_book.proofs.book.Book.commit_own.Given as given
@@ -27,20 +27,20 @@ at_stop : (g : given.Over) (c : After-step_to g)
     let now = c.args.self.now in
     let o = book_of c.reserve.new.self in
     let x = advanced_of (program_of now.tables p) c.args.from.now c.args.to.now c.args.made.0 c.args.made.1 in
-    IsAtStop p c.args.made.1 (λ answer z. Commits p x answer now z) (recorded o o.history c.step_to.new.self o.schedule)
+    IsAtStop p c.args.made.1 (λ answer z. Commits p x answer now z) (moved o c.step_to.new.self o.schedule)
 at_stop g c =
     let b = book_of c.self.inside.parts in
     let p = c.args.p in
     let o = book_of c.reserve.new.self in
     let x = advanced_of (program_of c.args.self.now.tables p) c.args.from.now c.args.to.now c.args.made.0 c.args.made.1 in
-    let a = recorded o o.history c.step_to.new.self o.schedule in
+    let a = moved o c.step_to.new.self o.schedule in
     let own : IsOwnAdvance b p x = record {
       program = ap (λ z. program_of z.tables p) (sym c.self.view_is);
       from = c.same_frame.ensures.0 (search rules) ∙ c.frame.ensures;
     } in
     subst (λ s. IsAtStop p c.args.made.1 (λ answer z. Commits p x answer s z) a) c.self.view_is
     (goes_to_stop b o a p x c.self.invariant (c.is_held.ensures.0 (search rules)) c.requires.advance own
-    c.in_ok-reserve.ensures.1 (ap (λ z. recorded o o.history z o.schedule) c.step_to.ensures.after))
+    c.in_ok-reserve.ensures.1 (ap (λ z. moved o z o.schedule) c.step_to.ensures.after))
 
 pub reserve-requires-clause-port : goal.reserve-requires-clause-port
 reserve-requires-clause-port g c =

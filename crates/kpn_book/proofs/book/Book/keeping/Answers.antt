@@ -12,6 +12,7 @@ invariant_of-result g c =
       machine = c.in_ok-machine.machine;
       schedule = c.in_ok-schedule.schedule;
       commits = 0;
+      keeps_events = c.keeping-2.result.is_kept;
     } in
     kept_at_start b c.keeping-2.ensures.events c.in_ok-machine.ensures.run
     (c.in_ok-schedule.ensures ∙ ap all_ready c.instances.ensures) refl
@@ -24,6 +25,7 @@ returns-clause-book g c =
       machine = c.in_ok-machine.machine;
       schedule = c.in_ok-schedule.schedule;
       commits = 0;
+      keeps_events = c.keeping-2.result.is_kept;
     } in
     record {
       network = c.known.ensures;

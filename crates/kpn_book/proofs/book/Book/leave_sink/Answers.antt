@@ -13,20 +13,20 @@ use Rattle.kpn_book.proofs.book.Book.leave_sink.Goals as goal
 
 pub leave-requires-clause-sound : goal.leave-requires-clause-sound
 leave-requires-clause-sound g c =
-    sound_reserved (book_of c.self.inside.parts) c.reserve.new.self.events c.in_ok-reserve.ensures.events
+    sound_reserved (book_of c.self.inside.parts) c.reserve.new.self c.in_ok-reserve.ensures.events c.in_ok-reserve.ensures.kept
     c.self.invariant
 
 pub grow_at_stop-grown-requires-clause-no_cycle : goal.grow_at_stop-grown-requires-clause-no_cycle
 grow_at_stop-grown-requires-clause-no_cycle g c =
     let b = book_of c.self.inside.parts in
-    no_cycle_then (event.Leave c.args.sink) (recorded b c.reserve.new.self.events b.machine b.schedule)
+    no_cycle_then (event.Leave c.args.sink) (recorded b c.reserve.new.self b.machine b.schedule)
     (book_of c.leave.new.self) c.leave.ensures.follows refl
 
 pub invariant_of-self-2 : goal.invariant_of-self-2
 invariant_of-self-2 g c =
     let b = book_of c.self.inside.parts in
     kept_grown b (book_of c.leave.new.self) _ (event.Leave c.args.sink) c.grow_at_stop-grown.result c.self.invariant
-    (follows_reserved b c.reserve.new.self.events c.in_ok-reserve.ensures.events (event.Leave c.args.sink)
+    (follows_reserved b c.reserve.new.self c.in_ok-reserve.ensures.events c.in_ok-reserve.ensures.kept (event.Leave c.args.sink)
     (book_of c.leave.new.self)
     c.leave.ensures.follows) refl c.grow_at_stop-grown.ensures.grows
 
@@ -39,7 +39,7 @@ returns-clause-done g c =
     subst (λ x. Leaves c.args.sink x a) c.self.view_is
     (left b a c.args.sink sink not_left
     (happens (event.Leave c.args.sink) b (book_of c.leave.new.self) a c.grow_at_stop-grown.result
-    (follows_reserved b c.reserve.new.self.events c.in_ok-reserve.ensures.events (event.Leave c.args.sink)
+    (follows_reserved b c.reserve.new.self c.in_ok-reserve.ensures.events c.in_ok-reserve.ensures.kept (event.Leave c.args.sink)
     (book_of c.leave.new.self)
     c.leave.ensures.follows) c.grow_at_stop-grown.ensures.grows))
 
@@ -50,4 +50,4 @@ channel-requires g c =
 
 pub invariant_of-self : goal.invariant_of-self
 invariant_of-self g c =
-    kept_with_memory (book_of c.self.inside.parts) c.reserve.new.self.events c.reserve.ensures.events c.self.invariant
+    kept_with_memory (book_of c.self.inside.parts) c.reserve.new.self c.reserve.ensures.events c.reserve.ensures.kept c.self.invariant

@@ -2,7 +2,7 @@ use Rattle.std.proofs.Common.{sym, ap, subst, rules}
 use Rattle.kpn_book.specs.Book.{IsHeld}
 use Rattle.kpn_book.specs.Kept.{IsKept}
 use Rattle.kpn_book.specs.Open.{book_of}
-use Rattle.kpn_book.proofs.Following.{recorded}
+use Rattle.kpn_book.proofs.Following.{moved}
 use Rattle.kpn_book.proofs.Committing.{kept_put_back}
 use Rattle.kpn_book.proofs.book.Book.put_back.Goals as goal
 
@@ -10,5 +10,5 @@ pub invariant_of-self : goal.invariant_of-self
 invariant_of-self g c =
     let b = book_of c.self.inside.parts in
     let held : IsHeld b c.args.p = c.is_held.ensures.0 (search rules) in
-    subst IsKept (sym (ap (recorded b b.history b.machine) c.put_back.ensures))
+    subst IsKept (sym (ap (moved b b.machine) c.put_back.ensures))
     (kept_put_back b c.self.invariant c.args.p held)

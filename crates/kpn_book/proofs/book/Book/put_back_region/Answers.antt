@@ -4,7 +4,7 @@ use Rattle.kpn_region.specs.Local.{is_in_region}
 use Rattle.kpn_book.specs.Kept.{IsKept}
 use Rattle.kpn_book.specs.Open.{book_of}
 use Rattle.kpn_book.specs.Regions.{batch_put_back}
-use Rattle.kpn_book.proofs.Following.{recorded}
+use Rattle.kpn_book.proofs.Following.{moved}
 use Rattle.kpn_book.proofs.Regions.{kept_all_put_back}
 use Rattle.kpn_book.proofs.book.Book.put_back_region.Goals as goal
 
@@ -16,12 +16,12 @@ put_back_region-requires g c =
 pub invariant_of-self : goal.invariant_of-self
 invariant_of-self g c =
     let b = book_of c.self.inside.parts in
-    subst IsKept (sym (ap (recorded b b.history b.machine) c.put_back_region.ensures))
+    subst IsKept (sym (ap (moved b b.machine) c.put_back_region.ensures))
     (kept_all_put_back (is_in_region c.args.batch.now.now) (range_with_len 0 (length b.schedule.states)) b
     c.self.invariant)
 
 pub returns : goal.returns
 returns g c =
     let b = book_of c.self.inside.parts in
-    ap (recorded b b.history b.machine) c.put_back_region.ensures
+    ap (moved b b.machine) c.put_back_region.ensures
     ∙ ap (batch_put_back c.args.batch.now) c.self.view_is

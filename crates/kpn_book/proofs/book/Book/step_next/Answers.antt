@@ -5,7 +5,7 @@ use Rattle.kpn_machine.specs.Machine.{frame_in}
 use Rattle.kpn_book.specs.Book.{put_back}
 use Rattle.kpn_book.specs.Kept.{IsKept}
 use Rattle.kpn_book.specs.Open.{book_of}
-use Rattle.kpn_book.proofs.Following.{recorded}
+use Rattle.kpn_book.proofs.Following.{moved}
 use Rattle.kpn_book.proofs.Answering.{is_counted}
 use Rattle.kpn_book.proofs.Committing.{port_reserved, kept_put_back, HasStepped, has_stepped}
 use Rattle.kpn_book.proofs.book.Book.step_next.Given as given
@@ -15,18 +15,18 @@ use Rattle.kpn_book.proofs.book.Book.step_next.Goals.{After-step-stop}
 stepped : (g : given.Over) (c : After-step-stop g)
     → let o = book_of c.hold_next.new.self in
     HasStepped c.args.quota c.in-Some.p c.step-stop.result.1 c.args.self.now
-    (recorded o o.history c.step-stop.new.self o.schedule)
+    (moved o c.step-stop.new.self o.schedule)
 stepped g c =
     let p = c.in-Some.p in
     let o = book_of c.hold_next.new.self in
     let s = c.step-stop.new.self in
     let stop = c.step-stop.result.1 in
     let x = advanced_of (program_of o.tables p) (frame_in o.machine p) (frame_in s p) c.step-stop.result.0 stop in
-    let o1 = recorded o o.history s o.schedule in
+    let o1 = moved o s o.schedule in
     subst (λ z. HasStepped c.args.quota p stop z o1) c.self.view_is
     (has_stepped c.args.quota p (book_of c.self.inside.parts) o x c.in-Some.ensures.claims.0 c.in-Some.ensures.claims.1
     (record { program = refl; from = refl }) c.step-stop.ensures.advance c.step-stop.ensures.quota o1
-    (ap (λ z. recorded o o.history z o.schedule) c.step-stop.ensures.after))
+    (ap (λ z. moved o z o.schedule) c.step-stop.ensures.after))
 
 pub invariant_of-self-in-Err : goal.invariant_of-self-in-Err
 invariant_of-self-in-Err g c =
@@ -34,7 +34,7 @@ invariant_of-self-in-Err g c =
     let a = book_of c.reserve.new.self in
     let p = c.in-Some.p in
     subst IsKept
-    (sym (ap (recorded a a.history a.machine) c.put_back.ensures ∙ ap (put_back p) c.in-Err.ensures.1))
+    (sym (ap (moved a a.machine) c.put_back.ensures ∙ ap (put_back p) c.in-Err.ensures.1))
     (kept_put_back _ is.kept p is.held)
 
 pub reserve-requires-clause-step : goal.reserve-requires-clause-step
@@ -57,15 +57,15 @@ pub handle_stop-done-requires-clause-port : goal.handle_stop-done-requires-claus
 handle_stop-done-requires-clause-port g c =
     let o = book_of c.hold_next.new.self in
     let s = c.step-stop.new.self in
-    port_reserved c.step-stop.result.1 (recorded o o.history s o.schedule) (book_of c.reserve.new.self)
+    port_reserved c.step-stop.result.1 (moved o s o.schedule) (book_of c.reserve.new.self)
     c.in_default-reserve.ensures.1 c.in-Some.p (frame_in s c.in-Some.p, c.step-stop.ensures.port)
 
 pub returns-in-Err-clause-in_vain : goal.returns-in-Err-clause-in_vain
 returns-in-Err-clause-in_vain g c =
     let a = book_of c.reserve.new.self in
     (stepped g (goal.at.returns-in-Err-clause-in_vain g c).After-step-stop).in_vain
-    (recorded a a.history a.machine c.put_back.new.self) c.in-Err.ensures.0
-    (ap (recorded a a.history a.machine) c.put_back.ensures ∙ ap (put_back c.in-Some.p) c.in-Err.ensures.1)
+    (moved a a.machine c.put_back.new.self) c.in-Err.ensures.0
+    (ap (moved a a.machine) c.put_back.ensures ∙ ap (put_back c.in-Some.p) c.in-Err.ensures.1)
 
 pub invariant_of-self : goal.invariant_of-self
 invariant_of-self g c =

@@ -29,14 +29,14 @@ returns-then-not-has_item-clause-done g c =
 
 pub take-item-requires-clause-sound : goal.take-item-requires-clause-sound
 take-item-requires-clause-sound g c =
-    sound_reserved (book_of c.self.inside.parts) c.reserve.new.self.events c.in_ok-reserve.ensures.events
+    sound_reserved (book_of c.self.inside.parts) c.reserve.new.self c.in_ok-reserve.ensures.events c.in_ok-reserve.ensures.kept
     c.self.invariant
 
 pub grow_at_stop-grown-requires-clause-no_cycle : goal.grow_at_stop-grown-requires-clause-no_cycle
 grow_at_stop-grown-requires-clause-no_cycle g c =
     let b = book_of c.self.inside.parts in
     no_cycle_then (event.Take c.args.sink c.take-item.result)
-    (recorded b c.reserve.new.self.events b.machine b.schedule)
+    (recorded b c.reserve.new.self b.machine b.schedule)
     (book_of c.take-item.new.self) c.take-item.ensures.follows refl
 
 pub invariant_of-self-2 : goal.invariant_of-self-2
@@ -44,7 +44,7 @@ invariant_of-self-2 g c =
     let b = book_of c.self.inside.parts in
     kept_grown b (book_of c.take-item.new.self) _ (event.Take c.args.sink c.take-item.result)
     c.grow_at_stop-grown.result c.self.invariant
-    (follows_reserved b c.reserve.new.self.events c.in_ok-reserve.ensures.events
+    (follows_reserved b c.reserve.new.self c.in_ok-reserve.ensures.events c.in_ok-reserve.ensures.kept
     (event.Take c.args.sink c.take-item.result) (book_of c.take-item.new.self)
     c.take-item.ensures.follows) refl c.grow_at_stop-grown.ensures.grows
 
@@ -60,7 +60,7 @@ returns-clause-done g c =
     (subst (λ v. Takes c.args.sink (Some v) b a) (sym (to_z-of_z w64 c.take-item.result fits))
     (taken b a c.args.sink c.take-item.result sink not_left c.take-item.ensures.item
     (happens e b (book_of c.take-item.new.self) a c.grow_at_stop-grown.result
-    (follows_reserved b c.reserve.new.self.events c.in_ok-reserve.ensures.events e (book_of c.take-item.new.self)
+    (follows_reserved b c.reserve.new.self c.in_ok-reserve.ensures.events c.in_ok-reserve.ensures.kept e (book_of c.take-item.new.self)
     c.take-item.ensures.follows) c.grow_at_stop-grown.ensures.grows)))
 
 pub channel-requires : goal.channel-requires
@@ -75,4 +75,4 @@ has_item-requires g c =
 
 pub invariant_of-self : goal.invariant_of-self
 invariant_of-self g c =
-    kept_with_memory (book_of c.self.inside.parts) c.reserve.new.self.events c.reserve.ensures.events c.self.invariant
+    kept_with_memory (book_of c.self.inside.parts) c.reserve.new.self c.reserve.ensures.events c.reserve.ensures.kept c.self.invariant

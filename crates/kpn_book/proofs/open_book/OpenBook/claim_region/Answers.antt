@@ -6,7 +6,7 @@ use Rattle.kpn_book.specs.Open.{book_of}
 use Rattle.kpn_book.specs.Regions.{batch_held}
 use Rattle.kpn_book.specs.RegionClaims.{ClaimsRegion}
 use Rattle.kpn_book.specs.ClaimParts.{HasProcesses}
-use Rattle.kpn_book.proofs.Following.{recorded}
+use Rattle.kpn_book.proofs.Following.{moved}
 use Rattle.kpn_book.proofs.Regions.{kept_region_held}
 use Rattle.kpn_book.proofs.Claiming.{kept_with_room, region_claimed}
 use Rattle.kpn_book.proofs.open_book.OpenBook.claim_region.Goals as goal
@@ -49,7 +49,7 @@ returns-clause-claimed g c = λ yes.
     let may : c.may_claim.result ≡ true = search rules in
     subst
     (λ order. ClaimsRegion c.args.of.now c.args.most c.args.drains c.hold_waits.new.batch b
-    (recorded b b.history s order))
+    (moved b s order))
     (sym c.hold_region.ensures)
     (subst
     (λ x. ClaimsRegion c.args.of.now c.args.most c.args.drains x b
@@ -69,6 +69,6 @@ returns-clause-kept g c =
     let counted : c.can_count.result ≡ true = search rules in
     let countable = c.can_count.ensures.0 counted in
     let few : b.commits + length b.tables.instances < 2 ^ 64 = omega (arith, countable) in
-    subst (λ order. IsKept (recorded b b.history s order)) (sym c.hold_region.ensures)
+    subst (λ order. IsKept (moved b s order)) (sym c.hold_region.ensures)
     (kept_region_held (is_in_region c.hold_waits.new.batch.now) (record b { machine = s })
     (kept_with_room b s c.requires.kept c.in_ok-claim_channels.ensures.room) c.known-2.ensures.schedule few)

@@ -19,8 +19,8 @@ returns-clause-follows g c =
     followed b c.known.ensures step e (own_none b) tt c.close.new.self c.close.ensures.changes c.close.ensures.shape
     (Legal-due b.tables c.known.ensures b.history b.machine step.run c.requires.sound.nothing_owed e
     (source_there b.tables c.args.c c.requires.source) (c.requires.source, c.requires.not_closed))
-    (event.Close c.number.result) c.push.new.self.events b.schedule b.schedule []
-    (ap (λ x. event.Close x) c.number.ensures) c.push.ensures.events refl refl refl
+    (event.Close c.number.result) c.push.new.self b.schedule b.schedule []
+    (ap (λ x. event.Close x) c.number.ensures) c.push.ensures.events c.push.ensures.kept refl refl refl
 
 pub close-requires-clause-channel : goal.close-requires-clause-channel
 close-requires-clause-channel g c = source_there (book_of c.args.self.now).tables c.args.c c.requires.source

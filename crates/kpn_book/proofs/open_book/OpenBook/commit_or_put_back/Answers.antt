@@ -2,7 +2,7 @@ use Rattle.std.proofs.Common.{◌+◌, ◌<◌, ◌^◌, sym, ap, ◌∙◌, sub
 use Rattle.kpn_book.specs.Book.{put_back}
 use Rattle.kpn_book.specs.Kept.{IsKept}
 use Rattle.kpn_book.specs.Open.{book_of}
-use Rattle.kpn_book.proofs.Following.{recorded, held_is_there}
+use Rattle.kpn_book.proofs.Following.{held_is_there, moved}
 use Rattle.kpn_book.proofs.Answering.{is_counted}
 use Rattle.kpn_book.proofs.Committing.{port_reserved, kept_put_back}
 use Rattle.kpn_book.proofs.Settling.{at_stop_here, stands_reserved}
@@ -43,14 +43,14 @@ pub returns-in-Err-clause-commits : goal.returns-in-Err-clause-commits
 returns-in-Err-clause-commits g c =
     let a = book_of c.reserve.new.self in (
       c.in-Err.ensures.0,
-      ap (recorded a a.history a.machine) c.put_back.ensures ∙ ap (put_back c.args.p) c.in-Err.ensures.1,
+      ap (moved a a.machine) c.put_back.ensures ∙ ap (put_back c.args.p) c.in-Err.ensures.1,
     )
 
 pub returns-in-Err-clause-kept : goal.returns-in-Err-clause-kept
 returns-in-Err-clause-kept g c =
     let a = book_of c.reserve.new.self in
     subst IsKept
-    (sym (ap (recorded a a.history a.machine) c.put_back.ensures ∙ ap (put_back c.args.p) c.in-Err.ensures.1))
+    (sym (ap (moved a a.machine) c.put_back.ensures ∙ ap (put_back c.args.p) c.in-Err.ensures.1))
     (kept_put_back (book_of c.args.self.now) c.requires.kept c.args.p c.requires.held)
 
 pub overflow_add-self : goal.overflow_add-self

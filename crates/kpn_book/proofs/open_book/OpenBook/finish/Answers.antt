@@ -40,7 +40,7 @@ wake_all-requires g c =
 ended : (g : given.Over) (c : After-wake_all g)
     → let o = held_by c.args.hold c.args.p (book_of c.args.self.now) in
     Follows (event.Ended c.args.p c.args.how) o
-    (recorded o c.push.new.self.events c.end-woken.new.self c.wake_all.new.schedule)
+    (recorded o c.push.new.self c.end-woken.new.self c.wake_all.new.schedule)
 ended g c =
     let o = held_by c.args.hold c.args.p (book_of c.args.self.now) in
     let held = held_so c.args.hold c.args.p (book_of c.args.self.now) c.requires.may.held in
@@ -51,8 +51,8 @@ ended g c =
     c.end-woken.ensures.changes c.end-woken.ensures.shape
     (Legal-due o.tables c.known.ensures o.history o.machine step.run c.requires.may.sound.nothing_owed e there
     (held_is_free o step c.args.p held, c.requires.stands))
-    (event.Ended c.number.result c.args.how) c.push.new.self.events c.set_state.new.schedule c.wake_all.new.schedule
-    c.as_slice.result.now (ap (λ x. event.Ended x c.args.how) c.number.ensures) c.push.ensures.events
+    (event.Ended c.number.result c.args.how) c.push.new.self c.set_state.new.schedule c.wake_all.new.schedule
+    c.as_slice.result.now (ap (λ x. event.Ended x c.args.how) c.number.ensures) c.push.ensures.events c.push.ensures.kept
     c.set_state.ensures c.wake_all.ensures (c.as_slice.ensures.value ∙ c.end-woken.ensures.woken)
 
 pub grow_at_stop-grown-requires-clause-room : goal.grow_at_stop-grown-requires-clause-room
@@ -69,7 +69,7 @@ pub grow_at_stop-grown-requires-clause-no_cycle : goal.grow_at_stop-grown-requir
 grow_at_stop-grown-requires-clause-no_cycle g c =
     let o = held_by c.args.hold c.args.p (book_of c.args.self.now) in
     no_cycle_then (event.Ended c.args.p c.args.how) o
-    (recorded o c.push.new.self.events c.end-woken.new.self c.wake_all.new.schedule)
+    (recorded o c.push.new.self c.end-woken.new.self c.wake_all.new.schedule)
     (ended g (goal.at.grow_at_stop-grown-requires-clause-no_cycle g c).After-wake_all) refl
 
 pub returns : goal.returns
@@ -79,7 +79,7 @@ returns g c =
     let grown = c.grow_at_stop-grown.ensures.room in
     record {
       answered =
-          answered_ended o (recorded o c.push.new.self.events c.end-woken.new.self c.wake_all.new.schedule)
+          answered_ended o (recorded o c.push.new.self c.end-woken.new.self c.wake_all.new.schedule)
           (book_of c.grow_at_stop-grown.new.self) c.args.p c.args.how c.grow_at_stop-grown.result
           (ended g (goal.at.returns g c).After-wake_all) c.grow_at_stop-grown.ensures.grows;
       room = omega (arith, pushed, grown);

@@ -37,8 +37,8 @@ returns-clause-follows g c =
     c.grow-grown.ensures.changes c.grow-grown.ensures.shape
     (Legal-grown b.tables c.known.ensures b.machine c.requires.step.run.shape c.args.p c.args.d
     c.requires.awaited b.history c.requires.process c.requires.step.run c.requires.owed n c.grow-grown.ensures.capacity)
-    (event.Grow c.number.result c.number-2.result n) c.push.new.self.events b.schedule c.wake.new.schedule
+    (event.Grow c.number.result c.number-2.result n) c.push.new.self b.schedule c.wake.new.schedule
     (option_to_list c.grow-grown.result.woken)
     (ap (λ x. event.Grow x c.number-2.result n) c.number.ensures
     ∙ ap (λ x. event.Grow c.args.p x n) c.number-2.ensures)
-    c.push.ensures.events refl c.wake.ensures (ap option_to_list c.grow-grown.ensures.woken))
+    c.push.ensures.events c.push.ensures.kept refl c.wake.ensures (ap option_to_list c.grow-grown.ensures.woken))

@@ -12,7 +12,7 @@ use Rattle.kpn_book.specs.declared.answers.Done.TheVariants as done
 use Rattle.kpn_book.specs.Commits.{IsWriteTo}
 use Rattle.kpn_book.specs.Open.{book_of, first_claimed, reserved_on, sink_by, Answered, AnsweredFirst, IsSound}
 use Rattle.kpn_book.specs.Kept.{IsKept}
-use Rattle.kpn_book.proofs.Following.{held_is_there, recorded}
+use Rattle.kpn_book.proofs.Following.{held_is_there, moved}
 use Rattle.kpn_book.proofs.Committing.{no_pause, kept_reserved_on, writes_to}
 use Rattle.kpn_book.proofs.Reserved.{is_reserved_here}
 use Rattle.kpn_book.proofs.FirstOfQueue.{held_first, refused_with, puts_on_it, puts_nowhere, handles_write}
@@ -99,9 +99,9 @@ returns-clause-handles g c =
     let d = c.out_channel-c.result in
     let below =
     out_there g (goal.at.returns-clause-handles g c).After-out_channel-c in
-    let reserved = recorded o b.history c.reserve_one.new.self o.schedule in
+    let reserved = moved o c.reserve_one.new.self o.schedule in
     let same : reserved ≡ reserved_on d o =
-    ap (λ s. recorded o b.history s o.schedule) c.in_ok-reserve_one.ensures.after in
+    ap (λ s. moved o s o.schedule) c.in_ok-reserve_one.ensures.after in
     let fits : SFits w64 c.in-WantWrite.item = search rules in
     let made : AnsweredFirst c.args.p (λ s. IsWriteTo b.tables c.args.p s d c.in-WantWrite.item) c.write_later.result
     reserved (book_of c.write_later.new.self) =
@@ -144,7 +144,7 @@ write_later-requires-clause-may g c =
     let d = c.out_channel-c.result in
     let below = out_there g (goal.at.write_later-requires-clause-may g c).After-out_channel-c in
     let kept =
-    subst (λ s. IsKept (recorded o o.history s o.schedule)) (sym c.in_ok-reserve_one.ensures.after)
+    subst (λ s. IsKept (moved o s o.schedule)) (sym c.in_ok-reserve_one.ensures.after)
     (kept_reserved_on o c.requires.kept d below) in
     record {
       held = c.requires.first;

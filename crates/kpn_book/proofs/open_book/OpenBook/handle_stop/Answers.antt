@@ -12,7 +12,7 @@ use Rattle.kpn_step.specs.declared.stop.Stop.{Stop}
 use Rattle.kpn_machine.specs.Due.{Stands, stop_of}
 use Rattle.kpn_machine.proofs.Due.{stop_of-fault}
 use Rattle.kpn_book.proofs.Committing.{reads_from, writes_to}
-use Rattle.kpn_book.proofs.Following.{held_is_there, recorded}
+use Rattle.kpn_book.proofs.Following.{held_is_there, moved}
 use Rattle.kpn_book.proofs.Answering.{asked_otherwise, answered_paused}
 use Rattle.kpn_book.proofs.FirstOfQueue.{held_so}
 use Rattle.kpn_book.proofs.open_book.OpenBook.handle_stop.Given as given
@@ -98,7 +98,7 @@ returns-in-Paused g c =
     record {
       answered =
           subst (λ a. Answered c.args.p (λ s. s ≡ c.args.stop) done.Paused o a)
-          (sym (ap (recorded o o.history o.machine) c.put_back.ensures))
+          (sym (ap (moved o o.machine) c.put_back.ensures))
           (asked_otherwise c.args.p (λ s. s ≡ stop.Paused) (λ s. s ≡ c.args.stop) done.Paused o (put_back c.args.p o)
           (λ s is. is ∙ c.in-Paused.is) (answered_paused o c.requires.sound c.args.p held));
       room = omega arith;

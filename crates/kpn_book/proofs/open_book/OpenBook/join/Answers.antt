@@ -21,8 +21,9 @@ returns-clause-kept g c =
     let few : book.commits + process_events b.events + length book.tables.instances < 2 ^ 64 =
     omega (arith, most, c.requires.can_join.countable) in
     subst IsKept
-    (sym (joined_book b s book c.append.new.self.events c.wake_region.new.schedule c.made.result
-    (c.append.ensures.events ∙ ap (λ xs. book.history ++ xs) c.events-events.ensures) c.wake_region.ensures
+    (sym (joined_book b s book c.append.new.self c.wake_region.new.schedule c.made.result
+    (c.append.ensures.events ∙ ap (λ xs. book.history ++ xs) c.events-events.ensures) c.append.ensures.kept
+    c.wake_region.ensures
     c.made.ensures))
     (c.a_book_with_a_batch.ensures b c.known.ensures book
     (record { network = c.known-2.ensures; schedule = c.known-3.ensures.schedule; kept = c.requires.kept })

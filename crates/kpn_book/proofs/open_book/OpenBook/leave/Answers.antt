@@ -27,8 +27,8 @@ returns-clause-follows g c =
     c.leave-woken.ensures.shape
     (Legal-due b.tables c.known.ensures b.history b.machine step.run c.requires.sound.nothing_owed e
     (sink_there b.tables c.args.c c.requires.sink) (c.requires.sink, c.requires.not_left))
-    (event.Leave c.number.result) c.push.new.self.events b.schedule c.wake.new.schedule
-    (option_to_list c.leave-woken.result) (ap (λ x. event.Leave x) c.number.ensures) c.push.ensures.events refl
+    (event.Leave c.number.result) c.push.new.self b.schedule c.wake.new.schedule
+    (option_to_list c.leave-woken.result) (ap (λ x. event.Leave x) c.number.ensures) c.push.ensures.events c.push.ensures.kept refl
     c.wake.ensures (ap option_to_list c.leave-woken.ensures.woken)
 
 pub leave-woken-requires-clause-channel : goal.leave-woken-requires-clause-channel

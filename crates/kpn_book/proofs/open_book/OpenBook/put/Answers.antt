@@ -58,7 +58,7 @@ returns g c =
     let ready = c.requires.ready in
     let fits : SFits w64 c.args.item = search rules in
     let item = to_z w64 (of_z w64 c.args.item) in
-    let a = recorded o c.push.new.self.events c.put-woken.new.self c.go_on.new.schedule in
+    let a = recorded o c.push.new.self c.put-woken.new.self c.go_on.new.schedule in
     let pushed = c.push.ensures.room in
     record {
       answered =
@@ -68,11 +68,11 @@ returns g c =
           (to_z-of_z w64 c.args.item fits) c.put-woken.ensures.changes) c.put-woken.ensures.shape
           (Legal-due o.tables c.known.ensures o.history o.machine step.run c.requires.may.sound.nothing_owed e
           (there, below) (held_is_free o step c.args.p held, c.requires.writes, ready))
-          (event.Put c.number.result c.number-2.result item) c.push.new.self.events (made_ready c.args.p o.schedule)
+          (event.Put c.number.result c.number-2.result item) c.push.new.self (made_ready c.args.p o.schedule)
           c.go_on.new.schedule (option_to_list c.put-woken.result)
           (ap (λ x. event.Put x c.number-2.result item) c.number.ensures
           ∙ ap (λ x. event.Put c.args.p x item) c.number-2.ensures
           ∙ ap (λ x. event.Put c.args.p c.args.c x) (to_z-of_z w64 c.args.item fits))
-          c.push.ensures.events refl c.go_on.ensures (ap option_to_list c.put-woken.ensures.woken));
+          c.push.ensures.events c.push.ensures.kept refl c.go_on.ensures (ap option_to_list c.put-woken.ensures.woken));
       room = omega (arith, pushed);
     }

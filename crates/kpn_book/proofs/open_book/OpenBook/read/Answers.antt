@@ -77,7 +77,7 @@ returns g c =
     let below = reads_below o.tables c.known.ensures o.machine c.args.p there c.args.c c.requires.reads in
     let fits : SFits w64 c.get-got.result.item = search rules in
     let item = to_z w64 (of_z w64 c.get-got.result.item) in
-    let a = recorded o c.push.new.self.events c.get-got.new.self c.go_on.new.schedule in
+    let a = recorded o c.push.new.self c.get-got.new.self c.go_on.new.schedule in
     let pushed = c.push.ensures.room in
     record {
       answered =
@@ -88,11 +88,11 @@ returns g c =
           c.get-got.ensures.changes c.get-got.ensures.shape
           (Legal-due o.tables c.known.ensures o.history o.machine step.run c.requires.may.sound.nothing_owed e
           (there, below) (held_is_free o step c.args.p held, c.requires.reads, c.get-got.ensures.item))
-          (event.Get c.number.result c.number-2.result item) c.push.new.self.events (made_ready c.args.p o.schedule)
+          (event.Get c.number.result c.number-2.result item) c.push.new.self (made_ready c.args.p o.schedule)
           c.go_on.new.schedule (option_to_list c.get-got.result.woken)
           (ap (λ x. event.Get x c.number-2.result item) c.number.ensures
           ∙ ap (λ x. event.Get c.args.p x item) c.number-2.ensures
           ∙ ap (λ x. event.Get c.args.p c.args.c x) (to_z-of_z w64 c.get-got.result.item fits))
-          c.push.ensures.events refl c.go_on.ensures (ap option_to_list c.get-got.ensures.woken)));
+          c.push.ensures.events c.push.ensures.kept refl c.go_on.ensures (ap option_to_list c.get-got.ensures.woken)));
       room = omega (arith, pushed);
     }

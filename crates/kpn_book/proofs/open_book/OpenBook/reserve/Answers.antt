@@ -40,6 +40,7 @@ returns-in_ok-reserve-in-WantWrite g c =
     let long = c.requires.step.run.shape.channels in
     let below : c.out_channel-c.result < length b.machine.channels = omega (arith, there, long) in
     reserves_item c.args.p c.args.stop c.in-WantWrite.port c.in-WantWrite.field-1 c.out_channel-c.result b
-    c.reserve.new.self.events c.reserve_one.new.self c.reserve.new.self.room c.reserve_one.result c.in-WantWrite.is
+    c.reserve.new.self c.reserve_one.new.self c.reserve.new.self.room c.reserve_one.result c.in-WantWrite.is
     c.out_channel-c.ensures below c.in_ok-reserve-in-WantWrite.ensures.ok c.reserve.ensures.events
+    c.reserve.ensures.kept
     c.reserve_one.ensures.after

@@ -1,6 +1,6 @@
-use Rattle.std.proofs.Common.{◌≡◌, ◌+◌, true, false, refl, sym, ap, ◌∙◌, subst, arith, rules}
+use Rattle.std.proofs.Common.{◌≡◌, ◌+◌, true, false, refl, sym, ◌∙◌, subst, arith, rules}
 use Rattle.kpn_book.specs.Open.{book_of}
-use Rattle.kpn_book.proofs.Following.{recorded}
+use Rattle.kpn_book.proofs.Following.{recorded, same_recorded}
 use Rattle.kpn_book.proofs.FirstOfQueue.{IsSoFar, none_so_far, more_so_far, runs_to_sink, runs_so_far, runs_till_idle, refused_with, refused_before, refused_in_turn}
 use Rattle.kpn_book.proofs.open_book.OpenBook.run_on.Goals as goal
 
@@ -14,9 +14,10 @@ pub turns-init : goal.turns-init
 turns-init g c =
     let b = book_of c.args.self.now in
     let now = book_of c.rows.self in
-    let with_memory = recorded now c.reserve.new.self.events now.machine now.schedule in
+    let with_memory = recorded now c.reserve.new.self now.machine now.schedule in
     let same : with_memory ≡ now =
-    ap (λ H. recorded now H now.machine now.schedule) c.in_ok-reserve.ensures.events in
+    same_recorded now c.reserve.new.self now.machine now.schedule now.history c.in_ok-reserve.ensures.events
+    c.in_ok-reserve.ensures.kept in
     let none : c.rows.made + 0 ≡ c.rows.made = omega arith in
     record {
       so_far =
@@ -100,8 +101,9 @@ returns-in_err-reserve-clause-in_vain g c =
     let now = book_of c.rows.self in
     refused_with c.from_residual.result
     (refused_before c.args.quota c.args.most c.rows.made (book_of c.args.self.now) now
-    (recorded now c.reserve.new.self.events now.machine now.schedule)
-    (ap (λ H. recorded now H now.machine now.schedule) c.in_err-reserve.ensures.events) c.rows.invariant.so_far
+    (recorded now c.reserve.new.self now.machine now.schedule)
+    (same_recorded now c.reserve.new.self now.machine now.schedule now.history c.in_err-reserve.ensures.events
+    c.in_err-reserve.ensures.kept) c.rows.invariant.so_far
     c.rows-test.true)
 
 pub returns-in_err-sink-clause-in_vain : goal.returns-in_err-sink-clause-in_vain

@@ -1,7 +1,7 @@
 use Rattle.std.proofs.Common.{◌≡◌, length, true, false, Some, None, refl, sym, ap, ◌∙◌, subst, arith, rules}
 use Rattle.kpn_book.specs.Kept.{IsKept}
 use Rattle.kpn_book.specs.Open.{book_of}
-use Rattle.kpn_book.proofs.Following.{recorded}
+use Rattle.kpn_book.proofs.Following.{moved}
 use Rattle.kpn_book.proofs.Committing.{kept_put_back}
 use Rattle.kpn_book.proofs.Settling.{stuck_here, settles_not, settles_by, part_held}
 use Rattle.kpn_book.proofs.open_book.OpenBook.settle.Goals as goal
@@ -32,15 +32,15 @@ pub returns-in_default-clause-settles : goal.returns-in_default-clause-settles
 returns-in_default-clause-settles g c =
     let b = book_of c.args.self.now in
     let told : c.has_part.result ≡ true = search rules in
-    settles_by c.args.batch.now c.args.p b (recorded b b.history b.machine c.put_back.new.self) true None
+    settles_by c.args.batch.now c.args.p b (moved b b.machine c.put_back.new.self) true None
     (sym c.has_part.ensures ∙ told) (sym c.in_default.is ∙ c.stop.ensures)
-    (refl, ap (recorded b b.history b.machine) c.put_back.ensures)
+    (refl, ap (moved b b.machine) c.put_back.ensures)
 
 pub returns-in_default-clause-kept : goal.returns-in_default-clause-kept
 returns-in_default-clause-kept g c =
     let b = book_of c.args.self.now in
     let told : c.has_part.result ≡ true = search rules in
-    subst IsKept (sym (ap (recorded b b.history b.machine) c.put_back.ensures))
+    subst IsKept (sym (ap (moved b b.machine) c.put_back.ensures))
     (kept_put_back b c.requires.kept c.args.p
     (part_held c.args.batch.now c.args.p b (sym c.has_part.ensures ∙ told)))
 

@@ -28,17 +28,17 @@ returns-clause-follows g c =
     let fits : SFits w64 c.take-got.result.item = search rules in
     subst
     (λ v. Follows (event.Take c.args.c v) b
-    (recorded b c.push.new.self.events c.take-got.new.self c.wake.new.schedule))
+    (recorded b c.push.new.self c.take-got.new.self c.wake.new.schedule))
     (sym (to_z-of_z w64 c.take-got.result.item fits))
     (followed b c.known.ensures step e (own_none b) tt c.take-got.new.self c.take-got.ensures.changes
     c.take-got.ensures.shape
     (Legal-due b.tables c.known.ensures b.history b.machine step.run c.requires.sound.nothing_owed e
     (sink_there b.tables c.args.c c.requires.sink) (c.requires.sink, c.take-got.ensures.item))
-    (event.Take c.number.result (to_z w64 (of_z w64 c.take-got.result.item))) c.push.new.self.events b.schedule
+    (event.Take c.number.result (to_z w64 (of_z w64 c.take-got.result.item))) c.push.new.self b.schedule
     c.wake.new.schedule (option_to_list c.take-got.result.woken)
     (ap (λ x. event.Take x (to_z w64 (of_z w64 c.take-got.result.item))) c.number.ensures
     ∙ ap (λ x. event.Take c.args.c x) (to_z-of_z w64 c.take-got.result.item fits))
-    c.push.ensures.events refl c.wake.ensures (ap option_to_list c.take-got.ensures.woken))
+    c.push.ensures.events c.push.ensures.kept refl c.wake.ensures (ap option_to_list c.take-got.ensures.woken))
 
 pub take-got-requires-clause-channel : goal.take-got-requires-clause-channel
 take-got-requires-clause-channel g c = sink_there (book_of c.args.self.now).tables c.args.c c.requires.sink

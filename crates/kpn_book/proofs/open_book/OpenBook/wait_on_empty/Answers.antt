@@ -41,7 +41,7 @@ number-requires-2 g c =
 waits : (g : given.Over) (c : After-set_state g)
     → let o = held_by c.args.hold c.args.p (book_of c.args.self.now) in
     Follows (event.WaitEmpty c.args.p c.args.c) o
-    (recorded o c.push.new.self.events c.wait_on_empty.new.self c.set_state.new.schedule)
+    (recorded o c.push.new.self c.wait_on_empty.new.self c.set_state.new.schedule)
 waits g c =
     let o = held_by c.args.hold c.args.p (book_of c.args.self.now) in
     let held = held_so c.args.hold c.args.p (book_of c.args.self.now) c.requires.may.held in
@@ -53,11 +53,11 @@ waits g c =
     c.wait_on_empty.ensures.changes c.wait_on_empty.ensures.shape
     (Legal-due o.tables c.known.ensures o.history o.machine step.run c.requires.may.sound.nothing_owed e
     (there, below) (held_is_free o step c.args.p held, c.requires.reads, c.requires.ready))
-    (event.WaitEmpty c.number.result c.number-2.result) c.push.new.self.events c.set_state.new.schedule
+    (event.WaitEmpty c.number.result c.number-2.result) c.push.new.self c.set_state.new.schedule
     c.set_state.new.schedule []
     (ap (λ x. event.WaitEmpty x c.number-2.result) c.number.ensures
     ∙ ap (λ x. event.WaitEmpty c.args.p x) c.number-2.ensures)
-    c.push.ensures.events c.set_state.ensures refl refl
+    c.push.ensures.events c.push.ensures.kept c.set_state.ensures refl refl
 
 pub grow_if_owed-requires-clause-room : goal.grow_if_owed-requires-clause-room
 grow_if_owed-requires-clause-room g c =
@@ -93,7 +93,7 @@ returns g c =
     let grown = c.grow_if_owed.ensures.room in
     record {
       answered =
-          answered_wait o (recorded o c.push.new.self.events c.wait_on_empty.new.self c.set_state.new.schedule) c.args.p
+          answered_wait o (recorded o c.push.new.self c.wait_on_empty.new.self c.set_state.new.schedule) c.args.p
           (event.WaitEmpty c.args.p c.args.c) refl (λ s. IsReadFrom o.tables c.args.p s c.args.c)
           (λ s asks. inl (record { channel = c.args.c; asks = asks; empty = c.requires.ready; is = refl }))
           follows c.grow_if_owed.result (book_of c.grow_if_owed.new.self) c.grow_if_owed.ensures.grows;
