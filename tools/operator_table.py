@@ -133,11 +133,17 @@ def write_between(file, lines):
     file.write_text(before + HEADING + '\n'.join(lines) + NEXT + behind)
 
 
+def write_before(file, lines):
+    """Writes the lines above the first heading, which stays with what is below it."""
+    _, heading, rest = file.read_text().partition('# ')
+    file.write_text(''.join(f'{line}\n' for line in lines) + heading + rest)
+
+
 def main():
     argparse.ArgumentParser(description=__doc__, formatter_class=argparse.RawDescriptionHelpFormatter).parse_args()
     table = list(rows())
-    (CRATES / 'check_language/stdin').write_text(''.join(f'{line}\n' for line, _ in table))
-    (CRATES / 'check_language/stdout').write_text(''.join(f'{wanted}\n' for _, wanted in table))
+    write_before(CRATES / 'check_language/stdin', [line for line, _ in table])
+    write_before(CRATES / 'check_language/stdout', [wanted for _, wanted in table])
     networks = [network_of(names) for names in ('ab', 'a', 'b')]
     write_between(CRATES / 'check_examples/stdin', sum((given for given, _ in networks), []))
     write_between(CRATES / 'check_examples/stdout', sum((wanted for _, wanted in networks), []))

@@ -1,3 +1,3 @@
 //! The process language: programs, and the plain program.
-mod plain;
-mod programs;
+pub(crate) mod plain;
+pub(crate) mod programs;

@@ -1,13 +1,14 @@
-//! Rows of the stepper: how many steps it may make, and what the process says within them.
+//! Rows of the stepper: how many steps it may make, and what the process says within them. What comes was worked out by
+//! hand.
 ghost use Rattle.std.specs.Prelude.{IfOk, IsTrue};
 ghost use Rattle.kpn_step.specs.Frame.{fits};
 
 use crate::worked::{COPY, Line, Value, Worked, celled, program_of};
-use kpn_lang::{Fault, Program, ProgramFault, Sequence};
-use kpn_step::{Advance, AloneStop, Frame, Said, Stop, advance, alone, try_advance};
-use std::alloc::{AllocError, Global};
-use std::process::Abort;
-use std::test::Fail;
+use anyhow::{Result, bail, ensure};
+use kpn_lang::{Program, Sequence};
+use kpn_step::{Advance, Frame, Stop, advance, alone, try_advance};
+use std::alloc::Global;
+use std::io::Write;
 
 // `if 1 { if 0 { } else { k = 7; } } else { } write o k;`
 const NESTED: Worked<'static> = (
@@ -118,213 +119,172 @@ const SETTING: Worked<'static> = (
     ],
 );
 
-const SET: &[Said] = &[
-    Said::Got(0, 1),
-    Said::Put(0, 7),
-    Said::Put(0, 0),
-    Said::Got(0, 0),
-    Said::Put(0, 5),
-    Said::Put(0, 5),
-    Said::Got(0, 2),
+/// A program, how many cells its arrays have and what its tables hold, the items of its in port, and a quota.
+type Row<'a> = (Worked<'a>, usize, &'a [i64], &'a [i64], u64);
+
+const ROWS: [Row<'static>; 18] = [
+    (COPY, 0, &[], &[5], 0),
+    (COPY, 0, &[], &[5], 1),
+    (COPY, 0, &[], &[5], 2),
+    (COPY, 0, &[], &[5], 3),
+    (EMPTY, 0, &[], &[], 0),
+    (NESTED, 0, &[], &[], 4),
+    (NESTED, 0, &[], &[], 5),
+    (ELSE, 0, &[], &[], 1),
+    (COUNTING, 0, &[], &[], 6),
+    (COUNTING, 0, &[], &[], 7),
+    (FAULTY, 0, &[], &[], 1),
+    (FAULTY, 0, &[], &[], 2),
+    (FAULTY_WRITE, 0, &[], &[], 1),
+    (CHOOSING, 0, &[], &[0, 2, 64], 9),
+    // It takes four steps until it reads again. With one of the fourth round the index is none.
+    (SETTING, 2, &[5, 7], &[1, 0, 2], 1),
+    (SETTING, 2, &[5, 7], &[1, 0, 2], 2),
+    (SETTING, 2, &[5, 7], &[1, 0, 2], 9),
+    (SETTING, 2, &[5, 7], &[1, 0, 2], 10),
 ];
 
-/// A program, the items of its in port, a quota, and what it then has said and where it has stopped.
-type Row<'a> = (Worked<'a>, &'a [i64], u64, &'a [Said], AloneStop);
-
-const COPIED: &[Said] = &[Said::Got(0, 5), Said::Put(0, 5)];
-
-const FAULT: AloneStop = AloneStop::Faulted(Fault::ZeroDivisor);
-
-const CHOSEN: &[Said] = &[
-    Said::Got(0, 0),
-    Said::Put(0, 9),
-    Said::Put(0, 1),
-    Said::Got(0, 2),
-    Said::Put(0, 3),
-    Said::Put(0, 4),
-    Said::Got(0, 64),
-    Said::Put(0, 0),
-];
-
-const SHIFT: AloneStop = AloneStop::Faulted(Fault::Shift);
-
-const ROWS: [Row<'static>; 14] = [
-    (COPY, &[5], 0, &[], AloneStop::Paused),
-    (COPY, &[5], 1, COPIED, AloneStop::Paused),
-    (COPY, &[5], 2, COPIED, AloneStop::Paused),
-    (COPY, &[5], 3, COPIED, AloneStop::Starved(0)),
-    (EMPTY, &[], 0, &[], AloneStop::Done),
-    (NESTED, &[], 4, &[], AloneStop::Paused),
-    (NESTED, &[], 5, &[Said::Put(0, 7)], AloneStop::Done),
-    (ELSE, &[], 1, &[Said::Put(0, 2)], AloneStop::Paused),
-    (COUNTING, &[], 6, &[], AloneStop::Paused),
-    (COUNTING, &[], 7, &[Said::Put(0, 2)], AloneStop::Done),
-    (FAULTY, &[], 1, &[], AloneStop::Paused),
-    (FAULTY, &[], 2, &[], FAULT),
-    (FAULTY_WRITE, &[], 1, &[], FAULT),
-    (CHOOSING, &[0, 2, 64], 9, CHOSEN, SHIFT),
-];
-
-// Whether a program says so and stops so.
-fn says(
-    rt: &impl Abort,
+/// What a program says, and where it stops.
+fn write_alone<O: Write>(
     alloc: Global,
     program: &Program,
     row: &Row<'_>,
-) -> Result<bool, AllocError> {
-    let (_, items, quota, talk, stop) = row;
+    out: &mut O,
+) -> Result<()> {
+    let (_, _, _, items, quota) = row;
     let lists = [Sequence::from_vec(items.to_vec(alloc)?)];
     let lists = &lists[..program.ins().min(1)];
-    assert!(rt; program.ins() == lists.len());
-    assert!(rt; program.pars() == 0);
+    ensure!(
+        program.ins() == lists.len() && program.pars() == 0,
+        "no such program"
+    );
     let run = alone(alloc, program, &[], lists, *quota)?;
-    Ok(run.talk.as_slice() == *talk && run.stop == *stop)
-}
-
-#[test]
-fn goes_on_within_each_quota(rt: HostRuntime) -> Result<(), Fail> {
-    for (k, row) in ROWS.iter().enumerate() {
-        let program = program_of(rt.alloc(), row.0)?;
-        let said = says(&rt, rt.alloc(), &program, row);
-        drop(program);
-        assert!(rt; said?, "row {k}");
-    }
-    Ok(())
-}
-
-// It takes four steps until it reads again. With one of the fourth round the index is none.
-#[test]
-fn sets_cells(rt: HostRuntime) -> Result<(), Fail> {
-    const INDEX: AloneStop = AloneStop::Faulted(Fault::Index);
-    for (quota, talk, stop) in [
-        (1, &SET[..1], AloneStop::Paused),
-        (2, &SET[..2], AloneStop::Paused),
-        (9, &SET[..7], AloneStop::Paused),
-        (10, SET, INDEX),
-    ] {
-        let program = celled(rt.alloc(), SETTING, 2, &[5, 7])??;
-        let said = says(
-            &rt,
-            rt.alloc(),
-            &program,
-            &(SETTING, &[1, 0, 2], quota, talk, stop),
-        );
-        drop(program);
-        assert!(rt; said?, "within {quota} steps");
-    }
-    // all cells are those of a table
-    let refused = celled(rt.alloc(), SETTING, 0, &[0, 0, 5, 7])?;
-    assert!(rt; matches!(refused, Err(ProgramFault::NoSuchVar)));
+    writeln!(
+        out,
+        "within {quota}: {:?} {:?}",
+        run.talk.as_slice(),
+        run.stop
+    )?;
     Ok(())
 }
 
 // The frame past the read, or past the write, where an advance stopped.
-fn given(rt: &impl Abort, reading: &Advance<'_>, item: i64) -> Result<Frame, AllocError>
+fn given(reading: &Advance<'_>, item: i64) -> Result<Frame>
     ensures { IfOk result (λ frame. IsTrue (fits reading.now.program frame)) }
 {
     reading.known();
     let frame = reading.to().try_copy()?;
     match reading.stop() {
         Stop::WantRead(_) => Ok(frame.give(reading.program(), item)),
-        _ => panic!(rt; "no read"),
+        _ => bail!("no read"),
     }
 }
 
-fn written(rt: &impl Abort, writing: &Advance<'_>) -> Result<Frame, AllocError>
+fn written(writing: &Advance<'_>) -> Result<Frame>
     ensures { IfOk result (λ frame. IsTrue (fits writing.now.program frame)) }
 {
     writing.known();
     let frame = writing.to().try_copy()?;
     match writing.stop() {
         Stop::WantWrite(..) => Ok(frame.wrote(writing.program())),
-        _ => panic!(rt; "no write"),
+        _ => bail!("no write"),
     }
 }
 
-// Whether it made so many steps to this stop.
-fn came_to(advance: &Advance<'_>, steps: u32, stop: Stop) -> bool {
-    advance.steps() == steps && advance.stop() == stop
+/// How an advance went.
+fn told(advance: &Advance<'_>) -> (u32, Stop) {
+    (advance.steps(), advance.stop())
 }
 
-// Where a program first stops within so many steps.
-fn first_stop(
-    rt: &impl Abort,
-    alloc: Global,
-    worked: Worked<'_>,
-    quota: u32,
-) -> Result<Stop, Fail> {
-    let program = program_of(alloc, worked)?;
-    assert!(rt; program.pars() == 0 && program.cells() == 0);
-    let stop = advance(&program, Frame::start(&program, &[]), quota).stop();
-    drop(program);
-    Ok(stop)
+/// Where a program first stops. The last two steps of a quota go by the statements, the others by codes.
+fn first(program: &Program, quota: u32) -> Result<(u32, Stop)> {
+    ensure!(
+        program.pars() == 0 && program.cells() == 0,
+        "no such program"
+    );
+    Ok(told(&advance(program, Frame::start(program, &[]), quota)))
 }
 
-// The last two steps of a quota go by the statements, the others by codes.
-fn refutes_faulting_write_puts_zero(rt: &impl Abort, alloc: Global) -> Result<(), Fail> {
-    for quota in [2, 9] {
-        let stop = first_stop(rt, alloc, FAULTY_AT_ONCE, quota)?;
-        assert!(rt;
-            stop == Stop::Faulted(Fault::ZeroDivisor),
-            "within {quota} steps"
-        );
-    }
-    Ok(())
+/// A copy goes from stop to stop: a read, a write and a pause. And whether it fits, and is from the start.
+fn stops(program: &Program) -> Result<([(u32, Stop); 3], bool, bool)> {
+    ensure!(
+        program.pars() == 0 && program.cells() == 0,
+        "no such program"
+    );
+    let start = Frame::start(program, &[]);
+    let reading = advance(program, start.copy(), 9);
+    let writing = try_advance(program, given(&reading, 5)?, 9)?;
+    let paused = try_advance(program, written(&writing)?, 1)?;
+    let stops = [told(&reading), told(&writing), told(&paused)];
+    Ok((stops, start.fits(program), *reading.from() == start))
 }
 
-#[test]
-fn advances_from_stop_to_stop(rt: HostRuntime) -> Result<(), Fail> {
-    refutes_faulting_write_puts_zero(&rt, rt.alloc())?;
-    let program = program_of(rt.alloc(), COPY)?;
-    assert!(rt; program.pars() == 0 && program.cells() == 0);
-    let start = Frame::start(&program, &[]);
-    assert!(rt; start.fits(&program));
-    let reading = advance(&program, start.copy(), 9);
-    assert!(rt; *reading.from() == start);
-    assert!(rt; came_to(&reading, 1, Stop::WantRead(0)));
-    let past = given(&rt, &reading, 5)?;
-    let writing = try_advance(&program, past, 9)?;
-    assert!(rt; came_to(&writing, 0, Stop::WantWrite(0, 5)));
-    let past = written(&rt, &writing)?;
-    let paused = try_advance(&program, past, 1)?;
-    assert!(rt; came_to(&paused, 1, Stop::Paused));
-    Ok(())
+/// Whether frames differ by the places, by the innermost place and by the variables, and copies do not.
+fn differ(program: &Program) -> Result<[bool; 4]> {
+    ensure!(
+        program.pars() == 0 && program.cells() == 0,
+        "no such program"
+    );
+    let start = Frame::start(program, &[]);
+    let reading = advance(program, start.copy(), 9);
+    let (five, zero, six) = (
+        given(&reading, 5)?,
+        given(&reading, 0)?,
+        given(&reading, 6)?,
+    );
+    let (there, copied) = (reading.to().try_copy()?, five.try_copy()?);
+    let (places, inner) = (*reading.to() != start, *reading.to() != zero);
+    let same = *reading.to() == there && five == copied;
+    Ok([places, inner, five != six, same])
 }
 
-#[test]
-fn frames_differ_by_each_field(rt: HostRuntime) -> Result<(), Fail> {
-    let program = program_of(rt.alloc(), WIDE)?;
-    assert!(rt; program.pars() == 0 && program.cells() == 0);
-    let start = Frame::start(&program, &[]);
-    let reading = advance(&program, start.copy(), 9);
-    let five = given(&rt, &reading, 5)?;
-    let zero = given(&rt, &reading, 0)?;
-    let six = given(&rt, &reading, 6)?;
-    let same = reading.to().try_copy()?;
-    assert!(rt; *reading.to() == same);
-    assert!(rt; *reading.to() != start, "by the places");
-    assert!(rt; *reading.to() != zero, "by the innermost place");
-    assert!(rt; five != six, "by the variables");
-    let same = five.try_copy()?;
-    assert!(rt; five == same);
-    Ok(())
-}
-
-#[test]
-fn refutes_always_pauses_in_place(rt: HostRuntime) -> Result<(), Fail> {
-    let program = program_of(rt.alloc(), COPY)?;
-    assert!(rt; program.pars() == 0 && program.cells() == 0);
-    let start = Frame::start(&program, &[]);
+/// A frame runs in place, and an advance is made anew. And whether it is there, and at the start again.
+fn kept(program: &Program) -> Result<([(u32, Stop); 3], bool, bool)> {
+    ensure!(
+        program.pars() == 0 && program.cells() == 0,
+        "no such program"
+    );
+    let start = Frame::start(program, &[]);
     let mut frame = start.copy();
-    let (steps, stop) = frame.run(&program, 9);
-    assert!(rt; steps == 1 && stop == Stop::WantRead(0));
-    let mut kept = advance(&program, start.copy(), 9);
-    kept.restart(&program, &start, 0);
-    assert!(rt; kept.stop() == Stop::Paused);
-    kept.restart(&program, &start, 9);
-    assert!(rt; kept.steps() == 1);
-    assert!(rt; *kept.to() == frame);
+    let run = frame.run(program, 9);
+    let mut kept = advance(program, start.copy(), 9);
+    kept.restart(program, &start, 0);
+    let none = told(&kept);
+    kept.restart(program, &start, 9);
+    let is_there = *kept.to() == frame;
     frame.copy_from(&start);
-    assert!(rt; frame == start);
+    Ok(([run, none, told(&kept)], is_there, frame == start))
+}
+
+/// What the frames of a copy come to.
+fn write_frames<O: Write>(program: &Program, out: &mut O) -> Result<()> {
+    writeln!(out, "{:?}", stops(program)?)?;
+    writeln!(out, "{:?}", kept(program)?)?;
+    Ok(())
+}
+
+/// What comes of a row.
+fn write_row<O: Write>(alloc: Global, row: &Row<'_>, out: &mut O) -> Result<()> {
+    let (worked, free, tables, _, _) = row;
+    let program = celled(alloc, *worked, *free, tables)??;
+    write_alone(alloc, &program, row, out)
+}
+
+/// Programs alone within each quota, and their frames.
+pub(crate) fn write_steps<O: Write>(alloc: Global, out: &mut O) -> Result<()> {
+    for row in &ROWS {
+        write_row(alloc, row, out)?;
+    }
+    // all cells are those of a table
+    let refused = celled(alloc, SETTING, 0, &[0, 0, 5, 7])?.err();
+    let faulty = program_of(alloc, FAULTY_AT_ONCE)?;
+    let faults = (first(&faulty, 2), first(&faulty, 9));
+    drop(faulty);
+    writeln!(out, "{refused:?}, {:?} {:?}", faults.0?, faults.1?)?;
+    let copy = program_of(alloc, COPY)?;
+    write_frames(&copy, out)?;
+    drop(copy);
+    let differ = differ(&program_of(alloc, WIDE)?)?;
+    writeln!(out, "{differ:?}")?;
     Ok(())
 }

@@ -1,7 +1,7 @@
 //! Programs as plain lists, from which their trees are built.
+use anyhow::Result;
 use kpn_lang::{Expr, Op, Program, ProgramFault, Stmt};
 use std::alloc::{AllocError, Global};
-use std::test::Fail;
 
 /// An expression.
 #[derive(Clone, Copy)]
@@ -97,7 +97,7 @@ pub fn blocks_of(alloc: Global, blocks: &[&[Line]]) -> Result<Vec<Vec<Stmt>>, Al
 /// In ports, out ports and local variables, and the blocks.
 pub type Worked<'a> = (usize, usize, usize, &'a [&'a [Line]]);
 
-pub fn program_of(alloc: Global, worked: Worked<'_>) -> Result<Program, Fail> {
+pub fn program_of(alloc: Global, worked: Worked<'_>) -> Result<Program> {
     let (ins, outs, locals, blocks) = worked;
     let blocks = blocks_of(alloc, blocks)?;
     Ok(Program::new(alloc, ins, outs, 0, locals, blocks)?)

@@ -1,27 +1,29 @@
 //! A feed.
-ghost use Rattle.std.specs.Prelude.{◌<◌, length};
 ghost use Rattle.kpn_machine.specs.Machine.{IsMachine};
 
+use anyhow::{Result, ensure};
 use kpn_machine::Machine;
 use kpn_net::Network;
-use std::alloc::{AllocError, Allocator};
-use std::process::Abort;
+use std::alloc::Allocator;
 
 /// Feeds an item to source `c`, and returns which process was woken.
-pub fn feed<A: Allocator + Copy>(
-    rt: &impl Abort,
+pub(crate) fn feed<A: Allocator + Copy>(
     network: &Network,
     machine: &mut Machine<A>,
     c: usize,
     item: i64,
-) -> Result<Option<usize>, AllocError>
+) -> Result<Option<usize>>
     requires { IsMachine network.now machine.old }
     ensures { IsMachine network.now machine.new }
 {
-    assert!(rt; c < network.channels());
-    assert!(rt; network.is_source(c));
+    ensure!(
+        c < network.channels() && network.is_source(c),
+        "it is no source"
+    );
     machine.reserve_one(c)?;
-    assert!(rt; machine.channel(c).room());
-    assert!(rt; !machine.is_closed(c));
+    ensure!(
+        machine.channel(c).room() && !machine.is_closed(c),
+        "it has no room"
+    );
     Ok(machine.feed(network, c, item))
 }

@@ -1,103 +1,27 @@
-//! Regions that are a whole network and run by themselves. What they do is worked by hand.
-ghost use Rattle.std.specs.Prelude.{◌≡◌, length};
+//! Regions that are a whole network and run by themselves, and are then joined to a machine.
+ghost use Rattle.std.specs.Prelude.{◌≡◌, IfOk, length};
 ghost use Rattle.kpn_region.specs.Batch.{IsFresh};
 ghost use Rattle.kpn_machine.specs.Machine.{IsMachine};
 
 use crate::feeding::feed;
-use kpn_history::Event;
-use kpn_lang::Fault;
+use crate::words::items;
+use anyhow::{Result, ensure};
 use kpn_machine::Machine;
 use kpn_net::Network;
 use kpn_region::Batch;
-use kpn_step::{Frame, Stop};
-use kpn_text::read_network;
+use kpn_step::Frame;
 use std::alloc::{AllocError, Global};
-use std::process::Abort;
-use std::test::Fail;
+use std::io::Write;
 
-const TWO_COPIES: &str = "
-process copy(in i; out o) { while 1 { read i x; write o x; } }
-network {
-  source a; channel b cap 1; sink z cap 1;
-  first = copy(a; b); second = copy(b; z);
-}";
-
-const WIDE_COPIES: &str = "
-process copy(in i; out o) { while 1 { read i x; write o x; } }
-network {
-  source a; channel b cap 8; sink z cap 1;
-  first = copy(a; b); second = copy(b; z);
-}";
-
-const REST: &str = "
-process rest(in i; out o) { while 1 { read i x; write o (10 % x); } }
-network { source a; sink z cap 1; rest = rest(a; z); }";
-
-const CROSSED: &str = "
-process p(out a, b) { write a 1; write a 2; write b 3; }
-process q(in a, b; out z) { read b x; read a y; write z (x + y); }
-network {
-  channel a cap 1; channel b cap 1; sink z cap 1;
-  p = p(; a, b); q = q(a, b; z);
-}";
-
-const SPINS: &str = "
-process spin(out o) { while 1 { } write o 1; }
-network { sink z cap 1; spin = spin(; z); }";
-
-/// A network, what is claimed of it, how often it is run, the events that this makes, and where its processes can't go
-/// on then.
+/// What is claimed of a network, and how often it is run.
 #[derive(Clone, Copy)]
 struct Row<'a> {
-    text: &'a str,
     items: &'a [i64],
+    /// Whether what comes to the sinks is taken at once.
     drains: bool,
     budget: u32,
     times: u32,
-    events: &'a [Event],
-    stops: &'a [Option<Stop>],
 }
-
-const THROUGH: Row<'static> = Row {
-    text: TWO_COPIES,
-    items: &[5, 6],
-    drains: true,
-    budget: 100,
-    times: 1,
-    events: &[
-        Event::Get(0, 0, 5),
-        Event::Put(0, 1, 5),
-        Event::Get(1, 1, 5),
-        Event::Put(1, 2, 5),
-        Event::Take(2, 5),
-        Event::Get(0, 0, 6),
-        Event::Put(0, 1, 6),
-        Event::Get(1, 1, 6),
-        Event::Put(1, 2, 6),
-        Event::Take(2, 6),
-    ],
-    stops: &[Some(Stop::WantRead(0)), Some(Stop::WantRead(0))],
-};
-
-const LEFT_FULL: Row<'static> = Row {
-    text: TWO_COPIES,
-    items: &[5, 6, 7],
-    drains: false,
-    budget: 100,
-    times: 2,
-    events: &[
-        Event::Get(0, 0, 5),
-        Event::Put(0, 1, 5),
-        Event::Get(1, 1, 5),
-        Event::Put(1, 2, 5),
-        Event::Get(0, 0, 6),
-        Event::Put(0, 1, 6),
-        Event::Get(1, 1, 6),
-        Event::Get(0, 0, 7),
-        Event::Put(0, 1, 7),
-    ],
-    stops: &[Some(Stop::WantRead(0)), Some(Stop::WantWrite(0, 6))],
-};
 
 /// Claims all of a network: its processes at their starts, these items of each source, and the room of the others.
 fn claim_all(
@@ -124,175 +48,15 @@ fn claim_all(
     Ok(())
 }
 
-/// Runs a region, and tells whether it has made the events of its row and stands where that says.
-fn plays(network: &Network, batch: &mut Batch<'_>, row: &Row<'_>) -> Result<bool, AllocError>
-    requires tables { batch.old.tables ≡ network.now }
-    requires fresh { IsFresh batch.old }
-    ensures { batch.new.tables ≡ network.now }
-{
-    claim_all(network, batch, row.items, row.drains)?;
-    'times: for _time in 0..row.times {
-        batch.run(10, row.budget)?;
-    }
-    Ok(*batch.events() == *row.events && are_stopped(network, batch, row.stops))
-}
-
-/// Whether the processes can't go on from these stops.
-fn are_stopped(network: &Network, batch: &Batch<'_>, stops: &[Option<Stop>]) -> bool
-    requires { batch.now.tables ≡ network.now }
-{
-    if network.instances() != stops.len() {
-        return false;
-    }
-    'stops: for p in 0..network.instances() {
-        if batch.stop(p) != stops[p] {
-            return false;
-        }
-    }
-    true
-}
-
-/// Claims and runs a network, as `plays` does.
-fn runs(alloc: Global, network: &Network, row: &Row<'_>) -> Result<bool, AllocError> {
-    let mut batch = Batch::new(alloc, network)?;
-    let played = plays(network, &mut batch, row);
-    drop(batch);
-    played
-}
-
-/// Whether the network of a row does what the row says.
-fn does(alloc: Global, row: &Row<'_>) -> Result<bool, Fail> {
-    let document = read_network(alloc, row.text.as_bytes())?;
-    let done = runs(alloc, document.network(), row);
-    drop(document);
-    Ok(done?)
-}
-
-/// Each process has its turns until it can't go on, with capacity 1, and what comes to the sink is taken at once.
-#[test]
-fn runs_until_all_are_stuck(rt: HostRuntime) -> Result<(), Fail> {
-    assert!(rt; does(rt.alloc(), &THROUGH)?);
-    Ok(())
-}
-
-/// Where a channel is wide, a process goes on until it can't.
-#[test]
-fn goes_on_where_a_channel_is_wide(rt: HostRuntime) -> Result<(), Fail> {
-    let row = Row {
-        text: WIDE_COPIES,
-        items: &[5, 6],
-        drains: true,
-        budget: 100,
-        times: 1,
-        events: &[
-            Event::Get(0, 0, 5),
-            Event::Put(0, 1, 5),
-            Event::Get(0, 0, 6),
-            Event::Put(0, 1, 6),
-            Event::Get(1, 1, 5),
-            Event::Put(1, 2, 5),
-            Event::Take(2, 5),
-            Event::Get(1, 1, 6),
-            Event::Put(1, 2, 6),
-            Event::Take(2, 6),
-        ],
-        stops: &[Some(Stop::WantRead(0)), Some(Stop::WantRead(0))],
-    };
-    assert!(rt; does(rt.alloc(), &row)?);
-    Ok(())
-}
-
-/// The same as with capacity 1, by a budget of one: each event, and each turn without one, is a run of its own, and the
-/// next process has its turn then.
-#[test]
-fn runs_by_budgets_of_one(rt: HostRuntime) -> Result<(), Fail> {
-    let row = Row {
-        text: TWO_COPIES,
-        items: &[5, 6],
-        drains: true,
-        budget: 1,
-        times: 11,
-        events: &[
-            Event::Get(0, 0, 5),
-            Event::Put(0, 1, 5),
-            Event::Get(1, 1, 5),
-            Event::Get(0, 0, 6),
-            Event::Put(1, 2, 5),
-            Event::Take(2, 5),
-            Event::Put(0, 1, 6),
-            Event::Get(1, 1, 6),
-            Event::Put(1, 2, 6),
-            Event::Take(2, 6),
-        ],
-        stops: &[Some(Stop::WantRead(0)), Some(Stop::WantRead(0))],
-    };
-    assert!(rt; does(rt.alloc(), &row)?);
-    Ok(())
-}
-
-/// A sink that is not emptied has the room that it had at the claim.
-#[test]
-fn uses_up_the_room(rt: HostRuntime) -> Result<(), Fail> {
-    assert!(rt; does(rt.alloc(), &LEFT_FULL)?);
-    Ok(())
-}
-
-/// A fault, a cycle of waits, and a process that is only paused.
-#[test]
-fn stops_where_it_cannot_go_on(rt: HostRuntime) -> Result<(), Fail> {
-    let faults = Row {
-        text: REST,
-        items: &[3, 0],
-        drains: true,
-        budget: 100,
-        times: 1,
-        events: &[
-            Event::Get(0, 0, 3),
-            Event::Put(0, 1, 1),
-            Event::Take(1, 1),
-            Event::Get(0, 0, 0),
-        ],
-        stops: &[Some(Stop::Faulted(Fault::ZeroDivisor))],
-    };
-    assert!(rt; does(rt.alloc(), &faults)?);
-    let crossed = Row {
-        text: CROSSED,
-        items: &[],
-        drains: true,
-        budget: 100,
-        times: 1,
-        events: &[Event::Put(0, 0, 1)],
-        stops: &[Some(Stop::WantWrite(0, 2)), Some(Stop::WantRead(1))],
-    };
-    assert!(rt; does(rt.alloc(), &crossed)?);
-    let spins = Row {
-        text: SPINS,
-        items: &[],
-        drains: true,
-        budget: 2000,
-        times: 1,
-        events: &[],
-        stops: &[Some(Stop::Paused)],
-    };
-    assert!(rt; does(rt.alloc(), &spins)?);
-    Ok(())
-}
-
 /// Feeds each source with these items, and makes each channel roomy, or not.
-fn make_ready(
-    rt: &impl Abort,
-    network: &Network,
-    machine: &mut Machine,
-    items: &[i64],
-    roomy: bool,
-) -> Result<(), AllocError>
+fn make_ready(network: &Network, machine: &mut Machine, items: &[i64], roomy: bool) -> Result<()>
     requires { IsMachine network.now machine.old }
     ensures { IsMachine network.now machine.new }
 {
     'channels: for c in 0..network.channels() {
         if network.is_source(c) {
             'items: for item in items {
-                let _woken = feed(rt, network, machine, c, *item)?;
+                let _woken = feed(network, machine, c, *item)?;
             }
         }
         if roomy {
@@ -302,73 +66,124 @@ fn make_ready(
     Ok(())
 }
 
-/// Whether so many items were read from each channel, so many are unread there, and so many ever were, and whether each
+/// A machine that is made ready.
+fn ready(alloc: Global, network: &Network, items: &[i64], roomy: bool) -> Result<Machine>
+    ensures { IfOk result (λ machine. IsMachine network.now machine) }
+{
+    let mut machine = Machine::new(alloc, network)?;
+    make_ready(network, &mut machine, items, roomy)?;
+    Ok(machine)
+}
+
+/// Runs a region. The events that it made follow, and where each process can't go on.
+fn play<O: Write>(network: &Network, batch: &mut Batch<'_>, row: Row<'_>, out: &mut O) -> Result<()>
+    requires tables { batch.old.tables ≡ network.now }
+    requires fresh { IsFresh batch.old }
+    ensures { batch.new.tables ≡ network.now }
+{
+    claim_all(network, batch, row.items, row.drains)?;
+    'times: for _time in 0..row.times {
+        batch.run(10, row.budget)?;
+    }
+    'events: for event in batch.events() {
+        writeln!(out, "  {event:?}")?;
+    }
+    'stops: for p in 0..network.instances() {
+        writeln!(out, "process {p}: {:?}", batch.stop(p))?;
+    }
+    Ok(())
+}
+
+/// How many items were read from each channel, how many are unread there, and how many ever were, and whether each
 /// process is where it is in the batch.
-fn stands_so(
+fn show<O: Write>(
     network: &Network,
-    machine: &Machine,
     batch: &Batch<'_>,
-    counts: &[(usize, usize, usize)],
-) -> bool
+    machine: &Machine,
+    out: &mut O,
+) -> Result<()>
     requires channels { length machine.now.channels ≡ length network.now.channels }
     requires frames { length machine.now.frames ≡ length network.now.instances }
     requires tables { batch.now.tables ≡ network.now }
 {
-    if network.channels() != counts.len() {
-        return false;
-    }
-    'counts: for c in 0..counts.len() {
+    'channels: for c in 0..network.channels() {
         let channel = machine.channel(c);
-        if (channel.read_count(), channel.len(), channel.most()) != counts[c] {
-            return false;
-        }
+        let (read, unread, most) = (channel.read_count(), channel.len(), channel.most());
+        writeln!(out, "channel {c}: read {read} unread {unread} most {most}")?;
     }
     'frames: for p in 0..network.instances() {
-        if *machine.frame(p) != *batch.frame(p) {
-            return false;
-        }
+        writeln!(out, "process {p}: {}", *machine.frame(p) == *batch.frame(p))?;
     }
-    true
+    Ok(())
 }
 
-/// Runs a whole network as a region beside a machine, and joins it: whether that stands then as these counts say.
-/// If the channels are not made roomy, the batch does not agree with the machine.
-fn joins(
-    rt: &impl Abort,
+/// Joins a region to a machine, and shows what stands then.
+fn join<O: Write>(
+    network: &Network,
+    batch: &Batch<'_>,
+    machine: &mut Machine,
+    out: &mut O,
+) -> Result<()>
+    requires tables { batch.now.tables ≡ network.now }
+    requires machine { IsMachine network.now machine.old }
+{
+    ensure!(batch.agrees_with(machine), "the machine is another one");
+    batch.join(machine);
+    show(network, batch, machine, out)
+}
+
+/// Runs a whole network as a region and joins it to a machine. If the channels are not made roomy, as those of another
+/// machine, the batch may not agree with it.
+fn run<O: Write>(
+    network: &Network,
+    batch: &mut Batch<'_>,
+    bare: &Machine,
+    machine: &mut Machine,
+    row: Row<'_>,
+    out: &mut O,
+) -> Result<()>
+    requires tables { batch.old.tables ≡ network.now }
+    requires fresh { IsFresh batch.old }
+    requires bare { IsMachine network.now bare.now }
+    requires machine { IsMachine network.now machine.old }
+{
+    play(network, batch, row, out)?;
+    let agrees = batch.agrees_with(bare);
+    writeln!(out, "agrees without room {agrees}")?;
+    join(network, batch, machine, out)
+}
+
+/// The same by a new batch, beside this machine.
+fn run_beside<O: Write>(
     alloc: Global,
     network: &Network,
-    row: &Row<'_>,
-    counts: &[(usize, usize, usize)],
-) -> Result<bool, AllocError> {
+    bare: &Machine,
+    row: Row<'_>,
+    out: &mut O,
+) -> Result<()>
+    requires { IsMachine network.now bare.now }
+{
+    let mut machine = ready(alloc, network, row.items, true)?;
     let mut batch = Batch::new(alloc, network)?;
-    let mut bare = Machine::new(alloc, network)?;
-    let mut machine = Machine::new(alloc, network)?;
-    make_ready(rt, network, &mut bare, row.items, false)?;
-    make_ready(rt, network, &mut machine, row.items, true)?;
-    let played = plays(network, &mut batch, row)?;
-    let is_refused = !batch.agrees_with(&bare);
-    if !batch.agrees_with(&machine) {
-        return Ok(false);
-    }
-    batch.join(&mut machine);
-    let stands = stands_so(network, &machine, &batch, counts);
-    drop(bare);
-    drop(batch);
-    Ok(played && is_refused && stands)
+    run(network, &mut batch, bare, &mut machine, row, out)
 }
 
-/// Each item goes through, or the sink is left full. What is put and taken in the batch counts as read.
-#[test]
-fn joins_what_it_has_done(rt: HostRuntime) -> Result<(), Fail> {
-    let rows: [(Row<'_>, [(usize, usize, usize); 3]); 2] = [
-        (THROUGH, [(2, 0, 2), (2, 0, 1), (2, 0, 1)]),
-        (LEFT_FULL, [(3, 0, 3), (2, 1, 1), (0, 1, 1)]),
-    ];
-    let document = read_network(rt.alloc(), TWO_COPIES.as_bytes())?;
-    for (row, counts) in &rows {
-        let joined = joins(&rt, rt.alloc(), document.network(), row, counts)?;
-        assert!(rt; joined);
-    }
-    drop(document);
-    Ok(())
+/// The words say which items each source has, whether the sinks are `drained`, and how large the budget of each of how
+/// many turns of the region is.
+pub(crate) fn region_section<O: Write>(
+    alloc: Global,
+    network: &Network,
+    words: [&str; 4],
+    out: &mut O,
+) -> Result<()> {
+    let [list, sinks, budget, times] = words;
+    let list = items(alloc, list)?;
+    let row = Row {
+        items: &list,
+        drains: sinks == "drained",
+        budget: budget.parse()?,
+        times: times.parse()?,
+    };
+    let bare = ready(alloc, network, row.items, false)?;
+    run_beside(alloc, network, &bare, row, out)
 }

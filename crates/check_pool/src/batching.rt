@@ -3,7 +3,7 @@
 ghost use Rattle.std.specs.Prelude.{◌≡◌};
 
 use crate::flag::Flag;
-use crate::networks::nine_sevens;
+use crate::networks::{NINE_SEVENS, described};
 use kpn_book::{Book, Event};
 use kpn_net::Network;
 use kpn_pool::{Opened, Shared, gather, work};
@@ -155,7 +155,7 @@ fn ends_twice<J: Job + Send + Sync, R: Wait + Clock>(
 /// The gate is asked for processes 0, 1 and 2, and ends the worker at the last. The queue is then 8, 0, 1, 2 and so on.
 #[test]
 fn refutes_batches_in_another_order(rt: HostRuntime) -> Result<(), Fail> {
-    let network = nine_sevens(rt.alloc())?;
+    let network = described(rt.alloc(), NINE_SEVENS)?;
     let blank = Blank::new(1);
     let is_so = ends_twice::<Brand, HostRuntime>(&rt, rt.alloc(), blank, &network)?;
     assert!(rt; is_so);

@@ -2,7 +2,7 @@
 ghost use Rattle.std.specs.Prelude.{◌≡◌};
 
 use crate::always::Always;
-use crate::networks::spinning;
+use crate::networks::{SPINNING, described};
 use kpn_net::Network;
 use kpn_pool::{Opened, Shared, work};
 use kpn_pool_desk::{Gate, Go, Job, View, Why};
@@ -54,7 +54,7 @@ pub fn is_ready(view: &Option<View>) -> bool {
 
 #[test]
 fn a_worker_tells_why_it_ends(rt: HostRuntime) -> Result<(), Fail> {
-    let network = spinning(rt.alloc())?;
+    let network = described(rt.alloc(), SPINNING)?;
     for (most, is_told, answer, wanted) in [
         (u64::MAX, true, Go::On, Why::Halted),
         (u64::MAX, false, Go::Abandon, Why::Abandoned),

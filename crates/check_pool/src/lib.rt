@@ -9,8 +9,6 @@ mod always;
 #[cfg(test)]
 mod batching;
 #[cfg(test)]
-mod cells;
-#[cfg(test)]
 mod commits;
 #[cfg(test)]
 mod complete;
@@ -30,8 +28,6 @@ mod locking;
 mod looking;
 #[cfg(test)]
 mod meeting;
-#[cfg(test)]
-mod memory;
 #[cfg(test)]
 mod moving;
 #[cfg(test)]

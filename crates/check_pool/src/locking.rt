@@ -2,7 +2,7 @@
 ghost use Rattle.std.specs.Prelude.{◌≡◌};
 
 use crate::flag::Flag;
-use crate::networks::{spinning, summing};
+use crate::networks::{SPINNING, described, summing};
 use crate::turns::MOST_TURNS;
 use kpn_net::Network;
 use kpn_pool::{Opened, Shared, work};
@@ -146,7 +146,7 @@ fn seen_while_working<J: Job + Send + Sync, R: Threads + Wait + Clock + Sync>(
 /// A worker makes 100,000,000 steps, and many snapshots are given meanwhile.
 #[test]
 fn refutes_holds_the_lock_while_stepping(rt: HostRuntime) -> Result<(), Fail> {
-    let network = spinning(rt.alloc())?;
+    let network = described(rt.alloc(), SPINNING)?;
     let blank = Blank::new(1);
     let (held, why) = seen_while_working::<Brand, HostRuntime>(
         &rt,

@@ -3,7 +3,7 @@ ghost use Rattle.std.specs.Prelude.{◌≡◌};
 ghost use Rattle.kpn_pool_desk.specs.Invariant.{AreBelowLeast, HasNoneLeftToGrow};
 
 use crate::always::Always;
-use crate::networks::three_spinning;
+use crate::networks::{THREE_SPINNING, described};
 use crate::turns::MOST_TURNS;
 use crate::working::both_work;
 use kpn_net::Network;
@@ -96,7 +96,7 @@ fn seen_while_working<J: Job + Send + Sync, R: Threads + Wait + Clock + Sync>(
 
 #[test]
 fn a_look_while_two_workers_run(rt: HostRuntime) -> Result<(), Fail> {
-    let network = three_spinning(rt.alloc())?;
+    let network = described(rt.alloc(), THREE_SPINNING)?;
     let seen = seen_while_working::<Brand, HostRuntime>(&rt, rt.alloc(), Blank::new(2), &network)?;
     assert_eq!(rt; seen, (Some(Why::Limit), Some(Why::Limit), true));
     Ok(())

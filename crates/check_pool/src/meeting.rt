@@ -2,7 +2,7 @@
 ghost use Rattle.std.specs.Prelude.{◌≡◌};
 
 use crate::holding::{Held, Holding};
-use crate::networks::{two_readers, two_sevens};
+use crate::networks::{TWO_READERS, TWO_SEVENS, described};
 use crate::turns::MOST_TURNS;
 use crate::working::both_work;
 use kpn_net::Network;
@@ -97,7 +97,7 @@ fn meet<J: Job + Send + Sync, R: Threads + Wait + Clock + Sync>(
 /// ends.
 #[test]
 fn refutes_one_worker_steps_everything(rt: HostRuntime) -> Result<(), Fail> {
-    let network = two_sevens(rt.alloc())?;
+    let network = described(rt.alloc(), TWO_SEVENS)?;
     let met = meet::<Brand, HostRuntime>(&rt, rt.alloc(), Blank::new(2), &network, 4)?;
     let limit = Some(Why::Limit);
     assert_eq!(rt; met, Some((true, (limit, limit), (4, 4))));
@@ -107,7 +107,7 @@ fn refutes_one_worker_steps_everything(rt: HostRuntime) -> Result<(), Fail> {
 /// The same if each of the two processes waits for the other one.
 #[test]
 fn two_workers_settle(rt: HostRuntime) -> Result<(), Fail> {
-    let network = two_readers(rt.alloc())?;
+    let network = described(rt.alloc(), TWO_READERS)?;
     let met = meet::<Brand, HostRuntime>(&rt, rt.alloc(), Blank::new(2), &network, 9)?;
     let settled = Some(Why::Settled);
     assert_eq!(rt; met, Some((true, (settled, settled), (2, 2))));

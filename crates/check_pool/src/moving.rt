@@ -2,7 +2,7 @@
 ghost use Rattle.std.specs.Prelude.{◌≡◌};
 
 use crate::always::Always;
-use crate::networks::copying;
+use crate::networks::{COPYING_NINE, described};
 use kpn_net::Network;
 use kpn_pool::{Opened, Shared, feed_when_room, take_each, take_when_due, take_when_there, work};
 use kpn_pool_desk::{Awaited, Go, Job, Refused, SinkSeat};
@@ -79,7 +79,7 @@ fn moves_all<J: Job, R: Wait + Clock>(
 
 #[test]
 fn one_call_moves_all(rt: HostRuntime) -> Result<(), Fail> {
-    let network = copying(rt.alloc(), 9)?;
+    let network = described(rt.alloc(), COPYING_NINE)?;
     for call in [Call::Each, Call::WhenDue, Call::WhenThere] {
         let blank = Blank::new(1);
         let moved = moves_all::<Brand, HostRuntime>(&rt, rt.alloc(), blank, &network, call)?;

@@ -3,7 +3,7 @@ ghost use Rattle.std.specs.Prelude.{◌≡◌};
 
 use crate::always::Always;
 use crate::batching::has_written;
-use crate::networks::copying;
+use crate::networks::{COPYING, described};
 use crate::turns::MOST_TURNS;
 use kpn_net::Network;
 use kpn_pool::{Opened, Shared, close, feed, leave, snapshot, take, work};
@@ -144,7 +144,7 @@ fn answered<J: Job, R: Wait>(
 #[test]
 fn snapshot_shows_own_feeds_alone(rt: HostRuntime) -> Result<(), Fail> {
     let alloc = rt.alloc();
-    let network = copying(alloc, 1)?;
+    let network = described(alloc, COPYING)?;
     let other = read_network(alloc, TWO.as_bytes())?;
     let seat = copied::<Brand, HostRuntime>(&rt, alloc, Blank::new(1), &network)?;
     let mut seat = seat.expect(&rt, "a whole run");

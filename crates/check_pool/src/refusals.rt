@@ -4,7 +4,7 @@ ghost use Rattle.std.specs.Prelude.{◌≡◌};
 
 use crate::always::Always;
 use crate::endings::is_ready;
-use crate::networks::{copying, pouring};
+use crate::networks::{COPYING, POURING, described};
 use crate::outside::shows;
 use kpn_net::Network;
 use kpn_pool::{Opened, Shared, close, feed, feed_when_room, gather, leave, snapshot, take, work};
@@ -226,8 +226,8 @@ fn is_poured<'a, J: Job, R: Wait + Clock>(
 #[test]
 fn refused_calls_change_nothing(rt: HostRuntime) -> Result<(), Fail> {
     let alloc = rt.alloc();
-    let copying = copying(alloc, 1)?;
-    let pouring = pouring(alloc)?;
+    let copying = described(alloc, COPYING)?;
+    let pouring = described(alloc, POURING)?;
     let heap = LocalHeap::new(alloc, HEAP)?;
     let used = heap.used();
     let filling = fill(&heap).expect(&rt, "a block is left");

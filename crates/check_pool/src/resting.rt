@@ -2,7 +2,7 @@
 ghost use Rattle.std.specs.Prelude.{◌≡◌};
 
 use crate::gates::HoldingThree;
-use crate::networks::three_spinning;
+use crate::networks::{THREE_SPINNING, described};
 use crate::working::three_work;
 use kpn_net::Network;
 use kpn_pool::{Opened, Shared};
@@ -47,7 +47,7 @@ fn are_held_at_once<J: Job + Send + Sync, R: Threads + Wait + Clock + Sync>(
 
 #[test]
 fn those_that_rest_come_to_ready_work(rt: HostRuntime) -> Result<(), Fail> {
-    let network = three_spinning(rt.alloc())?;
+    let network = described(rt.alloc(), THREE_SPINNING)?;
     let are_held = are_held_at_once::<Brand, HostRuntime>(
         &rt,
         rt.alloc(),

@@ -3,7 +3,7 @@
 ghost use Rattle.std.specs.Prelude.{◌≡◌};
 
 use crate::gates::Pausing;
-use crate::networks::{copying, copying_beside, reading};
+use crate::networks::{COPYING, COPYING_BESIDE, COPYING_WIDE, READING, described};
 use crate::working::both_work;
 use kpn_net::Network;
 use kpn_pool::{Opened, Shared, close, feed, take_when_due};
@@ -188,9 +188,9 @@ fn late_runs<R: Threads + Wait + Clock + Sync>(
 fn items_go_from_hand_to_hand(rt: HostRuntime) -> Result<(), Fail> {
     let alloc = rt.alloc();
     for (network, held) in [
-        (copying(alloc, 1)?, None),
-        (copying(alloc, 64)?, None),
-        (copying_beside(alloc)?, Some(0)),
+        (described(alloc, COPYING)?, None),
+        (described(alloc, COPYING_WIDE)?, None),
+        (described(alloc, COPYING_BESIDE)?, Some(0)),
     ] {
         let late = late_runs(&rt, alloc, &network, held, Task::HandsOver, Why::Halted)?;
         assert!(rt;
@@ -205,7 +205,7 @@ fn items_go_from_hand_to_hand(rt: HostRuntime) -> Result<(), Fail> {
 #[test]
 fn all_workers_end_at_once(rt: HostRuntime) -> Result<(), Fail> {
     let alloc = rt.alloc();
-    let network = reading(alloc)?;
+    let network = described(alloc, READING)?;
     for (task, why) in [
         (Task::Closes, Why::Settled),
         (Task::FeedsAndCloses, Why::Settled),

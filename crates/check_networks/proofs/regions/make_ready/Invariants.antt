@@ -2,7 +2,7 @@ use Rattle.kpn_machine.specs.Machine.{IsMachine}
 use Rattle.check_networks.proofs.regions.make_ready.Given as goal
 
 abbrev pub invariant-channels : goal.invariant-channels
-invariant-channels g l = IsMachine l.network l.machine
+invariant-channels l = IsMachine l.network l.machine
 
 abbrev pub invariant-items : goal.invariant-items
-invariant-items g l = IsMachine l.network l.machine
+invariant-items l = IsMachine l.network l.machine

@@ -1,5 +1,0 @@
-use Rattle.kpn_net.specs.Waits.{AreWaits}
-use Rattle.check_networks.proofs.cycles.table.Given as goal
-
-abbrev pub invariant-loop-p : goal.invariant-loop-p
-invariant-loop-p g l = AreWaits l.network l.waits
