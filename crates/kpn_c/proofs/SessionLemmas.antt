@@ -1,5 +1,5 @@
 -- A book is attached to the network of its session, and detached again.
-use Rattle.std.proofs.Common.{◌≡◌, Bool, refl, sym, ap, ◌∙◌, subst}
+use Rattle.std.proofs.Common.{◌≡◌, refl, sym, ap, ◌∙◌, subst}
 use Rattle.kpn_text.specs.Document.{Document}
 use Rattle.kpn_book.specs.declared.detached.Detached.{Detached}
 use Rattle.kpn_book.specs.Book.{Book}
@@ -25,16 +25,14 @@ pub stays_open : (opened last now : Book) → opened ≡ now → last.tables ≡
 stays_open opened last now is stays = stays ∙ ap (λ b. b.tables) (sym is)
 
 -- nothing has happened in between
-pub session_same : {keeps : Bool} (d : Document) (before : Detached) (opened : Book) (after : Detached)
+pub session_same : (d : Document) (before : Detached) (opened : Book) (after : Detached)
     → opened ≡ book_on d.tables before → book_on opened.tables after ≡ opened
-    → (session : Session) → session_of d before keeps ≡ session → session_of d after keeps ≡ session
-session_same {keeps} d before opened after is same session view =
-    ap (λ b. record { document = d; book = b; keeps = keeps })
-    (detached_is d before opened opened after is refl same ∙ is) ∙ view
+    → (session : Session) → session_of d before ≡ session → session_of d after ≡ session
+session_same d before opened after is same session view =
+    ap (λ b. record { document = d; book = b }) (detached_is d before opened opened after is refl same ∙ is) ∙ view
 
 -- a session is what it shows
-pub same_session : (before after : Session) → after.document ≡ before.document → after.keeps ≡ before.keeps
-    → after.book ≡ before.book → after ≡ before
-same_session before after document keeps book =
-    ap (λ d. record after { document = d }) document ∙ ap (λ b. record before { book = b; keeps = after.keeps }) book
-    ∙ ap (λ k. record before { keeps = k }) keeps
+pub same_session : (before after : Session) → after.document ≡ before.document → after.book ≡ before.book
+    → after ≡ before
+same_session before after document book =
+    ap (λ d. record after { document = d }) document ∙ ap (λ b. record before { book = b }) book

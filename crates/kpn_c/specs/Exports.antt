@@ -52,7 +52,6 @@ code_of_verdict (Some Jammed) = 3
 -- so many items were fed to a source, and the number says why no more
 pub record FeedsSource (source : ℕ) (items : List ℤ) (code count : ℕ) (before after : Session) : Type 0 where
   pub document : after.document ≡ before.document
-  pub keeps : after.keeps ≡ before.keeps
   pub cause : Option Refused
   pub number : code ≡ code_of_cause cause
   pub feeds : FeedsEach source items (record { count = count; cause = cause }) before.book after.book
@@ -60,7 +59,6 @@ pub record FeedsSource (source : ℕ) (items : List ℤ) (code count : ℕ) (bef
 -- so many items were taken from a sink, and the number says why no more
 pub record TakesFromSink (sink : ℕ) (room kept : List ℤ) (code count : ℕ) (before after : Session) : Type 0 where
   pub document : after.document ≡ before.document
-  pub keeps : after.keeps ≡ before.keeps
   pub cause : Option Refused
   pub number : code ≡ code_of_cause cause
   pub takes : TakesEach sink (record { count = count; cause = cause }) room kept before.book after.book
@@ -68,7 +66,6 @@ pub record TakesFromSink (sink : ℕ) (room kept : List ℤ) (code count : ℕ) 
 -- so many commits were made, and the number says whether memory ran out
 pub record StepsProcesses (most code commits : ℕ) (before after : Session) : Type 0 where
   pub document : after.document ≡ before.document
-  pub keeps : after.keeps ≡ before.keeps
   pub is_refused : Bool
   pub number : code ≡ (if is_refused then 42 else 0)
   pub steps : StepsEach 1000 most (record { commits = commits; is_refused = is_refused }) before.book after.book
@@ -82,7 +79,6 @@ amounts_of moved =
 pub record MovesItems (items : List SourceItem) (most code : ℕ) (told : Amounts) (asked kept : List Wanted)
     (before after : Session) : Type 0 where
   pub document : after.document ≡ before.document
-  pub keeps : after.keeps ≡ before.keeps
   pub moved : Moved
   pub number : code ≡ code_of_moved moved
   pub amounts : told ≡ amounts_of moved
@@ -91,7 +87,6 @@ pub record MovesItems (items : List SourceItem) (most code : ℕ) (told : Amount
 -- a source was closed, or the number says why not
 pub record ClosesSource (source code : ℕ) (before after : Session) : Type 0 where
   pub document : after.document ≡ before.document
-  pub keeps : after.keeps ≡ before.keeps
   pub closes : ((code ≡ 0) × Closes source before.book after.book)
       ⊎ ((cause : Refused) × (code ≡ number_of_refusal cause) × RefusesClose source before.book cause
       × (after.book ≡ before.book))
@@ -99,7 +94,6 @@ pub record ClosesSource (source code : ℕ) (before after : Session) : Type 0 wh
 -- a sink was left, or the number says why not
 pub record LeavesSink (sink code : ℕ) (before after : Session) : Type 0 where
   pub document : after.document ≡ before.document
-  pub keeps : after.keeps ≡ before.keeps
   pub leaves : ((code ≡ 0) × Leaves sink before.book after.book)
       ⊎ ((cause : Refused) × (code ≡ number_of_refusal cause) × RefusesLeave sink before.book cause
       × (after.book ≡ before.book))
@@ -153,8 +147,9 @@ trace_of s = trace_text Two s.book.tables.policy s.book.tables.growth s.book.his
 -- the trace is put to the front of a slice, or memory ran out, or the session keeps none
 abbrev pub TellsTrace : (code told : ℕ) → (room kept : List ℕ) → Session → Type 0
 TellsTrace code told room kept s =
-    ((s.keeps ≡ true) × (PutsToFront (trace_of s) code told room kept ⊎ ((code ≡ 42) × (kept ≡ room))))
-    ⊎ ((s.keeps ≡ false) × (code ≡ 66) × (kept ≡ room))
+    ((s.book.keeps_events ≡ true)
+    × (PutsToFront (trace_of s) code told room kept ⊎ ((code ≡ 42) × (kept ≡ room))))
+    ⊎ ((s.book.keeps_events ≡ false) × (code ≡ 66) × (kept ≡ room))
 
 -- ---- texts
 
@@ -181,7 +176,6 @@ pub record IsNewSession (keeps : Bool) (text : List ℕ) (slot : Option Slot) : 
   pub held : slot ≡ slot_with session
   pub spelled : SpellsDocument text session.document
   pub first : IsNewBook session.document.tables session.book
-  pub keeps_so : session.keeps ≡ keeps
   pub kept : Remembers (keeping_of keeps) session.book
 
 -- such a session is handed out, or what was there stays, and the fault is told or memory ran out

@@ -1,10 +1,9 @@
 //! A run that its owner feeds, steps and takes from.
-ghost use Rattle.std.specs.Prelude.{◌≡◌, ℕ, ◌<◌, ◌↔◌, List, length, map, IsTrue, IfOk, IfErr, OnOk, None};
+ghost use Rattle.std.specs.Prelude.{◌≡◌, ◌<◌, List, length, map, IfOk, IfErr, OnOk, None};
 ghost use Rattle.std.specs.Fn.{FnOnceReturnsAt, FnOnceReturnsAtMut};
 ghost use Rattle.std.specs.Str.{IsUtf8};
 ghost use Rattle.kpn_text_names.specs.Names.{number_of};
 ghost use Rattle.kpn_history.specs.Ends.{IsVerdict};
-ghost use Rattle.kpn_net.specs.Tables.{Tables};
 ghost use Rattle.kpn_history.specs.declared.stored.Version.TheVariants.{Two};
 ghost use Rattle.kpn_trace.specs.TraceText.{trace_text};
 ghost use Rattle.kpn_text.specs.Spells.{SpellsDocument};
@@ -48,7 +47,6 @@ const STEPS_PER_TURN: u32 = 1_000;
 pub struct Session {
     document: Box<Document>,
     detached: Detached,
-    keeps: bool,
 }
 
 impl Model for Session {
@@ -62,7 +60,7 @@ impl Model for Session {
 
     ghost coded = { Prim.hlevel (codes, parts_code) };
 
-    ghost view = { λ s. session_of s.document.value s.detached s.keeps };
+    ghost view = { λ s. session_of s.document.value s.detached };
 
     ghost invariant = { λ s. IsBook (book_on s.document.value.tables s.detached) };
 }
@@ -73,18 +71,13 @@ impl Session {
     pub fn open(alloc: Global, text: &[u8], keeps: bool) -> Result<Session, TextFault>
         ensures spelled { IfOk result (λ session. SpellsDocument text.now session.document) }
         ensures first { IfOk result (λ session. IsNewBook session.document.tables session.book) }
-        ensures keeps { IfOk result (λ session. session.keeps ≡ keeps) }
         ensures kept { IfOk result (λ session. Remembers (keeping_of keeps) session.book) }
         ensures fault { IfErr result (Refuses text.now) }
     {
         let document = read_network(alloc, text)?;
         let detached = first_book(alloc, document.network(), keeps)?;
         match Box::new(alloc, document) {
-            Ok(document) => Ok(Session {
-                document,
-                detached,
-                keeps,
-            }),
+            Ok(document) => Ok(Session { document, detached }),
             Err(_) => Err(TextFault::NoMemory),
         }
     }
@@ -102,23 +95,13 @@ impl Session {
         requires stays { (told : T) (after : Run) → FnOnceReturnsAtMut F.FnOnce call self.book told after
             → after.tables ≡ self.book.tables }
         ensures document { result.0.document ≡ self.document }
-        ensures keeps { result.0.keeps ≡ self.keeps }
         ensures gives { FnOnceReturnsAtMut F.FnOnce call self.book result.1 result.0.book }
     {
-        let Session {
-            document,
-            detached,
-            keeps,
-        } = self;
+        let Session { document, detached } = self;
         let mut book = attached(&document, detached);
         let told = call(&mut book);
         let detached = book.detach();
-        let session = Session {
-            document,
-            detached,
-            keeps,
-        };
-        (session, told)
+        (Session { document, detached }, told)
     }
 
     /// The same with a slice of the caller.
@@ -132,23 +115,13 @@ impl Session {
             → GivesWithRoom F.FnOnce call self.book room.old told after kept
             → after.tables ≡ self.book.tables }
         ensures document { result.0.document ≡ self.document }
-        ensures keeps { result.0.keeps ≡ self.keeps }
         ensures gives { GivesWithRoom F.FnOnce call self.book room.old result.1 result.0.book room.new }
     {
-        let Session {
-            document,
-            detached,
-            keeps,
-        } = self;
+        let Session { document, detached } = self;
         let mut book = attached(&document, detached);
         let told = call(&mut book, room);
         let detached = book.detach();
-        let session = Session {
-            document,
-            detached,
-            keeps,
-        };
-        (session, told)
+        (Session { document, detached }, told)
     }
 
     /// Asks this of the book, and returns its answer.
@@ -157,27 +130,17 @@ impl Session {
         ensures same { result.0 ≡ self }
         ensures answers { FnOnceReturnsAt F.FnOnce question self.book result.1 }
     {
-        let Session {
-            document,
-            detached,
-            keeps,
-        } = self;
+        let Session { document, detached } = self;
         let book = attached(&document, detached);
         let told = question(&book);
         let detached = book.detach();
-        let session = Session {
-            document,
-            detached,
-            keeps,
-        };
-        (session, told)
+        (Session { document, detached }, told)
     }
 
     /// Feeds items to a source, on which any number may be unread.
     #[tactic(auto, using(crate::proofs::Networks::feeds_tables))]
     pub fn feed(self, source: usize, items: &[i64]) -> (Session, FedCount)
         ensures document { result.0.document ≡ self.document }
-        ensures keeps { result.0.keeps ≡ self.keeps }
         ensures fed { FeedsEach source items.now result.1 self.book result.0.book }
     {
         self.with(|book| feed_each(book, source, items))
@@ -187,7 +150,6 @@ impl Session {
     #[tactic(auto, using(crate::proofs::Networks::close_tables))]
     pub fn close_source(self, source: usize) -> (Session, Result<(), Refused>)
         ensures document { result.0.document ≡ self.document }
-        ensures keeps { result.0.keeps ≡ self.keeps }
         ensures closed { OnOk result.1 (Closes source self.book result.0.book) }
         ensures refused { IfErr result.1 (λ cause. RefusesClose source self.book cause) }
         ensures as_before { IfErr result.1 (λ _. result.0.book ≡ self.book) }
@@ -199,7 +161,6 @@ impl Session {
     #[tactic(auto, using(crate::proofs::Networks::leave_tables))]
     pub fn leave_sink(self, sink: usize) -> (Session, Result<(), Refused>)
         ensures document { result.0.document ≡ self.document }
-        ensures keeps { result.0.keeps ≡ self.keeps }
         ensures left { OnOk result.1 (Leaves sink self.book result.0.book) }
         ensures refused { IfErr result.1 (λ cause. RefusesLeave sink self.book cause) }
         ensures as_before { IfErr result.1 (λ _. result.0.book ≡ self.book) }
@@ -211,7 +172,6 @@ impl Session {
     /// the next turn has made its steps and is ready again, and nothing else has happened.
     pub fn step(self, most: u64) -> (Session, StepCount)
         ensures document { result.0.document ≡ self.document }
-        ensures keeps { result.0.keeps ≡ self.keeps }
         ensures stepped { StepsEach STEPS_PER_TURN most result.1 self.book result.0.book }
     {
         self.step_by(STEPS_PER_TURN, most)
@@ -221,7 +181,6 @@ impl Session {
     #[tactic(auto, using(crate::proofs::Networks::steps_tables))]
     fn step_by(self, quota: u32, most: u64) -> (Session, StepCount)
         ensures document { result.0.document ≡ self.document }
-        ensures keeps { result.0.keeps ≡ self.keeps }
         ensures stepped { StepsEach quota most result.1 self.book result.0.book }
     {
         self.with(|book| step_each(book, quota, most))
@@ -231,7 +190,6 @@ impl Session {
     #[tactic(auto, using(crate::proofs::Networks::take_tables))]
     pub fn take(self, sink: usize, room: &mut [i64]) -> (Session, Taken)
         ensures document { result.0.document ≡ self.document }
-        ensures keeps { result.0.keeps ≡ self.keeps }
         ensures taken { TakesEach sink result.1 room.old room.new self.book result.0.book }
     {
         self.with_room(room, |book, room| take_each(book, sink, room))
@@ -246,7 +204,6 @@ impl Session {
         places: &mut [Wanted],
     ) -> (Session, Moved)
         ensures document { result.0.document ≡ self.document }
-        ensures keeps { result.0.keeps ≡ self.keeps }
         ensures moved { Moves items.now STEPS_PER_TURN most result.1 places.old places.new
             self.book result.0.book }
     {
@@ -263,7 +220,6 @@ impl Session {
         places: &mut [Wanted],
     ) -> (Session, Moved)
         ensures document { result.0.document ≡ self.document }
-        ensures keeps { result.0.keeps ≡ self.keeps }
         ensures moved { Moves items.now quota most result.1 places.old places.new
             self.book result.0.book }
     {
@@ -319,9 +275,9 @@ impl Session {
 
     /// Whether it keeps what has happened.
     pub fn keeps(&self) -> bool
-        ensures { result ≡ self.now.keeps }
+        ensures { result ≡ self.now.book.keeps_events }
     {
-        self.keeps
+        self.detached.keeps_events()
     }
 
     /// How many processes and channels there are.

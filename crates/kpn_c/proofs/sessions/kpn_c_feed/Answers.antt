@@ -9,7 +9,6 @@ returns c =
     c.taken-boxed.result.1 c.feed-session.result.0 c.taken-boxed.ensures c.put_back.ensures
     (record {
       document = c.feed-session.ensures.document;
-      keeps = c.feed-session.ensures.keeps;
       cause = fed.cause;
       number = c.code_of_cause.ensures;
       feeds = c.feed-session.ensures.fed;

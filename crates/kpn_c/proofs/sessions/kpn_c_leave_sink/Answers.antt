@@ -14,7 +14,6 @@ returns-in-Ok c =
     c.put_back.ensures
     (record {
       document = said.document;
-      keeps = said.keeps;
       leaves = inl (refl, subst (λ r. OnOk r (Leaves c.args.sink before.book after.book)) c.in-Ok.is said.left);
     })
 
@@ -27,7 +26,6 @@ returns-in-Err c =
     c.taken-boxed.ensures c.put_back.ensures
     (record {
       document = said.document;
-      keeps = said.keeps;
       leaves =
           inr (
             c.in-Err.cause,

@@ -12,7 +12,6 @@ returns c =
     c.taken-boxed.ensures c.put_back.ensures
     (record {
       document = c.move_items-session.ensures.document;
-      keeps = c.move_items-session.ensures.keeps;
       moved = moved;
       number = c.code_of_moved.ensures;
       amounts = refl;

@@ -10,7 +10,6 @@ returns-then-stepped c =
     c.step-session.result.0 c.taken-boxed.ensures c.put_back.ensures
     (record {
       document = c.step-session.ensures.document;
-      keeps = c.step-session.ensures.keeps;
       is_refused = stepped.is_refused;
       number = ap (λ b. cond b 42 0) (sym c.if-stepped.true);
       steps = c.step-session.ensures.stepped;
@@ -23,7 +22,6 @@ returns-else-stepped c =
     c.step-session.result.0 c.taken-boxed.ensures c.put_back.ensures
     (record {
       document = c.step-session.ensures.document;
-      keeps = c.step-session.ensures.keeps;
       is_refused = stepped.is_refused;
       number = ap (λ b. cond b 42 0) (sym c.if-stepped.false);
       steps = c.step-session.ensures.stepped;

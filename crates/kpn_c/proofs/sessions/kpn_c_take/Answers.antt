@@ -10,7 +10,6 @@ returns c =
     c.put_back.ensures
     (record {
       document = c.take-session.ensures.document;
-      keeps = c.take-session.ensures.keeps;
       cause = got.cause;
       number = c.code_of_cause.ensures;
       takes = c.take-session.ensures.taken;

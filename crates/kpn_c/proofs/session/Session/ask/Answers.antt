@@ -2,8 +2,8 @@ use Rattle.std.proofs.Common.{refl}
 use Rattle.kpn_c.proofs.SessionLemmas.{book_after, session_same}
 use Rattle.kpn_c.proofs.session.Session.ask.Goals as goal
 
-pub invariant_of-session : goal.invariant_of-session
-invariant_of-session g c =
+pub invariant_of-result : goal.invariant_of-result
+invariant_of-result g c =
     let opened = c.attached-book.result in
     book_after c.self.inside.document.value c.self.inside.detached opened opened c.detach-detached.result
     c.attached-book.ensures refl c.detach-detached.ensures.same c.detach-detached.ensures.book

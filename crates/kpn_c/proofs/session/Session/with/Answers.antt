@@ -2,8 +2,8 @@ use Rattle.std.proofs.Common.{refl, sym, ap, ◌∙◌}
 use Rattle.kpn_c.proofs.SessionLemmas.{book_after, detached_is, stays_open}
 use Rattle.kpn_c.proofs.session.Session.with.Goals as goal
 
-pub invariant_of-session : goal.invariant_of-session
-invariant_of-session g c =
+pub invariant_of-result : goal.invariant_of-result
+invariant_of-result g c =
     let is = c.attached-book.ensures ∙ ap (λ s. s.book) c.self.view_is in
     let stays = stays_open c.attached-book.result c.call-told.new.arg2 c.args.self.book is (c.requires.stays c.call-told.result c.call-told.new.arg2 (record {
       shown = _;
