@@ -3,6 +3,7 @@
 
 use crate::pieces::{file_in, has_name, has_one, is_of, is_plain, push, push_name, text_of};
 use crate::room::push_room;
+use crate::sounds::push_sounds;
 use crate::stopped::{push_looks, push_others};
 use crate::waits::{push_faults, waits_in};
 use crate::words::SeenBytes;
@@ -61,7 +62,10 @@ pub(crate) fn push_advice<R: Files + AllocGlobal, S: Shelf>(
             let document = plain_document(alloc, stream.file, shelf, rt);
             push_outcome(text, status)?;
             match &document {
-                Some(document) => push_stream(text, alloc, stream, document, shelf, status, known),
+                Some(document) => {
+                    push_sounds(text, alloc, stream, document, known, rt)?;
+                    push_stream(text, alloc, stream, document, shelf, status, known)
+                }
                 None => Ok(()),
             }
         }

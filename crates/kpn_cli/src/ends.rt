@@ -258,7 +258,9 @@ fn push_cut(
     let Some(ItemFormat::Samples(sample)) = ItemFormat::of_word(word) else {
         return push_made(
             text,
-            format!(in alloc; "The input of source `{name}` ends within a sample: it is cut.\n"),
+            format!(in alloc;
+                "The input of source `{name}` ends before its last sample does: it is cut.\n"
+            ),
         );
     };
     let width = sample.width();

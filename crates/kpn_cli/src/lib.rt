@@ -13,6 +13,7 @@ mod options;
 mod pieces;
 mod program;
 mod room;
+mod sounds;
 mod stopped;
 mod usage;
 mod waits;

@@ -12,7 +12,7 @@ use kpn_text_items::{ItemFault, WriteFault};
 use std::alloc::{AllocError, Global};
 
 /// So many samples of each channel are in a second of a WAV file, if no option says another number.
-const USUAL_RATE: u32 = 48_000;
+pub const USUAL_RATE: u32 = 48_000;
 
 /// An input for each source.
 pub(crate) fn open_inputs<S: Ports>(

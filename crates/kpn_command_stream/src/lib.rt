@@ -14,4 +14,5 @@ mod stats;
 mod summary;
 
 pub use command::stream_command;
+pub use devices::USUAL_RATE;
 pub use formats::word_for;
