@@ -1,10 +1,10 @@
 //! Words of a line, and the numbers that they write.
-ghost use Rattle.std.specs.Prelude.{◌≡◌, ◌≢◌, ◌==◌, ℕ, ℤ, ◌<◌, ◌≤◌, ◌^◌, List, ◌∷◌, ◌++◌, position, MatchOption, FitsSigned, IsTrue, ◌↔◌};
+ghost use Rattle.std.specs.Prelude.{◌≡◌, ◌≢◌, ◌==◌, ℕ, ℤ, ◌<◌, ◌≤◌, ◌^◌, List, ◌∷◌, ◌++◌, length, position, MatchOption, FitsSigned, IsTrue, ◌↔◌};
 ghost use Rattle.std.specs.Int.{w64};
 ghost use Rattle.std.specs.Fmt.{decimal, signed_decimal};
+ghost use Rattle.kpn_text_items.specs.ItemLine.{SpellsItem, without_minus};
 ghost use Rattle.kpn_trace.specs.EventLine.{LacksByte};
 
-use itoa::Buffer;
 use kpn_limits::MAX_CAPACITY;
 use kpn_text_items::item_of_line;
 
@@ -30,18 +30,30 @@ pub fn canonical_item(word: &[u8]) -> Option<i64>
         (λ item. (word.now ≡ signed_decimal item) × FitsSigned w64 item) }
 {
     let item = item_of_line(word)?;
-    if is_form_of(word, item) {
+    if is_canonical(word) {
         Some(item)
     } else {
         None
     }
 }
 
-fn is_form_of(word: &[u8], item: i64) -> bool
-    ensures { IsTrue result ↔ (word.now ≡ signed_decimal item) }
+/// Whether a word that spells an item is its canonical form.
+fn is_canonical(word: &[u8]) -> bool
+    requires { 0 < length (without_minus word.now) }
+    ensures { (item : ℤ) → SpellsItem word.now item
+        → IsTrue result ↔ (word.now ≡ signed_decimal item) }
 {
-    let mut buffer = Buffer::new();
-    buffer.format(item).as_bytes() == word
+    digits_of(word)[0] != b'0' || word.len() == 1
+}
+
+/// A word without the minus that it may begin with.
+fn digits_of(word: &[u8]) -> &[u8]
+    ensures { result.now ≡ without_minus word.now }
+{
+    match word.split_first() {
+        Some((b'-', digits)) => digits,
+        _ => word,
+    }
 }
 
 /// The number from 0 to 65535 whose canonical form this is.
