@@ -89,11 +89,11 @@ class Amounts(ctypes.Structure):
     _fields_ = [('fed', ctypes.c_size_t), ('commits', ctypes.c_uint64), ('served', ctypes.c_size_t)]
 
 
-def compiled(text, folder, *options):
+def compiled(text, folder, *options, **more):
     """Compiles a network by the command."""
     (pathlib.Path(folder) / 'net.kpn').write_text(text)
     words = [sys.executable, '-m', 'kpn.native', 'net.kpn', '-o', 'prog', *options]
-    return subprocess.run(words, cwd=folder, capture_output=True, text=True, env=environment())
+    return subprocess.run(words, cwd=folder, capture_output=True, text=True, env={**environment(), **more})
 
 
 def text_of_example(name):
@@ -722,7 +722,8 @@ int main(void) {
         for number, (name, text) in enumerate((('one', self.MEAN), ('two', Words.DOUBLE))):
             options = ['--fixed', '4'] if name == 'one' else ['--library']
             for more in (['--prefix', name], []):
-                self.assertEqual(compiled(text, self.folder, *options, *more).returncode, 0)
+                done = compiled(text, self.folder, *options, *more, CFLAGS='-std=c11 -O0 -Wall -Wextra -Werror')
+                self.assertEqual((done.returncode, done.stderr), (0, ''))
                 (self.folder / 'prog').rename(self.folder / f'{name}{"" if more else "-plain"}.a')
         self.assertEqual(self.link('-I.', 'both.c', 'one.a', 'two.a'), (0, '', ''))
         self.assertEqual(self.call('./linked'), (0, '7 14 NoSuchEnd\n', ''))
