@@ -303,6 +303,11 @@ KPN_INLINE void kpn_record_put(struct kpn_network *network, unsigned process, un
   }
 }
 
+/* A sum, a difference, a product; and whether it is out of range. */
+KPN_INLINE bool kpn_add_overflows(int64_t a, int64_t b, int64_t *sum) { return __builtin_add_overflow(a, b, sum); }
+KPN_INLINE bool kpn_sub_overflows(int64_t a, int64_t b, int64_t *rest) { return __builtin_sub_overflow(a, b, rest); }
+KPN_INLINE bool kpn_mul_overflows(int64_t a, int64_t b, int64_t *made) { return __builtin_mul_overflow(a, b, made); }
+
 /* A quotient and a remainder whose divisor is neither 0 nor -1. Narrow divisions take less time. */
 KPN_INLINE int64_t kpn_quotient(int64_t a, int64_t b) {
   if ((((uint64_t)a | (uint64_t)b) >> 32) == 0) {
