@@ -1,7 +1,7 @@
 #!/usr/bin/env python3
 """Searches all schedules of small random networks: whether each has one end, and how far behind the run in order is.
 
-usage: tools/schedules.py [NETWORKS [SEED]] [--states N] [--beside N] [--show SEED]
+usage: tools/schedules.py [NETWORKS [SEED]] [--states N] [--beside N]
 
 A schedule is a legal history: any order of the events of processes and of the caller, who feeds, closes, takes and
 leaves when he likes. The search goes over the states that histories lead to, each once, in order of the number of
@@ -228,8 +228,8 @@ class Different(Exception):
 
 
 class Search:
-    """All states of a network, in order of the least number of events of processes that lead there, where a pause counts
-    as one. Each has the state and the events before it."""
+    """All states of a network, in order of the least number of events of processes that lead there. A pause counts as
+    one. Each state has the one before it, and the events between."""
 
     def __init__(self, model: Model, most: int) -> None:
         self.model, self.most = model, most

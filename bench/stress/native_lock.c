@@ -1,8 +1,8 @@
 /* Lets a session of a compiled network go, mostly in lock step, and prints all that it gives and tells. What is fed,
    taken and asked for follows from a number, so that two objects of one network have to print the same.
 
-   usage: native_lock SEED STEPS WIDTH [FILE], where items have up to WIDTH bits. With a FILE the session opens its text,
-   and a process that faults is not printed when it does: so a session of libkpn prints the same. */
+   usage: native_lock SEED STEPS WIDTH [FILE], where items have up to WIDTH bits. With a FILE the session opens its
+   text, and a process that faults is not printed when it does: so a session of libkpn prints the same. */
 #include <inttypes.h>
 #include <stdio.h>
 #include <stdlib.h>

@@ -208,8 +208,8 @@ class RegionText:
         yield '    if (is_traced) {'
         for c, count in self.region.puts.items():
             n = self.channels[c]
-            yield f'      if (!kpn_are_same(y_{n}, ring_{n}, at_{n} - (whole * {count}U), mask_{n}, first * {count}U, ' \
-                  f'whole * {count}U)) {{ network->has_differed = true; }}'
+            yield f'      if (!kpn_are_same(y_{n}, ring_{n}, at_{n} - (whole * {count}U), mask_{n}, ' \
+                  f'first * {count}U, whole * {count}U)) {{ network->has_differed = true; }}'
         yield from (f'      if ({self.kept(state)} != {name}) {{ network->has_differed = true; }}'
                     for state, name in left.items())
         yield '    } else {'
