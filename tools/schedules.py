@@ -1,7 +1,7 @@
 #!/usr/bin/env python3
 """Searches all schedules of small random networks: whether each has one end, and how far behind the run in order is.
 
-usage: tools/schedules.py [NETWORKS [SEED]] [--states N] [--beside N]
+usage: tools/schedules.py [NETWORKS [SEED]] [--states N] [--diamonds] [--beside N]
 
 A schedule is a legal history: any order of the events of processes and of the caller, who feeds, closes, takes and
 leaves when he likes. The search goes over the states that histories lead to, each once, in order of the number of
@@ -14,6 +14,10 @@ events of processes. It checks of each network:
   for P processes. Each pause on the way to an event counts as an event too. That run feeds all lists, closes the
   sources, and takes what comes.
 
+With `--diamonds` it also checks why that is so, in each state. A move is an event with the growth that it owes. Two
+moves, of two processes, of one and the caller, or of the caller at two channels, can be made in both orders and lead to
+one state. Or one is a wait, which the other one ends: that leads to the same state with the wait and without it.
+
 With `--beside N` the first N networks are also tried beside the program `kpn`, which KPN_PROGRAM names. The trace of
 `kpn run` has to be one of the schedules, and to lead to the end that the search found. `kpn audit` has to find random
 schedules legal, with these journals and capacities, and others with a growth too few, too many or elsewhere illegal.
@@ -23,6 +27,7 @@ with another end or less progress, and prints it with the two histories as trace
 """
 import argparse
 import collections
+import itertools
 import os
 import pathlib
 import random
@@ -203,6 +208,14 @@ class Model:
             event, place = ('put', p, *rest), places[p].after()
         return self.move(event, State(changed(places, p, place), statuses, capacities, counts, are_over))
 
+    def moves(self, state: State) -> typing.Dict[typing.Tuple[str, int], Move]:
+        """All moves from a state, by who makes them: a process, or the caller at a channel."""
+        found = {('process', p): made for p in self.processes if (made := self.of_process(state, p)) is not None}
+        for made in self.of_caller(state):
+            word, c, *_ = made[1][0]
+            found['leave' if word == 'leave' else 'caller', c] = made
+        return found
+
     def of_caller(self, state: State) -> typing.Iterator[Move]:
         """What the caller may do next: feed a list in order and close it then, take from a sink, leave it."""
         for c in (*self.sources, *self.sinks):
@@ -227,12 +240,16 @@ class Different(Exception):
     """Two schedules end in two ways, or the run in order lacks what another schedule has."""
 
 
+def is_wait(move: Move) -> bool:
+    return move[1][0][0] in ('wait-empty', 'wait-full')
+
+
 class Search:
     """All states of a network, in order of the least number of events of processes that lead there. A pause counts as
     one. Each state has the one before it, and the events between."""
 
-    def __init__(self, model: Model, most: int) -> None:
-        self.model, self.most = model, most
+    def __init__(self, model: Model, most: int, has_diamonds: bool = False) -> None:
+        self.model, self.most, self.has_diamonds = model, most, has_diamonds
         self.before: typing.Dict[State, typing.Optional[Move]] = {}
         self.ends: typing.Dict[typing.Any, State] = {}
         self.is_whole = True
@@ -246,6 +263,7 @@ class Search:
                 if state not in self.before and self.has_room():
                     self.before[state] = before
                     self.look(state)
+                    self.look_at_diamonds(state)
                     self.go_on(state)
             del self.left[self.count]
             self.count += 1
@@ -275,6 +293,18 @@ class Search:
             other = self.ends.setdefault((state.counts, state.are_over), state)
             if other != state:
                 raise Different(f'two ends\n{self.trace(other)}\n{self.trace(state)}')
+
+    def look_at_diamonds(self, state: State) -> None:
+        """Checks each two moves from a state but those of the caller at one sink, of which leaving it comes last."""
+        moves = self.model.moves(state) if self.has_diamonds else {}
+        after = {who: self.model.moves(made[0]) for who, made in moves.items()}
+        for (p, first), (q, second) in itertools.combinations(moves.items(), 2):
+            both, swapped = after[p].get(q), after[q].get(p)
+            is_same = both is not None and swapped is not None and both[0] == swapped[0]
+            is_vain = is_wait(first) and both is not None and both[0] == second[0] \
+                or is_wait(second) and swapped is not None and swapped[0] == first[0]
+            if not is_same and not is_vain and (p[1] != q[1] or 'process' in (p[0], q[0])):
+                raise Different(f'{first[1]} and {second[1]} are no diamond\n{self.trace(state)}')
 
     def history(self, state: State) -> typing.List[Event]:
         events: typing.List[Event] = []
@@ -533,6 +563,7 @@ def main() -> int:
     parser.add_argument('networks', nargs='?', type=int, default=100)
     parser.add_argument('seed', nargs='?', type=int, default=1)
     parser.add_argument('--states', type=int, default=20_000, help='the most states of a network')
+    parser.add_argument('--diamonds', action='store_true', help='check each two moves from each state')
     parser.add_argument('--beside', type=int, default=0, metavar='N', help='try the first N networks beside `kpn` too')
     given = parser.parse_args()
     counts: typing.Counter[str] = collections.Counter()
@@ -541,7 +572,7 @@ def main() -> int:
         seed = given.seed + number
         model = small_model(seed)
         try:
-            found = Search(model, given.states)
+            found = Search(model, given.states, given.diamonds)
             if number < given.beside:
                 try_beside(found, seed)
         except Different as different:

@@ -48,7 +48,7 @@ class Schedules(unittest.TestCase):
     def test_one_end(self):
         """A search finds no network with two ends, or in which the run in order lacks what another schedule has."""
         for name in EXAMPLES:
-            found = Search(model_of(name), STATES)
+            found = Search(model_of(name), STATES, True)
             self.assertEqual((name, found.is_whole, bool(found.ends)), (name, True, True))
         for seed in range(1, RANDOM):
             self.assertLessEqual(Search(schedules.small_model(seed), STATES).part, 1)
@@ -63,6 +63,11 @@ class Schedules(unittest.TestCase):
             with self.assertRaisesRegex(Different, 'two ends\n(kpn-trace 2\n(.*\n)*){2}'):
                 Search(wrong(text, {}), STATES)
             Search(Model(text, {}), STATES)
+
+    def test_diamonds(self):
+        """A wrong rule is found where it first matters."""
+        with self.assertRaisesRegex(Different, "'wait-full'.*'wait-full'.* are no diamond\nkpn-trace 2\n"):
+            Search(OwnChannel(model_of('worked/tie').text, {}), STATES, True)
 
     def test_the_same_of_the_caller(self):
         """Ends differ if the caller has left a sink earlier, or not at all."""
