@@ -158,7 +158,8 @@ class Model:
 
     def woken(self, state: State) -> State:
         """Nobody waits whose channel has an item, or room."""
-        woken = [p for p, status in enumerate(state.statuses) if status == WAITS and not self.blocks(state, p)]
+        woken = WAITS in state.statuses and [
+            p for p, status in enumerate(state.statuses) if status == WAITS and not self.blocks(state, p)]
         if not woken:
             return state
         return state._replace(statuses=tuple(READY if p in woken else it for p, it in enumerate(state.statuses)))
