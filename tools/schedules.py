@@ -158,10 +158,9 @@ class Model:
 
     def woken(self, state: State) -> State:
         """Nobody waits whose channel has an item, or room."""
-        woken = WAITS in state.statuses and [
-            p for p, status in enumerate(state.statuses) if status == WAITS and not self.blocks(state, p)]
-        if not woken:
+        if WAITS not in state.statuses:
             return state
+        woken = [p for p, status in enumerate(state.statuses) if status == WAITS and not self.blocks(state, p)]
         return state._replace(statuses=tuple(READY if p in woken else it for p, it in enumerate(state.statuses)))
 
     def owed(self, state: State, waiting: typing.Optional[int]) -> typing.Optional[Event]:
