@@ -141,6 +141,8 @@ class Run:
     """A run on one thread. The ready processes are in a queue. Each in turn goes to its next stop, or makes its quota
     of steps, and then does at most one thing to a channel."""
 
+    quota = QUOTA
+
     def __init__(self, network, lists):
         self.network, self.processes = network, network.start()
         self.unread = [collections.deque() for _ in network.channels]
@@ -220,7 +222,7 @@ class Run:
 
     def commit(self):
         p = self.ready.popleft()
-        word, *rest = self.processes[p].stop(QUOTA)
+        word, *rest = self.processes[p].stop(self.quota)
         self.commits += 1
         if word == 'paused':
             self.ready.append(p)

@@ -1,20 +1,23 @@
 /* Lets a session of a compiled network go, mostly in lock step, and prints all that it gives and tells. What is fed,
    taken and asked for follows from a number, so that two objects of one network have to print the same.
 
-   usage: native_lock SEED STEPS WIDTH, where items have up to WIDTH bits */
+   usage: native_lock SEED STEPS WIDTH [FILE], where items have up to WIDTH bits. With a FILE the session opens its
+   text, and a process that faults is not printed when it does: so a session of libkpn prints the same. */
 #include <inttypes.h>
 #include <stdio.h>
 #include <stdlib.h>
 
 #include "kpn_native.h"
 
-enum { MOST_ENDS = 64, MOST_PARTS = 300, MOST_TAKEN = 5, COMMITS = 20000 };
+enum { MOST_ENDS = 64, MOST_PARTS = 300, MOST_TAKEN = 5, COMMITS = 20000, MOST_TEXT = 1 << 20 };
 
 struct ends {
   size_t channels[MOST_ENDS], count;
 };
 
 static uint64_t state;
+static char text[MOST_TEXT];
+static size_t length;
 
 /* A number below another one. */
 static uint64_t chosen(uint64_t below) {
@@ -38,6 +41,11 @@ static void check(const char *what, uint32_t fault) {
   if (fault != KPN_OK && fault != KPN_SOURCE_CLOSED && fault != KPN_SINK_LEFT) {
     printf("%s: %" PRIu32 "\n", what, fault);
   }
+}
+
+/* What is printed of a step. */
+static uint32_t shown_of(uint32_t fault) {
+  return length > 0 && fault == KPN_PROCESS_FAULTED ? KPN_OK : fault;
 }
 
 static void find(kpn_session *session, struct ends *sources, struct ends *sinks) {
@@ -96,7 +104,7 @@ static void move(kpn_session *session, const struct ends *sources, const struct 
     places[k] = (kpn_wanted){sinks->channels[k], 0, false};
   }
   size_t wanted = chosen(8) ? sinks->count : 0;
-  printf(" move %" PRIu32, kpn_move(session, items, sources->count, COMMITS, places, wanted, &amounts));
+  printf(" move %" PRIu32, shown_of(kpn_move(session, items, sources->count, COMMITS, places, wanted, &amounts)));
   check_end(amounts.commits);
   for (size_t k = 0; k < amounts.served; k++) {
     if (places[k].has_item) {
@@ -116,7 +124,7 @@ static void go(kpn_session *session, const struct ends *sources, const struct en
       check("feed", kpn_feed(session, sources->channels[k], &item, 1, &fed));
     }
   }
-  printf(" step %" PRIu32, kpn_step(session, COMMITS, &commits));
+  printf(" step %" PRIu32, shown_of(kpn_step(session, COMMITS, &commits)));
   check_end(commits);
   for (size_t k = 0; k < sinks->count; k++) {
     if (chosen(8)) {
@@ -130,12 +138,14 @@ int main(int count, char **words) {
   kpn_session session;
   kpn_place place;
   uint64_t commits;
-  if (count != 4) {
+  FILE *file = count == 5 ? fopen(words[4], "rb") : NULL;
+  if (count != 4 && !file) {
     return 2;
   }
+  length = file ? fread(text, 1, MOST_TEXT, file) : 0;
   state = strtoull(words[1], NULL, 10);
   unsigned width = (unsigned)atoi(words[3]);
-  check("open", kpn_open_forgetting(NULL, 0, &session, &place));
+  check("open", kpn_open_forgetting(text, length, &session, &place));
   find(&session, &sources, &sinks);
   for (int left = atoi(words[2]); left > 0; left--) {
     (chosen(4) ? move : go)(&session, &sources, &sinks, width);
@@ -151,7 +161,7 @@ int main(int count, char **words) {
     check("close", kpn_close_source(&session, sources.channels[k]));
   }
   for (int round = 0; round < 200; round++) {
-    printf("%" PRIu32, kpn_step(&session, COMMITS, &commits));
+    printf("%" PRIu32, shown_of(kpn_step(&session, COMMITS, &commits)));
     check_end(commits);
     for (size_t k = 0; k < sinks.count; k++) {
       take(&session, sinks.channels[k]);

@@ -9,9 +9,9 @@ KPN_PROGRAM names the program `kpn`, and CC and CFLAGS the compiler. So sanitize
 
 Four networks are compiled under all schedules. A stream has formats for all ends or for some, and perhaps `--clip`,
 `--take`, `--quiet`, or a word that is wrong. Both programs have to write the same bytes, tell the same, and end with
-the same status. Some compiled ones are checked by `--check items`, which has to find nothing. Two sinks are served in another order: if a device has failed, the items of one begin those of the
-other.
-It ends with 1 at the first difference. It is no part of the gate, but python/tests/test_native.py runs a part of it.
+the same status. Some compiled ones are checked by `--check items`, which has to find nothing. Two sinks are served in
+another order: if a device has failed, the items of one begin those of the other. It ends with 1 at the first
+difference. It is no part of the gate, but python/tests/test_native.py runs a part of it.
 """
 import argparse
 import collections

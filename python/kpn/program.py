@@ -61,8 +61,17 @@ def environment() -> Dict[str, str]:
 
 
 def main() -> NoReturn:
-    """The command `kpn` of a wheel that has the program inside: becomes that program."""
-    os.execve(INSIDE, ['kpn', *sys.argv[1:]], environment())
+    """The command `kpn` of a wheel that has the program inside: becomes that program, or the module here that has the
+    command."""
+    words = sys.argv[1:]
+    how = words[:2] if words[:1] == ['--words'] else []
+    if words[len(how):][:1] == ['compile']:
+        module = ['kpn.native', *how, *words[len(how) + 1:]]
+    elif words[:1] == ['print'] and any(it.startswith('--capacities') for it in words):
+        module = ['kpn', *words]
+    else:
+        os.execve(INSIDE, ['kpn', *words], environment())
+    os.execve(sys.executable, [sys.executable, '-m', *module], environment())
 
 
 def call(words: Sequence[str], program: Program = None, folder: Optional[str] = None,

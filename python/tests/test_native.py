@@ -51,7 +51,7 @@ WRONG = {
     'a period with a fault is kept': ('region_text.py', "yield '    break;'",
                                       "yield from [*self.keeping(), '    break;']", 11, 'faults'),
     'items are small without a look': ('vectors.c', 'return all < 65536;', 'return true;', 11, 'small'),
-    'a cell behind the last one is there': ('c_text.py', '>= {cells.size})', '> {cells.size})', 0, 'cells'),
+    'a cell behind the last one is there': ('c_text.py', '>= {cells.size}U', '> {cells.size}U', 0, 'cells'),
     'a value comes a period too late': ('vectors.py', 'ago + 1, (*path', 'ago + 2, (*path', 6, 'small'),
     'no period comes before vectors': ('region_text.py', 'first = {self.vectors.depth}', 'first = 0', 4, 'small'),
     'the events of a dropped period are kept': ('network.h', 'kpn_history_cut(network->history, mark);',
@@ -89,11 +89,11 @@ class Amounts(ctypes.Structure):
     _fields_ = [('fed', ctypes.c_size_t), ('commits', ctypes.c_uint64), ('served', ctypes.c_size_t)]
 
 
-def compiled(text, folder, *options):
+def compiled(text, folder, *options, **more):
     """Compiles a network by the command."""
     (pathlib.Path(folder) / 'net.kpn').write_text(text)
     words = [sys.executable, '-m', 'kpn.native', 'net.kpn', '-o', 'prog', *options]
-    return subprocess.run(words, cwd=folder, capture_output=True, text=True, env=environment())
+    return subprocess.run(words, cwd=folder, capture_output=True, text=True, env={**environment(), **more})
 
 
 def text_of_example(name):
@@ -155,6 +155,31 @@ class Equal(WithFolder):
             (self.folder / 'net.c').write_text(command.c_of(canonical, command.SCHEDULES[0]))
             words = [*command.compiler(['cc', *command.FLAGS]), '-Werror', '-fsyntax-only', 'net.c']
             self.assertEqual(self.call(*words), (0, '', ''))
+
+    def test_the_rules_of_misra(self):
+        """Each body has braces, no comma stands between expressions or variables, no conversion is tacit; and cppcheck,
+        if it is there, finds `goto` only, beside what loops of periods and vectors need."""
+        for name, text, fixed, found in (('loop', text_of_example('loop'), 4, {'15.1'}),
+                                         ('mean', (TOP / 'examples/moving_average.kpn').read_text(), 0,
+                                          {'15.1', '15.4', '8.14'})):
+            canonical = kpn.program.answer('print', text)
+            c = command.c_of(canonical, command.SCHEDULES[0], fixed=fixed, is_session=fixed > 0)
+            (self.folder / f'{name}.c').write_text(c)
+            statements = [line for line in c.splitlines() if not line.lstrip().startswith(('"', '/*', '#'))]
+            for line in statements:
+                self.assertNotRegex(line, r'\b(if|else|while|for)\b(?! \(.*\) \{| \{)')
+                if line.startswith('  ') and line.endswith((';', '{')) and '= {' not in line and '};' not in line:
+                    while line != (line := re.sub(r'\([^()]*\)', '', line)):
+                        pass
+                    self.assertNotIn(',', line)
+            folders = [f'-I{it}' for it in command.HEADERS]
+            words = ['cc', *command.FLAGS, '-Wconversion', '-Werror', '-fsyntax-only', *folders]
+            self.assertEqual(self.call(*words, f'{name}.c'), (0, '', ''))
+            if shutil.which('cppcheck'):
+                words = ['cppcheck', '--addon=misra', '--enable=style', '--suppress=*:*.h', *folders,
+                         '-DINT64_MIN=(-9223372036854775807-1)']
+                told = self.call(*words, f'{name}.c')[2]
+                self.assertEqual(set(re.findall(r'misra-c2012-([\d.]+)', told)), found, name)
 
     def test_operators(self):
         """Each operator on operands at the edges; a process faults, or its sink gives the value."""
@@ -722,7 +747,8 @@ int main(void) {
         for number, (name, text) in enumerate((('one', self.MEAN), ('two', Words.DOUBLE))):
             options = ['--fixed', '4'] if name == 'one' else ['--library']
             for more in (['--prefix', name], []):
-                self.assertEqual(compiled(text, self.folder, *options, *more).returncode, 0)
+                done = compiled(text, self.folder, *options, *more, CFLAGS='-std=c11 -O0 -Wall -Wextra -Werror')
+                self.assertEqual((done.returncode, done.stderr), (0, ''))
                 (self.folder / 'prog').rename(self.folder / f'{name}{"" if more else "-plain"}.a')
         self.assertEqual(self.link('-I.', 'both.c', 'one.a', 'two.a'), (0, '', ''))
         self.assertEqual(self.call('./linked'), (0, '7 14 NoSuchEnd\n', ''))

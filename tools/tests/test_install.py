@@ -149,8 +149,16 @@ class Installed(unittest.TestCase):
         inside.chmod(0o755)
         (self.room / 'two.kpn').write_bytes((TOP / 'examples/two.kpn').read_bytes())
         env = {it: value for it, value in os.environ.items() if it != 'KPN_PROGRAM'}
-        told = said(sys.executable, '-c', DOUBLES, cwd=self.room, env={**env, 'PYTHONPATH': str(self.room / 'site')})
+        env['PYTHONPATH'] = str(self.room / 'site')
+        told = said(sys.executable, '-c', DOUBLES, cwd=self.room, env=env)
         self.assertEqual(told, f'{inside}\n[312]\n')
+        for words, first in ((['check', 'two.kpn'], 'ok: 2'), (['compile', 'two.kpn', '--c', '-o', 'two.c'], ''),
+                             (['--words', 'never', 'compile', 'two.kpn', '--c', '-o', 'two.c'], ''),
+                             (['print', 'two.kpn'], 'process p('),
+                             (['print', '--capacities', 'fast', '--help'], 'usage: python -m kpn print')):
+            told = said(sys.executable, '-c', 'import kpn.program as it; it.main()', *words, cwd=self.room, env=env)
+            self.assertTrue(told.startswith(first), told)
+        self.assertTrue((self.room / 'two.c').exists())
 
 
 if __name__ == '__main__':

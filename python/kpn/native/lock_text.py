@@ -13,6 +13,7 @@ from typing import Dict, Iterator, List, NamedTuple, Optional, Set, Tuple
 from ..language import Assign, Read, Write
 from .c_text import Values
 from .paths import End, Leave, Row, Rows, Test
+from .region_text import ring_place
 from .regions import Finder, used_in
 
 # The most phases, unread items of a channel at the end of one, rows of a phase, and lines of the function.
@@ -198,9 +199,9 @@ class LockText:
         """There has to be one more item of each source, and room in the sinks."""
         for c, n in self.channels.items():
             if self.kinds[c] == 'source':
-                yield f'if (c_{n}->put - c_{n}->got < {self.phases[number].start.unread[n] + 1}) return false;'
+                yield f'if ((c_{n}->put - c_{n}->got) < {self.phases[number].start.unread[n] + 1}U) {{ goto dropped; }}'
             elif self.kinds[c] == 'sink' and self.puts[number][c]:
-                yield f'if (kpn_room_now(c_{n}) < {self.puts[number][c]}) return false;'
+                yield f'if (kpn_room_now(c_{n}) < {self.puts[number][c]}U) {{ goto dropped; }}'
 
     def piece(self, number: int, piece: Piece) -> Iterator[str]:
         """The rows of a process up to its next wait. Labels have the process, the lap and the row, and behind the
@@ -230,10 +231,10 @@ class LockText:
             values.add(f'{self.local(p, row.target)} = {value};')
         elif isinstance(row, Test):
             if row.is_loop:
-                values.add('if (fuel == 0) goto dropped;')
+                values.add_goto('fuel == 0', 'dropped')
                 values.add('fuel--;')
             value = values.value(row.condition)
-            values.add(f'if ({value} == 0) goto {label}{row.otherwise};')
+            values.add_goto(f'{value} == 0', f'{label}{row.otherwise}')
         elif isinstance(row, Leave):
             values.add(f'goto {label}{row.to};')
         elif isinstance(row, Read):
@@ -260,7 +261,7 @@ class LockText:
         """An item of a channel by its place behind those that were got before: a local, or a place in a ring."""
         n = self.channels[c]
         if self.kinds[c] != 'channel':
-            return f'ring_{n}[(at_{n} + {place}) & mask_{n}]'
+            return ring_place(n, place)
         self.names.setdefault(f'q{n}_{place}', '0')
         return f'q{n}_{place}'
 
@@ -276,8 +277,8 @@ class LockText:
         for c, n in self.channels.items():
             for kind, side, counts in (('source', 'got', self.gots), ('sink', 'put', self.puts)):
                 if self.kinds[c] == kind and counts[number][c]:
-                    yield f'c_{n}->{side} += {counts[number][c]};'
-        yield f'network->commits += {sum(self.gots[number].values()) + sum(self.puts[number].values())};'
+                    yield f'c_{n}->{side} += {counts[number][c]}U;'
+        yield f'network->commits += {sum(self.gots[number].values()) + sum(self.puts[number].values())}U;'
 
     # ---- C
 
@@ -286,14 +287,16 @@ class LockText:
         yield '/* one more item of each source */'
         yield 'static bool lock_step(struct kpn_network *network, unsigned phase) {'
         yield '  int64_t *const kept = network->variables;'
-        yield '  const unsigned bit = 1u << phase;'
+        yield '  const unsigned bit = 1U << phase;'
         yield '  unsigned fuel = KPN_FUEL;'
+        yield '  bool is_made = false;'
         for c, n in self.channels.items():
             if self.kinds[c] != 'channel':
                 side = 'got' if self.kinds[c] == 'source' else 'put'
                 yield f'  struct kpn_channel *const c_{n} = &network->channels[{n}];'
                 yield f'  int64_t *const ring_{n} = c_{n}->ring;'
-                yield f'  const size_t mask_{n} = c_{n}->mask, at_{n} = c_{n}->{side};'
+                yield f'  const size_t mask_{n} = c_{n}->mask;'
+                yield f'  const size_t at_{n} = c_{n}->{side};'
         self.load()
         yield from (f'  int64_t {name} = {value};' for name, value in self.names.items())
         yield '  (void)bit; (void)fuel; (void)kept;'
@@ -321,7 +324,7 @@ class LockText:
         for number, (text, phases) in enumerate(self.blocks):
             is_always = phases == (1 << len(self.phases)) - 1
             lines = text.replace('LABEL', str(number)).split('\n')
-            yield from () if is_always else (f'  if (bit & {phases}u) {{',)
+            yield from () if is_always else (f'  if ((bit & {phases}U) != 0U) {{',)
             yield from (f'  {"" if is_always else "  "}{line}' for line in lines)
             yield from () if is_always else ('  }',)
 
@@ -332,11 +335,11 @@ class LockText:
             for name in self.kept_of(p):
                 if name in assigned:
                     yield f'  kept[{self.starts[p] + self.rows(p).variables.index(name)}] = m{p}_{name};'
-        yield '  return true;'
+        yield '  is_made = true;'
         text = '\n'.join(text for text, _ in self.blocks)
         ways = [it for it in ('overflow', 'zero_divisor', 'index', 'shift', 'dropped') if f'goto {it};' in text]
         yield from (f'{it}:' for it in ways)
-        yield from ('  return false;',) if ways else ()
+        yield '  return is_made;'
         yield '}'
 
     def tables(self) -> Iterator[str]:

@@ -142,13 +142,14 @@ class NetworkText:
         if self.periods:
             items = ', '.join(str(self.periods.get(name, 0)) for name in self.numbers)
             yield f'static const uint32_t periods[] = {{{items}}};'
+        yield 'extern const struct kpn_plan kpn_plan;'
         yield 'const struct kpn_plan kpn_plan = {'
         tables = (('channels', len(self.numbers)), ('processes', len(description.instances)),
                   ('variables', self.variable_count), ('regions', len(self.regions)))
         names = ', '.join([*(name if count else 'NULL' for name, count in tables),
                            '&lock_plan' if self.lock else 'NULL'])
         counts = ', '.join(str(count) for _, count in tables)
-        texts = ', '.join(f'{{{len(it)}, UINT64_C({hash_of(it)})}}' for it in (self.text.encode(), self.given))
+        texts = ', '.join(f'{{{len(it)}, {hash_of(it)}ULL}}' for it in (self.text.encode(), self.given))
         yield f'  {"NULL" if self.fixed else "text"}, {{{texts}}},'
         yield f'  {names}, {counts}, {settings.get("limit", LARGEST_CAPACITY)},'
         flags = (settings.get('policy') == 'all', settings.get('grow') == 'double', self.is_one_talk)

@@ -14,6 +14,18 @@ from .regions import Finder, Region, variables_of
 from .vectors import State, vectors_of
 
 
+def ring_place(number: int, count: int) -> str:
+    """The place of a ring that many items after its position."""
+    at = f'(at_{number} + {count}U)' if count else f'at_{number}'
+    return f'ring_{number}[{at} & mask_{number}]'
+
+
+def inside_place(number: int, count: int) -> str:
+    """The same of the ring of a channel inside, which has no locals."""
+    at = f'(c_{number}->got + {count}U)' if count else f'c_{number}->got'
+    return f'c_{number}->ring[{at} & c_{number}->mask]'
+
+
 class RegionText:
     """The function and the tables of a region."""
 
@@ -66,10 +78,10 @@ class RegionText:
                 values.add(f'm{p}_{row.target} = {value};')
         elif isinstance(row, Test):
             if row.is_loop:
-                values.add('if (fuel == 0) goto starved;')
+                values.add_goto('fuel == 0', 'starved')
                 values.add('fuel--;')
             value = values.value(row.condition)
-            values.add(f'if ({value} == 0) goto {label}{row.otherwise};')
+            values.add_goto(f'{value} == 0', f'{label}{row.otherwise}')
         elif isinstance(row, Leave):
             values.add(f'goto {label}{row.to};')
         elif isinstance(row, Read):
@@ -94,12 +106,12 @@ class RegionText:
         number, count = self.channels[c], self.got_count[c]
         self.got_count[c] += 1
         if c not in self.region.inside:
-            values.add(f'm{p}_{row.target} = ring_{number}[(at_{number} + {count}) & mask_{number}];')
+            values.add(f'm{p}_{row.target} = {ring_place(number, count)};')
         else:
             first = self.region.inside[c]
             item = f'first_{number}_{count}' if count < first else f'item_{number}_{count - first}'
             values.add(f'm{p}_{row.target} = {item};')
-        values.add(f'if (is_traced) kpn_record(network, KPN_GET, {p}, {number}, m{p}_{row.target});')
+        values.add(f'if (is_traced) {{ kpn_record(network, KPN_GET, {p}, {number}, m{p}_{row.target}); }}')
 
     def write(self, values: Values, p: int, row: Write) -> None:
         """A write to a channel inside, or to a ring."""
@@ -108,11 +120,11 @@ class RegionText:
         if c not in self.region.inside:
             count = self.got_count[c]
             self.got_count[c] += 1
-            values.add(f'ring_{number}[(at_{number} + {count}) & mask_{number}] = {value};')
+            values.add(f'{ring_place(number, count)} = {value};')
         else:
             values.add(f'item_{number}_{self.put_count[c]} = {value};')
             self.put_count[c] += 1
-        values.add(f'if (is_traced) kpn_record_put(network, {p}, {number}, {value});')
+        values.add(f'if (is_traced) {{ kpn_record_put(network, {p}, {number}, {value}); }}')
 
     def lines(self) -> Iterator[str]:
         """The function, and its tables."""
@@ -136,7 +148,8 @@ class RegionText:
     def beginning(self) -> Iterator[str]:
         """The locals: how many periods can be made, rings, first items, variables."""
         yield '  int64_t *const kept = network->variables;'
-        yield '  size_t made = 0, periods = KPN_MOST_ITEMS;'
+        yield '  size_t made = 0;'
+        yield '  size_t periods = KPN_MOST_ITEMS;'
         yield '  enum kpn_stop stop = KPN_PAUSED;'
         yield '  unsigned fuel = KPN_FUEL;'
         yield '  struct kpn_history_mark mark = {0};'
@@ -148,14 +161,14 @@ class RegionText:
                 yield f'  const size_t mask_{number} = c_{number}->mask;'
                 yield f'  size_t at_{number} = c_{number}->{side};'
                 yield f'  periods = kpn_periods(periods, {call}(c_{number}), {count});'
-        yield '  if (periods == 0) return KPN_EMPTY;'
+        yield '  if (periods == 0U) { stop = KPN_EMPTY; goto empty; }'
         yield from self.before_vectors()
         for c, count in self.region.inside.items():
             number = self.channels[c]
             if count:
                 yield f'  struct kpn_channel *const c_{number} = &network->channels[{number}];'
             for k in range(count):
-                yield f'  int64_t first_{number}_{k} = c_{number}->ring[(c_{number}->got + {k}) & c_{number}->mask];'
+                yield f'  int64_t first_{number}_{k} = {inside_place(number, k)};'
         for p, live in self.live.items():
             for name in live:
                 word = 'k' if name in self.assigned[p] else 'm'
@@ -168,15 +181,16 @@ class RegionText:
             return
         for c in (*self.region.gets, *self.region.puts):
             yield f'  int32_t {"x" if c in self.region.gets else "y"}_{self.channels[c]}[KPN_MOST_ITEMS];'
-        yield f'  const size_t whole = periods, first = {self.vectors.depth};'
-        yield '  bool is_small = whole >= first + KPN_LEAST_VECTORS;'
+        yield '  const size_t whole = periods;'
+        yield f'  const size_t first = {self.vectors.depth};'
+        yield '  bool is_small = whole >= (first + KPN_LEAST_VECTORS);'
         for c, count in self.region.gets.items():
             n = self.channels[c]
-            yield f'  is_small = is_small && kpn_copy_small(x_{n}, ring_{n}, at_{n}, mask_{n}, whole * {count});'
+            yield f'  is_small = is_small && kpn_copy_small(x_{n}, ring_{n}, at_{n}, mask_{n}, whole * {count}U);'
         for p, name in self.vectors.held():
             yield f'  const int32_t h{p}_{name} = (int32_t)kept[{self.place_of(p, name)}];'
-            yield f'  is_small = is_small && (uint64_t)kept[{self.place_of(p, name)}] + 32768 < 65536;'
-        yield '  if (is_small && !is_traced) periods = first;'
+            yield f'  is_small = is_small && (((uint64_t)kept[{self.place_of(p, name)}] + 32768U) < 65536U);'
+        yield '  if (is_small && !is_traced) { periods = first; }'
 
     def behind_vectors(self) -> Iterator[str]:
         """The other periods at once; for a trace what they would have given is compared."""
@@ -185,8 +199,8 @@ class RegionText:
         arrays = ''.join([*(f', x_{self.channels[c]}' for c in self.region.gets),
                           *(f', y_{self.channels[c]}' for c in self.region.puts),
                           *(f', h{p}_{name}' for p, name in self.vectors.held())])
-        yield '  if (is_small && made == periods) {'
-        yield '    const size_t last = whole - 1;'
+        yield '  if (is_small && (made == periods)) {'
+        yield '    const size_t last = whole - 1U;'
         yield f'    vectors_{self.number}(first, whole{arrays});'
         body, left = self.vectors.behind()
         yield from (f'    {line}' for line in body)
@@ -194,16 +208,16 @@ class RegionText:
         yield '    if (is_traced) {'
         for c, count in self.region.puts.items():
             n = self.channels[c]
-            yield f'      if (!kpn_are_same(y_{n}, ring_{n}, at_{n} - whole * {count}, mask_{n}, first * {count}, ' \
-                  f'whole * {count})) network->has_differed = true;'
-        yield from (f'      if ({self.kept(state)} != {name}) network->has_differed = true;'
+            yield f'      if (!kpn_are_same(y_{n}, ring_{n}, at_{n} - (whole * {count}U), mask_{n}, ' \
+                  f'first * {count}U, whole * {count}U)) {{ network->has_differed = true; }}'
+        yield from (f'      if ({self.kept(state)} != {name}) {{ network->has_differed = true; }}'
                     for state, name in left.items())
         yield '    } else {'
         for c, count in self.region.puts.items():
             n = self.channels[c]
-            yield f'      kpn_widen(y_{n}, ring_{n}, at_{n} - first * {count}, mask_{n}, first * {count}, ' \
-                  f'whole * {count});'
-        yield from (f'      at_{self.channels[c]} += (whole - first) * {count};'
+            yield f'      kpn_widen(y_{n}, ring_{n}, at_{n} - (first * {count}U), mask_{n}, first * {count}U, ' \
+                  f'whole * {count}U);'
+        yield from (f'      at_{self.channels[c]} += (whole - first) * {count}U;'
                     for c, count in (*self.region.gets.items(), *self.region.puts.items()))
         yield from (f'      {self.kept(state)} = {name};' for state, name in left.items())
         yield '      made = whole;'
@@ -227,20 +241,20 @@ class RegionText:
         for c, count in self.put_count.items():
             for k in range(count):
                 yield f'    int64_t item_{self.channels[c]}_{k};'
-        yield '    if (is_traced) mark = kpn_history_mark(network->history);'
+        yield '    if (is_traced) { mark = kpn_history_mark(network->history); }'
         yield from self.body
         yield from self.keeping()
         yield '    made++;'
         yield '    continue;'
         text = '\n'.join(self.body)
         stops = {'overflow': 'KPN_OVERFLOW', 'zero_divisor': 'KPN_ZERO_DIVISOR', 'index': 'KPN_INDEX',
-                 'shift': 'KPN_SHIFT', 'starved': 'made ? KPN_PAUSED : KPN_LAPPED'}
+                 'shift': 'KPN_SHIFT', 'starved': '(made > 0U) ? KPN_PAUSED : KPN_LAPPED'}
         ways = [label for label in stops if f'goto {label};' in text]
         for label in ways:
             yield f'  {label}: stop = {stops[label]}; goto dropped;'
         if ways:
             yield '  dropped:'
-            yield '    if (is_traced) kpn_drop_events(network, mark);'
+            yield '    if (is_traced) { kpn_drop_events(network, mark); }'
             yield '    break;'
 
     def keeping(self) -> Iterator[str]:
@@ -253,7 +267,7 @@ class RegionText:
                 item = f'first_{number}_{k + put}' if k + put < count else f'item_{number}_{k + put - count}'
                 yield f'    first_{number}_{k} = {item};'
         for c, count in (*self.region.gets.items(), *self.region.puts.items()):
-            yield f'    at_{self.channels[c]} += {count};'
+            yield f'    at_{self.channels[c]} += {count}U;'
 
     def ending(self) -> Iterator[str]:
         """What a turn of a region puts back."""
@@ -262,12 +276,13 @@ class RegionText:
         for c, count in self.region.inside.items():
             number = self.channels[c]
             for k in range(count):
-                yield f'  c_{number}->ring[(c_{number}->got + {k}) & c_{number}->mask] = first_{number}_{k};'
+                yield f'  {inside_place(number, k)} = first_{number}_{k};'
         yield '  network->regions[self].periods += made;'
-        yield f'  network->commits += made * {2 * sum(self.put_count.values())};'
+        yield f'  network->commits += made * {2 * sum(self.put_count.values())}U;'
         for needs, side in ((self.region.gets, 'got'), (self.region.puts, 'put')):
             for c in needs:
                 yield f'  kpn_publish_{side}(network, c_{self.channels[c]}, at_{self.channels[c]});'
+        yield 'empty:'
         yield '  return stop;'
 
     def tables(self) -> Iterator[str]:

@@ -193,7 +193,7 @@ class Vectors:
                 text = f'x_{self.text.channels[c]}[{place(time, self.gets[c], k - ago * self.gets[c])}]'
             else:
                 parts = [self.named(it, names, body, time) for it in value[1:]]
-                text = f'{parts[0]} {value[0]} {parts[1]}' if len(parts) == 2 else f'{value[0]} {parts[0]}'
+                text = of_operands(value[0], parts)
             names[number] = f'u{len(names)}'
             body.append(f'int32_t {names[number]} = {text};')
         return names[number]
@@ -208,8 +208,16 @@ class Vectors:
 
 def place(time: str, rate: int, offset: int) -> str:
     """A place in an array that has so many items of each period."""
-    scaled = time if rate == 1 else f'{time} * {rate}'
-    return scaled if offset == 0 else f'{scaled} {"+" if offset > 0 else "-"} {abs(offset)}'
+    scaled = time if rate == 1 else f'({time} * {rate}U)'
+    return scaled if offset == 0 else f'{scaled} {"+" if offset > 0 else "-"} {abs(offset)}U'
+
+
+def of_operands(mark: str, of: List[str]) -> str:
+    """An operation as C, whose truth is 1 or 0."""
+    if mark == '!' or mark in COMPARED:
+        test = f'{of[0]} {mark} {of[1]}' if of[1:] else f'{of[0]} == 0'
+        return f'({test}) ? INT32_C(1) : INT32_C(0)'
+    return f'{of[0]} {mark} {of[1]}' if of[1:] else f'{mark}{of[0]}'
 
 
 def interval(mark: str, of: List[Interval]) -> Interval:

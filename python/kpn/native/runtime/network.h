@@ -303,6 +303,19 @@ KPN_INLINE void kpn_record_put(struct kpn_network *network, unsigned process, un
   }
 }
 
+/* A sum, a difference, a product; and whether it is out of range. */
+KPN_INLINE bool kpn_add_overflows(int64_t a, int64_t b, int64_t *sum) {
+  return __builtin_add_overflow(a, b, sum);
+}
+
+KPN_INLINE bool kpn_sub_overflows(int64_t a, int64_t b, int64_t *rest) {
+  return __builtin_sub_overflow(a, b, rest);
+}
+
+KPN_INLINE bool kpn_mul_overflows(int64_t a, int64_t b, int64_t *made) {
+  return __builtin_mul_overflow(a, b, made);
+}
+
 /* A quotient and a remainder whose divisor is neither 0 nor -1. Narrow divisions take less time. */
 KPN_INLINE int64_t kpn_quotient(int64_t a, int64_t b) {
   if ((((uint64_t)a | (uint64_t)b) >> 32) == 0) {
@@ -331,13 +344,40 @@ void kpn_end_region(struct kpn_network *network, unsigned region);
 /* How many items a channel inside a region has carried beside those of its positions: the region counts periods. */
 uint64_t kpn_carried_inside(const struct kpn_network *network, size_t channel);
 #else
-#define kpn_gather(network) ((void)(network))
-#define kpn_scatter_idle(network) ((void)(network), false)
-#define kpn_park(network, process) ((void)(network), (void)(process))
-#define kpn_region_turn(network, region) ((void)(network), (void)(region))
-#define kpn_wake_region(network, region) ((void)(network), (void)(region))
-#define kpn_end_region(network, region) ((void)(network), (void)(region))
-#define kpn_carried_inside(network, channel) ((void)(network), (void)(channel), UINT64_C(0))
+KPN_INLINE void kpn_gather(struct kpn_network *network) {
+  (void)network;
+}
+
+KPN_INLINE bool kpn_scatter_idle(struct kpn_network *network) {
+  (void)network;
+  return false;
+}
+
+KPN_INLINE void kpn_park(struct kpn_network *network, unsigned process) {
+  (void)network;
+  (void)process;
+}
+
+KPN_INLINE void kpn_region_turn(struct kpn_network *network, unsigned region) {
+  (void)network;
+  (void)region;
+}
+
+KPN_INLINE void kpn_wake_region(struct kpn_network *network, unsigned region) {
+  (void)network;
+  (void)region;
+}
+
+KPN_INLINE void kpn_end_region(struct kpn_network *network, unsigned region) {
+  (void)network;
+  (void)region;
+}
+
+KPN_INLINE uint64_t kpn_carried_inside(const struct kpn_network *network, size_t channel) {
+  (void)network;
+  (void)channel;
+  return 0;
+}
 #endif
 
 /* ---- lock step, unless a network in static memory has none */
@@ -352,10 +392,24 @@ bool kpn_lock_run(struct kpn_network *network, uint64_t most);
 /* Whether a source has more items than at the beginning of its phase. */
 bool kpn_lock_has_work(const struct kpn_network *network);
 #else
-#define kpn_lock_begin(network) ((void)(network))
-#define kpn_lock_end(network) ((void)(network))
-#define kpn_lock_run(network, most) ((void)(network), (void)(most), false)
-#define kpn_lock_has_work(network) ((void)(network), false)
+KPN_INLINE void kpn_lock_begin(struct kpn_network *network) {
+  (void)network;
+}
+
+KPN_INLINE void kpn_lock_end(struct kpn_network *network) {
+  (void)network;
+}
+
+KPN_INLINE bool kpn_lock_run(struct kpn_network *network, uint64_t most) {
+  (void)network;
+  (void)most;
+  return false;
+}
+
+KPN_INLINE bool kpn_lock_has_work(const struct kpn_network *network) {
+  (void)network;
+  return false;
+}
 #endif
 
 /* ---- loops without checks. The items of a ring from a position on, as numbers of 32 bits; false if one has more than
