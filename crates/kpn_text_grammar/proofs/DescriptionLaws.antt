@@ -1,5 +1,5 @@
 -- A whole description: it is read if and only if the tokens spell it within the limits, and tokens spell one at most.
-use Rattle.std.proofs.Common.{◌≡◌, ℕ, List, [], ◌∷◌, ◌++◌, map, Some, Ok, Err, refl, sym, ap, subst, ◌∙◌}
+use Rattle.std.proofs.Common.{◌≡◌, ℕ, List, [], ◌∷◌, ◌++◌, map, take, Some, Ok, Err, refl, sym, ap, subst, ◌∙◌}
 use Rattle.std.proofs.lemmas.List.{map-append}
 use Rattle.kpn_text_tokens.specs.declared.tokens.Language.{Language}
 use Rattle.kpn_text_tokens.specs.declared.tokens.Language.TheVariants as language
@@ -14,7 +14,7 @@ use Rattle.kpn_text_grammar.specs.Spelling.{kinds, SpellsAll, SpellsProcess, spe
 use Rattle.kpn_text_tokens.specs.Results.{and_then}
 use Rattle.kpn_text_grammar.specs.TokenTests.{is_keyword}
 use Rattle.kpn_text_grammar.specs.Reading.{keyword, language_at, mark, all_of, shared_table, processes, network, at_end, contents, description, two}
-use Rattle.kpn_text_grammar.specs.Laws.{first_of, IsFaultAt}
+use Rattle.kpn_text_grammar.specs.Laws.{IsFaultAt}
 use Rattle.kpn_text_grammar.proofs.Lookahead.{ahead, Look, returns, refuses, Step, Ends, steps_look, ends_behind, step_ends}
 use Rattle.kpn_text_grammar.proofs.Steps.{bind_ok, moved, no_value, ok_is, this_keyword, this_mark, this_two}
 use Rattle.kpn_text_grammar.proofs.Readers.{Unless, begins}
@@ -213,7 +213,7 @@ module _ (s : Scope) (at : ℕ) (before rest : List Lexeme) (again : (other : Li
 
 never : (s : Scope) (at : ℕ) (before rest : List Lexeme)
     → ((other : List Lexeme) → ahead other ≡ ahead rest → description s (before ++ other) ≡ Err (fault.Grammar at))
-    → (others : List Token) (d : Description) → first_of others ≡ first_of (kinds rest)
+    → (others : List Token) (d : Description) → take 1 others ≡ take 1 (kinds rest)
     → IsDescription s.language (kinds before ++ others) d → ⊥
 never s at before [] again [] d same is = not_so s at before [] again [] d refl is
 never s at before [] again (t ∷ ts) d same is = absurd cc

@@ -1,6 +1,6 @@
 -- The laws of reading, on which the layers above depend: reading returns what is spelled, and that is one thing. What
 -- is printed is spelled.
-use Rattle.std.specs.Prelude.{◌≡◌, ◌↔◌, ℕ, List, [], ◌∷◌, ◌++◌, Option, Some, None, Ok}
+use Rattle.std.specs.Prelude.{◌≡◌, ◌↔◌, ℕ, List, [], ◌∷◌, ◌++◌, take, Ok}
 use Rattle.kpn_text_tokens.specs.declared.tokens.Language.{Language}
 use Rattle.kpn_text_tokens.specs.declared.tokens.Lexeme.{Lexeme}
 use Rattle.kpn_text_tokens.specs.declared.tokens.Token.{Token}
@@ -30,16 +30,12 @@ abbrev pub place_of : ℕ → List Lexeme → ℕ
 place_of end [] = end
 place_of end (l ∷ ls) = l.start
 
-abbrev pub first_of : List Token → Option Token
-first_of [] = None
-first_of (t ∷ ts) = Some t
-
--- A fault in front of the rest of the tokens. No description begins with those before it and the one there; if none is
--- there, the tokens are no description.
+-- A fault stands in front of the rest of the tokens: no description begins with those before it and the one there. If
+-- there is none, they are no description.
 pub record IsFaultAt (l : Language) (end : ℕ) (ls : List Lexeme) (at : ℕ) : Type 0 where
   pub before : List Lexeme
   pub rest : List Lexeme
   pub parts : ls ≡ before ++ rest
   pub place : at ≡ place_of end rest
-  pub none : (others : List Token) (d : Description) → first_of others ≡ first_of (kinds rest)
+  pub none : (others : List Token) (d : Description) → take 1 others ≡ take 1 (kinds rest)
       → IsDescription l (kinds before ++ others) d → ⊥
