@@ -58,6 +58,17 @@ Step end step = Looks (λ ls rest. Alike step ls rest (λ other. Ok other)) end 
 abbrev pub Ends : {B : Type 0} → ℕ → (List Lexeme → Result B GrammarFault) → Type 0
 Ends end call = Looks (λ ls x. Unit {0}) end call
 
+-- the same for another call, of other tokens, that does as the first one does
+over : {B : Type 0} {end : ℕ} {call other : List Lexeme → Result B GrammarFault} {ls ts : List Lexeme} {Here There : B → Type 0}
+    → ((rest : List Lexeme) (answer : List Lexeme → Result B GrammarFault) → Alike call ls rest answer
+    → Alike other ts rest answer) → ((y : B) → Here y → There y) → {r : Result B GrammarFault} → Look Here end call ls r
+    → Look There end other ts r
+over alike kept (returns {x = y} h) = returns (kept y h)
+over alike kept (refuses h) =
+    refuses (record { rest = h.rest; place = h.place; alike = alike h.rest (λ o. Err (fault.Grammar _)) h.alike })
+over alike kept forgets = forgets
+over alike kept nests = nests
+
 -- ---- one call behind another
 
 module _ {A B : Type 0} (first : List Lexeme → Result A GrammarFault) (next : A → Result B GrammarFault) {ls : List Lexeme} where
@@ -92,11 +103,7 @@ module _ {A B : Type 0} (first : List Lexeme → Result A GrammarFault) (next : 
   goes_on : {end : ℕ} {mid : List Lexeme} {Next Both : B → Type 0} (made : List Lexeme → A)
       → Alike first ls mid (λ other. Ok (made other)) → ((y : B) → Next y → Both y) → {r : Result B GrammarFault}
       → Look Next end (λ other. next (made other)) mid r → Look Both end (λ ts. and_then (first ts) next) ls r
-  goes_on made kept lift (returns {x = y} h) = returns (lift y h)
-  goes_on made kept lift (refuses h) =
-      refuses (record { rest = h.rest; place = h.place; alike = then made kept h.alike })
-  goes_on made kept lift forgets = forgets
-  goes_on made kept lift nests = nests
+  goes_on made kept lift look = over (λ rest answer. then made kept) lift look
 
 pub done_looks : {Y : Type 0} {end : ℕ} (v : Y) → Local end (λ ls. Ok (v, ls))
 done_looks v =
@@ -178,10 +185,7 @@ module _ {Y : Type 0} {one other : List Lexeme → Read Y} {ls : List Lexeme}
   }
 
   looks_as : {end : ℕ} {r : Read Y} → Look (Kept one ls) end one ls r → Look (Kept other ls) end other ls r
-  looks_as (returns a) = returns (alike_as a)
-  looks_as (refuses h) = refuses (record { rest = h.rest; place = h.place; alike = alike_as h.alike })
-  looks_as forgets = forgets
-  looks_as nests = nests
+  looks_as look = over (λ rest answer. alike_as) (λ y. alike_as) look
 
 module _ {Y : Type 0} {end : ℕ} (picks : List Lexeme → Bool) {one other : List Lexeme → Read Y} (looking : Looking picks)
     (first : Local end one) (second : Local end other) where
@@ -232,21 +236,14 @@ module _ {B : Type 0} (s : Scope) (from : Lexeme → List Lexeme → Result B Gr
     at (l ∷ ls) = behind l ls
 
 module _ {Y : Type 0} (s : Scope) (from : Lexeme → List Lexeme → Read Y) where
-  passed_one : (l : Lexeme) {ls rest : List Lexeme} {answer : List Lexeme → Read Y} → Alike (from l) ls rest answer
+  passed : (l : Lexeme) {ls rest : List Lexeme} {answer : List Lexeme → Read Y} → Alike (from l) ls rest answer
       → Alike (by_first s from) (l ∷ ls) rest answer
   unfolding next and_then
-  passed_one l a = record { before = l ∷ a.before; whole = ap (λ ts. l ∷ ts) a.whole; again = a.again }
-
-  passed : (l : Lexeme) (ls : List Lexeme) {r : Read Y} → Look (Kept (from l) ls) s.end (from l) ls r
-      → Look (Kept (by_first s from) (l ∷ ls)) s.end (by_first s from) (l ∷ ls) r
-  passed l ls (returns a) = returns (passed_one l a)
-  passed l ls (refuses h) = refuses (record { rest = h.rest; place = h.place; alike = passed_one l h.alike })
-  passed l ls forgets = forgets
-  passed l ls nests = nests
+  passed l a = record { before = l ∷ a.before; whole = ap (λ ts. l ∷ ts) a.whole; again = a.again }
 
   started : (l : Lexeme) (ls : List Lexeme) → Starts s.end l.start (from l)
       → Look (Kept (by_first s from) (l ∷ ls)) s.end (by_first s from) (l ∷ ls) (from l ls)
-  started l ls (inl looks) = passed l ls (looks.at ls)
+  started l ls (inl looks) = over (λ rest answer. passed l) (λ y. passed l) (looks.at ls)
   started l ls (inr fails) =
       subst (λ (r : Read Y). Look (Kept (by_first s from) (l ∷ ls)) s.end (by_first s from) (l ∷ ls) r) (sym (fails ls))
       (refuses (refuses_first s from l ls fails))
