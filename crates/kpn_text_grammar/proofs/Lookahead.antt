@@ -152,13 +152,6 @@ steps_look {first = first} {next} head tail = record {
       goes_on first next (λ other. other) kept (λ y more. then first next (λ other. other) kept more) (tail.at mid));
 }
 
-pub step_ends : {B : Type 0} {end : ℕ} {step : List Lexeme → Result (List Lexeme) GrammarFault}
-    {one : List Lexeme → Result B GrammarFault} → Step end step → Ends end one → Ends end (λ ls. and_then (step ls) one)
-step_ends {step = step} {one} head tail = record {
-  at = λ ls. in_turn step one (step ls) refl (head.at ls) (λ mid e kept.
-      goes_on step one (λ other. other) kept (λ y u. tt) (tail.at mid));
-}
-
 -- ---- choices
 
 -- a test looks at one token at most

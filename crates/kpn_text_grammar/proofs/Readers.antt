@@ -87,20 +87,20 @@ done {Y} {end} {May} v = record {
 
 -- one token, and a chain behind it
 pub behind : {Z Y : Type 0} {end : ℕ} {make : Z → Y} {spell : Z → List Token → List Token} {Within : Z → List Token → Type 0}
-    {May : List Token → Type 0} {t : Token} {step : List Lexeme → Result (List Lexeme) GrammarFault}
-    {one : List Lexeme → Read Y} → Passes end t step → Row end make spell Within May one
-    → Row end make (λ z more. t ∷ spell z more) Within May (λ ls. and_then (step ls) one)
-behind {Z} {Y} {end} {make} {spell} {Within} {May} {t} {step} {one} first then = record {
+    {May : List Token → Type 0} {before : List Token → List Token} {step : List Lexeme → Result (List Lexeme) GrammarFault}
+    {one : List Lexeme → Read Y} → Passes end before step → Row end make spell Within May one
+    → Row end make (λ z more. before (spell z more)) Within May (λ ls. and_then (step ls) one)
+behind {Z} {Y} {end} {make} {spell} {Within} {May} {before} {step} {one} first then = record {
   laws = record {
     takes = λ ls y rest h.
         let b = bind_ok (step ls) one (y, rest) h in
         let m = then.laws.takes b.0 y rest b.2 in
-        (m.0, m.1, m.2, first.takes ls b.0 b.1 ∙ ap (λ (ts : List Token). t ∷ ts) m.3);
+        (m.0, m.1, m.2, first.takes ls b.0 b.1 ∙ ap before m.3);
     again = λ ls z more within may h.
         let a = first.again ls (spell z more) h in
         let b = then.laws.again a.0 z more within may a.2 in
         (b.0, bound (step ls) a.0 one (Ok (make z, b.0)) a.1 b.1, b.2);
-    no_gap = λ z more within. omega (arith, then.laws.no_gap z more within);
+    no_gap = λ z more within. omega (arith, first.no_gap (spell z more), then.laws.no_gap z more within);
   };
   looks = step_looks first.looks then.looks;
 }
