@@ -6,7 +6,7 @@ use Rattle.kpn_text_grammar.specs.declared.fault.GrammarFault.{GrammarFault}
 use Rattle.kpn_text_grammar.specs.declared.fault.GrammarFault.TheVariants as fault
 use Rattle.kpn_text_grammar.specs.declared.parser.Scope.{Scope}
 use Rattle.kpn_text_tokens.specs.Results.{and_then}
-use Rattle.kpn_text_grammar.specs.Laws.{place_of}
+use Rattle.kpn_text_grammar.specs.Laws.{fault_place}
 use Rattle.kpn_text_grammar.specs.Reading.{Read, first_is, next, many}
 
 -- the token at the front, if there is one
@@ -28,7 +28,7 @@ pub record Alike {B : Type 0} (call : List Lexeme → Result B GrammarFault) (ls
 -- a call refuses what stands in front of the rest
 pub record Refuses {B : Type 0} (end : ℕ) (call : List Lexeme → Result B GrammarFault) (ls : List Lexeme) (at : ℕ) : Type 0 where
   pub rest : List Lexeme
-  pub place : at ≡ place_of end rest
+  pub place : at ≡ fault_place end rest
   pub alike : Alike call ls rest (λ other. Err (fault.Grammar at))
 
 -- what a call keeps to that returned this

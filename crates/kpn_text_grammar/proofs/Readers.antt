@@ -284,7 +284,8 @@ test : {A : Type 0} (b : Bool) (x y z : A) → b ≡ true → x ≡ z → cond b
 test b x y z h e = rw h e
 
 -- One reader or another, by a test. What holds of the values may tell what the test found.
-pub choose : {Z W Y : Type 0} {end : ℕ} (picks : List Lexeme → Bool) (looking : Looking picks) {make_one : Z → Y} {spell_one : Z → List Token → List Token}
+pub choose : {Z W Y : Type 0} {end : ℕ} (picks : List Lexeme → Bool) (looking : Looking picks)
+    {make_one : Z → Y} {spell_one : Z → List Token → List Token}
     {One : Z → List Token → Type 0} {MayOne : List Token → Type 0} {one : List Lexeme → Read Y} {make_other : W → Y}
     {spell_other : W → List Token → List Token} {Other : W → List Token → Type 0} {MayOther : List Token → Type 0}
     {other : List Lexeme → Read Y} {May : List Token → Type 0} (First : Z → List Token → Type 0)
@@ -302,8 +303,8 @@ pub choose : {Z W Y : Type 0} {end : ℕ} (picks : List Lexeme → Bool) (lookin
     → ((w : W) (more : List Token) → Second w more → Other w more)
     → Row end (either make_one make_other) (spell_either spell_one spell_other) (Either First Second) May
     (λ ls. cond (picks ls) (one ls) (other ls))
-choose {Z} {W} {Y} {end} picks looking {make_one} {spell_one} {One} {MayOne} {one} {make_other} {spell_other} {Other} {MayOther} {other}
-    {May} First Second first second picked passed pick pass as_one as_other = record {
+choose {Z} {W} {Y} {end} picks looking {make_one} {spell_one} {One} {MayOne} {one} {make_other} {spell_other} {Other}
+    {MayOther} {other} {May} First Second first second picked passed pick pass as_one as_other = record {
       laws = record {
         takes = λ ls y rest h.
             by_test (picks ls) (one ls) (other ls) (Ok (y, rest)) h
@@ -357,8 +358,8 @@ pub guarded : {Z Y : Type 0} {end : ℕ} (stops : Bool) (process : ℕ) {make : 
 guarded {Y = Y} stops process {make} {one = one} row = record {
   laws = record {
     takes = λ ls y rest h.
-        by_test stops (Err (fault.TooDeep process)) (one ls) (Ok (y, rest)) h (λ _ k. absurd (no_value {A = Y × List Lexeme} (fault.TooDeep process) (y, rest) k))
-        (λ b k. let t = row.laws.takes ls y rest k in (t.0, t.1, (b, t.2), t.3));
+        by_test stops (Err (fault.TooDeep process)) (one ls) (Ok (y, rest)) h
+        (λ _ k. absurd (no_value {A = Y × List Lexeme} (fault.TooDeep process) (y, rest) k)) (λ b k. let t = row.laws.takes ls y rest k in (t.0, t.1, (b, t.2), t.3));
     again = λ ls z more within may h.
         let a = row.laws.again ls z more within.1 may h in
         (a.0, no_test stops (Err (fault.TooDeep process)) (one ls) (Ok (make z, a.0)) within.0 a.1, a.2);
@@ -474,7 +475,8 @@ module _ {A : Type 0} {end : ℕ} {Spells : A → List Token → List Token → 
   Begun x tokens more = (z : (t : Token) × (arms t).Value) × ((arms z.0).make z.1 ≡ x) × (arms z.0).Within z.1 more
       × (z.0 ∷ (arms z.0).spell z.1 more ≡ tokens)
 
-  pub token_longer : ((x : A) (tokens more : List Token) → Spells x tokens more → Begun x tokens more) → (x : A) (tokens more : List Token) → Spells x tokens more → length more < length tokens
+  pub token_longer : ((x : A) (tokens more : List Token) → Spells x tokens more → Begun x tokens more) → (x : A)
+      (tokens more : List Token) → Spells x tokens more → length more < length tokens
   token_longer parts x tokens more is =
       let p = parts x tokens more is in
       omega (arith, ap length p.3, ((arms p.0.0).laws 0).no_gap p.0.1 more p.2)

@@ -385,7 +385,8 @@ module _ (s : Scope) (depth d : ℕ) (laws : ReadsTight s depth (tight s depth))
 
   -- ---- the lemma of reading, by a reader of right sides
 
-  module _ (sides : (n : ℕ) → n ≤ OPERAND → ReaderBy s.end (Tight s.language (suc depth) d n) (Looser n) (tight s (suc depth) d n)) where
+  module _ (sides : (n : ℕ) → n ≤ OPERAND → ReaderBy s.end (Tight s.language (suc depth) d n) (Looser n)
+      (tight s (suc depth) d n)) where
     reads_on : {k : ℕ} {e : ExpressionNode} {tokens more : List Token} → SpellsTight s.language (suc depth) k e tokens more → (n : ℕ)
         (ls : List Lexeme) → k ≤ OPERAND → n ≤ k → term_level e ≤ suc d → first_tightness more ≤ k → kinds ls ≡ tokens
         → ReadsOn s (suc depth) d n k e more ls
@@ -497,7 +498,8 @@ sides_look s side levels n looks (suc steps) bound left =
     (λ b. sides_look s side levels n looks steps (tightness o) (binary o left b))))) (done_looks left)
 
 module _ (s : Scope) (depth : ℕ) (laws : ReadsTight s depth (tight s depth)) where
-  module _ (d : ℕ) (sides : (n : ℕ) → n ≤ OPERAND → ReaderBy s.end (Tight s.language (suc depth) d n) (Looser n) (tight s (suc depth) d n)) where
+  module _ (d : ℕ) (sides : (n : ℕ) → n ≤ OPERAND → ReaderBy s.end (Tight s.language (suc depth) d n) (Looser n)
+      (tight s (suc depth) d n)) where
     side_takes : Sides s.language (suc depth) d (tight s (suc depth) d)
     side_takes k ls e rest le h =
         let t = (sides k le).laws.takes ls e rest h in

@@ -26,9 +26,9 @@ CanonicalSpells =
     (l : Language) (d : Description) → IsWithinLimits d → IsDescription l (spell_description l d) d
 
 -- the byte of a fault in front of these tokens: where the first one begins, or the length of the text
-abbrev pub place_of : ℕ → List Lexeme → ℕ
-place_of end [] = end
-place_of end (l ∷ ls) = l.start
+abbrev pub fault_place : ℕ → List Lexeme → ℕ
+fault_place end [] = end
+fault_place end (l ∷ ls) = l.start
 
 -- A fault stands in front of the rest of the tokens: no description begins with those before it and the one there. If
 -- there is none, they are no description.
@@ -36,6 +36,6 @@ pub record IsFaultAt (l : Language) (end : ℕ) (ls : List Lexeme) (at : ℕ) : 
   pub before : List Lexeme
   pub rest : List Lexeme
   pub parts : ls ≡ before ++ rest
-  pub place : at ≡ place_of end rest
+  pub place : at ≡ fault_place end rest
   pub none : (others : List Token) (d : Description) → take 1 others ≡ take 1 (kinds rest)
       → IsDescription l (kinds before ++ others) d → ⊥
