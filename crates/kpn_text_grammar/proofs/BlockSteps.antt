@@ -6,7 +6,7 @@ use Rattle.kpn_text_grammar.specs.declared.fault.GrammarFault.{GrammarFault}
 use Rattle.kpn_text_grammar.specs.declared.fault.GrammarFault.TheVariants as fault
 use Rattle.kpn_text_grammar.specs.declared.parser.Scope.{Scope}
 use Rattle.kpn_text_tokens.specs.Results.{and_then}
-use Rattle.kpn_text_grammar.specs.Reading.{Read, ReadingFails, mark, block_behind, opened, too_deep, is_branch, branch, block, second_block}
+use Rattle.kpn_text_grammar.specs.Reading.{ReadingFails, mark, block_behind, opened, too_deep, is_branch, branch, block, second_block}
 
 pub block_below : (s : Scope) (d : ℕ) (ls inside : List Lexeme) → 0 < d → mark s mark_.LeftBrace ls ≡ Ok inside
     → block s d ls ≡ block_behind s (block s (d - 1)) (second_block s (d - 1)) inside

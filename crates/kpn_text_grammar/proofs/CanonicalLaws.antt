@@ -7,9 +7,8 @@ use Rattle.kpn_text_tokens.specs.declared.tokens.Language.TheVariants as languag
 use Rattle.kpn_text_tokens.specs.declared.tokens.Token.{Token}
 use Rattle.kpn_text_tokens.specs.declared.tokens.Token.TheVariants as token
 use Rattle.kpn_text_tokens.specs.declared.tokens.Mark.TheVariants as mark_
-use Rattle.kpn_text_tokens.specs.declared.tokens.Keyword.TheVariants as keyword_
 use Rattle.kpn_text_grammar.specs.Syntax.{StatementNode, assign, store, receive, send, choice, loop, Statements, no_statements, statement, ProcessNode, Description}
-use Rattle.kpn_text_grammar.specs.Spelling.{spell_statement, spell_statements, spell_else, spell_all, spell_expression, spell_process, spell_network, spell_description, SpellsAll, SpellsStatement, as_assignment, as_store, as_read, as_write, as_if, as_while, SpellsStatements, nothing, one_more, SpellsElse, left_out, behind_else, SpellsSecond, with_braces, as_branch, SpellsProcess, IsDescription, begins_else, deepest_term, deepest_term_of_all, ProcessIsWithin, IsWithinLimits}
+use Rattle.kpn_text_grammar.specs.Spelling.{spell_statement, spell_statements, spell_else, spell_all, spell_expression, spell_process, spell_network, spell_description, SpellsAll, SpellsStatement, as_assignment, as_store, as_read, as_write, as_if, as_while, SpellsStatements, nothing, one_more, SpellsElse, left_out, behind_else, with_braces, as_branch, SpellsProcess, IsDescription, begins_else, deepest_term, deepest_term_of_all, ProcessIsWithin, IsWithinLimits}
 use Rattle.kpn_text_grammar.proofs.WholeLaws.{canonical_expression}
 
 no_else : (l : Language) (ss : Statements) (more : List Token) → begins_else more ≡ false

@@ -1,8 +1,7 @@
 -- Arrays and tables: what is read is spelled so, and what is spelled so is read.
-use Rattle.std.proofs.Common.{◌≡◌, ℕ, zero, suc, ◌==◌, ◌<◌, Bool, true, false, cond, List, ◌∷◌, length, Some, None, Ok, refl, sym, ap, arith}
+use Rattle.std.proofs.Common.{◌≡◌, ℕ, zero, suc, ◌==◌, ◌<◌, Bool, true, false, cond, List, ◌∷◌, Some, None, refl, sym, ap, arith}
 use Rattle.std.specs.List.{AllByRecursion}
 use Rattle.std.proofs.lemmas.Bool.{ne_eqb}
-use Rattle.kpn_text_tokens.specs.declared.tokens.Lexeme.{Lexeme}
 use Rattle.kpn_text_tokens.specs.declared.tokens.Token.{Token}
 use Rattle.kpn_text_tokens.specs.declared.tokens.Token.TheVariants as token
 use Rattle.kpn_text_tokens.specs.declared.tokens.Mark.TheVariants as mark_
@@ -41,7 +40,7 @@ sized (suc n) some =
     let differs : (suc n == 0) ≡ false = ne_eqb (suc n) 0 (λ e. absurd (omega (arith, e))) in
     rw differs refl
 
-size_reads : (s : Scope) → Reader spell_number (λ n. 0 < n) Anything (read_as token_size s)
+size_reads : (s : Scope) → Reader s.end spell_number (λ n. 0 < n) Anything (read_as token_size s)
 size_reads s = a_token s token_size token.Number token_size_is sized
 
 -- ---- tables
@@ -51,7 +50,7 @@ abbrev spell_behind_table : Table → List Token → List Token
 spell_behind_table t more =
     token.Name t.name ∷ token.Mark mark_.Assign ∷ spell_list spell_literal t.values (token.Mark mark_.Semicolon ∷ more)
 
-table_reads : (s : Scope) → Reader spell_behind_table TableIsWithin Anything (table_behind s)
+table_reads : (s : Scope) → Reader s.end spell_behind_table TableIsWithin Anything (table_behind s)
 unfolding table_behind
 table_reads s =
     reads (value (a_name s) (λ x. behind (this_mark s mark_.Assign) (bind (values_reads s)
@@ -61,15 +60,15 @@ table_reads s =
 
 -- the tables in front of the processes
 pub shared_ones : (s : Scope)
-    → Elements (is_keyword keyword_.Table) (λ t. t) spell_table (λ t more. TableIsWithin t) (λ i. shared_table s)
+    → Elements s.end (is_keyword keyword_.Table) (λ t. t) spell_table (λ t more. TableIsWithin t) (λ i. shared_table s)
 unfolding shared_table
 shared_ones s = record {
   laws = λ i. behind (this_keyword s keyword_.Table) (table_reads s);
   starts = λ t more within. refl;
-  longer = λ t more within. omega (arith, (table_reads s).no_gap t more within);
+  longer = λ t more within. omega (arith, (table_reads s).laws.no_gap t more within);
 }
 
-pub shared_reads : (s : Scope) → Reader (spell_all spell_table) (AllByRecursion TableIsWithin)
+pub shared_reads : (s : Scope) → Reader s.end (spell_all spell_table) (AllByRecursion TableIsWithin)
     (Unless (is_keyword keyword_.Table)) (all_of (is_keyword keyword_.Table) (shared_table s))
 unfolding all_of
 shared_reads s = each_of (shared_ones s) 0
@@ -77,7 +76,7 @@ shared_reads s = each_of (shared_ones s) 0
 -- ---- the arrays and tables of a process
 
 declaration_arms : (s : Scope) (t : Token)
-    → Arm (Exactly spell_declaration DeclarationIsWithin) Anything t (declaration_behind s t)
+    → Arm s.end (Exactly spell_declaration DeclarationIsWithin) Anything t (declaration_behind s t)
 unfolding declaration_behind array_behind
 declaration_arms s (token.Keyword keyword_.Array) =
     arm (λ start. value (a_name s) (λ x. behind (this_mark s mark_.LeftBracket) (value (size_reads s)
@@ -95,16 +94,16 @@ declaration_parts s (array x n) tokens more is =
     ((token.Keyword keyword_.Array, (x, (n, tt))), refl, (tt, (is.0, tt)), sym is.1)
 declaration_parts s (table t) tokens more is = ((token.Keyword keyword_.Table, (t, tt)), refl, (is.0, tt), sym is.1)
 
-declaration_reads : (s : Scope) → Reader spell_declaration DeclarationIsWithin Anything (declaration s)
+declaration_reads : (s : Scope) → Reader s.end spell_declaration DeclarationIsWithin Anything (declaration s)
 unfolding declaration
-declaration_reads s = exactly (by_token (declaration_behind s) (declaration_arms s) (declaration_parts s) s)
+declaration_reads s = exactly (by_token s (declaration_behind s) (declaration_arms s) (declaration_parts s))
 
 declaration_starts : (d : Declaration) (more : List Token) → begins declares (spell_declaration d more) ≡ true
 declaration_starts (array x n) more = refl
 declaration_starts (table t) more = refl
 
 pub declaration_ones : (s : Scope)
-    → Elements declares (λ d. d) spell_declaration (λ d more. DeclarationIsWithin d) (λ i. declaration s)
+    → Elements s.end declares (λ d. d) spell_declaration (λ d more. DeclarationIsWithin d) (λ i. declaration s)
 declaration_ones s = record {
   laws = λ i. declaration_reads s;
   starts = λ d more within. declaration_starts d more;
@@ -112,7 +111,7 @@ declaration_ones s = record {
       token_longer (declaration_behind s) (declaration_arms s) (declaration_parts s) d _ more (within, refl);
 }
 
-pub declarations_reads : (s : Scope) → Reader (spell_all spell_declaration) (AllByRecursion DeclarationIsWithin)
+pub declarations_reads : (s : Scope) → Reader s.end (spell_all spell_declaration) (AllByRecursion DeclarationIsWithin)
     (Unless declares) (all_of declares (declaration s))
 unfolding all_of
 declarations_reads s = each_of (declaration_ones s) 0

@@ -1,6 +1,5 @@
 -- Lists of names and the head of a process: what is read is spelled so, and what is spelled so is read.
-use Rattle.std.proofs.Common.{◌≡◌, ◌⊎◌, inl, inr, ℕ, ◌+◌, ◌<◌, Bool, false, List, [], ◌∷◌, length, Ok, refl, sym, ap, subst, ◌∙◌, arith}
-use Rattle.kpn_text_tokens.specs.declared.tokens.Lexeme.{Lexeme}
+use Rattle.std.proofs.Common.{◌≡◌, ◌⊎◌, inl, inr, ◌+◌, ◌<◌, Bool, false, List, [], ◌∷◌, length, refl, sym, ap, subst, ◌∙◌, arith}
 use Rattle.kpn_text_tokens.specs.declared.tokens.Token.{Token}
 use Rattle.kpn_text_tokens.specs.declared.tokens.Token.TheVariants as token
 use Rattle.kpn_text_tokens.specs.declared.tokens.Mark.TheVariants as mark_
@@ -16,14 +15,14 @@ use Rattle.kpn_text_grammar.proofs.Readers.{Row, Reader, Free, Unless, done, beh
 
 -- ---- names
 
-names_reads : (s : Scope) → Reader spell_names Some_of (Unless is_comma) (separated s (name s))
+names_reads : (s : Scope) → Reader s.end spell_names Some_of (Unless is_comma) (separated s (name s))
 names_reads s = some_of (with_commas s (a_name s))
 
 -- no name and no comma follows
 abbrev pub NoNames : List Token → Type 0
 NoNames more = Unless is_name more × Unless is_comma more
 
-pub optional_names_reads : (s : Scope) → Reader spell_names Free NoNames (optional_names s)
+pub optional_names_reads : (s : Scope) → Reader s.end spell_names Free NoNames (optional_names s)
 unfolding optional_names
 optional_names_reads s =
     maybe_some is_name spell_names (names_reads s) (λ more may. (may.1, may.0)) (λ x xs more. refl) (λ more. refl)
@@ -48,7 +47,7 @@ closes_not goes more may h = ap (begins goes) may.1 ∙ h
 
 -- behind the out ports, which are known: the parameters
 after_outs_row : (s : Scope) (ins outs : List NameBytes)
-    → Row (of_parts ins outs) (spell_later_part keyword_.Par) (λ pars more. Unit {0}) Closes (after_outs s ins outs)
+    → Row s.end (of_parts ins outs) (spell_later_part keyword_.Par) (λ pars more. Unit {0}) Closes (after_outs s ins outs)
 unfolding after_outs
 after_outs_row s ins outs =
     maybe_some semicolon (spell_later_part keyword_.Par) (behind (this_mark s mark_.Semicolon)
@@ -85,7 +84,7 @@ spell_pars [] more some = absurd (omega (arith, some))
 spell_pars (x ∷ xs) more some = refl
 
 outs_arms : (s : Scope) (ins : List NameBytes) (t : Token)
-    → Arm (Exactly spell_behind (Behind ins)) Closes t (outs_or_pars s ins t)
+    → Arm s.end (Exactly spell_behind (Behind ins)) Closes t (outs_or_pars s ins t)
 unfolding outs_or_pars
 outs_arms s ins (token.Keyword keyword_.Out) =
     arm (λ start. bind (names_reads s) (after_outs_row s ins) (λ outs pars more within may. pars_end pars more may))
@@ -107,12 +106,12 @@ outs_begin s ins (x ∷ xs) pars tokens more some h =
 with_ins : (p : HeadParts) (ins : List NameBytes) → p.ins ≡ ins → of_parts ins p.outs p.pars ≡ p
 with_ins p ins h = ap (λ xs. of_parts xs p.outs p.pars) (sym h)
 
-outs_reads : (s : Scope) (ins : List NameBytes) → Reader spell_behind (Behind ins) Closes
+outs_reads : (s : Scope) (ins : List NameBytes) → Reader s.end spell_behind (Behind ins) Closes
     (λ ls. and_then (next s ls) (λ l. outs_or_pars s ins l.0.token l.0.start l.1))
 outs_reads s ins =
-    exactly (by_token (outs_or_pars s ins) (outs_arms s ins)
+    exactly (by_token s (outs_or_pars s ins) (outs_arms s ins)
     (λ p tokens more is. subst (λ q. Begun (outs_or_pars s ins) (outs_arms s ins) q tokens more)
-    (with_ins p ins is.0.same) (outs_begin s ins p.outs p.pars tokens more is.0.some is.1)) s)
+    (with_ins p ins is.0.same) (outs_begin s ins p.outs p.pars tokens more is.0.some is.1)))
 
 -- the same behind its semicolon, or nothing
 abbrev spell_after_ins : List NameBytes × List NameBytes → List Token → List Token
@@ -125,7 +124,7 @@ later_outs [] (x ∷ xs) more some = refl
 later_outs (x ∷ xs) pars more some = refl
 
 after_ins_row : (s : Scope) (ins : List NameBytes)
-    → Row {Z = List NameBytes × List NameBytes} (λ z. of_parts ins z.0 z.1) spell_after_ins (λ z more. Unit {0}) Closes
+    → Row {Z = List NameBytes × List NameBytes} s.end (λ z. of_parts ins z.0 z.1) spell_after_ins (λ z more. Unit {0}) Closes
     (after_ins s ins)
 unfolding after_ins
 after_ins_row s ins =
@@ -161,7 +160,7 @@ spell_ins : (ins outs pars : List NameBytes) (more : List Token) → Some_of ins
 spell_ins [] outs pars more some = absurd (omega (arith, some))
 spell_ins (x ∷ xs) outs pars more some = refl
 
-parts_arms : (s : Scope) (t : Token) → Arm (Exactly spell_head_parts IsSome) Closes t (parts_behind s t)
+parts_arms : (s : Scope) (t : Token) → Arm s.end (Exactly spell_head_parts IsSome) Closes t (parts_behind s t)
 unfolding parts_behind
 parts_arms s (token.Keyword keyword_.In) =
     arm (λ start. bind (names_reads s) (after_ins_row s) (λ x z more within may. outs_end z.0 z.1 more may))
@@ -189,12 +188,12 @@ parts_open [] (x ∷ xs) pars more some = refl
 parts_open (x ∷ xs) outs pars more some = refl
 
 -- ports and parameters up to the closing parenthesis
-pub parts_reads : (s : Scope) → Reader spell_head_parts Free Closes (parts s)
+pub parts_reads : (s : Scope) → Reader s.end spell_head_parts Free Closes (parts s)
 unfolding parts
 parts_reads s =
     reads (choice (is_mark mark_.RightParen) (done {May = Closes} (of_parts [] [] []))
-    (exactly (by_token (parts_behind s) (parts_arms s)
-    (λ p tokens more is. parts_begin s p.ins p.outs p.pars tokens more is.0 is.1) s))
+    (exactly (by_token s (parts_behind s) (parts_arms s)
+    (λ p tokens more is. parts_begin s p.ins p.outs p.pars tokens more is.0 is.1)))
     (λ u more within may. (may, ap (begins (is_mark mark_.RightParen)) may.1))
     (λ p more some may. (may, parts_open p.ins p.outs p.pars more some))) back (λ p more free. parts_of p.ins p.outs p.pars more) where
       back : (z : Unit {0} ⊎ HeadParts) (more : List Token) → Either (λ u more. Unit {0}) (λ p more. IsSome p) z more

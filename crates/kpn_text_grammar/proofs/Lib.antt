@@ -3,6 +3,7 @@ pub mod CanonicalLaws
 pub mod DeclarationLaws
 pub mod DescriptionLaws
 pub mod HeadLaws
+pub mod Lookahead
 pub mod ProcessLaws
 pub mod Readers
 pub mod NetworkLaws

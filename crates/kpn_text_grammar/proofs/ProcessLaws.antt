@@ -1,8 +1,7 @@
 -- Processes: what is read is spelled so, and what is spelled so is read.
-use Rattle.std.proofs.Common.{◌≡◌, ℕ, ◌<◌, List, ◌∷◌, length, Ok, refl, sym, ap, arith}
+use Rattle.std.proofs.Common.{◌<◌, List, ◌∷◌, length, refl, sym, ap, arith}
 use Rattle.std.specs.List.{AllByRecursion}
 use Rattle.kpn_text_tokens.specs.declared.tokens.Language.{Language}
-use Rattle.kpn_text_tokens.specs.declared.tokens.Lexeme.{Lexeme}
 use Rattle.kpn_text_tokens.specs.declared.tokens.Token.{Token}
 use Rattle.kpn_text_tokens.specs.declared.tokens.Token.TheVariants as token
 use Rattle.kpn_text_tokens.specs.declared.tokens.Mark.TheVariants as mark_
@@ -21,7 +20,7 @@ use Rattle.kpn_text_grammar.proofs.StatementLaws.{whole_body_reads, no_declarati
 abbrev ProcessOf : Language → ProcessNode → List Token → List Token → Type 0
 ProcessOf l p tokens more = SpellsProcess l p tokens more × ProcessIsWithin p
 
-process_reads : (s : Scope) → ReaderBy (ProcessOf s.language) Anything (process s)
+process_reads : (s : Scope) → ReaderBy s.end (ProcessOf s.language) Anything (process s)
 unfolding process
 process_reads s =
     reads_by (behind (this_keyword s keyword_.Process) (value (a_name s)
@@ -62,12 +61,12 @@ process_longer s p tokens more is =
     omega (
       arith,
       ap length is.0.head,
-      (parts_reads s).no_gap (record { ins = p.ins; outs = p.outs; pars = p.pars }) shut tt,
-      (declarations_reads s).no_gap p.declarations is.0.inside is.1.declarations,
-      (whole_body_reads s).no_gap (p.body, is.0.inside) more (is.0.body, is.1.body),
+      (parts_reads s).laws.no_gap (record { ins = p.ins; outs = p.outs; pars = p.pars }) shut tt,
+      (declarations_reads s).laws.no_gap p.declarations is.0.inside is.1.declarations,
+      (whole_body_reads s).laws.no_gap (p.body, is.0.inside) more (is.0.body, is.1.body),
     )
 
-pub process_ones : (s : Scope) → Elements {Z = ProcessNode × List Token} (is_keyword keyword_.Process) (λ z. z.0)
+pub process_ones : (s : Scope) → Elements {Z = ProcessNode × List Token} s.end (is_keyword keyword_.Process) (λ z. z.0)
     (λ z more. z.1) (λ z more. ProcessOf s.language z.0 z.1 more) (numbered_process s)
 unfolding numbered_process
 process_ones s = record {
@@ -77,7 +76,7 @@ process_ones s = record {
 }
 
 pub processes_reads : (s : Scope)
-    → ReaderBy (λ ps tokens more. SpellsAll (SpellsProcess s.language) ps tokens more × AllByRecursion ProcessIsWithin ps)
+    → ReaderBy s.end (λ ps tokens more. SpellsAll (SpellsProcess s.language) ps tokens more × AllByRecursion ProcessIsWithin ps)
     (Unless (is_keyword keyword_.Process)) (processes s)
 unfolding processes
 processes_reads s = each_by (SpellsProcess s.language) ProcessIsWithin (process_ones s) 0

@@ -1,6 +1,6 @@
 -- Readers in a row: the laws of a reader, and how the laws of its steps make them. A reader is a chain of steps, a choice
 -- by the token at the front, or a repetition, as `Reading` defines it.
-use Rattle.std.proofs.Common.{◌≡◌, ◌⊎◌, inl, inr, ℕ, zero, suc, ◌+◌, ◌<◌, ◌≤◌, Bool, true, false, cond, List, [], ◌∷◌, length, map, Option, Some, Result, Ok, Err, refl, sym, ap, subst, ◌∙◌, arith}
+use Rattle.std.proofs.Common.{◌≡◌, ◌⊎◌, inl, inr, ℕ, zero, suc, ◌+◌, ◌<◌, ◌≤◌, Bool, true, false, cond, List, [], ◌∷◌, length, map, Option, Some, None, Result, Ok, Err, refl, sym, ap, subst, ◌∙◌, arith}
 use Rattle.std.proofs.lemmas.List.{length-map}
 use Rattle.std.specs.List.{AllByRecursion}
 use Rattle.kpn_text_tokens.specs.declared.tokens.Lexeme.{Lexeme}
@@ -16,13 +16,14 @@ use Rattle.kpn_text_grammar.specs.Syntax.{NameBytes}
 use Rattle.kpn_text_grammar.specs.TokenTests.{is_mark}
 use Rattle.kpn_text_tokens.specs.Results.{and_then}
 use Rattle.kpn_text_grammar.specs.Reading.{Read, first_is, next, read_as, token_name, name, token_number, number, token_operator, operator, or_fault_at, many, further, separated}
+use Rattle.kpn_text_grammar.proofs.Lookahead.{Local, Looking, Starts, done_looks, deep_looks, bind_looks, step_looks, first_looks, pick_looks, first_reads, each_looks}
 use Rattle.kpn_text_grammar.proofs.Steps.{bind_ok, bound, by_test, found_is, kind_of, kinds_of, moved, next_takes, next_again, no_value, Passes, this_mark, token_operator_is, operator_back}
 
 -- ---- the laws of a reader
 
 -- What a reader returns is made of values z, which are spelled so, and what is spelled so it reads where these tokens may
 -- follow. What holds of the values may depend on the tokens behind them.
-pub record Row {Z Y : Type 0} (make : Z → Y) (spell : Z → List Token → List Token) (Within : Z → List Token → Type 0)
+pub record RowLaws {Z Y : Type 0} (make : Z → Y) (spell : Z → List Token → List Token) (Within : Z → List Token → Type 0)
     (May : List Token → Type 0) (one : List Lexeme → Read Y) : Type 0 where
   pub takes : (ls : List Lexeme) (y : Y) (rest : List Lexeme) → one ls ≡ Ok (y, rest)
       → (z : Z) × (make z ≡ y) × Within z (kinds rest) × (kinds ls ≡ spell z (kinds rest))
@@ -30,15 +31,21 @@ pub record Row {Z Y : Type 0} (make : Z → Y) (spell : Z → List Token → Lis
       → (rest : List Lexeme) × (one ls ≡ Ok (make z, rest)) × (kinds rest ≡ more)
   pub no_gap : (z : Z) (more : List Token) → Within z more → length more ≤ length (spell z more)
 
+-- the same, and how far it looks in a text of this length
+pub record Row {Z Y : Type 0} (end : ℕ) (make : Z → Y) (spell : Z → List Token → List Token)
+    (Within : Z → List Token → Type 0) (May : List Token → Type 0) (one : List Lexeme → Read Y) : Type 0 where
+  pub laws : RowLaws make spell Within May one
+  pub looks : Local end one
+
 -- a reader whose values are what it returns
-abbrev pub Reader : {A : Type 0} → (A → List Token → List Token) → (A → Type 0) → (List Token → Type 0)
+abbrev pub Reader : {A : Type 0} → ℕ → (A → List Token → List Token) → (A → Type 0) → (List Token → Type 0)
     → (List Lexeme → Read A) → Type 0
-Reader {A} spell Within May one = Row (λ (x : A). x) spell (λ x more. Within x) May one
+Reader {A} end spell Within May one = Row end (λ (x : A). x) spell (λ x more. Within x) May one
 
 -- a reader of things that may have many spellings: the values are a thing and its tokens
-abbrev pub ReaderBy : {A : Type 0} → (A → List Token → List Token → Type 0) → (List Token → Type 0)
+abbrev pub ReaderBy : {A : Type 0} → ℕ → (A → List Token → List Token → Type 0) → (List Token → Type 0)
     → (List Lexeme → Read A) → Type 0
-ReaderBy {A} Spells May one = Row {Z = A × List Token} (λ z. z.0) (λ z more. z.1) (λ z more. Spells z.0 z.1 more) May one
+ReaderBy {A} end Spells May one = Row {Z = A × List Token} end (λ z. z.0) (λ z more. z.1) (λ z more. Spells z.0 z.1 more) May one
 
 -- anything may follow; no limit
 abbrev pub Anything : List Token → Type 0
@@ -65,74 +72,83 @@ kinds_length ls = length-map ls (λ l. l.token)
 -- ---- chains
 
 -- the end of a chain
-pub done : {Y : Type 0} {May : List Token → Type 0} (v : Y)
-    → Row {Z = Unit {0}} (λ z. v) (λ z more. more) (λ z more. Unit {0}) May (λ ls. Ok (v, ls))
-done {Y} {May} v = record {
-  takes = λ ls y rest h.
-      moved (λ (p : Y × List Lexeme). (z : Unit {0}) × (v ≡ p.0) × Unit {0} × (kinds ls ≡ kinds p.1)) (v, ls) (y, rest) h
-      (tt, refl, tt, refl);
-  again = λ ls z more within may h. (ls, refl, h);
-  no_gap = λ z more within. omega arith;
+pub done : {Y : Type 0} {end : ℕ} {May : List Token → Type 0} (v : Y)
+    → Row {Z = Unit {0}} end (λ z. v) (λ z more. more) (λ z more. Unit {0}) May (λ ls. Ok (v, ls))
+done {Y} {end} {May} v = record {
+  laws = record {
+    takes = λ ls y rest h.
+        moved (λ (p : Y × List Lexeme). (z : Unit {0}) × (v ≡ p.0) × Unit {0} × (kinds ls ≡ kinds p.1)) (v, ls) (y, rest) h
+        (tt, refl, tt, refl);
+    again = λ ls z more within may h. (ls, refl, h);
+    no_gap = λ z more within. omega arith;
+  };
+  looks = done_looks v;
 }
 
 -- one token, and a chain behind it
-pub behind : {Z Y : Type 0} {make : Z → Y} {spell : Z → List Token → List Token} {Within : Z → List Token → Type 0}
-    {May : List Token → Type 0} {t : Token} {step : List Lexeme → Result (List Lexeme) GrammarFault}
-    {one : List Lexeme → Read Y} → Passes t step → Row make spell Within May one
-    → Row make (λ z more. t ∷ spell z more) Within May (λ ls. and_then (step ls) one)
-behind {Z} {Y} {make} {spell} {Within} {May} {t} {step} {one} first then = record {
-  takes = λ ls y rest h.
-      let b = bind_ok (step ls) one (y, rest) h in
-      let m = then.takes b.0 y rest b.2 in
-      (m.0, m.1, m.2, first.takes ls b.0 b.1 ∙ ap (λ (ts : List Token). t ∷ ts) m.3);
-  again = λ ls z more within may h.
-      let a = first.again ls (spell z more) h in
-      let b = then.again a.0 z more within may a.2 in
-      (b.0, bound (step ls) a.0 one (Ok (make z, b.0)) a.1 b.1, b.2);
-  no_gap = λ z more within. omega (arith, then.no_gap z more within);
+pub behind : {Z Y : Type 0} {end : ℕ} {make : Z → Y} {spell : Z → List Token → List Token} {Within : Z → List Token → Type 0}
+    {May : List Token → Type 0} {before : List Token → List Token} {step : List Lexeme → Result (List Lexeme) GrammarFault}
+    {one : List Lexeme → Read Y} → Passes end before step → Row end make spell Within May one
+    → Row end make (λ z more. before (spell z more)) Within May (λ ls. and_then (step ls) one)
+behind {Z} {Y} {end} {make} {spell} {Within} {May} {before} {step} {one} first then = record {
+  laws = record {
+    takes = λ ls y rest h.
+        let b = bind_ok (step ls) one (y, rest) h in
+        let m = then.laws.takes b.0 y rest b.2 in
+        (m.0, m.1, m.2, first.takes ls b.0 b.1 ∙ ap before m.3);
+    again = λ ls z more within may h.
+        let a = first.again ls (spell z more) h in
+        let b = then.laws.again a.0 z more within may a.2 in
+        (b.0, bound (step ls) a.0 one (Ok (make z, b.0)) a.1 b.1, b.2);
+    no_gap = λ z more within. omega (arith, first.no_gap (spell z more), then.laws.no_gap z more within);
+  };
+  looks = step_looks first.looks then.looks;
 }
 
 -- a step that reads a value, and the others behind it
-pub bind : {A X Z Y : Type 0} {make_first : A → X} {spell_first : A → List Token → List Token}
+pub bind : {A X Z Y : Type 0} {end : ℕ} {make_first : A → X} {spell_first : A → List Token → List Token}
     {First : A → List Token → Type 0} {MayFirst : List Token → Type 0} {first : List Lexeme → Read X} {make : X → Z → Y}
     {spell : Z → List Token → List Token} {Within : X → Z → List Token → Type 0} {May : List Token → Type 0}
     {one : X → List Lexeme → Read Y}
-    → Row make_first spell_first First MayFirst first → ((x : X) → Row (make x) spell (Within x) May (one x))
+    → Row end make_first spell_first First MayFirst first → ((x : X) → Row end (make x) spell (Within x) May (one x))
     → ((x : X) (z : Z) (more : List Token) → Within x z more → May more → MayFirst (spell z more))
-    → Row {Z = A × Z} (λ z. make (make_first z.0) z.1) (λ z more. spell_first z.0 (spell z.1 more))
+    → Row {Z = A × Z} end (λ z. make (make_first z.0) z.1) (λ z more. spell_first z.0 (spell z.1 more))
     (λ z more. First z.0 (spell z.1 more) × Within (make_first z.0) z.1 more) May
     (λ ls. and_then (first ls) (λ x. one x.0 x.1))
-bind {A} {X} {Z} {Y} {make_first} {spell_first} {First} {MayFirst} {first} {make} {spell} {Within} {May} {one} head then
+bind {A} {X} {Z} {Y} {end} {make_first} {spell_first} {First} {MayFirst} {first} {make} {spell} {Within} {May} {one} head then
     follows = record {
-      takes = λ ls y rest h.
-          let b = bind_ok (first ls) (λ (x : X × List Lexeme). one x.0 x.1) (y, rest) h in
-          let f = head.takes ls b.0.0 b.0.1 b.1 in
-          let m = (then b.0.0).takes b.0.1 y rest b.2 in (
-            (f.0, m.0),
-            ap (λ (x : X). make x m.0) f.1 ∙ m.1,
-            (subst (First f.0) m.3 f.2, subst (λ (x : X). Within x m.0 (kinds rest)) (sym f.1) m.2),
-            f.3 ∙ ap (spell_first f.0) m.3,
-          );
-      again = λ ls z more within may h.
-          let x = make_first z.0 in
-          let f = head.again ls z.0 (spell z.1 more) within.0 (follows x z.1 more within.1 may) h in
-          let m = (then x).again f.0 z.1 more within.1 may f.2 in
-          (m.0, bound (first ls) (x, f.0) (λ (x : X × List Lexeme). one x.0 x.1) (Ok (make x z.1, m.0)) f.1 m.1, m.2);
-      no_gap = λ z more within.
-          omega (
-            arith,
-            head.no_gap z.0 (spell z.1 more) within.0,
-            (then (make_first z.0)).no_gap z.1 more within.1,
-          );
+      laws = record {
+        takes = λ ls y rest h.
+            let b = bind_ok (first ls) (λ (x : X × List Lexeme). one x.0 x.1) (y, rest) h in
+            let f = head.laws.takes ls b.0.0 b.0.1 b.1 in
+            let m = (then b.0.0).laws.takes b.0.1 y rest b.2 in (
+              (f.0, m.0),
+              ap (λ (x : X). make x m.0) f.1 ∙ m.1,
+              (subst (First f.0) m.3 f.2, subst (λ (x : X). Within x m.0 (kinds rest)) (sym f.1) m.2),
+              f.3 ∙ ap (spell_first f.0) m.3,
+            );
+        again = λ ls z more within may h.
+            let x = make_first z.0 in
+            let f = head.laws.again ls z.0 (spell z.1 more) within.0 (follows x z.1 more within.1 may) h in
+            let m = (then x).laws.again f.0 z.1 more within.1 may f.2 in
+            (m.0, bound (first ls) (x, f.0) (λ (x : X × List Lexeme). one x.0 x.1) (Ok (make x z.1, m.0)) f.1 m.1, m.2);
+        no_gap = λ z more within.
+            omega (
+              arith,
+              head.laws.no_gap z.0 (spell z.1 more) within.0,
+              (then (make_first z.0)).laws.no_gap z.1 more within.1,
+            );
+      };
+      looks = bind_looks head.looks (λ x. (then x).looks);
     }
 
 -- the same where anything may stand behind its value
-pub value : {A X Z Y : Type 0} {make_first : A → X} {spell_first : A → List Token → List Token}
+pub value : {A X Z Y : Type 0} {end : ℕ} {make_first : A → X} {spell_first : A → List Token → List Token}
     {First : A → List Token → Type 0} {first : List Lexeme → Read X} {make : X → Z → Y}
     {spell : Z → List Token → List Token} {Within : Z → List Token → Type 0} {May : List Token → Type 0}
     {one : X → List Lexeme → Read Y}
-    → Row make_first spell_first First Anything first → ((x : X) → Row (make x) spell Within May (one x))
-    → Row {Z = A × Z} (λ z. make (make_first z.0) z.1) (λ z more. spell_first z.0 (spell z.1 more))
+    → Row end make_first spell_first First Anything first → ((x : X) → Row end (make x) spell Within May (one x))
+    → Row {Z = A × Z} end (λ z. make (make_first z.0) z.1) (λ z more. spell_first z.0 (spell z.1 more))
     (λ z more. First z.0 (spell z.1 more) × Within z.1 more) May (λ ls. and_then (first ls) (λ x. one x.0 x.1))
 value head then = bind head then (λ x z more within may. tt)
 
@@ -144,34 +160,37 @@ abbrev pub As : {Z W Y : Type 0} → (Z → Y) → (Z → List Token → List To
 As {W = W} make spell other spell_other Other z more =
     (w : W) × (other w ≡ make z) × Other w more × (spell_other w more ≡ spell z more)
 
-pub recast : {Z W Y : Type 0} {make : Z → Y} {spell : Z → List Token → List Token} {Within : Z → List Token → Type 0}
+pub recast : {Z W Y : Type 0} {end : ℕ} {make : Z → Y} {spell : Z → List Token → List Token} {Within : Z → List Token → Type 0}
     {May : List Token → Type 0} {one : List Lexeme → Read Y} {other : W → Y} {spell_other : W → List Token → List Token}
-    {Other : W → List Token → Type 0} → Row make spell Within May one
+    {Other : W → List Token → Type 0} → Row end make spell Within May one
     → ((z : Z) (more : List Token) → Within z more → As make spell other spell_other Other z more)
     → ((w : W) (more : List Token) → Other w more → As other spell_other make spell Within w more)
-    → Row other spell_other Other May one
-recast {Z} {W} {Y} {make} {spell} {Within} {May} {one} {other} {spell_other} {Other} row there back = record {
-  takes = λ ls y rest h.
-      let t = row.takes ls y rest h in
-      let w = there t.0 (kinds rest) t.2 in
-      (w.0, w.1 ∙ t.1, w.2, t.3 ∙ sym w.3);
-  again = λ ls w more within may h.
-      let z = back w more within in
-      let a = row.again ls z.0 more z.2 may (h ∙ sym z.3) in
-      (a.0, subst (λ (v : Y). one ls ≡ Ok (v, a.0)) z.1 a.1, a.2);
-  no_gap = λ w more within.
-      let z = back w more within in
-      subst (λ (ts : List Token). length more ≤ length ts) z.3 (row.no_gap z.0 more z.2);
+    → Row end other spell_other Other May one
+recast {Z} {W} {Y} {end} {make} {spell} {Within} {May} {one} {other} {spell_other} {Other} row there back = record {
+  laws = record {
+    takes = λ ls y rest h.
+        let t = row.laws.takes ls y rest h in
+        let w = there t.0 (kinds rest) t.2 in
+        (w.0, w.1 ∙ t.1, w.2, t.3 ∙ sym w.3);
+    again = λ ls w more within may h.
+        let z = back w more within in
+        let a = row.laws.again ls z.0 more z.2 may (h ∙ sym z.3) in
+        (a.0, subst (λ (v : Y). one ls ≡ Ok (v, a.0)) z.1 a.1, a.2);
+    no_gap = λ w more within.
+        let z = back w more within in
+        subst (λ (ts : List Token). length more ≤ length ts) z.3 (row.laws.no_gap z.0 more z.2);
+  };
+  looks = row.looks;
 }
 
 -- the values as the parts of what is read
-pub reads : {Z Y : Type 0} {make : Z → Y} {spell : Z → List Token → List Token} {Within : Z → List Token → Type 0}
+pub reads : {Z Y : Type 0} {end : ℕ} {make : Z → Y} {spell : Z → List Token → List Token} {Within : Z → List Token → Type 0}
     {May : List Token → Type 0} {one : List Lexeme → Read Y} {spell_made : Y → List Token → List Token} {Made : Y → Type 0}
-    → Row make spell Within May one
+    → Row end make spell Within May one
     → ((z : Z) (more : List Token) → Within z more → Made (make z) × (spell z more ≡ spell_made (make z) more))
     → ((y : Y) (more : List Token) → Made y → (z : Z) × (make z ≡ y) × Within z more)
-    → Reader spell_made Made May one
-reads {Z} {Y} {make} {spell} {Within} {May} {one} {spell_made} {Made} row back parts =
+    → Reader end spell_made Made May one
+reads {Z} {Y} {end} {make} {spell} {Within} {May} {one} {spell_made} {Made} row back parts =
     recast row
     (λ z more within. let is = back z more within in (make z, refl, is.0, sym is.1))
     (λ y more within.
@@ -179,47 +198,56 @@ reads {Z} {Y} {make} {spell} {Within} {May} {one} {spell_made} {Made} row back p
     (p.0, p.1, p.2, (back p.0 more p.2).1 ∙ ap (λ (v : Y). spell_made v more) p.1))
 
 -- the same where it may have many spellings
-pub reads_by : {Z Y : Type 0} {make : Z → Y} {spell : Z → List Token → List Token} {Within : Z → List Token → Type 0}
+pub reads_by : {Z Y : Type 0} {end : ℕ} {make : Z → Y} {spell : Z → List Token → List Token} {Within : Z → List Token → Type 0}
     {May : List Token → Type 0} {one : List Lexeme → Read Y} {Spells : Y → List Token → List Token → Type 0}
-    → Row make spell Within May one
+    → Row end make spell Within May one
     → ((z : Z) (more : List Token) → Within z more → Spells (make z) (spell z more) more)
     → ((y : Y) (tokens more : List Token) → Spells y tokens more
     → (z : Z) × (make z ≡ y) × Within z more × (spell z more ≡ tokens))
-    → ReaderBy Spells May one
-reads_by {Z} {Y} {make} {spell} {Within} {May} {one} {Spells} row back parts =
+    → ReaderBy end Spells May one
+reads_by {Z} {Y} {end} {make} {spell} {Within} {May} {one} {Spells} row back parts =
     recast row (λ z more within. ((make z, spell z more), refl, back z more within, refl))
     (λ y more within. parts y.0 y.1 more within)
 
 -- what is made of the value of one reader
-pub mapped : {Z X Y : Type 0} {make : Z → X} {spell : Z → List Token → List Token} {Within : Z → List Token → Type 0}
-    {MayFirst May : List Token → Type 0} {one : List Lexeme → Read X} (to : X → Y) → Row make spell Within MayFirst one
+pub mapped : {Z X Y : Type 0} {end : ℕ} {make : Z → X} {spell : Z → List Token → List Token} {Within : Z → List Token → Type 0}
+    {MayFirst May : List Token → Type 0} {one : List Lexeme → Read X} (to : X → Y) → Row end make spell Within MayFirst one
     → ((more : List Token) → May more → MayFirst more)
-    → Row (λ z. to (make z)) spell Within May (λ ls. and_then (one ls) (λ x. Ok (to x.0, x.1)))
+    → Row end (λ z. to (make z)) spell Within May (λ ls. and_then (one ls) (λ x. Ok (to x.0, x.1)))
 mapped to row follows =
     recast (bind row (λ x. done (to x)) (λ x z more within may. follows more may))
     (λ z more within. (z.0, refl, within.0, refl)) (λ z more within. ((z, tt), refl, (within, tt), refl))
 
 -- ---- one token
 
+token_looks : {A : Type 0} (end start : ℕ) (found : Option A)
+    → Starts end start (λ ls. or_fault_at start ls found)
+token_looks end start (Some x) = inl (done_looks x)
+token_looks end start None = inr (λ ls. refl)
+
 -- a token that stands for something
 pub a_token : {A : Type 0} {Within : A → Type 0} (s : Scope) (what : Token → Option A) (spelled : A → Token)
     → ((t : Token) (x : A) → what t ≡ Some x → (t ≡ spelled x) × Within x)
     → ((x : A) → Within x → what (spelled x) ≡ Some x)
-    → Reader (λ x more. spelled x ∷ more) Within Anything (read_as what s)
+    → Reader s.end (λ x more. spelled x ∷ more) Within Anything (read_as what s)
 unfolding read_as
 a_token {A} {Within} s what spelled means found = record {
-  takes = λ ls x rest h.
-      let b = bind_ok (next s ls) (λ (l : Lexeme × List Lexeme). or_fault_at l.0.start l.1 (what l.0.token)) (x, rest) h in
-      let f = found_is (what b.0.0.token) b.0.0.start b.0.1 x rest b.2 in
-      let is = means b.0.0.token x f.0 in (
-        x,
-        refl,
-        is.1,
-        ap kinds (next_takes s ls b.0.0 b.0.1 b.1) ∙ ap (λ (t : Token). t ∷ kinds b.0.1) is.0
-            ∙ ap (λ (r : List Lexeme). spelled x ∷ kinds r) f.1,
-      );
-  again = again;
-  no_gap = λ x more within. omega arith;
+  laws = record {
+    takes = λ ls x rest h.
+        let b = bind_ok (next s ls) (λ (l : Lexeme × List Lexeme). or_fault_at l.0.start l.1 (what l.0.token)) (x, rest) h in
+        let f = found_is (what b.0.0.token) b.0.0.start b.0.1 x rest b.2 in
+        let is = means b.0.0.token x f.0 in (
+          x,
+          refl,
+          is.1,
+          ap kinds (next_takes s ls b.0.0 b.0.1 b.1) ∙ ap (λ (t : Token). t ∷ kinds b.0.1) is.0
+              ∙ ap (λ (r : List Lexeme). spelled x ∷ kinds r) f.1,
+        );
+    again = again;
+    no_gap = λ x more within. omega arith;
+  };
+  looks = first_reads s (λ l ls. or_fault_at l.start ls (what l.token))
+      (λ l. token_looks s.end l.start (what l.token));
 } where
   again : (ls : List Lexeme) (x : A) (more : List Token) → Within x → Anything more → kinds ls ≡ spelled x ∷ more
       → (rest : List Lexeme)
@@ -256,12 +284,13 @@ test : {A : Type 0} (b : Bool) (x y z : A) → b ≡ true → x ≡ z → cond b
 test b x y z h e = rw h e
 
 -- One reader or another, by a test. What holds of the values may tell what the test found.
-pub choose : {Z W Y : Type 0} (picks : List Lexeme → Bool) {make_one : Z → Y} {spell_one : Z → List Token → List Token}
+pub choose : {Z W Y : Type 0} {end : ℕ} (picks : List Lexeme → Bool) (looking : Looking picks)
+    {make_one : Z → Y} {spell_one : Z → List Token → List Token}
     {One : Z → List Token → Type 0} {MayOne : List Token → Type 0} {one : List Lexeme → Read Y} {make_other : W → Y}
     {spell_other : W → List Token → List Token} {Other : W → List Token → Type 0} {MayOther : List Token → Type 0}
     {other : List Lexeme → Read Y} {May : List Token → Type 0} (First : Z → List Token → Type 0)
     (Second : W → List Token → Type 0)
-    → Row make_one spell_one One MayOne one → Row make_other spell_other Other MayOther other
+    → Row end make_one spell_one One MayOne one → Row end make_other spell_other Other MayOther other
     → ((ls : List Lexeme) (z : Z) (more : List Token) → picks ls ≡ true → kinds ls ≡ spell_one z more → One z more
     → First z more)
     → ((ls : List Lexeme) (w : W) (more : List Token) → picks ls ≡ false → kinds ls ≡ spell_other w more → Other w more
@@ -272,46 +301,49 @@ pub choose : {Z W Y : Type 0} (picks : List Lexeme → Bool) {make_one : Z → Y
     → (picks ls ≡ false) × Other w more × MayOther more)
     → ((z : Z) (more : List Token) → First z more → One z more)
     → ((w : W) (more : List Token) → Second w more → Other w more)
-    → Row (either make_one make_other) (spell_either spell_one spell_other) (Either First Second) May
+    → Row end (either make_one make_other) (spell_either spell_one spell_other) (Either First Second) May
     (λ ls. cond (picks ls) (one ls) (other ls))
-choose {Z} {W} {Y} picks {make_one} {spell_one} {One} {MayOne} {one} {make_other} {spell_other} {Other} {MayOther} {other}
-    {May} First Second first second picked passed pick pass as_one as_other = record {
-      takes = λ ls y rest h.
-          by_test (picks ls) (one ls) (other ls) (Ok (y, rest)) h
-          (λ b e. let t = first.takes ls y rest e in (inl t.0, t.1, picked ls t.0 (kinds rest) b t.3 t.2, t.3))
-          (λ b e. let t = second.takes ls y rest e in (inr t.0, t.1, passed ls t.0 (kinds rest) b t.3 t.2, t.3));
-      again = λ ls z more within may h. chosen ls more may z within h;
-      no_gap = λ z more within. gapless more z within;
+choose {Z} {W} {Y} {end} picks looking {make_one} {spell_one} {One} {MayOne} {one} {make_other} {spell_other} {Other}
+    {MayOther} {other} {May} First Second first second picked passed pick pass as_one as_other = record {
+      laws = record {
+        takes = λ ls y rest h.
+            by_test (picks ls) (one ls) (other ls) (Ok (y, rest)) h
+            (λ b e. let t = first.laws.takes ls y rest e in (inl t.0, t.1, picked ls t.0 (kinds rest) b t.3 t.2, t.3))
+            (λ b e. let t = second.laws.takes ls y rest e in (inr t.0, t.1, passed ls t.0 (kinds rest) b t.3 t.2, t.3));
+        again = λ ls z more within may h. chosen ls more may z within h;
+        no_gap = λ z more within. gapless more z within;
+      };
+      looks = pick_looks picks looking first.looks second.looks;
     } where
       chosen : (ls : List Lexeme) (more : List Token) → May more → (z : Z ⊎ W) → Either First Second z more
           → kinds ls ≡ spell_either spell_one spell_other z more → (rest : List Lexeme)
           × (cond (picks ls) (one ls) (other ls) ≡ Ok (either make_one make_other z, rest)) × (kinds rest ≡ more)
       chosen ls more may (inl z) within h =
           let at = pick ls z more h within may in
-          let a = first.again ls z more at.1 at.2 h in
+          let a = first.laws.again ls z more at.1 at.2 h in
           (a.0, test (picks ls) (one ls) (other ls) (Ok (make_one z, a.0)) at.0 a.1, a.2)
       chosen ls more may (inr w) within h =
           let at = pass ls w more h within may in
-          let a = second.again ls w more at.1 at.2 h in
+          let a = second.laws.again ls w more at.1 at.2 h in
           (a.0, no_test (picks ls) (one ls) (other ls) (Ok (make_other w, a.0)) at.0 a.1, a.2)
 
       gapless : (more : List Token) (z : Z ⊎ W) → Either First Second z more
           → length more ≤ length (spell_either spell_one spell_other z more)
-      gapless more (inl z) within = first.no_gap z more (as_one z more within)
-      gapless more (inr w) within = second.no_gap w more (as_other w more within)
+      gapless more (inl z) within = first.laws.no_gap z more (as_one z more within)
+      gapless more (inr w) within = second.laws.no_gap w more (as_other w more within)
 
 -- the same by the token at the front
-pub choice : {Z W Y : Type 0} (goes : Token → Bool) {make_one : Z → Y} {spell_one : Z → List Token → List Token}
+pub choice : {Z W Y : Type 0} {end : ℕ} (goes : Token → Bool) {make_one : Z → Y} {spell_one : Z → List Token → List Token}
     {One : Z → List Token → Type 0} {MayOne : List Token → Type 0} {one : List Lexeme → Read Y} {make_other : W → Y}
     {spell_other : W → List Token → List Token} {Other : W → List Token → Type 0} {MayOther : List Token → Type 0}
     {other : List Lexeme → Read Y} {May : List Token → Type 0}
-    → Row make_one spell_one One MayOne one → Row make_other spell_other Other MayOther other
+    → Row end make_one spell_one One MayOne one → Row end make_other spell_other Other MayOther other
     → ((z : Z) (more : List Token) → One z more → May more → MayOne more × (begins goes (spell_one z more) ≡ true))
     → ((w : W) (more : List Token) → Other w more → May more → MayOther more × (begins goes (spell_other w more) ≡ false))
-    → Row (either make_one make_other) (spell_either spell_one spell_other) (Either One Other) May
+    → Row end (either make_one make_other) (spell_either spell_one spell_other) (Either One Other) May
     (λ ls. cond (first_is goes ls) (one ls) (other ls))
 choice goes {One = One} {Other = Other} first second at_one at_other =
-    choose (first_is goes) One Other first second (λ ls z more b h is. is) (λ ls w more b h is. is)
+    choose (first_is goes) (first_looks goes) One Other first second (λ ls z more b h is. is) (λ ls w more b h is. is)
     (λ ls z more h is may.
     let at = at_one z more is may in (first_begins goes ls ∙ ap (begins goes) h ∙ at.1, is, at.0))
     (λ ls w more h is may.
@@ -319,26 +351,29 @@ choice goes {One = One} {Other = Other} first second at_one at_other =
     (λ z more is. is) (λ w more is. is)
 
 -- a reader behind a test that must fail
-pub guarded : {Z Y : Type 0} (stops : Bool) (e : GrammarFault) {make : Z → Y} {spell : Z → List Token → List Token}
+pub guarded : {Z Y : Type 0} {end : ℕ} (stops : Bool) (process : ℕ) {make : Z → Y} {spell : Z → List Token → List Token}
     {Within : Z → List Token → Type 0} {May : List Token → Type 0} {one : List Lexeme → Read Y}
-    → Row make spell Within May one
-    → Row make spell (λ z more. (stops ≡ false) × Within z more) May (λ ls. cond stops (Err e) (one ls))
-guarded {Y = Y} stops e {make} {one = one} row = record {
-  takes = λ ls y rest h.
-      by_test stops (Err e) (one ls) (Ok (y, rest)) h (λ _ k. absurd (no_value {A = Y × List Lexeme} e (y, rest) k))
-      (λ b k. let t = row.takes ls y rest k in (t.0, t.1, (b, t.2), t.3));
-  again = λ ls z more within may h.
-      let a = row.again ls z more within.1 may h in
-      (a.0, no_test stops (Err e) (one ls) (Ok (make z, a.0)) within.0 a.1, a.2);
-  no_gap = λ z more within. row.no_gap z more within.1;
+    → Row end make spell Within May one
+    → Row end make spell (λ z more. (stops ≡ false) × Within z more) May (λ ls. cond stops (Err (fault.TooDeep process)) (one ls))
+guarded {Y = Y} stops process {make} {one = one} row = record {
+  laws = record {
+    takes = λ ls y rest h.
+        by_test stops (Err (fault.TooDeep process)) (one ls) (Ok (y, rest)) h
+        (λ _ k. absurd (no_value {A = Y × List Lexeme} (fault.TooDeep process) (y, rest) k)) (λ b k. let t = row.laws.takes ls y rest k in (t.0, t.1, (b, t.2), t.3));
+    again = λ ls z more within may h.
+        let a = row.laws.again ls z more within.1 may h in
+        (a.0, no_test stops (Err (fault.TooDeep process)) (one ls) (Ok (make z, a.0)) within.0 a.1, a.2);
+    no_gap = λ z more within. row.laws.no_gap z more within.1;
+  };
+  looks = pick_looks (λ ls. stops) (λ ls other h. refl) deep_looks row.looks;
 }
 
 -- the same, or nothing, which makes this
-pub optional : {Z Y : Type 0} (goes : Token → Bool) {make : Z → Y} {spell : Z → List Token → List Token}
+pub optional : {Z Y : Type 0} {end : ℕ} (goes : Token → Bool) {make : Z → Y} {spell : Z → List Token → List Token}
     {Within : Z → List Token → Type 0} {May : List Token → Type 0} {one : List Lexeme → Read Y} {Then : List Token → Type 0}
-    → (v : Y) → Row make spell Within May one → ((more : List Token) → Then more → May more × Unless goes more)
+    → (v : Y) → Row end make spell Within May one → ((more : List Token) → Then more → May more × Unless goes more)
     → ((z : Z) (more : List Token) → Within z more → begins goes (spell z more) ≡ true)
-    → Row (either make (λ (z : Unit {0}). v)) (spell_either spell (λ z more. more)) (Either Within (λ z more. Unit {0})) Then
+    → Row end (either make (λ (z : Unit {0}). v)) (spell_either spell (λ z more. more)) (Either Within (λ z more. Unit {0})) Then
     (λ ls. cond (first_is goes ls) (one ls) (Ok (v, ls)))
 optional goes v row ends starts =
     choice goes row (done v) (λ z more within then. ((ends more then).0, starts z more within))
@@ -348,15 +383,15 @@ optional goes v row ends starts =
 abbrev pub Some_of : {A : Type 0} → List A → Type 0
 Some_of xs = 0 < length xs
 
-pub maybe_some : {A Y : Type 0} (goes : Token → Bool) {make : List A → Y} {spell : List A → List Token → List Token}
+pub maybe_some : {A Y : Type 0} {end : ℕ} (goes : Token → Bool) {make : List A → Y} {spell : List A → List Token → List Token}
     {May : List Token → Type 0} {one : List Lexeme → Read Y} {Then : List Token → Type 0}
-    (spell_any : List A → List Token → List Token) → Row make spell (λ xs more. Some_of xs) May one
+    (spell_any : List A → List Token → List Token) → Row end make spell (λ xs more. Some_of xs) May one
     → ((more : List Token) → Then more → May more × Unless goes more)
     → ((x : A) (xs : List A) (more : List Token) → begins goes (spell (x ∷ xs) more) ≡ true)
     → ((more : List Token) → spell_any [] more ≡ more)
     → ((x : A) (xs : List A) (more : List Token) → spell_any (x ∷ xs) more ≡ spell (x ∷ xs) more)
-    → Row make spell_any (λ xs more. Unit {0}) Then (λ ls. cond (first_is goes ls) (one ls) (Ok (make [], ls)))
-maybe_some {A} {Y} goes {make} {spell} {May} {one} {Then} spell_any row ends starts none some =
+    → Row end make spell_any (λ xs more. Unit {0}) Then (λ ls. cond (first_is goes ls) (one ls) (Ok (make [], ls)))
+maybe_some {A} {Y} {end} goes {make} {spell} {May} {one} {Then} spell_any row ends starts none some =
     recast (optional goes (make []) row ends begun) there back where
       begun : (xs : List A) (more : List Token) → Some_of xs → begins goes (spell xs more) ≡ true
       begun [] more within = absurd (omega (arith, within))
@@ -377,71 +412,96 @@ maybe_some {A} {Y} goes {make} {spell} {May} {one} {Then} spell_any row ends sta
 -- ---- by the first token
 
 -- What is read behind this token, which begins at any byte: the token and a row spell a thing.
-pub record Arm {A : Type 0} (Spells : A → List Token → List Token → Type 0) (May : List Token → Type 0) (t : Token)
+pub record Arm {A : Type 0} (end : ℕ) (Spells : A → List Token → List Token → Type 0) (May : List Token → Type 0) (t : Token)
     (from : ℕ → List Lexeme → Read A) : Type 1 where
   pub Value : Type 0
   pub make : Value → A
   pub spell : Value → List Token → List Token
   pub Within : Value → List Token → Type 0
-  pub row : (start : ℕ) → Row make spell Within May (from start)
+  pub laws : (start : ℕ) → RowLaws make spell Within May (from start)
+  pub looks : (start : ℕ) → Starts end start (from start)
   pub back : (z : Value) (more : List Token) → Within z more → Spells (make z) (t ∷ spell z more) more
 
-abbrev pub arm : {A Z : Type 0} {Spells : A → List Token → List Token → Type 0} {May : List Token → Type 0}
+abbrev pub arm : {A Z : Type 0} {end : ℕ} {Spells : A → List Token → List Token → Type 0} {May : List Token → Type 0}
     {t : Token} {from : ℕ → List Lexeme → Read A} {make : Z → A} {spell : Z → List Token → List Token}
-    {Within : Z → List Token → Type 0} → ((start : ℕ) → Row make spell Within May (from start))
+    {Within : Z → List Token → Type 0} → ((start : ℕ) → Row end make spell Within May (from start))
     → ((z : Z) (more : List Token) → Within z more → Spells (make z) (t ∷ spell z more) more)
-    → Arm Spells May t from
-arm {A} {Z} {Spells} {May} {t} {from} {make} {spell} {Within} row back =
-    record { Value = Z; make = make; spell = spell; Within = Within; row = row; back = back }
+    → Arm end Spells May t from
+arm {A} {Z} {end} {Spells} {May} {t} {from} {make} {spell} {Within} row back = record {
+  Value = Z;
+  make = make;
+  spell = spell;
+  Within = Within;
+  laws = λ start. (row start).laws;
+  looks = λ start. inl (row start).looks;
+  back = back;
+}
 
 -- no thing begins with this token
-abbrev pub no_arm : {A : Type 0} {Spells : A → List Token → List Token → Type 0} {May : List Token → Type 0} {t : Token}
-    → Arm {A = A} Spells May t (λ start ls. Err (fault.Grammar start))
-no_arm {A} {Spells} {May} {t} = record {
+abbrev pub no_arm : {A : Type 0} {end : ℕ} {Spells : A → List Token → List Token → Type 0} {May : List Token → Type 0} {t : Token}
+    → Arm {A = A} end Spells May t (λ start ls. Err (fault.Grammar start))
+no_arm {A} {end} {Spells} {May} {t} = record {
   Value = ⊥;
   make = λ z. absurd z;
   spell = λ z more. more;
   Within = λ z more. ⊥;
-  row = λ start. record {
+  laws = λ start. record {
     takes = λ ls y rest h. absurd (no_value (fault.Grammar start) (y, rest) h);
     again = λ ls z more within may h. absurd within;
     no_gap = λ z more within. absurd within;
   };
+  looks = λ start. inr (λ ls. refl);
   back = λ z more within. absurd within;
 }
 
 -- the same by another spelling
-abbrev pub rearm : {A : Type 0} {Of Spells : A → List Token → List Token → Type 0} {May : List Token → Type 0} {t : Token}
-    {from : ℕ → List Lexeme → Read A} → Arm Of May t from
-    → ((x : A) (tokens more : List Token) → Of x tokens more → Spells x tokens more) → Arm Spells May t from
+abbrev pub rearm : {A : Type 0} {end : ℕ} {Of Spells : A → List Token → List Token → Type 0} {May : List Token → Type 0} {t : Token}
+    {from : ℕ → List Lexeme → Read A} → Arm end Of May t from
+    → ((x : A) (tokens more : List Token) → Of x tokens more → Spells x tokens more) → Arm end Spells May t from
 rearm {t = t} a same = record {
   Value = a.Value;
   make = a.make;
   spell = a.spell;
   Within = a.Within;
-  row = a.row;
+  laws = a.laws;
+  looks = a.looks;
   back = λ z more within. same (a.make z) (t ∷ a.spell z more) more (a.back z more within);
 }
 
-module _ {A : Type 0} {Spells : A → List Token → List Token → Type 0} {May : List Token → Type 0}
-    (from : Token → ℕ → List Lexeme → Read A) (arms : (t : Token) → Arm Spells May t (from t)) where
+module _ {A : Type 0} {end : ℕ} {Spells : A → List Token → List Token → Type 0} {May : List Token → Type 0}
+    (from : Token → ℕ → List Lexeme → Read A) (arms : (t : Token) → Arm end Spells May t (from t)) where
+  -- a thing by its first token and the values behind it
+  abbrev pub Begun : A → List Token → List Token → Type 0
+  Begun x tokens more = (z : (t : Token) × (arms t).Value) × ((arms z.0).make z.1 ≡ x) × (arms z.0).Within z.1 more
+      × (z.0 ∷ (arms z.0).spell z.1 more ≡ tokens)
+
+  pub token_longer : ((x : A) (tokens more : List Token) → Spells x tokens more → Begun x tokens more) → (x : A)
+      (tokens more : List Token) → Spells x tokens more → length more < length tokens
+  token_longer parts x tokens more is =
+      let p = parts x tokens more is in
+      omega (arith, ap length p.3, ((arms p.0.0).laws 0).no_gap p.0.1 more p.2)
+
+module _ {A : Type 0} {Spells : A → List Token → List Token → Type 0} {May : List Token → Type 0} (s : Scope)
+    (from : Token → ℕ → List Lexeme → Read A) (arms : (t : Token) → Arm s.end Spells May t (from t)) where
   -- by the first token and the values behind it
-  pub first_token : (s : Scope)
-      → Row {Z = (t : Token) × (arms t).Value} (λ z. (arms z.0).make z.1) (λ z more. z.0 ∷ (arms z.0).spell z.1 more)
+  pub first_token : Row {Z = (t : Token) × (arms t).Value} s.end (λ z. (arms z.0).make z.1) (λ z more. z.0 ∷ (arms z.0).spell z.1 more)
       (λ z more. (arms z.0).Within z.1 more) May
       (λ ls. and_then (next s ls) (λ l. from l.0.token l.0.start l.1))
-  first_token s = record {
-    takes = λ ls x rest h.
-        let f = bind_ok (next s ls) (λ (l : Lexeme × List Lexeme). from l.0.token l.0.start l.1) (x, rest) h in
-        let r = ((arms f.0.0.token).row f.0.0.start).takes f.0.1 x rest f.2 in (
-          (f.0.0.token, r.0),
-          r.1,
-          r.2,
-          ap kinds (next_takes s ls f.0.0 f.0.1 f.1)
-              ∙ ap (λ (ts : List Token). f.0.0.token ∷ ts) r.3,
-        );
-    again = again;
-    no_gap = λ z more within. omega (arith, ((arms z.0).row 0).no_gap z.1 more within);
+  first_token = record {
+    laws = record {
+      takes = λ ls x rest h.
+          let f = bind_ok (next s ls) (λ (l : Lexeme × List Lexeme). from l.0.token l.0.start l.1) (x, rest) h in
+          let r = ((arms f.0.0.token).laws f.0.0.start).takes f.0.1 x rest f.2 in (
+            (f.0.0.token, r.0),
+            r.1,
+            r.2,
+            ap kinds (next_takes s ls f.0.0 f.0.1 f.1)
+                ∙ ap (λ (ts : List Token). f.0.0.token ∷ ts) r.3,
+          );
+      again = again;
+      no_gap = λ z more within. omega (arith, ((arms z.0).laws 0).no_gap z.1 more within);
+    };
+    looks = first_reads s (λ l ls. from l.token l.start ls) (λ l. (arms l.token).looks l.start);
   } where
     again : (ls : List Lexeme) (z : (t : Token) × (arms t).Value) (more : List Token) → (arms z.0).Within z.1 more
         → May more → kinds ls ≡ z.0 ∷ (arms z.0).spell z.1 more → (rest : List Lexeme)
@@ -449,7 +509,7 @@ module _ {A : Type 0} {Spells : A → List Token → List Token → Type 0} {May
     again [] z more within may h = absurd cc
     again (l ∷ ls) z more within may h =
         let behind_it = (arms z.0).spell z.1 more in
-        let a = ((arms z.0).row l.start).again ls z.1 more within may (kinds_of l ls z.0 behind_it h) in (
+        let a = ((arms z.0).laws l.start).again ls z.1 more within may (kinds_of l ls z.0 behind_it h) in (
           a.0,
           bound (next s (l ∷ ls)) (l, ls) (λ (k : Lexeme × List Lexeme). from k.0.token k.0.start k.1)
               (Ok ((arms z.0).make z.1, a.0)) (next_again s l ls)
@@ -457,27 +517,17 @@ module _ {A : Type 0} {Spells : A → List Token → List Token → Type 0} {May
           a.2,
         )
 
-  -- the same as the parts of a thing
-  abbrev pub Begun : A → List Token → List Token → Type 0
-  Begun x tokens more = (z : (t : Token) × (arms t).Value) × ((arms z.0).make z.1 ≡ x) × (arms z.0).Within z.1 more
-      × (z.0 ∷ (arms z.0).spell z.1 more ≡ tokens)
-
-  module _ (parts : (x : A) (tokens more : List Token) → Spells x tokens more → Begun x tokens more) where
-    pub token_longer : (x : A) (tokens more : List Token) → Spells x tokens more → length more < length tokens
-    token_longer x tokens more is =
-        let p = parts x tokens more is in
-        omega (arith, ap length p.3, ((arms p.0.0).row 0).no_gap p.0.1 more p.2)
-
-    pub by_token : (s : Scope) → ReaderBy Spells May (λ ls. and_then (next s ls) (λ l. from l.0.token l.0.start l.1))
-    by_token s = reads_by (first_token s) (λ z more within. (arms z.0).back z.1 more within) parts
+  pub by_token : ((x : A) (tokens more : List Token) → Spells x tokens more → Begun from arms x tokens more)
+      → ReaderBy s.end Spells May (λ ls. and_then (next s ls) (λ l. from l.0.token l.0.start l.1))
+  by_token parts = reads_by first_token (λ z more within. (arms z.0).back z.1 more within) parts
 
 -- the same of things that have one spelling
 abbrev pub Exactly : {A : Type 0} → (A → List Token → List Token) → (A → Type 0) → A → List Token → List Token → Type 0
 Exactly spell Within x tokens more = Within x × (tokens ≡ spell x more)
 
-pub exactly : {A : Type 0} {spell : A → List Token → List Token} {Within : A → Type 0} {May : List Token → Type 0}
-    {one : List Lexeme → Read A} → ReaderBy (Exactly spell Within) May one → Reader spell Within May one
-exactly {A} {spell} {Within} row =
+pub exactly : {A : Type 0} {end : ℕ} {spell : A → List Token → List Token} {Within : A → Type 0} {May : List Token → Type 0}
+    {one : List Lexeme → Read A} → ReaderBy end (Exactly spell Within) May one → Reader end spell Within May one
+exactly {A} {end} {spell} {Within} row =
     recast row (λ z more within. (z.0, refl, within.0, sym within.1))
     (λ x more within. ((x, spell x more), refl, (within, refl), refl))
 
@@ -485,7 +535,7 @@ token_name_is : (t : Token) (x : NameBytes) → token_name t ≡ Some x → (t �
 token_name_is (token.Name y) x h = (cc, tt)
 token_name_is _ x h = absurd cc
 
-pub a_name : (s : Scope) → Reader spell_name Free Anything (name s)
+pub a_name : (s : Scope) → Reader s.end spell_name Free Anything (name s)
 unfolding name
 a_name s = a_token s token_name token.Name token_name_is (λ x free. refl)
 
@@ -496,11 +546,11 @@ token_number_is : (t : Token) (n : ℕ) → token_number t ≡ Some n → (t ≡
 token_number_is (token.Number m) n h = (cc, tt)
 token_number_is _ n h = absurd cc
 
-pub a_number : (s : Scope) → Reader spell_number Free Anything (number s)
+pub a_number : (s : Scope) → Reader s.end spell_number Free Anything (number s)
 unfolding number
 a_number s = a_token s token_number token.Number token_number_is (λ n free. refl)
 
-pub an_operator : (s : Scope) → Reader (λ o more. token.Mark (operator_mark o) ∷ more) Free Anything (operator s)
+pub an_operator : (s : Scope) → Reader s.end (λ o more. token.Mark (operator_mark o) ∷ more) Free Anything (operator s)
 unfolding operator
 an_operator s =
     a_token s token_operator (λ o. token.Mark (operator_mark o)) (λ t o h. (token_operator_is t o h, tt))
@@ -515,19 +565,19 @@ EachWithin spell Within [] more = Unit {0}
 EachWithin spell Within (z ∷ zs) more = Within z (spell_all spell zs more) × EachWithin spell Within zs more
 
 -- a reader of one by its number, whose spelling begins as this test says, and is longer than nothing
-pub record Elements {Z A : Type 0} (goes : Token → Bool) (make : Z → A) (spell : Z → List Token → List Token)
+pub record Elements {Z A : Type 0} (end : ℕ) (goes : Token → Bool) (make : Z → A) (spell : Z → List Token → List Token)
     (Within : Z → List Token → Type 0) (one : ℕ → List Lexeme → Read A) : Type 0 where
-  pub laws : (i : ℕ) → Row make spell Within Anything (one i)
+  pub laws : (i : ℕ) → Row end make spell Within Anything (one i)
   pub starts : (z : Z) (more : List Token) → Within z more → begins goes (spell z more) ≡ true
   pub longer : (z : Z) (more : List Token) → Within z more → length more < length (spell z more)
 
-module _ {Z A : Type 0} {goes : Token → Bool} {make : Z → A} {spell : Z → List Token → List Token}
-    {Within : Z → List Token → Type 0} {one : ℕ → List Lexeme → Read A} (all : Elements goes make spell Within one) where
+module _ {Z A : Type 0} {end : ℕ} {goes : Token → Bool} {make : Z → A} {spell : Z → List Token → List Token}
+    {Within : Z → List Token → Type 0} {one : ℕ → List Lexeme → Read A} (all : Elements end goes make spell Within one) where
   -- fewer tokens are left
   pub shortens : (i : ℕ) {ls : List Lexeme} {x : A} {rest : List Lexeme} → one i ls ≡ Ok (x, rest)
       → length rest < length ls
   shortens i {ls} {x} {rest} h =
-      let t = (all.laws i).takes ls x rest h in
+      let t = (all.laws i).laws.takes ls x rest h in
       omega (arith, all.longer t.0 (kinds rest) t.2, ap length t.3, kinds_length ls, kinds_length rest)
 
   abbrev Taken : List Lexeme → List A → List Lexeme → Type 0
@@ -545,7 +595,7 @@ module _ {Z A : Type 0} {goes : Token → Bool} {make : Z → A} {spell : Z → 
       (λ _ e.
       let a = bind_ok _ _ _ e in
       let b = bind_ok _ _ _ a.2 in
-      let f = (all.laws i).takes ls a.0.0 a.0.1 a.1 in
+      let f = (all.laws i).laws.takes ls a.0.0 a.0.1 a.1 in
       let r = all_taken (i + 1) n a.0.1 b.0.0 b.0.1 b.1 in
       moved (λ (p : List A × List Lexeme). Taken ls p.0 p.1) (a.0.0 ∷ b.0.0, b.0.1) (xs, rest) b.2
       (f.0 ∷ r.0, rw (f.1, r.1) refl, (subst (Within f.0) r.3 f.2, r.2), f.3 ∙ ap (spell f.0) r.3))
@@ -570,7 +620,7 @@ module _ {Z A : Type 0} {goes : Token → Bool} {make : Z → A} {spell : Z → 
   all_again i zero ls (z ∷ zs) more room within ends h =
       absurd (omega (arith, room, all.longer z (spell_all spell zs more) within.0, ap length h, kinds_length ls))
   all_again i (suc n) ls (z ∷ zs) more room within ends h =
-      let o = (all.laws i).again ls z (spell_all spell zs more) within.0 tt h in
+      let o = (all.laws i).laws.again ls z (spell_all spell zs more) within.0 tt h in
       let less = shortens i o.1 in
       let r = all_again (i + 1) n o.0 zs more (omega (arith, less, room)) within.1 ends o.2 in (
         r.0,
@@ -585,12 +635,15 @@ module _ {Z A : Type 0} {goes : Token → Bool} {make : Z → A} {spell : Z → 
   each_gapless (z ∷ zs) more within =
       omega (arith, all.longer z (spell_all spell zs more) within.0, each_gapless zs more within.1)
 
-  pub each : (i : ℕ) → Row {Z = List Z} (λ zs. map make zs) (spell_all spell) (EachWithin spell Within) (Unless goes)
+  pub each : (i : ℕ) → Row {Z = List Z} end (λ zs. map make zs) (spell_all spell) (EachWithin spell Within) (Unless goes)
       (λ ls. many goes one i (length ls) ls)
   each i = record {
-    takes = λ ls xs rest h. all_taken i (length ls) ls xs rest h;
-    again = λ ls zs more within may h. all_again i (length ls) ls zs more (omega arith) within may h;
-    no_gap = λ zs more within. each_gapless zs more within;
+    laws = record {
+      takes = λ ls xs rest h. all_taken i (length ls) ls xs rest h;
+      again = λ ls zs more within may h. all_again i (length ls) ls zs more (omega arith) within may h;
+      no_gap = λ zs more within. each_gapless zs more within;
+    };
+    looks = each_looks goes one (λ k ls x rest h. shortens k h) (λ k. (all.laws k).looks) i;
   }
 
 map_same : {A : Type 0} (xs : List A) → map (λ x. x) xs ≡ xs
@@ -607,10 +660,10 @@ module _ {A : Type 0} (spell : A → List Token → List Token) (Within : A → 
   of_all (x ∷ xs) more within = (within.0, of_all xs more within.1)
 
 -- things that have one spelling
-pub each_of : {A : Type 0} {goes : Token → Bool} {spell : A → List Token → List Token} {Within : A → Type 0}
-    {one : ℕ → List Lexeme → Read A} → Elements goes (λ x. x) spell (λ x more. Within x) one → (i : ℕ)
-    → Reader (spell_all spell) (AllByRecursion Within) (Unless goes) (λ ls. many goes one i (length ls) ls)
-each_of {A} {goes} {spell} {Within} {one} all i =
+pub each_of : {A : Type 0} {end : ℕ} {goes : Token → Bool} {spell : A → List Token → List Token} {Within : A → Type 0}
+    {one : ℕ → List Lexeme → Read A} → Elements end goes (λ x. x) spell (λ x more. Within x) one → (i : ℕ)
+    → Reader end (spell_all spell) (AllByRecursion Within) (Unless goes) (λ ls. many goes one i (length ls) ls)
+each_of {A} {end} {goes} {spell} {Within} {one} all i =
     reads (each all i)
     (λ xs more within. (
       subst (AllByRecursion Within) (sym (map_same xs)) (all_of spell Within xs more within),
@@ -649,9 +702,9 @@ module _ {A : Type 0} (Spells : A → List Token → List Token → Type 0) (Wit
         refl,
       )
 
-  pub each_by : {goes : Token → Bool} {one : ℕ → List Lexeme → Read A}
-      → Elements {Z = A × List Token} goes (λ z. z.0) tokens_of (λ z more. Both z.0 z.1 more) one
-      → (i : ℕ) → ReaderBy All (Unless goes) (λ ls. many goes one i (length ls) ls)
+  pub each_by : {end : ℕ} {goes : Token → Bool} {one : ℕ → List Lexeme → Read A}
+      → Elements {Z = A × List Token} end goes (λ z. z.0) tokens_of (λ z more. Both z.0 z.1 more) one
+      → (i : ℕ) → ReaderBy end All (Unless goes) (λ ls. many goes one i (length ls) ls)
   each_by all i = reads_by (each all i) all_by (λ xs tokens more is. by_all xs tokens more is.0 is.1)
 
 -- ---- one or more, with commas between them
@@ -660,16 +713,16 @@ abbrev pub is_comma : Token → Bool
 is_comma = is_mark mark_.Comma
 
 module _ {A : Type 0} {spell : A → List Token → List Token} {Within : A → Type 0} {one : List Lexeme → Read A} (s : Scope)
-    (row : Reader spell Within Anything one) where
-  pub further_ones : Elements is_comma (λ x. x) (spell_further spell) (λ x more. Within x) (λ i. further s one)
+    (row : Reader s.end spell Within Anything one) where
+  pub further_ones : Elements s.end is_comma (λ x. x) (spell_further spell) (λ x more. Within x) (λ i. further s one)
   unfolding further
   further_ones = record {
     laws = λ i. behind (this_mark s mark_.Comma) row;
     starts = λ x more within. refl;
-    longer = λ x more within. omega (arith, row.no_gap x more within);
+    longer = λ x more within. omega (arith, row.laws.no_gap x more within);
   }
 
-  pub with_commas : Reader (spell_list spell) (λ xs. (0 < length xs) × AllByRecursion Within xs) (Unless is_comma)
+  pub with_commas : Reader s.end (spell_list spell) (λ xs. (0 < length xs) × AllByRecursion Within xs) (Unless is_comma)
       (separated s one)
   unfolding separated
   with_commas =
@@ -687,6 +740,6 @@ pub all_free : {A : Type 0} (xs : List A) → AllByRecursion Free xs
 all_free [] = tt
 all_free (x ∷ xs) = (tt, all_free xs)
 
-pub some_of : {A : Type 0} {spell : List A → List Token → List Token} {May : List Token → Type 0}
-    {one : List Lexeme → Read (List A)} → Reader spell (λ xs. (0 < length xs) × AllByRecursion Free xs) May one → Reader spell Some_of May one
+pub some_of : {A : Type 0} {end : ℕ} {spell : List A → List Token → List Token} {May : List Token → Type 0}
+    {one : List Lexeme → Read (List A)} → Reader end spell (λ xs. (0 < length xs) × AllByRecursion Free xs) May one → Reader end spell Some_of May one
 some_of row = reads row (λ xs more within. (within.0, refl)) (λ xs more within. (xs, refl, (within, all_free xs)))

@@ -17,6 +17,7 @@ use Rattle.kpn_text_grammar.specs.Syntax.{NameBytes, ExpressionNode, StatementNo
 use Rattle.kpn_text_grammar.specs.Spelling.{kinds, SpellsAll, SpellsStatement, as_assignment, as_store, as_read, as_write, as_if, as_while, SpellsStatements, nothing, one_more, SpellsElse, left_out, behind_else, SpellsSecond, with_braces, as_branch, begins_else, inner_levels, deepest_term, BlockIsWithin}
 use Rattle.kpn_text_grammar.specs.TokenTests.{is_mark, is_keyword}
 use Rattle.kpn_text_grammar.specs.Reading.{Read, first_is, mark, is_second, assignment_behind, store_behind, target_behind, receive_behind, send_behind, else_behind, choice_behind, loop_behind, statement_behind, one_statement, declares, stands_in_block, all_of, block_behind, opened, too_deep, is_branch, branch, block, second_block}
+use Rattle.kpn_text_grammar.proofs.Lookahead.{Looking, deep_looks, first_looks, pick_looks, step_looks}
 use Rattle.kpn_text_grammar.proofs.Steps.{this_mark, this_keyword, bind_ok, by_test, first_kind, is_keyword_same, no_value, second_is_two}
 use Rattle.kpn_text_grammar.proofs.TightLaws.{at_brace, at_bracket, at_semicolon}
 use Rattle.kpn_text_grammar.proofs.WholeLaws.{Expression, expression_of, is_over}
@@ -37,10 +38,10 @@ StatementOf l d st tokens more = SpellsStatement l st tokens more × StatementIs
 abbrev pub BodyOf : Language → ℕ → Statements → List Token → List Token → Type 0
 BodyOf l d b tokens more = SpellsStatements l b tokens (token.Mark mark_.RightBrace ∷ more) × BlockIsWithin d b
 
-abbrev ReadsBlocks : Language → ℕ → (List Lexeme → Read Statements) → Type 0
-ReadsBlocks l d inner =
-    Row {Z = Statements × List Token} (λ z. z.0) (λ z more. token.Mark mark_.LeftBrace ∷ z.1)
-    (λ z more. BodyOf l d z.0 z.1 more) Anything inner
+abbrev ReadsBlocks : Scope → ℕ → (List Lexeme → Read Statements) → Type 0
+ReadsBlocks s d inner =
+    Row {Z = Statements × List Token} s.end (λ z. z.0) (λ z more. token.Mark mark_.LeftBrace ∷ z.1)
+    (λ z more. BodyOf s.language d z.0 z.1 more) Anything inner
 
 abbrev SecondOf : Language → ℕ → Statements → List Token → List Token → Type 0
 SecondOf l d b tokens more = SpellsSecond l b tokens more × BlockIsWithin d b
@@ -135,14 +136,19 @@ first_else : (ls : List Lexeme) → begins_else (kinds ls) ≡ first_is (is_keyw
 first_else [] = refl
 first_else (l ∷ ls) = refl
 
+branch_looks : (s : Scope) → Looking (is_branch s)
+branch_looks s ls other h =
+    ap (λ b. is_second s.language && b) (first_looks (is_keyword keyword_.If) ls other h)
+
 -- ---- each kind of statement
 
-module _ (s : Scope) (d : ℕ) (inner second : List Lexeme → Read Statements) (blocks : ReadsBlocks s.language d inner)
-    (seconds : ReaderBy (SecondOf s.language d) Anything second) where
-  else_row : Row else_block else_tokens (ElseOf s.language d) Anything (else_behind s second)
+module _ (s : Scope) (d : ℕ) (inner second : List Lexeme → Read Statements) (blocks : ReadsBlocks s d inner)
+    (seconds : ReaderBy s.end (SecondOf s.language d) Anything second) where
+  else_row : Row s.end else_block else_tokens (ElseOf s.language d) Anything (else_behind s second)
   unfolding else_behind
   else_row =
       choose (λ ls. is_second s.language && not (first_is (is_keyword keyword_.Else) ls))
+      (λ ls other h. ap (λ b. is_second s.language && not b) (first_looks (is_keyword keyword_.Else) ls other h))
       (λ u more. (s.language ≡ language.Two) × (begins_else more ≡ false)) (λ z more. SecondOf s.language d z.0 z.1 more)
       (done {May = Anything} no_statements) (behind (this_keyword s keyword_.Else) seconds)
       (λ ls u more picked h is.
@@ -185,7 +191,7 @@ module _ (s : Scope) (d : ℕ) (inner second : List Lexeme → Read Statements) 
       Expression s.language z.0.0 z.0.1 (token.Mark mark_.LeftBrace ∷ z.1.0.1)
       × (BodyOf s.language d z.1.0.0 z.1.0.1 (else_tokens z.1.1 more) × ElseOf s.language d z.1.1 more)
 
-  choice_row : Row the_choice (λ z more. z.1) ChoiceOf Anything (choice_behind s inner second)
+  choice_row : Row s.end the_choice (λ z more. z.1) ChoiceOf Anything (choice_behind s inner second)
   unfolding choice_behind
   choice_row =
       recast (bind (expression_of s) (λ e. value blocks
@@ -266,7 +272,7 @@ module _ (s : Scope) (d : ℕ) (inner second : List Lexeme → Read Statements) 
   target_back x (inr z) more is = (as_assignment is.0.0, record { blocks = omega arith; terms = is.0.1 })
 
   statement_arms : (t : Token)
-      → Arm (StatementOf s.language d) Anything t (statement_behind s inner second t)
+      → Arm s.end (StatementOf s.language d) Anything t (statement_behind s inner second t)
   unfolding statement_behind target_behind store_behind assignment_behind receive_behind send_behind loop_behind
   statement_arms (token.Name x) =
       arm (λ start. rows.choice (is_mark mark_.LeftBracket)
@@ -330,11 +336,11 @@ module _ (s : Scope) (d : ℕ) (inner second : List Lexeme → Read Statements) 
       → Begun (statement_behind s inner second) statement_arms st tokens more
   statement_parts st tokens more is = begun is.0 is.1
 
-  statement_reads : ReaderBy (StatementOf s.language d) Anything (one_statement s inner second)
+  statement_reads : ReaderBy s.end (StatementOf s.language d) Anything (one_statement s inner second)
   unfolding one_statement
-  statement_reads = by_token (statement_behind s inner second) statement_arms statement_parts s
+  statement_reads = by_token s (statement_behind s inner second) statement_arms statement_parts
 
-  pub statement_ones : Elements {Z = StatementNode × List Token} stands_in_block (λ z. z.0) (λ z more. z.1)
+  pub statement_ones : Elements {Z = StatementNode × List Token} s.end stands_in_block (λ z. z.0) (λ z more. z.1)
       (λ z more. StatementOf s.language d z.0 z.1 more) (λ i. one_statement s inner second)
   statement_ones = record {
     laws = λ i. statement_reads;
@@ -345,7 +351,7 @@ module _ (s : Scope) (d : ℕ) (inner second : List Lexeme → Read Statements) 
 
   -- ---- blocks
 
-  pub body_reads : ReaderBy (BodyOf s.language (suc d)) Anything (block_behind s inner second)
+  pub body_reads : ReaderBy s.end (BodyOf s.language (suc d)) Anything (block_behind s inner second)
   unfolding block_behind all_of
   body_reads =
       reads_by (bind (each_by (SpellsStatement s.language) (StatementIsWithin d) statement_ones 0)
@@ -362,11 +368,11 @@ module _ (s : Scope) (d : ℕ) (inner second : List Lexeme → Read Statements) 
         refl,
       ))
 
-  opened_reads : ReadsBlocks s.language (suc d) (opened s inner second)
+  opened_reads : ReadsBlocks s (suc d) (opened s inner second)
   unfolding opened
   opened_reads = behind (this_mark s mark_.LeftBrace) body_reads
 
-  branch_row : Row (λ z. statement (the_choice z) no_statements) (λ z more. token.Keyword keyword_.If ∷ z.1) ChoiceOf
+  branch_row : Row s.end (λ z. statement (the_choice z) no_statements) (λ z more. token.Keyword keyword_.If ∷ z.1) ChoiceOf
       Anything (branch s inner second)
   unfolding branch
   branch_row =
@@ -376,10 +382,10 @@ module _ (s : Scope) (d : ℕ) (inner second : List Lexeme → Read Statements) 
   branch_or_braces : List Lexeme → Read Statements
   branch_or_braces ls = if is_branch s ls then branch s inner second ls else opened s inner second ls
 
-  second_reads : ReaderBy (SecondOf s.language (suc d)) Anything branch_or_braces
+  second_reads : ReaderBy s.end (SecondOf s.language (suc d)) Anything branch_or_braces
   unfolding branch_or_braces
   second_reads =
-      reads_by (choose (is_branch s) (λ z more. (s.language ≡ language.Two) × ChoiceOf z more)
+      reads_by (choose (is_branch s) (branch_looks s) (λ z more. (s.language ≡ language.Two) × ChoiceOf z more)
       (λ z more. BodyOf s.language (suc d) z.0 z.1 more) branch_row opened_reads
       (λ ls z more there h is. (
         second_is_two s.language
@@ -454,27 +460,34 @@ deep_second s ls b rest h =
     (λ _ k. no_value (fault.TooDeep s.process) (b, rest) k) (λ _ k. deep_takes s ls b rest k)
 
 mutual
-  unfolding block second_block branch_or_braces
+  unfolding block second_block branch_or_braces too_deep
 
-  pub block_reads : (s : Scope) (d : ℕ) → ReadsBlocks s.language d (block s d)
+  pub block_reads : (s : Scope) (d : ℕ) → ReadsBlocks s d (block s d)
   block_reads s zero = record {
-    takes = λ ls b rest h. absurd (deep_takes s ls b rest h);
-    again = λ ls z more is may h. absurd (omega (arith, is.1.blocks));
-    no_gap = λ z more is. absurd (omega (arith, is.1.blocks));
+    laws = record {
+      takes = λ ls b rest h. absurd (deep_takes s ls b rest h);
+      again = λ ls z more is may h. absurd (omega (arith, is.1.blocks));
+      no_gap = λ z more is. absurd (omega (arith, is.1.blocks));
+    };
+    looks = step_looks (this_mark s mark_.LeftBrace).looks deep_looks;
   }
   block_reads s (suc d) = opened_reads s d (block s d) (second_block s d) (block_reads s d) (second_block_reads s d)
 
-  pub second_block_reads : (s : Scope) (d : ℕ) → ReaderBy (SecondOf s.language d) Anything (second_block s d)
+  pub second_block_reads : (s : Scope) (d : ℕ) → ReaderBy s.end (SecondOf s.language d) Anything (second_block s d)
   second_block_reads s zero = record {
-    takes = λ ls b rest h. absurd (deep_second s ls b rest h);
-    again = λ ls z more is may h. absurd (omega (arith, is.1.blocks));
-    no_gap = λ z more is. absurd (omega (arith, is.1.blocks));
+    laws = record {
+      takes = λ ls b rest h. absurd (deep_second s ls b rest h);
+      again = λ ls z more is may h. absurd (omega (arith, is.1.blocks));
+      no_gap = λ z more is. absurd (omega (arith, is.1.blocks));
+    };
+    looks = pick_looks (is_branch s) (branch_looks s) deep_looks
+        (step_looks (this_mark s mark_.LeftBrace).looks deep_looks);
   }
   second_block_reads s (suc d) =
       second_reads s d (block s d) (second_block s d) (block_reads s d) (second_block_reads s d)
 
 -- the statements of a body and its closing brace
-pub whole_body_reads : (s : Scope) → ReaderBy (BodyOf s.language MAX_LEVELS) Anything
+pub whole_body_reads : (s : Scope) → ReaderBy s.end (BodyOf s.language MAX_LEVELS) Anything
     (block_behind s (block s (MAX_LEVELS - 1)) (second_block s (MAX_LEVELS - 1)))
 whole_body_reads s =
     body_reads s (MAX_LEVELS - 1) (block s (MAX_LEVELS - 1)) (second_block s (MAX_LEVELS - 1))

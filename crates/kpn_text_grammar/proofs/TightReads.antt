@@ -1,6 +1,6 @@
 -- What is read as an expression follows the rules and has no more levels than it may, and what follows
 -- the rules is read, whatever stands behind it: to read it is to go on behind it. The canonical spelling follows them.
-use Rattle.std.proofs.Common.{◌≡◌, ◌⊎◌, inl, inr, ℕ, zero, suc, ◌+◌, ◌<◌, ◌≤◌, true, false, nat_le, cond, List, ◌∷◌, length, Result, Ok, Err, refl, sym, ap, subst, ◌∙◌, arith}
+use Rattle.std.proofs.Common.{◌≡◌, ◌⊎◌, inl, inr, ℕ, zero, suc, ◌+◌, ◌<◌, ◌≤◌, Bool, true, false, nat_le, cond, List, ◌∷◌, length, Result, Ok, Err, refl, sym, ap, subst, ◌∙◌, arith}
 use Rattle.std.proofs.lemmas.Bool.{cond_both, leb-false, leb-true, le-leb, lt-leb}
 use Rattle.kpn_text_tokens.specs.declared.tokens.Language.{Language}
 use Rattle.kpn_text_tokens.specs.declared.tokens.Language.TheVariants as language
@@ -17,7 +17,8 @@ use Rattle.kpn_text_grammar.specs.Operators.{operator_mark, tightness, left_side
 use Rattle.kpn_text_grammar.specs.Spelling.{kinds, term_level, spell_term, spell_tight, SpellsTight, as_number, as_name, as_element, as_minus, as_negation, as_complement, in_parentheses, as_sides, as_conditional, as_binary}
 use Rattle.kpn_text_tokens.specs.Results.{and_then}
 use Rattle.kpn_text_grammar.specs.TokenTests.{is_mark}
-use Rattle.kpn_text_grammar.specs.Reading.{Read, next, mark, operator, level_fault, first_is, goes_further, unless_full, sides_behind, behind_name, binary_behind, conditional_behind, is_second, inside_behind, tight_operand, tight_over, tight}
+use Rattle.kpn_text_grammar.specs.Reading.{Read, next, mark, operator, begins_expression, level_fault, first_is, goes_further, unless_full, sides_behind, behind_name, binary_behind, conditional_behind, is_second, inside_behind, tight_operand, tight_over, tight}
+use Rattle.kpn_text_grammar.proofs.Lookahead.{Local, Starts, done_looks, deep_looks, bind_looks, first_looks, pick_looks, first_reads, starts_on}
 use Rattle.kpn_text_grammar.proofs.Steps.{bind_ok, bound, by_test, first_is_one, moved, no_value, second_is_two, this_mark}
 use Rattle.kpn_text_grammar.proofs.Readers.{Row, ReaderBy, Anything, begins, done, behind, value, bind, mapped, guarded, an_operator, either, spell_either, Either, choose, choice, optional, Arm, arm, no_arm, first_token}
 use Rattle.kpn_text_grammar.proofs.TightLaws.{operator_takes, is_index, no_question, some_loosest, below_loosest, below_operand, right_below, left_below, left_is_tight, right_is_tighter, is_tight, first_tightness, at_bracket, at_close, at_question, at_colon, operator_first, no_index, looser_first, stops_first, Fits, fits_of, goes_of}
@@ -192,9 +193,9 @@ Tight l depth levels n e tokens more = SpellsTight l depth n e tokens more × (t
 abbrev pub Looser : ℕ → List Token → Type 0
 Looser n more = first_tightness more < n
 
-abbrev ReadsTight : Language → ℕ → (ℕ → ℕ → List Lexeme → Read ExpressionNode) → Type 0
-ReadsTight l depth inner =
-    (levels n : ℕ) → n ≤ OPERAND → ReaderBy (Tight l depth levels n) (Looser n) (inner levels n)
+abbrev ReadsTight : Scope → ℕ → (ℕ → ℕ → List Lexeme → Read ExpressionNode) → Type 0
+ReadsTight s depth inner =
+    (levels n : ℕ) → n ≤ OPERAND → ReaderBy s.end (Tight s.language depth levels n) (Looser n) (inner levels n)
 
 abbrev OperandOf : Language → (depth levels : ℕ) → ExpressionNode → List Token → List Token → Type 0
 OperandOf l depth levels e tokens more =
@@ -207,7 +208,7 @@ Ends more = first_tightness more ≤ OPERAND
 abbrev Spelled : Type 0
 Spelled = ExpressionNode × List Token
 
-module _ (s : Scope) (depth d : ℕ) (laws : ReadsTight s.language depth (tight s depth)) where
+module _ (s : Scope) (depth d : ℕ) (laws : ReadsTight s depth (tight s depth)) where
   abbrev least : ℕ
   least = loosest s.language
 
@@ -215,7 +216,7 @@ module _ (s : Scope) (depth d : ℕ) (laws : ReadsTight s.language depth (tight 
   abbrev Part : ExpressionNode → List Token → List Token → Type 0
   Part = Tight s.language depth d least
 
-  inside_laws : ReaderBy Part (Looser least) (tight s depth d least)
+  inside_laws : ReaderBy s.end Part (Looser least) (tight s depth d least)
   inside_laws = laws d least (below_loosest s.language)
 
   closes : (t : Token) (more : List Token) → first_tightness (t ∷ more) ≡ 0 → Looser least (t ∷ more)
@@ -291,7 +292,7 @@ module _ (s : Scope) (depth d : ℕ) (laws : ReadsTight s.language depth (tight 
   )
 
   -- behind the first expression, if no `?` follows
-  closed_row : (c : ExpressionNode) → Row (either (λ (u : Unit {0}). c) (λ (z : Right). binary z.0 c z.1.0.0))
+  closed_row : (c : ExpressionNode) → Row s.end (either (λ (u : Unit {0}). c) (λ (z : Right). binary z.0 c z.1.0.0))
       (spell_either (λ (u : Unit {0}) more. token.Mark mark_.RightParen ∷ more)
       (λ (z : Right) more. token.Mark (operator_mark z.0) ∷ z.1.0.1))
       (Either (λ (u : Unit {0}) more. s.language ≡ language.Two)
@@ -300,10 +301,10 @@ module _ (s : Scope) (depth d : ℕ) (laws : ReadsTight s.language depth (tight 
       (unless_full s (suc d) c (binary_behind s (tight s depth d least) c ls)))
   unfolding binary_behind
   closed_row c =
-      choose (λ ls. is_second s.language) (λ u more. s.language ≡ language.Two)
+      choose (λ ls. is_second s.language) (λ ls other h. refl) (λ u more. s.language ≡ language.Two)
       (λ z more. (s.language ≡ language.One) × RightOf c z more)
       (behind (this_mark s mark_.RightParen) (done {May = Anything} c))
-      (guarded (nat_le (suc d) (term_level c)) (fault.TooDeep s.process) (value (an_operator s) (λ o. bind inside_laws
+      (guarded (nat_le (suc d) (term_level c)) s.process (value (an_operator s) (λ o. bind inside_laws
       (λ b. behind (this_mark s mark_.RightParen) (done {May = Anything} (binary o c b)))
       (λ x z more is may. closes (token.Mark mark_.RightParen) more (at_close more)))))
       (λ ls u more second h is. second_is_two s.language second) (λ ls z more first h is. (first_is_one s.language first, is))
@@ -315,7 +316,7 @@ module _ (s : Scope) (depth d : ℕ) (laws : ReadsTight s.language depth (tight 
   closed_first (inl u) more = refl
   closed_first (inr z) more = no_question z.0
 
-  operand_arms : (t : Token) → Arm (OperandOf s.language (suc depth) (suc d)) Ends t (tight_operand s (tight s depth) d t)
+  operand_arms : (t : Token) → Arm s.end (OperandOf s.language (suc depth) (suc d)) Ends t (tight_operand s (tight s depth) d t)
   unfolding tight_operand behind_name inside_behind conditional_behind
   operand_arms (token.Number k) =
       arm (λ start. done (numeral k)) (λ z more is. ((λ n small. as_number), omega arith))
@@ -335,7 +336,7 @@ module _ (s : Scope) (depth d : ℕ) (laws : ReadsTight s.language depth (tight 
       (λ z more is. ((λ n small. as_complement is.0), omega (arith, is.1)))
   operand_arms (token.Mark mark_.LeftParen) =
       arm (λ start. bind (laws (suc d) least (below_loosest s.language)) (λ c. choice (is_mark mark_.Question)
-      (guarded (nat_le (suc d) (term_level c)) (fault.TooDeep s.process) (behind (this_mark s mark_.Question)
+      (guarded (nat_le (suc d) (term_level c)) s.process (behind (this_mark s mark_.Question)
       (bind inside_laws (λ a. behind (this_mark s mark_.Colon) (bind inside_laws
       (λ b. behind (this_mark s mark_.RightParen) (done {May = Anything} (conditional c a b)))
       (λ x z more is may. closes (token.Mark mark_.RightParen) more (at_close more))))
@@ -352,7 +353,7 @@ module _ (s : Scope) (depth d : ℕ) (laws : ReadsTight s.language depth (tight 
   operand_takes : (ls : List Lexeme) (e : ExpressionNode) (rest : List Lexeme) → an_operand ls ≡ Ok (e, rest)
       → TakesBound s.language (suc depth) (suc d) OPERAND (kinds ls) e rest
   operand_takes ls e rest h =
-      let t = (first_token (tight_operand s (tight s depth) d) operand_arms s).takes ls e rest h in
+      let t = (first_token s (tight_operand s (tight s depth) d) operand_arms).laws.takes ls e rest h in
       let is = subst (λ (ts : List Token). OperandOf s.language (suc depth) (suc d) ((operand_arms t.0.0).make t.0.1) ts (kinds rest))
       (sym t.3) ((operand_arms t.0.0).back t.0.1 (kinds rest) t.2) in
       subst (λ (x : ExpressionNode). TakesBound s.language (suc depth) (suc d) OPERAND (kinds ls) x rest) t.1
@@ -373,7 +374,7 @@ module _ (s : Scope) (depth d : ℕ) (laws : ReadsTight s.language depth (tight 
       → k ≤ OPERAND → (operand_arms z.0).Within z.1 more → Ends more → kinds ls ≡ z.0 ∷ (operand_arms z.0).spell z.1 more
       → ReadsOn s (suc depth) d n k ((operand_arms z.0).make z.1) more ls
   operand_on n k z more ls small is ends h =
-      let r = (first_token (tight_operand s (tight s depth) d) operand_arms s).again ls z more is ends h in
+      let r = (first_token s (tight_operand s (tight s depth) d) operand_arms).laws.again ls z more is ends h in
       record {
         bound = OPERAND;
         rest = r.0;
@@ -384,7 +385,8 @@ module _ (s : Scope) (depth d : ℕ) (laws : ReadsTight s.language depth (tight 
 
   -- ---- the lemma of reading, by a reader of right sides
 
-  module _ (sides : (n : ℕ) → n ≤ OPERAND → ReaderBy (Tight s.language (suc depth) d n) (Looser n) (tight s (suc depth) d n)) where
+  module _ (sides : (n : ℕ) → n ≤ OPERAND → ReaderBy s.end (Tight s.language (suc depth) d n) (Looser n)
+      (tight s (suc depth) d n)) where
     reads_on : {k : ℕ} {e : ExpressionNode} {tokens more : List Token} → SpellsTight s.language (suc depth) k e tokens more → (n : ℕ)
         (ls : List Lexeme) → k ≤ OPERAND → n ≤ k → term_level e ≤ suc d → first_tightness more ≤ k → kinds ls ≡ tokens
         → ReadsOn s (suc depth) d n k e more ls
@@ -452,8 +454,8 @@ module _ (s : Scope) (depth d : ℕ) (laws : ReadsTight s.language depth (tight 
         let beside : first_tightness (token.Mark (operator_mark o) ∷ at_b) ≡ tightness o = operator_first o at_b in
         let ra = reads_on ha n ls (left_below o) (omega (arith, left_is_tight o)) (omega (arith, level))
         (omega (arith, beside, left_is_tight o)) h in
-        let sign = (an_operator s).again ra.rest o at_b tt tt ra.after in
-        let rb = (sides (right_side o) (right_below o)).again sign.0 (b, at_b) more (hb, omega (arith, level))
+        let sign = (an_operator s).laws.again ra.rest o at_b tt tt ra.after in
+        let rb = (sides (right_side o) (right_below o)).laws.again sign.0 (b, at_b) more (hb, omega (arith, level))
         (omega (arith, ends, right_is_tighter o)) sign.2 in
         let goes = goes_of n ra.bound ra.rest o at_b ra.after (record { tight_enough = omega arith; left = ra.binds }) in
         record {
@@ -476,11 +478,31 @@ deep_takes s ls e rest h =
     let b = bind_ok {B = ExpressionNode × List Lexeme} (next s ls) (λ x. Err (level_fault s x.0)) (e, rest) h in
     no_value {A = ExpressionNode × List Lexeme} (level_fault s b.0.0) (e, rest) b.2
 
-module _ (s : Scope) (depth : ℕ) (laws : ReadsTight s.language depth (tight s depth)) where
-  module _ (d : ℕ) (sides : (n : ℕ) → n ≤ OPERAND → ReaderBy (Tight s.language (suc depth) d n) (Looser n) (tight s (suc depth) d n)) where
+no_level : (s : Scope) (l : Lexeme) → Starts {Y = ExpressionNode} s.end l.start (λ ls. Err (level_fault s l))
+no_level s l = by (begins_expression l.token) where
+  by : (b : Bool)
+      → Starts {Y = ExpressionNode} s.end l.start (λ ls. Err (cond b (fault.TooDeep s.process) (fault.Grammar l.start)))
+  by true = inl deep_looks
+  by false = inr (λ ls. refl)
+
+sides_look : (s : Scope) (side : ℕ → List Lexeme → Read ExpressionNode) (levels n : ℕ)
+    → ((k : ℕ) → k ≤ OPERAND → Local s.end (side k)) → (steps bound : ℕ) (left : ExpressionNode)
+    → Local s.end (sides_behind s side levels n steps bound left)
+unfolding sides_behind
+sides_look s side levels n looks zero bound left =
+    pick_looks (first_is (goes_further n bound)) (first_looks (goes_further n bound)) deep_looks (done_looks left)
+sides_look s side levels n looks (suc steps) bound left =
+    pick_looks (first_is (goes_further n bound)) (first_looks (goes_further n bound))
+    (pick_looks (λ ls. nat_le levels (term_level left)) (λ ls other h. refl) deep_looks
+    (bind_looks (an_operator s).looks (λ o. bind_looks (looks (right_side o) (right_below o))
+    (λ b. sides_look s side levels n looks steps (tightness o) (binary o left b))))) (done_looks left)
+
+module _ (s : Scope) (depth : ℕ) (laws : ReadsTight s depth (tight s depth)) where
+  module _ (d : ℕ) (sides : (n : ℕ) → n ≤ OPERAND → ReaderBy s.end (Tight s.language (suc depth) d n) (Looser n)
+      (tight s (suc depth) d n)) where
     side_takes : Sides s.language (suc depth) d (tight s (suc depth) d)
     side_takes k ls e rest le h =
-        let t = (sides k le).takes ls e rest h in
+        let t = (sides k le).laws.takes ls e rest h in
         subst (λ (x : ExpressionNode). TakesTight s.language (suc depth) d k (kinds ls) x rest) t.1 (record {
           spelled = subst (λ (ts : List Token). SpellsTight s.language (suc depth) k t.0.0 ts (kinds rest)) (sym t.3) t.2.0;
           level = t.2.1;
@@ -497,41 +519,53 @@ module _ (s : Scope) (depth : ℕ) (laws : ReadsTight s.language depth (tight s 
         sides_take s (suc depth) d n (tight s (suc depth) d) side_takes (suc d) OPERAND (kinds ls) a.0.0 a.0.1 e rest
         small operand a.2
 
-  over_reads : ReadsTight s.language (suc depth) (tight s (suc depth))
+  over_reads : ReadsTight s (suc depth) (tight s (suc depth))
   unfolding tight tight_over
   over_reads zero n small = record {
-    takes = λ ls e rest h. absurd (deep_takes s ls e rest h);
-    again = λ ls z more is may h. absurd (some_level z.0 is.1);
-    no_gap = λ z more is. absurd (some_level z.0 is.1);
+    laws = record {
+      takes = λ ls e rest h. absurd (deep_takes s ls e rest h);
+      again = λ ls z more is may h. absurd (some_level z.0 is.1);
+      no_gap = λ z more is. absurd (some_level z.0 is.1);
+    };
+    looks = first_reads s (λ l ls. Err (level_fault s l)) (no_level s);
   }
   over_reads (suc d) n small = record {
-    takes = λ ls e rest h.
-        let t = over_takes d (over_reads d) n ls e rest small h in
-        ((e, kinds ls), refl, (t.spelled, t.level), refl);
-    again = λ ls z more is may h.
-        let r = reads_on s depth d laws (over_reads d) is.0 n ls small (omega arith) is.1 (omega (arith, may)) h in
-        let last : first_tightness (kinds r.rest) < n = subst (λ (ts : List Token). first_tightness ts < n) (sym r.after) may in (
-          r.rest,
-          r.reads ∙ no_side s (tight s (suc depth) d) (suc d) n r.bound z.0 r.rest
-              (stops_first n r.bound r.rest last),
-          r.after,
-        );
-    no_gap = λ z more is. omega (arith, tight_longer is.0);
+    laws = record {
+      takes = λ ls e rest h.
+          let t = over_takes d (over_reads d) n ls e rest small h in
+          ((e, kinds ls), refl, (t.spelled, t.level), refl);
+      again = λ ls z more is may h.
+          let r = reads_on s depth d laws (over_reads d) is.0 n ls small (omega arith) is.1 (omega (arith, may)) h in
+          let last : first_tightness (kinds r.rest) < n = subst (λ (ts : List Token). first_tightness ts < n) (sym r.after) may in (
+            r.rest,
+            r.reads ∙ no_side s (tight s (suc depth) d) (suc d) n r.bound z.0 r.rest
+                (stops_first n r.bound r.rest last),
+            r.after,
+          );
+      no_gap = λ z more is. omega (arith, tight_longer is.0);
+    };
+    looks = first_reads s (λ l ls. and_then (tight_operand s (tight s depth) d l.token l.start ls) (λ left.
+        sides_behind s (tight s (suc depth) d) (suc d) n (suc d) OPERAND left.0 left.1))
+        (λ l. starts_on s.end l.start _ ((operand_arms s depth d laws l.token).looks l.start)
+        (sides_look s (tight s (suc depth) d) (suc d) n (λ k le. (over_reads d k le).looks) (suc d) OPERAND));
   }
 
-pub tight_reads : (s : Scope) (depth : ℕ) → ReadsTight s.language depth (tight s depth)
+pub tight_reads : (s : Scope) (depth : ℕ) → ReadsTight s depth (tight s depth)
 unfolding tight
 tight_reads s zero levels n small = record {
-  takes = λ ls e rest h. absurd (deep_takes s ls e rest h);
-  again = λ ls z more is may h. absurd (no_depth is.0);
-  no_gap = λ z more is. absurd (no_depth is.0);
+  laws = record {
+    takes = λ ls e rest h. absurd (deep_takes s ls e rest h);
+    again = λ ls z more is may h. absurd (no_depth is.0);
+    no_gap = λ z more is. absurd (no_depth is.0);
+  };
+  looks = first_reads s (λ l ls. Err (level_fault s l)) (no_level s);
 }
 tight_reads s (suc depth) levels n small = over_reads s depth (tight_reads s depth) levels n small
 
 pub tight_takes : (s : Scope) (depth levels n : ℕ) (ls : List Lexeme) (e : ExpressionNode) (rest : List Lexeme)
     → n ≤ OPERAND → tight s depth levels n ls ≡ Ok (e, rest) → Tight s.language depth levels n e (kinds ls) (kinds rest)
 tight_takes s depth levels n ls e rest small h =
-    let t = (tight_reads s depth levels n small).takes ls e rest h in
+    let t = (tight_reads s depth levels n small).laws.takes ls e rest h in
     subst (λ (x : ExpressionNode). Tight s.language depth levels n x (kinds ls) (kinds rest)) t.1
     (subst (λ (ts : List Token). Tight s.language depth levels n t.0.0 ts (kinds rest)) (sym t.3) t.2)
 

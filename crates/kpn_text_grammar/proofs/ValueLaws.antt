@@ -1,6 +1,5 @@
 -- Values with commas between them.
-use Rattle.std.proofs.Common.{◌≡◌, ℕ, ◌<◌, List, length, Ok, refl, sym}
-use Rattle.kpn_text_tokens.specs.declared.tokens.Lexeme.{Lexeme}
+use Rattle.std.proofs.Common.{List, refl, sym}
 use Rattle.kpn_text_tokens.specs.declared.tokens.Token.{Token}
 use Rattle.kpn_text_tokens.specs.declared.tokens.Token.TheVariants as token
 use Rattle.kpn_text_tokens.specs.declared.tokens.Mark.TheVariants as mark_
@@ -10,7 +9,7 @@ use Rattle.kpn_text_grammar.specs.Spelling.{spell_list, spell_literal}
 use Rattle.kpn_text_grammar.specs.Reading.{literal_behind, literal, separated}
 use Rattle.kpn_text_grammar.proofs.Readers.{Reader, Anything, Free, Unless, done, value, a_number, Arm, arm, no_arm, Begun, by_token, Exactly, exactly, Some_of, some_of, is_comma, with_commas}
 
-literal_arms : (s : Scope) (t : Token) → Arm (Exactly spell_literal Free) Anything t (literal_behind s t)
+literal_arms : (s : Scope) (t : Token) → Arm s.end (Exactly spell_literal Free) Anything t (literal_behind s t)
 unfolding literal_behind
 literal_arms s (token.Number n) = arm (λ start. done (plain n)) (λ z more within. (tt, refl))
 literal_arms s (token.Mark mark_.Minus) =
@@ -23,10 +22,10 @@ unfolding literal_arms
 literal_parts s (plain n) tokens more is = ((token.Number n, tt), refl, tt, sym is.1)
 literal_parts s (negated n) tokens more is = ((token.Mark mark_.Minus, (n, tt)), refl, (tt, tt), sym is.1)
 
-pub literal_reads : (s : Scope) → Reader spell_literal Free Anything (literal s)
+pub literal_reads : (s : Scope) → Reader s.end spell_literal Free Anything (literal s)
 unfolding literal
-literal_reads s = exactly (by_token (literal_behind s) (literal_arms s) (literal_parts s) s)
+literal_reads s = exactly (by_token s (literal_behind s) (literal_arms s) (literal_parts s))
 
-pub values_reads : (s : Scope) → Reader (spell_list spell_literal) Some_of (Unless is_comma)
+pub values_reads : (s : Scope) → Reader s.end (spell_list spell_literal) Some_of (Unless is_comma)
     (separated s (literal s))
 values_reads s = some_of (with_commas s (literal_reads s))

@@ -24,7 +24,7 @@ Over l more = first_tightness more < loosest l
 pub is_over : (l : Language) (t : Token) (more : List Token) → first_tightness (t ∷ more) ≡ 0 → Over l (t ∷ more)
 is_over l t more h = omega (arith, h, some_loosest l)
 
-pub expression_of : (s : Scope) → ReaderBy (Expression s.language) (Over s.language) (whole s)
+pub expression_of : (s : Scope) → ReaderBy s.end (Expression s.language) (Over s.language) (whole s)
 unfolding whole
 expression_of s = tight_reads s MAX_LEVELS MAX_LEVELS (loosest s.language) (below_loosest s.language)
 

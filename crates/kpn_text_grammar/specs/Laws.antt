@@ -1,6 +1,6 @@
 -- The laws of reading, on which the layers above depend: reading returns what is spelled, and that is one thing. What
 -- is printed is spelled.
-use Rattle.std.specs.Prelude.{◌≡◌, ◌↔◌, List, Ok}
+use Rattle.std.specs.Prelude.{◌≡◌, ◌↔◌, ℕ, List, [], ◌∷◌, ◌++◌, take, Ok}
 use Rattle.kpn_text_tokens.specs.declared.tokens.Language.{Language}
 use Rattle.kpn_text_tokens.specs.declared.tokens.Lexeme.{Lexeme}
 use Rattle.kpn_text_tokens.specs.declared.tokens.Token.{Token}
@@ -24,3 +24,18 @@ SpelledOnce =
 abbrev pub CanonicalSpells : Type 0
 CanonicalSpells =
     (l : Language) (d : Description) → IsWithinLimits d → IsDescription l (spell_description l d) d
+
+-- the byte of a fault in front of these tokens: where the first one begins, or the length of the text
+abbrev pub fault_place : ℕ → List Lexeme → ℕ
+fault_place end [] = end
+fault_place end (l ∷ ls) = l.start
+
+-- A fault stands in front of the rest of the tokens: no description begins with those before it and the one there. If
+-- there is none, they are no description.
+pub record IsFaultAt (l : Language) (end : ℕ) (ls : List Lexeme) (at : ℕ) : Type 0 where
+  pub before : List Lexeme
+  pub rest : List Lexeme
+  pub parts : ls ≡ before ++ rest
+  pub place : at ≡ fault_place end rest
+  pub none : (others : List Token) (d : Description) → take 1 others ≡ take 1 (kinds rest)
+      → IsDescription l (kinds before ++ others) d → ⊥

@@ -1,8 +1,9 @@
 //! The whole of a description: its language, its shared tables, its processes, its network, and nothing after it.
 
-ghost use Rattle.std.specs.Prelude.{◌≡◌, IfOk};
+ghost use Rattle.std.specs.Prelude.{◌≡◌, ℕ, Err, IfOk};
 ghost use Rattle.kpn_text_grammar.specs.Syntax.{Description as Document};
 ghost use Rattle.kpn_text_grammar.specs.Spelling.{IsDescription, kinds};
+ghost use Rattle.kpn_text_grammar.specs.Laws.{IsFaultAt};
 ghost use Rattle.kpn_text_tokens.specs.Results.{OkOr};
 ghost use Rattle.kpn_text_grammar.specs.Reading as spec;
 ghost use Rattle.kpn_text_grammar.specs.View.{Passes, document, tokens_from};
@@ -97,6 +98,9 @@ pub fn description<'a>(
     // It returns what the tokens spell within the limits, unless memory runs out.
     ensures only { (d : Document) → IsDescription language (kinds tokens.now) d
         → OkOr GrammarFault.NoMemory result (λ x. document x ≡ d) }
+    // Where the grammar refuses a token, no description goes on with it.
+    ensures placed { (at : ℕ) → result ≡ Err (GrammarFault.Grammar at)
+        → IsFaultAt language end tokens.now at }
     // Which fault it is.
     ensures exact { spec.ReadingGives document result (spec.description_of language end tokens.now) }
 {

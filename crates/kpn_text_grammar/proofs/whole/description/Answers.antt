@@ -1,6 +1,8 @@
--- What was read is spelled so, and what is spelled so is read, by the two laws of reading.
+-- What was read is spelled so, and what is spelled so is read, by the laws of reading.
+use Rattle.std.proofs.Common.{subst}
+use Rattle.kpn_text_grammar.specs.Reading.{ReadingGives, description_of}
 use Rattle.kpn_text_grammar.specs.View.{document}
-use Rattle.kpn_text_grammar.proofs.DescriptionLaws.{description_takes, description_again}
+use Rattle.kpn_text_grammar.proofs.DescriptionLaws.{description_takes, description_again, description_fault}
 use Rattle.kpn_text_grammar.proofs.Steps.{was_read, is_returned}
 use Rattle.kpn_text_grammar.proofs.whole.description.Goals as goal
 
@@ -14,3 +16,9 @@ returns-clause-only c d spelled =
     is_returned document _ c.whole.result _ d c.whole.ensures
     (description_again (record { end = c.args.end; process = 0; language = c.args.language }) c.args.tokens.now d spelled)
     (λ x h. h)
+
+pub returns-clause-placed : goal.returns-clause-placed
+returns-clause-placed c at refused =
+    description_fault (record { end = c.args.end; process = 0; language = c.args.language }) c.args.tokens.now at
+    (subst (λ r. ReadingGives document r (description_of c.args.language c.args.end c.args.tokens.now)) refused
+    c.whole.ensures)
