@@ -82,7 +82,7 @@ by_minus : (c : ℕ) (ds : List ℕ) (item : ℤ) (minus : Bool) → eqb c 45 �
 by_minus c ds item true is spells =
     let same : c ≡ 45 = eqb-true c 45 is in
     subst (λ b. SpellsItem (b ∷ ds) item
-      → (IsBare (b ∷ ds) → b ∷ ds ≡ signed_decimal item) × (b ∷ ds ≡ signed_decimal item → IsBare (b ∷ ds)))
+    → (IsBare (b ∷ ds) → b ∷ ds ≡ signed_decimal item) × (b ∷ ds ≡ signed_decimal item → IsBare (b ∷ ds)))
     (sym same)
     (λ s. (
       after_minus ds item s,

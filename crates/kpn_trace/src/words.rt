@@ -30,11 +30,7 @@ pub fn canonical_item(word: &[u8]) -> Option<i64>
         (λ item. (word.now ≡ signed_decimal item) × FitsSigned w64 item) }
 {
     let item = item_of_line(word)?;
-    if is_canonical(word) {
-        Some(item)
-    } else {
-        None
-    }
+    if is_canonical(word) { Some(item) } else { None }
 }
 
 /// Whether a word that spells an item is its canonical form.

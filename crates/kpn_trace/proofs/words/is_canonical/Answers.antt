@@ -12,8 +12,7 @@ pub returns-then-digits_of-ne48 : goal.returns-then-digits_of-ne48
 returns-then-digits_of-ne48 c = λ item spells.
     let is = c.if-digits_of-ne48.true in
     let same : get_or c.digits_of.result.now 0 0 ≡ get_or (without_minus c.args.word.now) 0 0 =
-    ap (λ l. get_or l 0 0) c.digits_of.ensures in
-    (
+    ap (λ l. get_or l 0 0) c.digits_of.ensures in (
       λ passes. (canonical c.args.word.now item spells).0 (λ first. absurd (is (same ∙ first))),
       λ form. subst (λ b. IsTrue (not b)) (sym (ne_eqb (get_or c.digits_of.result.now 0 0) 48 is)) refl,
     )
