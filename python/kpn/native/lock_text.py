@@ -231,7 +231,7 @@ class LockText:
             values.add(f'{self.local(p, row.target)} = {value};')
         elif isinstance(row, Test):
             if row.is_loop:
-                values.add_goto('fuel == 0', 'dropped')
+                values.add_goto('fuel == 0U', 'dropped')
                 values.add('fuel--;')
             value = values.value(row.condition)
             values.add_goto(f'{value} == 0', f'{label}{row.otherwise}')

@@ -78,7 +78,7 @@ class RegionText:
                 values.add(f'm{p}_{row.target} = {value};')
         elif isinstance(row, Test):
             if row.is_loop:
-                values.add_goto('fuel == 0', 'starved')
+                values.add_goto('fuel == 0U', 'starved')
                 values.add('fuel--;')
             value = values.value(row.condition)
             values.add_goto(f'{value} == 0', f'{label}{row.otherwise}')
