@@ -5,6 +5,8 @@ use Rattle.kpn_book.specs.Kept.{IsBook}
 use Rattle.kpn_book.specs.Refusals.{Takes, takes_item}
 use Rattle.kpn_book.proofs.Happening.{happens_tables, happens_commits}
 use Rattle.kpn_book.proofs.Held.{held_after_take}
+use Rattle.kpn_book.specs.Remembering.{RemembersAsMuch}
+use Rattle.kpn_book.proofs.Remembered.{same_much, much-trans, happens_much}
 use Rattle.kpn_pool.specs.Ending.{KeepsHeld}
 
 tables_by : (c : ℕ) (item : Option ℤ) (before after : Book) → takes_item c item before after
@@ -17,6 +19,11 @@ commits_by : (c : ℕ) (item : Option ℤ) (before after : Book) → takes_item 
 commits_by c None before after same = ap (λ b. b.commits) same.1
 commits_by c (Some v) before after takes = happens_commits _ before after takes.1
 
+much_by : (c : ℕ) (item : Option ℤ) (before after : Book) → takes_item c item before after
+    → RemembersAsMuch before after
+much_by c None before after same = same_much before after same.1
+much_by c (Some v) before after takes = happens_much _ before after takes.1
+
 -- one call more
 pub keeps_on : (c : ℕ) (item : Option ℤ) (first before after : Book) → IsBook before → KeepsHeld first before
     → Takes c item before after → KeepsHeld first after
@@ -24,4 +31,5 @@ keeps_on c item first before after book so_far takes = record {
   tables = tables_by c item before after takes.takes ∙ so_far.tables;
   held = held_after_take before book c item after takes ∙ so_far.held;
   commits = commits_by c item before after takes.takes ∙ so_far.commits;
+  remembers = much-trans first before after so_far.remembers (much_by c item before after takes.takes);
 }

@@ -1,4 +1,4 @@
--- The calls of the outside keep the network and the number of commits, and what they say of the network.
+-- The calls of the outside keep the network, the number of commits and what is kept, and what they say of the network.
 use Rattle.std.proofs.Common.{◌≡◌, ℕ, Bool, true, false, ℤ, List, ◌∷◌, ◌++◌, Option, Some, None, ap, sym, subst}
 use Rattle.kpn_lang.specs.Prefix.{IsPrefix}
 use Rattle.kpn_lang.proofs.Prefixes.{IsPrefix-from_rest}
@@ -10,24 +10,36 @@ use Rattle.kpn_book.specs.Appending.{Appends, Happens}
 use Rattle.kpn_book.specs.declared.answers.Refused.{Refused}
 use Rattle.kpn_book.specs.declared.answers.Refused.TheVariants.{NoMemory, NoSuchEnd, SourceClosed, Full, SinkLeft}
 use Rattle.kpn_book.specs.Refusals.{RefusesFeed, RefusesClose, RefusesTake, RefusesLeave, closes_by, takes_item, leaves_by}
+use Rattle.kpn_book.specs.Remembering.{RemembersAsMuch}
 use Rattle.kpn_book.proofs.Appended.{commits_stay, tables_stay}
+use Rattle.kpn_book.proofs.Remembered.{same_much, appends_much, happens_much}
 use Rattle.kpn_pool_desk.specs.OutsideSeats.{MayRefuseFeed, MayRefuseEnd, MayRefuseTake}
 
--- the network and the number of commits are the same
+-- the network, the number of commits and what is kept are the same
 pub record KeepsCount (before after : Book) : Type 0 where
   pub tables : after.tables ≡ before.tables
   pub commits : after.commits ≡ before.commits
+  pub remembers : RemembersAsMuch before after
 
 stays : (before after : Book) → after ≡ before → KeepsCount before after
-stays before after same = record { tables = ap (λ b. b.tables) same; commits = ap (λ b. b.commits) same }
+stays before after same = record {
+  tables = ap (λ b. b.tables) same;
+  commits = ap (λ b. b.commits) same;
+  remembers = same_much before after same;
+}
 
 pub appends : (e : Event) (before after : Book) → Appends e before after → KeepsCount before after
-appends e before after h = record { tables = h.tables; commits = h.commits }
+appends e before after h = record {
+  tables = h.tables;
+  commits = h.commits;
+  remembers = appends_much e before after h;
+}
 
 happens : (e : Event) (before after : Book) → Happens e before after → KeepsCount before after
 happens e before after h = record {
   tables = tables_stay (e ∷ h.growth) before after h.appends;
   commits = commits_stay (e ∷ h.growth) before after h.appends;
+  remembers = happens_much e before after h;
 }
 
 pub closes : (closed : Bool) (c : ℕ) (before after : Book) → closes_by closed c before after → KeepsCount before after

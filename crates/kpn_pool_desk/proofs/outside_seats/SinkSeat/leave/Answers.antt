@@ -12,6 +12,7 @@ invariant_of-desk-2 g c =
     record {
       network = same.tables ∙ c.desk.invariant.network;
       book = c.known.ensures;
+      remembers = same.remembers g.J.Job.keeping c.desk.invariant.remembers;
       counted = c.desk.invariant.counted ∙ sym same.commits;
       workers = c.desk.invariant.workers;
     }

@@ -3,6 +3,7 @@ use Rattle.kpn_net.specs.Tables.{channel_at, is_sink}
 use Rattle.kpn_net.proofs.Networks.{sink_there}
 use Rattle.kpn_book.specs.Book.{Book}
 use Rattle.kpn_book.specs.Kept.{IsBook}
+use Rattle.kpn_book.specs.Remembering.{Remembers}
 use Rattle.kpn_pool_desk.specs.Desk.{Desk, with_book}
 use Rattle.kpn_pool_desk.proofs.Keeping.{takes}
 use Rattle.kpn_pool_desk.proofs.outside_seats.SinkSeat.take.Goals as goal
@@ -18,6 +19,7 @@ invariant_of-desk g c =
     record {
       network = ap (λ (b : Book). b.tables) same ∙ c.desk.invariant.network;
       book = subst (λ (b : Book). IsBook b) (sym same) c.desk.invariant.book;
+      remembers = subst (λ (b : Book). Remembers g.J.Job.keeping b) (sym same) c.desk.invariant.remembers;
       counted = c.desk.invariant.counted ∙ sym (ap (λ (b : Book). b.commits) same);
       workers = c.desk.invariant.workers;
     }
@@ -29,6 +31,7 @@ invariant_of-desk-2 g c =
     record {
       network = same.tables ∙ c.desk.invariant.network;
       book = c.known.ensures;
+      remembers = same.remembers g.J.Job.keeping c.desk.invariant.remembers;
       counted = c.desk.invariant.counted ∙ sym same.commits;
       workers = c.desk.invariant.workers;
     }

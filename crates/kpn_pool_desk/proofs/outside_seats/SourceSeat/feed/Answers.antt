@@ -1,6 +1,7 @@
 use Rattle.std.proofs.Common.{sym, ap, ◌∙◌, subst}
 use Rattle.kpn_book.specs.Book.{Book}
 use Rattle.kpn_book.specs.Kept.{IsBook}
+use Rattle.kpn_book.specs.Remembering.{Remembers}
 use Rattle.kpn_pool_desk.specs.Desk.{Desk, with_book}
 use Rattle.kpn_pool_desk.proofs.Keeping.{appends}
 use Rattle.kpn_pool_desk.proofs.outside_seats.SourceSeat.feed.Goals as goal
@@ -11,6 +12,7 @@ invariant_of-desk g c =
     record {
       network = ap (λ (b : Book). b.tables) same ∙ c.desk.invariant.network;
       book = subst (λ (b : Book). IsBook b) (sym same) c.desk.invariant.book;
+      remembers = subst (λ (b : Book). Remembers g.J.Job.keeping b) (sym same) c.desk.invariant.remembers;
       counted = c.desk.invariant.counted ∙ sym (ap (λ (b : Book). b.commits) same);
       workers = c.desk.invariant.workers;
     }
@@ -21,6 +23,7 @@ invariant_of-desk-2 g c =
     record {
       network = same.tables ∙ c.desk.invariant.network;
       book = c.known.ensures;
+      remembers = same.remembers g.J.Job.keeping c.desk.invariant.remembers;
       counted = c.desk.invariant.counted ∙ sym same.commits;
       workers = c.desk.invariant.workers;
     }

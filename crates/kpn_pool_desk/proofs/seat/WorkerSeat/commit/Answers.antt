@@ -5,6 +5,7 @@ use Rattle.kpn_step.specs.Stops.{advanced_of}
 use Rattle.kpn_book.specs.Book.{held_count}
 use Rattle.kpn_book.specs.Commits.{Commits}
 use Rattle.kpn_book.specs.Refusals.{RefusesCommit}
+use Rattle.kpn_book.proofs.Remembered.{commits_much}
 use Rattle.kpn_pool_desk.specs.Desk.{Desk}
 use Rattle.kpn_pool_desk.proofs.seat.WorkerSeat.commit.Goals as goal
 
@@ -46,6 +47,9 @@ invariant_of-desk-2 g c =
           c.in_ok-done.ensures.done
           ∙ c.desk.invariant.network;
       book = c.known-2.ensures;
+      remembers =
+          commits_much c.args.p x c.in_ok-done.done c.desk.inside.book c.commit_own.new.self c.in_ok-done.ensures.done
+          g.J.Job.keeping c.desk.invariant.remembers;
       counted = c.count.ensures.total ∙ ap (λ n. n + 1) c.desk.invariant.counted ∙ sym one;
       workers = c.desk.invariant.workers;
     }

@@ -1,4 +1,5 @@
-use Rattle.std.proofs.Common.{◌∙◌, arith}
+use Rattle.std.proofs.Common.{◌∙◌, sym, arith}
+use Rattle.kpn_book.proofs.Remembered.{region_much}
 use Rattle.kpn_pool_desk.proofs.Dividing.{region_further}
 use Rattle.kpn_pool_desk.proofs.seat.WorkerSeat.commit_region.Goals as goal
 
@@ -25,6 +26,10 @@ invariant_of-desk-2 g c =
     record {
       network = further.tables ∙ c.desk.invariant.network;
       book = c.known-2.ensures;
+      remembers =
+          region_much c.args.batch.now c.in_ok-memory.memory c.desk.inside.book c.commit_region.new.self
+          (c.requires ∙ sym c.desk.invariant.network) c.in_ok-memory.ensures.done g.J.Job.keeping
+          c.desk.invariant.remembers;
       counted = omega (arith, less, before, after, counted, total);
       workers = c.desk.invariant.workers;
     }

@@ -2,7 +2,7 @@ use Rattle.std.proofs.Common.{None, refl, ap, ◌∙◌, subst, arith}
 use Rattle.std.specs.Result.{result_unwrap_or}
 use Rattle.kpn_pool_desk.specs.Desk.{Desk, with_total}
 use Rattle.kpn_pool_desk.specs.Rows.{MakesRow}
-use Rattle.kpn_pool_desk.proofs.InARow.{row_of, row_further}
+use Rattle.kpn_pool_desk.proofs.InARow.{row_of, row_further, row_much}
 use Rattle.kpn_pool_desk.proofs.seat.WorkerSeat.make_row.Goals as goal
 
 pub overflow_sub-commits : goal.overflow_sub-commits
@@ -18,10 +18,11 @@ overflow_sub-commits g c =
 
 pub invariant_of-desk : goal.invariant_of-desk
 invariant_of-desk g c =
-    let further =
-    row_further c.args.quota (result_unwrap_or c.run_on-sink.result None) c.desk.inside.book c.run_on-sink.new.self
-    (row_of c.args.quota c.min-most.result c.desk.inside.book c.run_on-sink.new.self c.run_on-sink.result
-    (result_unwrap_or c.run_on-sink.result None) refl c.run_on-sink.ensures.runs c.run_on-sink.ensures.in_vain) in
+    let sink = result_unwrap_or c.run_on-sink.result None in
+    let row =
+    row_of c.args.quota c.min-most.result c.desk.inside.book c.run_on-sink.new.self c.run_on-sink.result sink refl
+    c.run_on-sink.ensures.runs c.run_on-sink.ensures.in_vain in
+    let further = row_further c.args.quota sink c.desk.inside.book c.run_on-sink.new.self row in
     let less = further.commits in
     let before = c.commits-before.ensures in
     let after = c.commits.ensures in
@@ -30,6 +31,9 @@ invariant_of-desk g c =
     record {
       network = further.tables ∙ c.desk.invariant.network;
       book = c.known-2.ensures;
+      remembers =
+          row_much c.args.quota sink c.desk.inside.book c.run_on-sink.new.self row g.J.Job.keeping
+          c.desk.invariant.remembers;
       counted = omega (arith, less, before, after, counted, total);
       workers = c.desk.invariant.workers;
     }
