@@ -1,7 +1,8 @@
-use Rattle.std.proofs.Common.{None, refl, ap, ◌∙◌, subst, arith}
+use Rattle.std.proofs.Common.{None, refl, ap, subst, arith}
 use Rattle.std.specs.Result.{result_unwrap_or}
 use Rattle.kpn_pool_desk.specs.Desk.{Desk, with_total}
 use Rattle.kpn_pool_desk.specs.Rows.{MakesRow}
+use Rattle.kpn_pool_desk.proofs.Keeping.{counted_desk}
 use Rattle.kpn_pool_desk.proofs.InARow.{row_of, row_further, row_much}
 use Rattle.kpn_pool_desk.proofs.seat.WorkerSeat.make_row.Goals as goal
 
@@ -28,15 +29,9 @@ invariant_of-desk g c =
     let after = c.commits.ensures in
     let counted = c.desk.invariant.counted in
     let total = c.count.ensures.total in
-    record {
-      network = further.tables ∙ c.desk.invariant.network;
-      book = c.known-2.ensures;
-      remembers =
-          row_much c.args.quota sink c.desk.inside.book c.run_on-sink.new.self row g.J.Job.keeping
-          c.desk.invariant.remembers;
-      counted = omega (arith, less, before, after, counted, total);
-      workers = c.desk.invariant.workers;
-    }
+    counted_desk c.desk.invariant c.run_on-sink.new.self c.count.new.total.total c.known-2.ensures further.tables
+    (row_much c.args.quota sink c.desk.inside.book c.run_on-sink.new.self row)
+    (omega (arith, less, before, after, counted, total))
 
 pub returns-clause-made : goal.returns-clause-made
 returns-clause-made g c =
