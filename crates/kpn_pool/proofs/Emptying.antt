@@ -1,5 +1,5 @@
 -- What is taken from a sink keeps the network, the processes that are held, the number of commits and what is kept.
-use Rattle.std.proofs.Common.{◌≡◌, ℕ, ℤ, Option, ◌∙◌}
+use Rattle.std.proofs.Common.{ℕ, ℤ, Option, ◌∙◌}
 use Rattle.kpn_book.specs.Book.{Book}
 use Rattle.kpn_book.specs.Kept.{IsBook}
 use Rattle.kpn_book.specs.Refusals.{Takes}
