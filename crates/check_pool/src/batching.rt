@@ -1,6 +1,7 @@
 //! What a worker claims in one hold: of nine processes eight, whose steps it commits in their order, up to the one for
 //! which the gate ends it. This and the others are put back in their order.
 ghost use Rattle.std.specs.Prelude.{◌≡◌};
+ghost use Rattle.kpn_history.specs.declared.keeping.Keeping.TheVariants.{All};
 
 use crate::flag::Flag;
 use crate::networks::nine_sevens;
@@ -133,6 +134,7 @@ fn ends_twice<J: Job + Send + Sync, R: Wait + Clock>(
 ) -> Result<bool, AllocError>
     requires ledger { (blank.name ≡ J.name) × (blank.parts ≡ J.parts) }
     requires network { network.now ≡ J.network }
+    requires kept { J.keeping ≡ All }
     requires one { J.parts ≡ 1 }
 {
     let opened: Opened<'_, J> = Shared::new(alloc, blank, network, 1, u64::MAX)?;

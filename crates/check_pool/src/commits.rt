@@ -1,5 +1,6 @@
 //! How far the commits of a run by workers pass their limit, and of which of them the gate is asked.
 ghost use Rattle.std.specs.Prelude.{◌≡◌};
+ghost use Rattle.kpn_history.specs.declared.keeping.Keeping.TheVariants.{All};
 
 use crate::abandoning::TestGate;
 use crate::holding::Held;
@@ -132,9 +133,10 @@ fn beside_batches<J: Job>(
 ) -> Result<u64, AllocError>
     requires ledger { (blank.name ≡ J.name) × (blank.parts ≡ J.parts) }
     requires network { network.now ≡ J.network }
+    requires kept { J.keeping ≡ All }
     requires one { J.parts ≡ 1 }
 {
-    let (mut desk, mut seats) = Desk::<J>::with_seats(alloc, blank, network, 1, Keeping::Nothing)?;
+    let (mut desk, mut seats) = Desk::<J>::with_seats(alloc, blank, network, 1, Keeping::All)?;
     let Some(seat) = seats.pop() else {
         return Ok(0);
     };

@@ -1,5 +1,6 @@
 //! Why a worker ends, and what is seen then.
 ghost use Rattle.std.specs.Prelude.{◌≡◌};
+ghost use Rattle.kpn_history.specs.declared.keeping.Keeping.TheVariants.{All};
 
 use crate::always::Always;
 use crate::networks::spinning;
@@ -25,6 +26,7 @@ fn ends_alone<J: Job, G: Gate, R: Wait + Clock>(
 ) -> Result<(Option<Why>, Option<View>), AllocError>
     requires ledger { (blank.name ≡ J.name) × (blank.parts ≡ J.parts) }
     requires network { network.now ≡ J.network }
+    requires kept { J.keeping ≡ All }
     requires one { J.parts ≡ 1 }
 {
     let opened: Opened<'_, J> = Shared::new(alloc, blank, network, 1, most)?;

@@ -1,5 +1,6 @@
 //! The lock is free while a process is stepped, and while an expression is evaluated.
 ghost use Rattle.std.specs.Prelude.{◌≡◌};
+ghost use Rattle.kpn_history.specs.declared.keeping.Keeping.TheVariants.{All};
 
 use crate::flag::Flag;
 use crate::networks::{spinning, summing};
@@ -129,6 +130,7 @@ fn seen_while_working<J: Job + Send + Sync, R: Threads + Wait + Clock + Sync>(
 ) -> Result<(u64, Option<Why>), AllocError>
     requires ledger { (blank.name ≡ J.name) × (blank.parts ≡ J.parts) }
     requires network { network.now ≡ J.network }
+    requires kept { J.keeping ≡ All }
     requires one { J.parts ≡ 1 }
 {
     let opened: Opened<'_, J> = Shared::new(alloc, blank, network, 1, MOST_COMMITS)?;

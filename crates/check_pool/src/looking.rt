@@ -1,5 +1,6 @@
 //! A look at the desk under its lock, while workers are at work.
 ghost use Rattle.std.specs.Prelude.{◌≡◌};
+ghost use Rattle.kpn_history.specs.declared.keeping.Keeping.TheVariants.{All};
 ghost use Rattle.kpn_pool_desk.specs.Invariant.{AreBelowLeast, HasNoneLeftToGrow};
 
 use crate::always::Always;
@@ -79,6 +80,7 @@ fn seen_while_working<J: Job + Send + Sync, R: Threads + Wait + Clock + Sync>(
 ) -> Result<(Option<Why>, Option<Why>, bool), AllocError>
     requires ledger { (blank.name ≡ J.name) × (blank.parts ≡ J.parts) }
     requires network { network.now ≡ J.network }
+    requires kept { J.keeping ≡ All }
     requires two { J.parts ≡ 2 }
 {
     let opened: Opened<'_, J> = Shared::new(alloc, blank, network, 2, COMMITS)?;

@@ -1,5 +1,6 @@
 //! Two workers that are at work at once: a gate holds one of them until the other comes with another process.
 ghost use Rattle.std.specs.Prelude.{◌≡◌};
+ghost use Rattle.kpn_history.specs.declared.keeping.Keeping.TheVariants.{All};
 
 use crate::holding::{Held, Holding};
 use crate::networks::{two_readers, two_sevens};
@@ -75,6 +76,7 @@ fn meet<J: Job + Send + Sync, R: Threads + Wait + Clock + Sync>(
 ) -> Result<Option<Met>, AllocError>
     requires ledger { (blank.name ≡ J.name) × (blank.parts ≡ J.parts) }
     requires network { network.now ≡ J.network }
+    requires kept { J.keeping ≡ All }
     requires two { J.parts ≡ 2 }
 {
     let opened: Opened<'_, J> = Shared::new(alloc, blank, network, 2, most)?;

@@ -1,5 +1,6 @@
 //! A call of the outside moves all that it can under one hold of the lock.
 ghost use Rattle.std.specs.Prelude.{◌≡◌};
+ghost use Rattle.kpn_history.specs.declared.keeping.Keeping.TheVariants.{All};
 
 use crate::always::Always;
 use crate::networks::copying;
@@ -55,6 +56,7 @@ fn moves_all<J: Job, R: Wait + Clock>(
 ) -> Result<bool, AllocError>
     requires ledger { (blank.name ≡ J.name) × (blank.parts ≡ J.parts) }
     requires network { network.now ≡ J.network }
+    requires kept { J.keeping ≡ All }
     requires one { J.parts ≡ 1 }
 {
     let opened: Opened<'_, J> = Shared::new(alloc, blank, network, 1, THREE)?;

@@ -1,5 +1,6 @@
 //! The seats of the outside: what is fed is copied by a worker and taken, and a seat of another run is known as such.
 ghost use Rattle.std.specs.Prelude.{◌≡◌};
+ghost use Rattle.kpn_history.specs.declared.keeping.Keeping.TheVariants.{All};
 
 use crate::always::Always;
 use crate::batching::has_written;
@@ -93,6 +94,7 @@ fn copied<J: Job + Send + Sync, R: Threads + Wait + Clock + Sync>(
 ) -> Result<Option<SourceSeat>, AllocError>
     requires ledger { (blank.name ≡ J.name) × (blank.parts ≡ J.parts) }
     requires network { network.now ≡ J.network }
+    requires kept { J.keeping ≡ All }
     requires one { J.parts ≡ 1 }
 {
     let opened: Opened<'_, J> = Shared::new(alloc, blank, network, 1, u64::MAX)?;
@@ -129,6 +131,7 @@ fn answered<J: Job, R: Wait>(
 ) -> Result<Refusals, AllocError>
     requires ledger { (blank.name ≡ J.name) × (blank.parts ≡ J.parts) }
     requires network { network.now ≡ J.network }
+    requires kept { J.keeping ≡ All }
     requires one { J.parts ≡ 1 }
 {
     let opened: Opened<'_, J> = Shared::new(alloc, blank, network, 1, u64::MAX)?;

@@ -1,6 +1,7 @@
 //! Calls on a heap that is full for a while. Those that want memory are refused it: all is as before, and the repeated
 //! call succeeds. The others succeed at once.
 ghost use Rattle.std.specs.Prelude.{◌≡◌};
+ghost use Rattle.kpn_history.specs.declared.keeping.Keeping.TheVariants.{All};
 
 use crate::always::Always;
 use crate::endings::is_ready;
@@ -25,6 +26,7 @@ const HEAP: usize = 16_384;
 fn opens<'a, J: Job>(heap: &'a LocalHeap, blank: Blank, network: &Network) -> bool
     requires ledger { (blank.name ≡ J.name) × (blank.parts ≡ J.parts) }
     requires network { network.now ≡ J.network }
+    requires kept { J.keeping ≡ All }
     requires one { J.parts ≡ 1 }
 {
     let opened: Result<Opened<'_, J, &'a LocalHeap>, AllocError> = Shared::new(
@@ -98,6 +100,7 @@ fn is_fed<'a, J: Job, R: Wait + Clock>(
 ) -> Result<bool, AllocError>
     requires ledger { (blank.name ≡ J.name) × (blank.parts ≡ J.parts) }
     requires network { network.now ≡ J.network }
+    requires kept { J.keeping ≡ All }
     requires one { J.parts ≡ 1 }
 {
     let opened: Opened<'_, J, &'a LocalHeap> = Shared::new(heap, blank, network, 1, 9)?;
@@ -142,6 +145,7 @@ fn is_gathered<'a, J: Job, R: Wait>(
 ) -> Result<bool, AllocError>
     requires ledger { (blank.name ≡ J.name) × (blank.parts ≡ J.parts) }
     requires network { network.now ≡ J.network }
+    requires kept { J.keeping ≡ All }
     requires one { J.parts ≡ 1 }
 {
     let opened: Opened<'_, J, &'a LocalHeap> = Shared::new(heap, blank, network, 1, 9)?;
@@ -198,6 +202,7 @@ fn is_poured<'a, J: Job, R: Wait + Clock>(
 ) -> Result<bool, AllocError>
     requires ledger { (blank.name ≡ J.name) × (blank.parts ≡ J.parts) }
     requires network { network.now ≡ J.network }
+    requires kept { J.keeping ≡ All }
     requires one { J.parts ≡ 1 }
 {
     let opened: Opened<'_, J, &'a LocalHeap> = Shared::new(heap, blank, network, 1, 10_000)?;

@@ -1,5 +1,6 @@
 //! A worker that holds a region: to the limit of commits, while the run is halted, and where memory runs out.
 ghost use Rattle.std.specs.Prelude.{◌≡◌};
+ghost use Rattle.kpn_history.specs.declared.keeping.Keeping.TheVariants.{All};
 
 use crate::abandoning::TestGate;
 use kpn_book::Keeping;
@@ -46,6 +47,7 @@ impl<'n, 'a, J: Job> OnlyWorker<'n, 'a, J> {
     ) -> Result<Option<Self>, AllocError>
         requires ledger { (blank.name ≡ J.name) × (blank.parts ≡ J.parts) }
         requires network { network.now ≡ J.network }
+        requires kept { J.keeping ≡ All }
         requires one { J.parts ≡ 1 }
     {
         let (mut desk, mut seats) = Desk::with_seats(heap, blank, network, 1, Keeping::All)?;
@@ -136,6 +138,7 @@ fn comes_to_the_limit<'a, J: Job>(
 ) -> Result<bool, AllocError>
     requires ledger { (blank.name ≡ J.name) × (blank.parts ≡ J.parts) }
     requires network { network.now ≡ J.network }
+    requires kept { J.keeping ≡ All }
     requires one { J.parts ≡ 1 }
 {
     let worker: Option<OnlyWorker<'_, 'a, J>> = OnlyWorker::new(heap, blank, network, 60_000)?;
@@ -170,6 +173,7 @@ fn commits_though_halted<'a, J: Job>(
 ) -> Result<bool, AllocError>
     requires ledger { (blank.name ≡ J.name) × (blank.parts ≡ J.parts) }
     requires network { network.now ≡ J.network }
+    requires kept { J.keeping ≡ All }
     requires one { J.parts ≡ 1 }
 {
     let worker: Option<OnlyWorker<'_, 'a, J>> = OnlyWorker::new(heap, blank, network, u64::MAX)?;
@@ -197,6 +201,7 @@ fn refused_in<'a, J: Job>(
 ) -> Result<Option<Refused>, AllocError>
     requires ledger { (blank.name ≡ J.name) × (blank.parts ≡ J.parts) }
     requires network { network.now ≡ J.network }
+    requires kept { J.keeping ≡ All }
     requires one { J.parts ≡ 1 }
 {
     let worker: Option<OnlyWorker<'_, 'a, J>> = OnlyWorker::new(heap, blank, network, u64::MAX)?;

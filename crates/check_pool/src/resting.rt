@@ -1,5 +1,6 @@
 //! A worker that rests comes to ready work, also if a gate holds all others.
 ghost use Rattle.std.specs.Prelude.{◌≡◌};
+ghost use Rattle.kpn_history.specs.declared.keeping.Keeping.TheVariants.{All};
 
 use crate::gates::HoldingThree;
 use crate::networks::three_spinning;
@@ -25,6 +26,7 @@ fn are_held_at_once<J: Job + Send + Sync, R: Threads + Wait + Clock + Sync>(
 ) -> Result<bool, AllocError>
     requires ledger { (blank.name ≡ J.name) × (blank.parts ≡ J.parts) }
     requires network { network.now ≡ J.network }
+    requires kept { J.keeping ≡ All }
     requires three { J.parts ≡ 3 }
 {
     let opened: Opened<'_, J> = Shared::new(alloc, blank, network, 3, u64::MAX)?;

@@ -1,6 +1,7 @@
 //! A thread that sleeps is woken: a run takes far longer if a thread wakes only by the clock. On a busy machine some
 //! runs may.
 ghost use Rattle.std.specs.Prelude.{◌≡◌};
+ghost use Rattle.kpn_history.specs.declared.keeping.Keeping.TheVariants.{All};
 
 use crate::gates::Pausing;
 use crate::networks::{copying, copying_beside, reading};
@@ -153,6 +154,7 @@ fn comes_to<J: Job + Send + Sync, R: Threads + Wait + Clock + Sync>(
 ) -> Result<Option<(bool, Option<Why>, Option<Why>)>, AllocError>
     requires ledger { (blank.name ≡ J.name) × (blank.parts ≡ J.parts) }
     requires network { network.now ≡ J.network }
+    requires kept { J.keeping ≡ All }
     requires two { J.parts ≡ 2 }
 {
     let opened: Opened<'_, J> = Shared::new(alloc, blank, network, 2, u64::MAX)?;

@@ -1,7 +1,8 @@
 //! A network is run: by the calling thread, or by workers on threads of their own.
-ghost use Rattle.std.specs.Prelude.{◌≡◌, length, option_map, Some, IfOk, IfErr};
+ghost use Rattle.std.specs.Prelude.{◌≡◌, length, option_map, Some, IfOk, IfErr, IsSome, IsTrue};
 ghost use Rattle.kpn_net.specs.Iteration.{sources};
 ghost use Rattle.kpn_book.specs.Reports.{IsReport};
+ghost use Rattle.kpn_pool.specs.Fed.{keeps_ends};
 ghost use Rattle.kpn_commands.specs.Limits.{commits_with, run_limits_of};
 ghost use Rattle.kpn_commands.specs.Reported.{IsRefusalOfReport};
 
@@ -51,7 +52,9 @@ fn commits_with(trace: Option<&str>, asked: u64) -> u64
 
 /// What is kept of a run: all for its trace, or else what its report is made of. A report of workers is checked by what
 /// the sources were fed.
-pub(crate) fn keeping_of(request: &RunRequest<'_>) -> Keeping {
+pub(crate) fn keeping_of(request: &RunRequest<'_>) -> Keeping
+    ensures { IsSome request.now.workers → IsTrue (keeps_ends result) }
+{
     match (request.trace, request.workers) {
         (Some(_), _) => Keeping::All,
         (None, Some(_)) => Keeping::Ends,
@@ -69,7 +72,8 @@ pub(crate) fn run_by_workers<R: Threads + Wait + Clock + Sync>(
     limits: &Limits,
     keeping: Keeping,
 ) -> Result<Report, Refusal>
-    requires { length lists.now ≡ sources network.now }
+    requires lists { length lists.now ≡ sources network.now }
+    requires keeping { IsTrue (keeps_ends keeping) }
     ensures report { IfOk result (λ report. IsReport network.now lists.now limits.now report) }
     ensures refused { IfErr result (IsRefusalOfReport (Some workers)) }
 {

@@ -1,11 +1,20 @@
 -- What a run by workers looks for at its end: that its sources were fed their whole lists, and closed.
-use Rattle.std.specs.Prelude.{◌≡◌, ℕ, ◌<◌, true, ℤ, List}
+use Rattle.std.specs.Prelude.{◌≡◌, ℕ, ◌<◌, Bool, true, false, ℤ, List}
 use Rattle.kpn_net.specs.Tables.{Tables, channel_at, is_source}
 use Rattle.kpn_net.specs.Iteration.{given_by}
 use Rattle.kpn_history.specs.declared.event.Event.{Event}
+use Rattle.kpn_history.specs.declared.keeping.Keeping.{Keeping}
+use Rattle.kpn_history.specs.declared.keeping.Keeping.TheVariants.{All, Ends, Sinks, Nothing}
 use Rattle.kpn_history.specs.declared.state.View.{View}
 use Rattle.kpn_history.specs.Channels.{is_closed}
 use Rattle.kpn_book.specs.Snapshot.{shown_on}
+
+-- the items of the sources and of the sinks are kept, by which a report of workers is checked and made
+abbrev pub keeps_ends : Keeping → Bool
+keeps_ends All = true
+keeps_ends Ends = true
+keeps_ends Sinks = false
+keeps_ends Nothing = false
 
 -- the journal of each source with a number below k, as a view shows it, is its list
 abbrev pub AreFedBelow : {A : Type 0} → Tables → (lists : List (List ℤ)) → View A → (k : ℕ) → Type 0

@@ -2,6 +2,7 @@
 ghost use Rattle.std.specs.Prelude.{◌≡◌, ◌<◌, ◌≤◌, Bool, [], length, map, IfOk, vec_len, vec_capacity};
 ghost use Rattle.std.specs.List.{sum_by};
 ghost use Rattle.kpn_book.specs.Kept.{IsBook};
+ghost use Rattle.kpn_book.specs.Remembering.{Remembers};
 ghost use Rattle.kpn_pool.specs.Causes.{worked_of, is_out_of_memory, is_abandoned, ran_out, all_abandoned, fault_of_run};
 
 use crate::fault::RunFault;
@@ -93,6 +94,7 @@ pub fn run_beside<'n, R: Threads + Wait + Clock + Sync, G: Gate, C: Client, F: F
 ) -> Result<EndedRun<'n, C>, AllocError>
     requires workers { (0 < plan.now.workers) × (plan.now.workers ≤ MAX_WORKERS) }
     ensures network { IfOk result (λ ran. ran.book.tables ≡ network.now) }
+    ensures kept { IfOk result (λ ran. Remembers plan.now.keeping ran.book) }
     ensures book { IfOk result (λ ran. IsBook ran.book) }
     ensures count { IfOk result (λ ran. vec_len ran.workers ≡ plan.now.workers) }
     // whether each worker and each feeder had a thread of its own is the only thing left open
@@ -124,9 +126,11 @@ fn run_job<
 ) -> Result<EndedRun<'n, C>, AllocError>
     requires ledger { (blank.name ≡ J.name) × (blank.parts ≡ J.parts) }
     requires network { network.now ≡ J.network }
+    requires kept { plan.now.keeping ≡ J.keeping }
     requires workers { (plan.now.workers ≡ J.parts) × (0 < plan.now.workers)
         × (plan.now.workers ≤ MAX_WORKERS) }
     ensures network { IfOk result (λ ran. ran.book.tables ≡ J.network) }
+    ensures kept { IfOk result (λ ran. Remembers J.keeping ran.book) }
     ensures book { IfOk result (λ ran. IsBook ran.book) }
     ensures count { IfOk result (λ ran. vec_len ran.workers ≡ plan.now.workers) }
     ensures fault { IfOk result (λ ran.

@@ -1,7 +1,9 @@
 //! A run by several workers.
-ghost use Rattle.std.specs.Prelude.{◌≡◌, ◌<◌, ◌≤◌, length, IfOk};
+ghost use Rattle.std.specs.Prelude.{◌≡◌, ◌<◌, ◌≤◌, length, IfOk, IsTrue};
 ghost use Rattle.kpn_net.specs.Iteration.{sources};
+ghost use Rattle.kpn_history.specs.Keeping.{keeps_all};
 ghost use Rattle.kpn_book.specs.Reports.{AreSupplied, IsReport, events_of};
+ghost use Rattle.kpn_pool.specs.Fed.{keeps_ends};
 
 use crate::beside::{EndedRun, WorkPlan, run_beside};
 use crate::ending::conclude;
@@ -43,6 +45,7 @@ pub fn run<R: Threads + Wait + Clock + Sync, G: Gate>(
     ensures report { IfOk result (λ report. IsReport network.now lists.now limits.now report) }
     ensures supplied { IfOk result (λ report.
         AreSupplied network.now lists.now (events_of report)) }
+    ensures kept { IfOk result (λ report. IsTrue report.history.is_kept) }
 {
     let plan = WorkPlan {
         workers,
@@ -53,8 +56,7 @@ pub fn run<R: Threads + Wait + Clock + Sync, G: Gate>(
     run_keeping(rt, alloc, network, lists, &plan)
 }
 
-/// The same run as it is planned, which keeps the items of the sources and of the sinks at least, by which the report is
-/// checked and made.
+/// The same run as it is planned.
 pub fn run_keeping<R: Threads + Wait + Clock + Sync, G: Gate>(
     rt: &R,
     alloc: Global,
@@ -64,10 +66,14 @@ pub fn run_keeping<R: Threads + Wait + Clock + Sync, G: Gate>(
 ) -> Result<Report, RunFault>
     requires lists { length lists.now ≡ sources network.now }
     requires workers { (0 < plan.now.workers) × (plan.now.workers ≤ MAX_WORKERS) }
+    // by the items of the sources the report is checked, and of those of the sinks it is made
+    requires keeping { IsTrue (keeps_ends plan.now.keeping) }
     ensures report { IfOk result (λ report.
         IsReport network.now lists.now plan.now.limits report) }
     ensures supplied { IfOk result (λ report.
         AreSupplied network.now lists.now (events_of report)) }
+    ensures kept { IfOk result (λ report.
+        report.history.is_kept ≡ keeps_all plan.now.keeping) }
 {
     let serving = Serving::new(lists, plan.limits.take, plan.gate.lets_all());
     let nobody: &[Nobody] = &[];

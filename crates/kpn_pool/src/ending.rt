@@ -2,6 +2,9 @@
 //! written.
 ghost use Rattle.std.specs.Prelude.{◌≡◌, length, IfOk};
 ghost use Rattle.kpn_net.specs.Iteration.{sources};
+ghost use Rattle.kpn_history.specs.declared.keeping.Keeping.{Keeping};
+ghost use Rattle.kpn_history.specs.Keeping.{keeps_all};
+ghost use Rattle.kpn_book.specs.Remembering.{Remembers};
 ghost use Rattle.kpn_book.specs.Reports.{AreSupplied, IsReport, events_of};
 ghost use Rattle.kpn_pool.specs.Ending.{KeepsHeld};
 
@@ -28,6 +31,8 @@ pub(crate) fn conclude(
     ensures supplied { IfOk result (λ report.
         AreSupplied book.entry.tables lists.now (events_of report)) }
     ensures commits { IfOk result (λ report. report.commits ≡ book.entry.commits) }
+    ensures kept { IfOk result (λ report. (keeping : Keeping) → Remembers keeping book.entry
+        → report.history.is_kept ≡ keeps_all keeping) }
 {
     let mut book = book;
     put_back_held(&mut book);

@@ -3,7 +3,9 @@ ghost use Rattle.std.specs.Prelude.{◌≡◌, ◌<◌, ◌≤◌, length, IfOk,
 ghost use Rattle.std.specs.List.{sum_by};
 ghost use Rattle.kpn_net.specs.Tables.{is_source, is_sink};
 ghost use Rattle.kpn_pool_desk.specs.OutsideSeats.{new_ends};
+ghost use Rattle.kpn_history.specs.declared.keeping.Keeping.TheVariants.{All};
 ghost use Rattle.kpn_book.specs.Kept.{IsBook};
+ghost use Rattle.kpn_book.specs.Remembering.{Remembers};
 ghost use Rattle.kpn_book.specs.Snapshot.{ShowsARun, IsBelowKahn, IsKahnAtRest};
 ghost use Rattle.kpn_pool_desk.specs.declared.crew.Awaited.TheVariants.{There, Ended};
 ghost use Rattle.kpn_pool_desk.specs.Seat.{AreNewSeats};
@@ -74,6 +76,7 @@ impl<'n, J: Job, A: Allocator + Copy> Shared<'n, J, A> {
     ) -> Result<Opened<'n, J, A>, AllocError>
         requires ledger { (blank.name ≡ J.name) × (blank.parts ≡ J.parts) }
         requires network { network.now ≡ J.network }
+        requires kept { J.keeping ≡ All }
         requires workers { (workers ≡ J.parts) × (0 < workers) × (workers ≤ MAX_WORKERS) }
         ensures workers { IfOk result (λ opened. AreNewSeats workers opened.workers.items) }
         ensures sources { IfOk result (λ opened.
@@ -95,6 +98,7 @@ impl<'n, J: Job, A: Allocator + Copy> Shared<'n, J, A> {
     ) -> Result<Opened<'n, J, A>, AllocError>
         requires ledger { (blank.name ≡ J.name) × (blank.parts ≡ J.parts) }
         requires network { network.now ≡ J.network }
+        requires kept { keeping ≡ J.keeping }
         requires workers { (workers ≡ J.parts) × (0 < workers) × (workers ≤ MAX_WORKERS) }
         ensures workers { IfOk result (λ opened. AreNewSeats workers opened.workers.items) }
         ensures sources { IfOk result (λ opened.
@@ -280,6 +284,7 @@ pub fn gather<'n, J: Job, A: Allocator>(
 ) -> Book<'n, A>
     requires { (length workers.items ≡ J.parts) × (0 < J.parts) }
     ensures network { result.tables ≡ J.network }
+    ensures kept { Remembers J.keeping result }
     ensures book { IsBook result }
     ensures commits { result.commits ≡ sum_by (λ seat. seat.commits) workers.items }
 {

@@ -6,6 +6,8 @@ use Rattle.kpn_book.specs.InARow.{StepsInRow, no_step, one_step_more, ends_row, 
 use Rattle.kpn_book.specs.Refusals.{Takes}
 use Rattle.kpn_book.proofs.FirstOfQueue.{refused_tables}
 use Rattle.kpn_book.proofs.Stepped.{step_tables, step_commits}
+use Rattle.kpn_book.proofs.Remembered.{much-trans, runs_much, in_vain_much}
+use Rattle.kpn_book.specs.Remembering.{RemembersAsMuch}
 use Rattle.kpn_pool_desk.specs.declared.gate.Go.{Go}
 use Rattle.kpn_pool_desk.specs.declared.rows.Takers.{Takers}
 use Rattle.kpn_pool_desk.specs.declared.rows.Takers.TheVariants.{Workers}
@@ -57,6 +59,11 @@ row_further quota sink before after (row_in_vain most none vain) =
       commits = omega (arith, made);
     }
 
+pub row_much : (quota : ℕ) (sink : Option ℕ) (before after : Book) → MakesRow quota sink before after
+    → RemembersAsMuch before after
+row_much quota sink before after (row most runs) = runs_much quota most sink before after runs
+row_much quota sink before after (row_in_vain most none vain) = in_vain_much quota most before after vain
+
 -- a row that ends in either way, with what is returned then
 module _ {E : Type 0} (quota most : ℕ) (before after : Book) where
   pub row_of : (result : Result (Option ℕ) E) (sink : Option ℕ) → sink ≡ result_unwrap_or result None
@@ -68,11 +75,15 @@ module _ {E : Type 0} (quota most : ℕ) (before after : Book) where
 -- ---- takes
 
 pub takes_keep : (takers : Takers) (first : Book) {b : Book} → TakesOn takers first b → KeepsCount first b
-takes_keep takers first no_take = record { tables = refl; commits = refl }
+takes_keep takers first no_take = record { tables = refl; commits = refl; remembers = λ keeping is. is }
 takes_keep takers first (one_take_more before after wanted sink item may so_far take) =
     let one = takes_keep takers first so_far in
     let two = takes sink (Some item) before after take.takes in
-    record { tables = two.tables ∙ one.tables; commits = two.commits ∙ one.commits }
+    record {
+      tables = two.tables ∙ one.tables;
+      commits = two.commits ∙ one.commits;
+      remembers = much-trans first before after one.remembers two.remembers;
+    }
 
 -- one take more, if the workers take
 pub one_take_on : (takers : Takers) (wanted : Option ℕ) (sink : ℕ) (first before after : Book)

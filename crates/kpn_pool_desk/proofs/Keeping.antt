@@ -1,33 +1,48 @@
--- The calls of the outside keep the network and the number of commits, and what they say of the network.
-use Rattle.std.proofs.Common.{◌≡◌, ℕ, Bool, true, false, ℤ, List, ◌∷◌, ◌++◌, Option, Some, None, ap, sym, subst}
+-- The calls of the outside keep the network, the number of commits and what is kept, and what they say of the network.
+use Rattle.std.proofs.Common.{◌≡◌, ℕ, Bool, true, false, ℤ, List, ◌∷◌, ◌++◌, Option, Some, None, ap, sym, ◌∙◌, subst}
 use Rattle.kpn_lang.specs.Prefix.{IsPrefix}
 use Rattle.kpn_lang.proofs.Prefixes.{IsPrefix-from_rest}
 use Rattle.kpn_net.specs.declared.tables.ChannelSpec.{ChannelSpec}
 use Rattle.kpn_net.specs.Tables.{Tables, channel_at, is_source, is_sink}
 use Rattle.kpn_history.specs.declared.event.Event.{Event}
-use Rattle.kpn_book.specs.Book.{Book}
+use Rattle.kpn_history.specs.declared.keeping.Keeping.{Keeping}
+use Rattle.kpn_book.specs.Book.{Book, IsClaimed}
+use Rattle.kpn_book.specs.Kept.{IsBook}
 use Rattle.kpn_book.specs.Appending.{Appends, Happens}
 use Rattle.kpn_book.specs.declared.answers.Refused.{Refused}
 use Rattle.kpn_book.specs.declared.answers.Refused.TheVariants.{NoMemory, NoSuchEnd, SourceClosed, Full, SinkLeft}
 use Rattle.kpn_book.specs.Refusals.{RefusesFeed, RefusesClose, RefusesTake, RefusesLeave, closes_by, takes_item, leaves_by}
+use Rattle.kpn_book.specs.Remembering.{RemembersAsMuch}
 use Rattle.kpn_book.proofs.Appended.{commits_stay, tables_stay}
+use Rattle.kpn_book.proofs.Remembered.{same_much, appends_much, happens_much, claimed_much}
+use Rattle.kpn_pool_desk.specs.Desk.{Desk, IsDesk, with_book, with_total}
 use Rattle.kpn_pool_desk.specs.OutsideSeats.{MayRefuseFeed, MayRefuseEnd, MayRefuseTake}
 
--- the network and the number of commits are the same
+-- the network, the number of commits and what is kept are the same
 pub record KeepsCount (before after : Book) : Type 0 where
   pub tables : after.tables ≡ before.tables
   pub commits : after.commits ≡ before.commits
+  pub remembers : RemembersAsMuch before after
 
 stays : (before after : Book) → after ≡ before → KeepsCount before after
-stays before after same = record { tables = ap (λ b. b.tables) same; commits = ap (λ b. b.commits) same }
+stays before after same = record {
+  tables = ap (λ b. b.tables) same;
+  commits = ap (λ b. b.commits) same;
+  remembers = same_much before after same;
+}
 
 pub appends : (e : Event) (before after : Book) → Appends e before after → KeepsCount before after
-appends e before after h = record { tables = h.tables; commits = h.commits }
+appends e before after h = record {
+  tables = h.tables;
+  commits = h.commits;
+  remembers = appends_much e before after h;
+}
 
 happens : (e : Event) (before after : Book) → Happens e before after → KeepsCount before after
 happens e before after h = record {
   tables = tables_stay (e ∷ h.growth) before after h.appends;
   commits = commits_stay (e ∷ h.growth) before after h.appends;
+  remembers = happens_much e before after h;
 }
 
 pub closes : (closed : Bool) (c : ℕ) (before after : Book) → closes_by closed c before after → KeepsCount before after
@@ -41,6 +56,33 @@ takes c (Some v) before after h = happens _ before after h.1
 pub leaves : (left : Bool) (c : ℕ) (before after : Book) → leaves_by left c before after → KeepsCount before after
 leaves true c before after h = stays before after h
 leaves false c before after h = happens _ before after h
+
+pub claimed : (p : ℕ) (before after : Book) → IsClaimed p before after → KeepsCount before after
+claimed p before after is = record {
+  tables = ap (λ b. b.tables) is.same;
+  commits = ap (λ b. b.commits) is.same;
+  remembers = claimed_much p before after is;
+}
+
+-- ---- a desk whose book has changed is still one of the same run
+
+module _ {t : Tables} {count : ℕ} {keeping : Keeping} {d : Desk} (is : IsDesk t count keeping d) (after : Book) where
+  pub counted_desk : (total : ℕ) → IsBook after → after.tables ≡ d.book.tables → RemembersAsMuch d.book after
+      → total ≡ after.commits → IsDesk t count keeping (with_total after total d)
+  counted_desk total book tables much counted = record {
+    network = tables ∙ is.network;
+    book = book;
+    remembers = much keeping is.remembers;
+    counted = counted;
+    workers = is.workers;
+  }
+
+  pub still_desk : IsBook after → KeepsCount d.book after → IsDesk t count keeping (with_book after d)
+  still_desk book keeps =
+      counted_desk d.total book keeps.tables keeps.remembers (is.counted ∙ sym keeps.commits)
+
+  pub same_desk : after ≡ d.book → IsDesk t count keeping (with_book after d)
+  same_desk same = still_desk (subst (λ b. IsBook b) (sym same) is.book) (stays d.book after same)
 
 -- ---- what a call says of the network, whatever has happened
 

@@ -2,10 +2,12 @@
 use Rattle.std.specs.Prelude.{◌≡◌, ◌≤◌, ◌<◌, ◌+◌, ◌-◌, ℕ, Bool, true, false, [], min, max, count_by, Option, Some, None}
 use Rattle.std.specs.Int.{div_ceil}
 use Rattle.kpn_net.specs.Tables.{Tables}
+use Rattle.kpn_history.specs.declared.keeping.Keeping.{Keeping}
 use Rattle.kpn_history.specs.Ends.{IsSettled}
 use Rattle.kpn_history.specs.Views.{is_ready}
 use Rattle.kpn_book.specs.Book.{Book}
 use Rattle.kpn_book.specs.Kept.{IsBook}
+use Rattle.kpn_book.specs.Remembering.{Remembers}
 use Rattle.kpn_pool_desk.specs.declared.phases.NextMove.{NextMove}
 use Rattle.kpn_pool_desk.specs.declared.phases.NextMove.TheVariants as next
 use Rattle.kpn_pool_desk.specs.declared.rows.Takers.{Takers}
@@ -23,11 +25,12 @@ pub record Desk : Type 0 where
   pub working : ℕ
   pub takers : Takers
 
--- a desk of the run of a network by so many workers: the book is one of this network, and the total is the number of
--- its commits
-pub record IsDesk (t : Tables) (count : ℕ) (d : Desk) : Type 0 where
+-- a desk of the run of a network by so many workers: the book is one of this network, and keeps what it was told to
+-- keep, and the total is the number of its commits
+pub record IsDesk (t : Tables) (count : ℕ) (keeping : Keeping) (d : Desk) : Type 0 where
   pub network : d.book.tables ≡ t
   pub book : IsBook d.book
+  pub remembers : Remembers keeping d.book
   pub counted : d.total ≡ d.book.commits
   pub workers : d.workers ≡ count
 

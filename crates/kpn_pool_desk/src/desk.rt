@@ -6,6 +6,7 @@ ghost use Rattle.kpn_machine.specs.Machine.{AreKept};
 ghost use Rattle.kpn_history.specs.declared.state.Counts.{Counts as Tally};
 ghost use Rattle.kpn_history.specs.Views.{Agrees, AreCounts};
 ghost use Rattle.kpn_book.specs.Kept.{IsBook};
+ghost use Rattle.kpn_book.specs.Remembering.{Remembers};
 ghost use Rattle.kpn_pool_desk.specs.declared.crew.Awaited.TheVariants.{There, Ended};
 ghost use Rattle.kpn_pool_desk.specs.declared.crew.Need.TheVariants.{Item, Room};
 ghost use Rattle.kpn_pool_desk.specs.Desk.{halted, IsOpened, IsReason, ready_in, share_in};
@@ -65,7 +66,7 @@ impl<'n, J: Job, A: Allocator> Model for Desk<'n, J, A> {
     } };
 
     ghost invariant = { λ d.
-        IsDesk J.network J.parts (record {
+        IsDesk J.network J.parts J.keeping (record {
           book = d.book;
           total = d.total.total;
           halts = d.halts;
@@ -87,6 +88,7 @@ impl<'n, J: Job, A: Allocator + Copy> Desk<'n, J, A> {
     ) -> Result<(Self, Vec<WorkerSeat<J>, A>), AllocError>
         requires ledger { (blank.name ≡ J.name) × (blank.parts ≡ J.parts) }
         requires network { network.now ≡ J.network }
+        requires kept { keeping ≡ J.keeping }
         requires workers { workers ≡ J.parts }
         ensures desk { IfOk result (λ opened. IsOpened opened.0) }
         ensures workers { IfOk result (λ opened. AreNewSeats workers opened.1.items) }
@@ -109,6 +111,7 @@ impl<'n, J: Job, A: Allocator + Copy> Desk<'n, J, A> {
         keeping: Keeping,
     ) -> Result<Self, AllocError>
         requires network { network.now ≡ J.network }
+        requires kept { keeping ≡ J.keeping }
         requires workers { workers ≡ J.parts }
         requires total { total.total ≡ 0 }
         ensures { IfOk result IsOpened }
@@ -129,15 +132,16 @@ impl<'n, J: Job, A: Allocator + Copy> Desk<'n, J, A> {
 
 impl<'n, J: Job, A: Allocator> Desk<'n, J, A> {
     /// Does nothing. A caller's proof learns from it what holds whenever the lock is free: the book is one of the run's
-    /// network, the ledger's total is the number of its commits, and each journal is a prefix of Kahn's least solution
-    /// for the items fed so far, and is what was read followed by what is queued, within capacity; the counts of
-    /// blocked processes are exact; each growth took the smallest awaited full channel of a blocked cycle or of a
-    /// settled network; when every process has ended or waits on an empty channel, the journals are that solution; no
-    /// blocked cycle has a full channel below the limit; and under the policy `all` no process waits on one once the
-    /// book is settled. There are as many workers as the ledger has parts.
+    /// network and keeps what it was told to keep, the ledger's total is the number of its commits, and each journal is
+    /// a prefix of Kahn's least solution for the items fed so far, and is what was read followed by what is queued,
+    /// within capacity; the counts of blocked processes are exact; each growth took the smallest awaited full channel of
+    /// a blocked cycle or of a settled network; when every process has ended or waits on an empty channel, the journals
+    /// are that solution; no blocked cycle has a full channel below the limit; and under the policy `all` no process
+    /// waits on one once the book is settled. There are as many workers as the ledger has parts.
     pub fn known(&self)
         ensures network { self.now.book.tables ≡ J.network }
         ensures book { IsBook self.now.book }
+        ensures kept { Remembers J.keeping self.now.book }
         ensures counted { self.now.total ≡ self.now.book.commits }
         ensures workers { self.now.workers ≡ J.parts }
         ensures below { AreBelowLeast self.now.book }
@@ -376,6 +380,7 @@ impl<'n, J: Job, A: Allocator> Desk<'n, J, A> {
         requires { (length workers.items ≡ J.parts) × (0 < J.parts) }
         ensures same { result ≡ self.entry.book }
         ensures network { result.tables ≡ J.network }
+        ensures kept { Remembers J.keeping result }
         ensures book { IsBook result }
         ensures commits { result.commits ≡ sum_by (λ seat. seat.commits) workers.items }
     {

@@ -1,5 +1,6 @@
 use Rattle.std.proofs.Common.{◌≡◌, length, ap, sym, ◌∙◌, subst}
 use Rattle.kpn_net.specs.Tables.{Tables}
+use Rattle.kpn_book.specs.Remembering.{Remembers}
 use Rattle.kpn_pool.specs.Fed.{AreFedBelow, AreSourcesClosedBelow}
 use Rattle.kpn_pool.proofs.Concluding.{journals_shown, are_supplied, IsReport-concluded}
 use Rattle.kpn_pool.proofs.ending.conclude.Goals as goal
@@ -33,4 +34,9 @@ returns c =
       commits =
           c.in-Ok.ensures.commits ∙ c.empty_sinks-emptied.ensures.commits
           ∙ ap (λ b. b.commits) c.put_back_held.ensures.alone;
+      kept = λ keeping is.
+          let back =
+          subst (λ b. Remembers keeping b) (sym c.put_back_held.ensures.alone)
+          (record { events = is.events; items = is.items }) in
+          c.in-Ok.ensures.kept ∙ (c.empty_sinks-emptied.ensures.remembers keeping back).events;
     }

@@ -1,4 +1,5 @@
-use Rattle.std.proofs.Common.{sym, ◌∙◌}
+use Rattle.std.proofs.Common.{sym, ◌∙◌, subst}
+use Rattle.kpn_book.specs.Remembering.{Remembers}
 use Rattle.kpn_pool_desk.proofs.desk.Desk.new.Goals as goal
 
 pub invariant_of-result : goal.invariant_of-result
@@ -6,6 +7,8 @@ invariant_of-result g c =
     record {
       network = c.in_ok-book.ensures.tables ∙ c.requires.network;
       book = c.in_ok-book.ensures.book;
+      remembers =
+          subst (λ keeping. Remembers keeping c.in_ok-book.book) c.requires.kept c.in_ok-book.ensures.kept;
       counted = c.requires.total ∙ sym c.in_ok-book.ensures.commits;
       workers = c.requires.workers;
     }

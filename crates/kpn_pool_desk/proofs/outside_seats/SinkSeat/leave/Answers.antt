@@ -1,6 +1,5 @@
-use Rattle.std.proofs.Common.{sym, ◌∙◌}
 use Rattle.kpn_machine.specs.Machine.{channel_in}
-use Rattle.kpn_pool_desk.proofs.Keeping.{leaves}
+use Rattle.kpn_pool_desk.proofs.Keeping.{leaves, still_desk}
 use Rattle.kpn_pool_desk.proofs.outside_seats.SinkSeat.leave.Goals as goal
 
 pub invariant_of-desk-2 : goal.invariant_of-desk-2
@@ -9,9 +8,4 @@ invariant_of-desk-2 g c =
     let same =
     leaves (channel_in b.machine c.self.inside.channel).is_retired c.self.inside.channel b c.leave_sink.new.self
     c.in_ok-leave_sink.ensures.done.leaves in
-    record {
-      network = same.tables ∙ c.desk.invariant.network;
-      book = c.known.ensures;
-      counted = c.desk.invariant.counted ∙ sym same.commits;
-      workers = c.desk.invariant.workers;
-    }
+    still_desk c.desk.invariant c.leave_sink.new.self c.known.ensures same

@@ -1,29 +1,15 @@
-use Rattle.std.proofs.Common.{sym, ap, ◌∙◌, subst}
-use Rattle.kpn_book.specs.Book.{Book}
-use Rattle.kpn_book.specs.Kept.{IsBook}
+use Rattle.std.proofs.Common.{ap}
 use Rattle.kpn_pool_desk.specs.Desk.{Desk, with_book}
-use Rattle.kpn_pool_desk.proofs.Keeping.{appends}
+use Rattle.kpn_pool_desk.proofs.Keeping.{appends, still_desk, same_desk}
 use Rattle.kpn_pool_desk.proofs.outside_seats.SourceSeat.feed.Goals as goal
 
 pub invariant_of-desk : goal.invariant_of-desk
-invariant_of-desk g c =
-    let same = c.in_err-feed.ensures.as_before in
-    record {
-      network = ap (λ (b : Book). b.tables) same ∙ c.desk.invariant.network;
-      book = subst (λ (b : Book). IsBook b) (sym same) c.desk.invariant.book;
-      counted = c.desk.invariant.counted ∙ sym (ap (λ (b : Book). b.commits) same);
-      workers = c.desk.invariant.workers;
-    }
+invariant_of-desk g c = same_desk c.desk.invariant c.feed.new.self c.in_err-feed.ensures.as_before
 
 pub invariant_of-desk-2 : goal.invariant_of-desk-2
 invariant_of-desk-2 g c =
     let same = appends _ c.desk.inside.book c.feed.new.self c.in_ok-feed.ensures.done.appends in
-    record {
-      network = same.tables ∙ c.desk.invariant.network;
-      book = c.known.ensures;
-      counted = c.desk.invariant.counted ∙ sym same.commits;
-      workers = c.desk.invariant.workers;
-    }
+    still_desk c.desk.invariant c.feed.new.self c.known.ensures same
 
 pub returns-clause-desk : goal.returns-clause-desk
 returns-clause-desk g c = ap (λ (d : Desk). with_book c.feed.new.self d) c.desk.view_is

@@ -5,7 +5,9 @@ use Rattle.kpn_step.specs.Stops.{advanced_of}
 use Rattle.kpn_book.specs.Book.{held_count}
 use Rattle.kpn_book.specs.Commits.{Commits}
 use Rattle.kpn_book.specs.Refusals.{RefusesCommit}
+use Rattle.kpn_book.proofs.Remembered.{commits_much}
 use Rattle.kpn_pool_desk.specs.Desk.{Desk}
+use Rattle.kpn_pool_desk.proofs.Keeping.{counted_desk}
 use Rattle.kpn_pool_desk.proofs.seat.WorkerSeat.commit.Goals as goal
 
 pub returns-in_err-done-clause-refused : goal.returns-in_err-done-clause-refused
@@ -40,15 +42,11 @@ invariant_of-desk-2 g c =
     let one =
     c.what_a_commit_does.ensures.commits c.args.p x c.in_ok-done.done c.desk.inside.book c.commit_own.new.self
     c.in_ok-done.ensures.done in
-    record {
-      network =
-          c.what_a_commit_does.ensures.tables c.args.p x c.in_ok-done.done c.desk.inside.book c.commit_own.new.self
-          c.in_ok-done.ensures.done
-          ∙ c.desk.invariant.network;
-      book = c.known-2.ensures;
-      counted = c.count.ensures.total ∙ ap (λ n. n + 1) c.desk.invariant.counted ∙ sym one;
-      workers = c.desk.invariant.workers;
-    }
+    counted_desk c.desk.invariant c.commit_own.new.self c.count.new.total.total c.known-2.ensures
+    (c.what_a_commit_does.ensures.tables c.args.p x c.in_ok-done.done c.desk.inside.book c.commit_own.new.self
+    c.in_ok-done.ensures.done)
+    (commits_much c.args.p x c.in_ok-done.done c.desk.inside.book c.commit_own.new.self c.in_ok-done.ensures.done)
+    (c.count.ensures.total ∙ ap (λ n. n + 1) c.desk.invariant.counted ∙ sym one)
 
 pub returns-clause-done : goal.returns-clause-done
 returns-clause-done g c =

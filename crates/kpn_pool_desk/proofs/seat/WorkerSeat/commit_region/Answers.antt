@@ -1,4 +1,6 @@
-use Rattle.std.proofs.Common.{◌∙◌, arith}
+use Rattle.std.proofs.Common.{◌∙◌, sym, arith}
+use Rattle.kpn_book.proofs.Remembered.{region_much}
+use Rattle.kpn_pool_desk.proofs.Keeping.{counted_desk}
 use Rattle.kpn_pool_desk.proofs.Dividing.{region_further}
 use Rattle.kpn_pool_desk.proofs.seat.WorkerSeat.commit_region.Goals as goal
 
@@ -22,9 +24,7 @@ invariant_of-desk-2 g c =
     let after = c.commits.ensures in
     let counted = c.desk.invariant.counted in
     let total = c.count.ensures.total in
-    record {
-      network = further.tables ∙ c.desk.invariant.network;
-      book = c.known-2.ensures;
-      counted = omega (arith, less, before, after, counted, total);
-      workers = c.desk.invariant.workers;
-    }
+    counted_desk c.desk.invariant c.commit_region.new.self c.count.new.total.total c.known-2.ensures further.tables
+    (region_much c.args.batch.now c.in_ok-memory.memory c.desk.inside.book c.commit_region.new.self
+    (c.requires ∙ sym c.desk.invariant.network) c.in_ok-memory.ensures.done)
+    (omega (arith, less, before, after, counted, total))
