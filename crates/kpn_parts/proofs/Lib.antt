@@ -14,3 +14,4 @@ pub mod Sending
 pub mod Carrying
 pub mod Stuck
 pub mod Merging
+pub mod Cuts
