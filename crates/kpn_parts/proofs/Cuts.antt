@@ -39,7 +39,7 @@ abbrev pub IsBefore : (s q r p : ℕ) → Type 0
 IsBefore s q r p = (s < r) ⊎ ((s ≡ r) × (q < p))
 
 -- whether it comes before the next place, it comes before this one or is this one
-before_next : (s q r p : ℕ) → IsBefore s q r (p + 1) → IsBefore s q r p ⊎ ((s ≡ r) × (q ≡ p))
+pub before_next : (s q r p : ℕ) → IsBefore s q r (p + 1) → IsBefore s q r p ⊎ ((s ≡ r) × (q ≡ p))
 before_next s q r p (inl less) = inl (inl less)
 before_next s q r p (inr here) =
     elim (cases_eq q p) [
@@ -63,7 +63,7 @@ unmarked zero w is = absurd cc
 unmarked (suc n) zero is = absurd cc
 unmarked (suc n) (suc w) is = unmarked n w is
 
-nothing_before : (s q : ℕ) → IsBefore s q 0 0 → ⊥
+pub nothing_before : (s q : ℕ) → IsBefore s q 0 0 → ⊥
 nothing_before s q (inl less) = absurd omega (arith, less)
 nothing_before s q (inr here) = absurd omega (arith, here.1)
 

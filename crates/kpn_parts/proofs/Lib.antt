@@ -15,3 +15,4 @@ pub mod Carrying
 pub mod Stuck
 pub mod Merging
 pub mod Cuts
+pub mod Homes

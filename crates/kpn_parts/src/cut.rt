@@ -1,10 +1,12 @@
 //! Which networks are the parts of a cut of one, and which channels lie between them.
 ghost use Rattle.std.specs.Prelude.{◌≡◌, ◌↔◌, ℕ, ◌<◌, true, false, length, map, slice_index_or, IsTrue, IfOk, IfSome, IfNone};
 ghost use Rattle.kpn_net.specs.Tables.{instance_at, program_of};
+ghost use Rattle.kpn_parts.specs.declared.link.ChannelHome.{ChannelHome};
 ghost use Rattle.kpn_parts.specs.Cut.{whole_process, whole_channel, part_at, HasHome, IsSameProcess, AreDistinct, IsPart, AreOnce, IsCut, IsCutSource};
+ghost use Rattle.kpn_parts.specs.Homes.{IsWrittenIn, IsHome, AreHomes};
 ghost use Rattle.kpn_parts.specs.Links.{EndsIn, AreLinks};
 
-use crate::link::PartLink;
+use crate::link::{ChannelHome, PartLink};
 use kpn_lang::same;
 use kpn_net::Network;
 use std::alloc::{AllocError, Global};
@@ -44,7 +46,8 @@ impl<'n> CutPart<'n> {
         self.processes.get(p).copied().unwrap_or(0)
     }
 
-    pub(crate) fn whole_channel(&self, c: usize) -> usize
+    /// The number that channel `c` of the part has in the whole.
+    pub fn whole_channel(&self, c: usize) -> usize
         ensures { result ≡ whole_channel self.now c }
     {
         self.channels.get(c).copied().unwrap_or(0)
@@ -223,4 +226,53 @@ fn link_into(parts: &[CutPart<'_>], r: usize, c: usize) -> Option<PartLink>
         }
     }
     None
+}
+
+/// Where each channel of the whole is written, in order of number, if each is written in one of these parts. In a cut
+/// each is. The error is that memory ran out.
+pub fn homes_of(
+    alloc: Global,
+    whole: &Network,
+    parts: &[CutPart<'_>],
+) -> Result<Option<Vec<ChannelHome>>, AllocError>
+    ensures homes { IfOk result (λ found.
+        IfSome found (λ homes. AreHomes whole.now parts.now homes.items)) }
+    ensures none { IsCut whole.now parts.now → IfOk result (λ found. IfNone found ⊥) }
+{
+    whole.known();
+    let mut homes = Vec::new(alloc);
+    for c in 0..whole.channels() {
+        let Some(home) = home_of(whole, parts, c) else {
+            return Ok(None);
+        };
+        homes.push(home)?;
+    }
+    Ok(Some(homes))
+}
+
+/// Where channel `c` of the whole is written.
+fn home_of(whole: &Network, parts: &[CutPart<'_>], c: usize) -> Option<ChannelHome>
+    ensures some { IfSome result (λ home. IsHome whole.now parts.now home c) }
+    ensures none { IfNone result ((home : ChannelHome) → ¬ IsHome whole.now parts.now home c) }
+{
+    for r in 0..parts.len() {
+        let part = &parts[r];
+        for d in 0..part.network.channels() {
+            if is_written_in(whole, part, d, c) {
+                return Some(ChannelHome {
+                    part: r,
+                    channel: d,
+                });
+            }
+        }
+    }
+    None
+}
+
+/// Whether channel `c` of the whole is written in the part, where it is channel `d`.
+fn is_written_in(whole: &Network, part: &CutPart<'_>, d: usize, c: usize) -> bool
+    requires { d < length part.now.tables.channels }
+    ensures { IsTrue result ↔ IsWrittenIn whole.now part.now d c }
+{
+    part.whole_channel(d) == c && !part.is_cut_source(whole, d)
 }

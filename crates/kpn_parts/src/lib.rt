@@ -9,7 +9,7 @@ pub mod laws;
 mod link;
 mod order;
 
-pub use cut::{CutPart, links_of};
-pub use joining::join;
-pub use link::PartLink;
+pub use cut::{CutPart, homes_of, links_of};
+pub use joining::{Joined, join};
+pub use link::{ChannelHome, PartLink};
 pub use order::PartEvent;
