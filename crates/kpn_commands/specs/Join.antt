@@ -32,11 +32,11 @@ use Rattle.kpn_command_base.specs.Description.{IsDescribed, IsRefusalOfDescripti
 -- ---- the files
 
 -- the description and the trace of part r: each part has two words
-abbrev pub part_word : (words : List (List ℕ)) (r : ℕ) → List ℕ
-part_word words r = slice_index_or words (2 * r) []
+abbrev pub part_file : (words : List (List ℕ)) (r : ℕ) → List ℕ
+part_file words r = slice_index_or words (2 * r) []
 
-abbrev pub trace_word : (words : List (List ℕ)) (r : ℕ) → List ℕ
-trace_word words r = slice_index_or words (2 * r + 1) []
+abbrev pub trace_file : (words : List (List ℕ)) (r : ℕ) → List ℕ
+trace_file words r = slice_index_or words (2 * r + 1) []
 
 -- a file spells a trace of version 2 with these events
 pub record HasEvents (may_give : Loads) (trace : List ℕ) (events : List Event) : Type 0 where
@@ -58,7 +58,7 @@ pub record AreRead (may_give : Loads) (words : List (List ℕ)) (cut : List Part
     : Type 0 where
   pub count : length cut ≡ length words / 2
   pub each : (r : ℕ) → r < length cut
-      → IsReadFrom may_give (part_word words r) (trace_word words r) (part_at cut r).tables (history_at histories r)
+      → IsReadFrom may_give (part_file words r) (trace_file words r) (part_at cut r).tables (history_at histories r)
   pub same : length histories ≡ length cut
 
 -- ---- what is told
@@ -104,10 +104,10 @@ pub record TellsOfFlaw (may_give : Loads) (words : List (List ℕ)) (steps : ℕ
   pub part : ℕ
   pub there : part < length words / 2
   pub audited : Audited
-  pub is_audited : IsAudited may_give (part_word words part) (trace_word words part) steps audited
+  pub is_audited : IsAudited may_give (part_file words part) (trace_file words part) steps audited
   pub flaw : Flaw
   pub found : audited.finding ≡ NotLegal flaw
-  pub told : IsFlawIn (trace_word words part) flaw text status
+  pub told : IsFlawIn (trace_file words part) flaw text status
 
 -- what is told of parts whose traces are legal
 pub data TellsOfParts (d : Document) (words : List (List ℕ)) (cut : List Part) (histories : List (List Event))
@@ -115,7 +115,7 @@ pub data TellsOfParts (d : Document) (words : List (List ℕ)) (cut : List Part)
   legal : IsCut d.tables cut → IsToldOfRun d cut histories text → status ≡ 0 →
       TellsOfParts d words cut histories text status
   stuck : IsCut d.tables cut → (links : List PartLink) → AreLinks d.tables cut links → (r k : ℕ) →
-      ComesInNone histories links r k → text ≡ line_at (codes "not joined") k (trace_word words r) → status ≡ 1 →
+      ComesInNone histories links r k → text ≡ line_at (codes "not joined") k (trace_file words r) → status ≡ 1 →
       TellsOfParts d words cut histories text status
   no_cut : text ≡ codes "no cut\n" → status ≡ 1 → TellsOfParts d words cut histories text status
 
@@ -139,8 +139,8 @@ pub record IsOld (may_give : Loads) (trace : List ℕ) : Type 0 where
 pub record IsPartRefused (may_give : Loads) (words : List (List ℕ)) (refused : Refusal) : Type 0 where
   pub part : ℕ
   pub there : part < length words / 2
-  pub why : IsRefusalOfAudit may_give (part_word words part) (trace_word words part) refused
-      ⊎ ((refused ≡ refusal.Trace BadHead) × IsOld may_give (trace_word words part))
+  pub why : IsRefusalOfAudit may_give (part_file words part) (trace_file words part) refused
+      ⊎ ((refused ≡ refusal.Trace BadHead) × IsOld may_give (trace_file words part))
 
 -- the description is read first, then each part in turn, and then memory may run out
 abbrev pub IsRefusalOfJoin : (may_give : Loads) (file : List ℕ) (words : List (List ℕ)) → Refusal → Type 0

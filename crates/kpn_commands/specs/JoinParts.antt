@@ -18,7 +18,7 @@ use Rattle.kpn_command_base.specs.declared.auditing.Finding.TheVariants.{Legal, 
 use Rattle.kpn_command_base.specs.declared.flaw.Flaw.{Flaw}
 use Rattle.kpn_command_base.specs.Description.{IsDescribed}
 use Rattle.kpn_commands.specs.declared.join.LoadedParts.{LoadedParts}
-use Rattle.kpn_commands.specs.Join.{part_word, trace_word, HasEvents, IsFlawIn, TellsOfParts}
+use Rattle.kpn_commands.specs.Join.{part_file, trace_file, HasEvents, IsFlawIn, TellsOfParts}
 
 -- ---- parts that are loaded
 
@@ -40,9 +40,9 @@ pub record AreLoaded (may_give : Loads) (words : List (List ℕ)) (n : ℕ) (loa
   pub count : length loaded.documents.items ≡ n
   pub audited : AreAudited loaded
   pub described : (r : ℕ) (d : Document) → r < n
-      → IsDescribed may_give (part_word words r) (slice_index_or loaded.documents.items r d)
+      → IsDescribed may_give (part_file words r) (slice_index_or loaded.documents.items r d)
   pub traced : (r : ℕ) (H : List Event) → r < n
-      → HasEvents may_give (trace_word words r) (slice_index_or loaded.histories.items r H)
+      → HasEvents may_give (trace_file words r) (slice_index_or loaded.histories.items r H)
 
 -- one part more is kept
 pub record Keeps (audited : Audited) (old new : LoadedParts) : Type 0 where

@@ -146,7 +146,7 @@ seen_part cut r p seen h all =
     }
 
 -- a part with a process is there
-has_part : (cut : List Part) (s q : ℕ) → q < length (part_at cut s).tables.instances → s < length cut
+pub has_part : (cut : List Part) (s q : ℕ) → q < length (part_at cut s).tables.instances → s < length cut
 has_part cut s q below =
     elim (cases_lt s (length cut)) [
       | inl there ↦ there

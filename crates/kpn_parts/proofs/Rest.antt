@@ -27,6 +27,7 @@ use Rattle.kpn_parts.specs.declared.order.PartEvent.{PartEvent}
 use Rattle.kpn_parts.specs.Cut.{Part, whole_process, whole_channel, part_at, IsCut, IsCutSource}
 use Rattle.kpn_parts.specs.Joined.{events_of_part, in_whole, whole_history, IsJoined, HasAll, IsDelivered, AreQuiet, AreAtRest}
 use Rattle.kpn_parts.proofs.Spoken.{SaysAll, written_on-put}
+use Rattle.kpn_parts.proofs.Renaming.{reads_in_whole}
 use Rattle.kpn_parts.proofs.Ends.{part_of, by_reader}
 use Rattle.kpn_parts.proofs.Whole.{journal_same, read_same}
 use Rattle.kpn_parts.proofs.Ended.{last_same, ended_same, says_all}
@@ -138,6 +139,21 @@ module _ (t : Tables) (network : IsNetwork t) (cut : List Part) (is : IsCut t cu
       ap (wait_of_last t W)
       (last_same t network cut is r p below order joined.legal ∙ ap (option_map (in_whole part)) w.is)
       ∙ ap (λ b. cond b (Empty x) Nobody) empty
+
+  -- a channel for which a process waits is there, in its part and in the whole
+  pub waited_there : (r p c : ℕ) → p < length (part_at cut r).tables.instances
+      → wait_of (part_at cut r).tables (events_of_part r order) p ≡ Empty c
+      → (c < length (part_at cut r).tables.channels) × (whole_channel (part_at cut r) c < length t.channels)
+  waited_there r p c below waits =
+      let part = part_at cut r in
+      let H = events_of_part r order in
+      let w = empty_wait part.tables H (last_event H p) c waits in
+      let reads =
+      (IsStarved-last part.tables (part_of t cut is r).network p H (joined.legal r) w.process c w.is).reads in
+      (
+        Reads-below part.tables (part_of t cut is r).network p c reads,
+        Reads-below t network _ _ (reads_in_whole t part (part_of t cut is r) p below c reads),
+      )
 
   -- what a process waits for is not on the way
   abbrev AreSettled : Type 0

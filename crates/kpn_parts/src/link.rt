@@ -14,7 +14,7 @@ pub struct PartLink {
 }
 
 /// Where a channel of the whole network is written: the part of its writer, or that of the reader of a source.
-#[derive(Clone, Copy, Debug, PartialEq, Eq)]
+#[derive(Clone, Copy)]
 pub struct ChannelHome {
     /// The part.
     pub part: usize,
