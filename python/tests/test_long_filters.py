@@ -7,8 +7,8 @@ import shutil
 import tempfile
 import unittest
 
-import joins
 from support import kpn, run_one
+import joins
 from test_signals import A, B, convolved, joined, stuffed
 
 from kpn import parts

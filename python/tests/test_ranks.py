@@ -7,8 +7,8 @@ import tempfile
 import unittest
 from unittest import mock
 
-import joins
 from support import PROGRAM, kpn
+import joins
 
 from kpn import mpi, ranks
 

@@ -123,10 +123,10 @@ const STATUSES: &str = "\
 which file it is about and what to do: always, never, or on a terminal, as without it.
 
 Statuses: 0 for success, 1 for a refused input or a device that fails, 2 for words that are not
-understood, 6 for want of memory; explain, draw, run, stream, audit, join, stats and timeline have more. If an
-input is refused, one line on standard error says why. If the words are not understood, standard error
-says how to use them. Standard output is then empty, except that explain writes there what is wrong, and
-stream what it has computed before.";
+understood, 6 for want of memory; explain, draw, run, stream, audit, join, stats and timeline have more.
+If an input is refused, one line on standard error says why. If the words are not understood, standard
+error says how to use them. Standard output is then empty, except that explain writes there what is
+wrong, and stream what it has computed before.";
 
 // The program without its commands.
 fn bare_program<'a>(alloc: Global) -> Command<'a>
