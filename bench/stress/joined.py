@@ -124,6 +124,9 @@ def main():
             (folder / 'cut').write_text(''.join(f'{name}={rank}\n' for name, rank in ranks.items()))
             trace = Trace(folder / 'trace', [it for it, _ in net.instances], [it for _, it, _ in net.channels])
             head = HEAD.format(trace.policy if count == 1 else 'cycles', trace.grow)
+            if any(it.kind == 'grow' and it.channel not in parts[ranks[it.process]].channels for it in trace):
+                counts['left out: a growth for a process of another part'] += 1
+                continue
             lines = taken_apart(trace, parts, ranks)
             found, kind = compare(text, folder, lines, head)
             counts[kind] += 1

@@ -60,11 +60,13 @@ fn push_wrong_description<R: Files, S: Shelf>(
     shelf: &S,
     rt: &R,
 ) -> Result<bool, AllocError> {
-    Ok(push_unread(text, rt, named.file, MOST_FILE_BYTES)?
-        || !is_plain(rt, named.file)
-        || named.is_items
-        || push_marked(text, alloc, named.file, shelf)?
-        || !named.has_explained && push_told(text, explain_command(alloc, named.file, shelf))?)
+    Ok(
+        push_unread(text, rt, named.file, MOST_FILE_BYTES)?
+            || !is_plain(rt, named.file)
+            || named.is_items
+            || push_marked(text, alloc, named.file, shelf)?
+            || !named.has_explained && push_told(text, explain_command(alloc, named.file, shelf))?,
+    )
 }
 
 // Adds what is wrong with the first part that is wrong, or why the parts are not joined.

@@ -31,20 +31,14 @@ pub fn text_of_audit(
     Ok(text.into_bytes())
 }
 
-/// The line that says whether the journals are the least solution.
-pub fn exact_line(exact: bool) -> &'static str
+// Whether the journals are the least solution.
+fn exact_line(exact: bool) -> &'static str
     ensures { result.now ≡ exact_line exact }
 {
     if exact { "exact yes\n" } else { "exact no\n" }
 }
 
-/// The line of a channel of this name, which has this capacity, if it has one, and this journal.
-pub fn push_channel(
-    text: &mut String,
-    name: &str,
-    cap: Option<u32>,
-    journal: &Journal,
-) -> Pushed
+fn push_channel(text: &mut String, name: &str, cap: Option<u32>, journal: &Journal) -> Pushed
     ensures { Adds result text.old text.new (journal_line name.now cap journal.now) }
 {
     text.push_str(name)?;

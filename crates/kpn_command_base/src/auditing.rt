@@ -43,22 +43,6 @@ impl Drop for Audited {
     }
 }
 
-impl Audited {
-    ghost use Rattle.std.specs.Prelude.{◌≡◌};
-
-    /// The three by themselves.
-    pub fn into_parts(self) -> (Document, Trace, Finding)
-        ensures { result ≡ (self.entry.document, self.entry.trace, self.entry.finding) }
-    {
-        let Audited {
-            document,
-            trace,
-            finding,
-        } = self;
-        (document, trace, finding)
-    }
-}
-
 /// Reads a description, then a trace, and audits the trace. Each process may make `steps` steps before each of its
 /// events.
 pub fn load_audited<S: Shelf>(

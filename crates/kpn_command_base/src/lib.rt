@@ -27,7 +27,7 @@ mod tables;
 mod telling;
 mod trace_bytes;
 
-pub use audit_text::{exact_line, push_channel, text_of_audit};
+pub use audit_text::text_of_audit;
 pub use auditing::{Audited, Finding, audit_trace, load_audited};
 pub use conclusion::{Conclusion, OutputFile};
 pub use counts_line::summary;

@@ -1,5 +1,5 @@
 -- Parts that are loaded one after the other, and what their audits show of the whole if they are joined.
-use Rattle.std.proofs.Common.{◌≡◌, ◌↔◌, ℕ, zero, suc, ◌+◌, ◌<◌, ◌≤◌, ◌⊎◌, ℤ, Bool, true, false, ◌&&◌, eqb, List, [], ◌∷◌, ◌++◌, length, map, take, drop, get_or, Option, Some, None, refl, sym, ap, ◌∙◌, subst, inl, inr, append_assoc, arith}
+use Rattle.std.proofs.Common.{◌≡◌, ◌↔◌, ℕ, zero, suc, ◌+◌, ◌<◌, ◌≤◌, ◌⊎◌, ℤ, Bool, true, false, ◌&&◌, eqb, List, [], ◌∷◌, ◌++◌, length, map, take, get_or, Option, Some, None, refl, sym, ap, ◌∙◌, subst, inl, inr, arith}
 use Rattle.std.specs.Prelude.{slice_get}
 use Rattle.std.specs.List.{list_all, range_with_len}
 use Rattle.std.specs.Option.{option_map_or}
@@ -10,7 +10,7 @@ use Rattle.std.proofs.lemmas.List.Folds.{list_all_at}
 use Rattle.std.proofs.lemmas.List.FromFn.{get_or-map-range_with_len, length-map-range_with_len}
 use Rattle.std.proofs.lemmas.Option.{slice_get-get_or}
 use Rattle.std.proofs.Math.ListN.{get_or-append}
-use Rattle.std.proofs.Math.Seq.{get_or-append_seam, drop-cons}
+use Rattle.std.proofs.Math.Seq.{get_or-append_seam}
 use Rattle.kpn_lang.proofs.Prefixes.{same_from_prefix}
 use Rattle.kpn_net.specs.declared.wait.Wait.{Wait}
 use Rattle.kpn_net.specs.declared.wait.Wait.TheVariants.{Nobody, Empty}
@@ -18,7 +18,8 @@ use Rattle.kpn_net.specs.Tables.{Tables}
 use Rattle.kpn_net.specs.Faults.{IsNetwork}
 use Rattle.kpn_net.specs.Iteration.{lists_of}
 use Rattle.kpn_history.specs.declared.event.Event.{Event}
-use Rattle.kpn_history.specs.declared.stored.Version.{Version}
+use Rattle.kpn_history.specs.declared.stored.Version.TheVariants.{Two}
+use Rattle.kpn_history.specs.declared.stored.Trace.{Trace}
 use Rattle.kpn_history.specs.Channels.{written_on, capacity_after}
 use Rattle.kpn_history.specs.Ends.{IsQuiet}
 use Rattle.kpn_history.specs.Waiting.{wait_of}
@@ -34,18 +35,13 @@ use Rattle.kpn_parts.specs.Links.{history_at}
 use Rattle.kpn_parts.proofs.Cuts.{has_part}
 use Rattle.kpn_parts.proofs.Whole.{journal_same, journal_begins}
 use Rattle.kpn_parts.proofs.Rest.{waited_there}
-use Rattle.kpn_text_names.specs.Names.{name_at}
 use Rattle.kpn_text.specs.Document.{Document}
 use Rattle.kpn_shelf.specs.Shelf.{Loads}
-use Rattle.kpn_command_base.specs.declared.auditing.Audited.{Audited}
-use Rattle.kpn_command_base.specs.declared.auditing.Finding.TheVariants.{Legal}
-use Rattle.kpn_command_base.specs.Audited.{IsAudited, IsFinding}
+use Rattle.kpn_command_base.specs.Audited.{IsFoundLegal}
 use Rattle.kpn_command_base.specs.Description.{IsDescribed}
-use Rattle.kpn_command_base.specs.ListText.{lines_from}
-use Rattle.kpn_command_base.specs.AuditText.{channel_line, journal_line}
 use Rattle.kpn_commands.specs.declared.join.LoadedParts.{LoadedParts}
 use Rattle.kpn_commands.specs.Join.{part_file, trace_file, HasEvents, capacity_at}
-use Rattle.kpn_commands.specs.JoinParts.{IsEmpty, AreAudited, AreLoaded, Keeps, HasTables, journal_in, journal_of, capacity_in, AreIn, has_all, is_settled, is_part_at_rest}
+use Rattle.kpn_commands.specs.JoinParts.{IsUnloaded, AreAudited, AreLoaded, LoadsPart, HasTables, journal_in, audited_journal, audited_capacity, AreIn, has_all, is_settled, is_part_at_rest}
 
 -- ---- lists
 
@@ -122,46 +118,29 @@ tables_next cut documents r part d below h same =
     (ap (map second) (take_more documents r d below)
     ∙ map-append second (take r documents) (get_or documents r d ∷ []))
 
--- one line more is written
-pub lines_next : (names : List (List ℕ)) (caps : List (Option ℕ)) (journals : List (List ℤ)) (c : ℕ)
-    (text new whole : List ℕ) → c < length journals → new ≡ text ++ channel_line names caps c (get_or journals c [])
-    → text ++ lines_from (channel_line names caps) c (drop c journals) ≡ whole
-    → new ++ lines_from (channel_line names caps) (c + 1) (drop (c + 1) journals) ≡ whole
-lines_next names caps journals c text new whole below line h =
-    let f = channel_line names caps in
-    let here = f c (get_or journals c []) in
-    let e : suc c ≡ c + 1 = omega arith in
-    ap (λ t. t ++ lines_from f (c + 1) (drop (c + 1) journals)) line
-    ∙ append_assoc text here (lines_from f (c + 1) (drop (c + 1) journals))
-    ∙ ap (λ t. text ++ t)
-    (sym (ap (lines_from f c) (drop-cons journals c [] below) ∙ ap (λ n. here ++ lines_from f n (drop n journals)) e))
-    ∙ h
+-- what is shown of one home more
+pub shown_next : {Y : Type 0} (f : ChannelHome → Y) (homes : List ChannelHome) (c : ℕ) (d : ChannelHome) (ys : List Y)
+    (y : Y) → c < length homes → ys ≡ map f (take c homes) → y ≡ f (get_or homes c d)
+    → ys ++ y ∷ [] ≡ map f (take (c + 1) homes)
+shown_next f homes c d ys y below h same =
+    ap (λ xs. xs ++ y ∷ []) h ∙ ap (λ x. map f (take c homes) ++ x ∷ []) same
+    ∙ sym (ap (map f) (take_more homes c d below) ∙ map-append f (take c homes) (get_or homes c d ∷ []))
 
--- the line of a channel whose home this is
-pub line_is : (names : List (List ℕ)) (audits : List (Audit Global)) (homes : List ChannelHome) (c : ℕ)
-    (home d : ChannelHome) (audit a : Audit Global) → c < length homes → home ≡ get_or homes c d
-    → home.part < length audits → audit ≡ get_or audits home.part a
-    → journal_line (name_at names c) (get_or audit.caps home.channel None) (get_or audit.journals home.channel [])
-    ≡ channel_line names (map (capacity_in audits) homes) c (get_or (map (journal_of audits) homes) c [])
-line_is names audits homes c home d audit a below is there same =
-    let caps : Audit Global → List (Option ℕ) = λ it. it.caps in
-    let journals : Audit Global → List (List ℤ) = λ it. it.journals in
-    let capacity =
-    get_or-map (capacity_in audits) homes c d None below ∙ ap (capacity_in audits) (sym is)
-    ∙ ap (λ xs. get_or xs home.channel None)
-    (get_or-map caps audits home.part a [] there ∙ ap caps (sym same)) in
-    let journal =
-    get_or-map (journal_of audits) homes c d [] below ∙ ap (journal_of audits) (sym is)
-    ∙ ap (λ xs. get_or xs home.channel [])
-    (get_or-map journals audits home.part a [] there ∙ ap journals (sym same)) in
-    ap (λ cap. journal_line (name_at names c) cap (get_or audit.journals home.channel [])) (sym capacity)
-    ∙ ap
-    (λ items. journal_line (name_at names c) (get_or (map (capacity_in audits) homes) c None) items)
-    (sym journal)
+-- a journal and a capacity where a channel is written
+module _ (audits : List (Audit Global)) (home : ChannelHome) (a : Audit Global) (there : home.part < length audits) where
+  pub journal_shown : get_or (get_or audits home.part a).journals home.channel [] ≡ audited_journal audits home
+  journal_shown =
+      let journals : Audit Global → List (List ℤ) = λ it. it.journals in
+      ap (λ xs. get_or xs home.channel []) (sym (get_or-map journals audits home.part a [] there))
+
+  pub capacity_shown : get_or (get_or audits home.part a).caps home.channel None ≡ audited_capacity audits home
+  capacity_shown =
+      let caps : Audit Global → List (Option ℕ) = λ it. it.caps in
+      ap (λ xs. get_or xs home.channel None) (sym (get_or-map caps audits home.part a [] there))
 
 -- ---- loading
 
-pub loaded_start : (may_give : Loads) (words : List (List ℕ)) (loaded : LoadedParts) → IsEmpty loaded
+pub loaded_start : (may_give : Loads) (words : List (List ℕ)) (loaded : LoadedParts) → IsUnloaded loaded
     → AreLoaded may_give words 0 loaded
 loaded_start may_give words loaded empty =
     record {
@@ -180,50 +159,43 @@ loaded_start may_give words loaded empty =
     no : {r : ℕ} → r < 0 → ⊥
     no below = absurd omega (arith, below)
 
-pub loaded_next : (may_give : Loads) (words : List (List ℕ)) (steps n : ℕ) (audited : Audited) (old new : LoadedParts)
-    → AreLoaded may_give words n old → IsAudited may_give (part_file words n) (trace_file words n) steps audited
-    → Keeps audited old new → AreLoaded may_give words (n + 1) new
-loaded_next may_give words steps n audited old new h is keeps =
+pub loaded_next : (may_give : Loads) (words : List (List ℕ)) (n : ℕ) (old new : LoadedParts)
+    → AreLoaded may_give words n old → LoadsPart may_give (part_file words n) (trace_file words n) old new
+    → AreLoaded may_give words (n + 1) new
+loaded_next may_give words n old new h part =
     record {
       count = longer;
       audited =
           record {
             histories =
-                ap length keeps.histories ∙ length_push old.histories.items audited.trace.events
+                ap length part.histories ∙ length_push old.histories.items part.history
                 ∙ ap (λ k. k + 1) (h.audited.histories ∙ h.count) ∙ sym longer;
             audits =
-                ap length keeps.audits ∙ length_push old.audits.items keeps.audit
+                ap length part.audits ∙ length_push old.audits.items part.audit
                 ∙ ap (λ k. k + 1) (h.audited.audits ∙ h.count) ∙ sym longer;
             each = λ r d H audit below. audit_of r d H audit (subst (λ k. r < k) longer below) (cases_eq r n);
           };
       described = λ r d below.
-          subst (λ xs. P r (get_or xs r d)) (sym keeps.documents)
-          (each_push P old.documents.items audited.document n h.count h.described is.described r d below);
+          subst (λ xs. P r (get_or xs r d)) (sym part.documents)
+          (each_push P old.documents.items part.document n h.count h.described part.described r d below);
       traced = λ r H below.
-          subst (λ xs. Q r (get_or xs r H)) (sym keeps.histories)
-          (each_push Q old.histories.items audited.trace.events n (h.audited.histories ∙ h.count) h.traced
-          (record { stored = audited.trace; traced = is.traced; version = keeps.version; same = refl }) r H below);
+          subst (λ xs. Q r (get_or xs r H)) (sym part.histories)
+          (each_push Q old.histories.items part.history n (h.audited.histories ∙ h.count) h.traced part.traced r H
+          below);
     }
   where
     longer : length new.documents.items ≡ n + 1
     longer =
-        ap length keeps.documents ∙ length_push old.documents.items audited.document ∙ ap (λ k. k + 1) h.count
+        ap length part.documents ∙ length_push old.documents.items part.document ∙ ap (λ k. k + 1) h.count
 
-    abbrev P : ℕ → Document → Type 0
+    P : ℕ → Document → Type 0
     P r d = IsDescribed may_give (part_file words r) d
 
-    abbrev Q : ℕ → List Event → Type 0
+    Q : ℕ → List Event → Type 0
     Q r H = HasEvents may_give (trace_file words r) H
 
-    abbrev A : Document → List Event → Audit Global → Type 0
+    A : Document → List Event → Audit Global → Type 0
     A d H audit = IsAudit d.tables H audit
-
-    now : A audited.document audited.trace.events keeps.audit
-    now =
-        let t = audited.document.tables in
-        let found = subst (λ it. IsFinding t audited.trace steps it) keeps.legal is.found in
-        subst (λ v. IsAudit (audited_under v t) (history_of v (audited_under v t) audited.trace.events) keeps.audit)
-        keeps.version found.audited
 
     three : (d e : Document) (G H : List Event) (a b : Audit Global) → d ≡ e → G ≡ H → a ≡ b → A e H b → A d G a
     three d e G H a b p q s it =
@@ -234,23 +206,29 @@ loaded_next may_give words steps n audited old new h is keeps =
     audit_of r d H a below (inl last) =
         subst (λ k. A (get_or new.documents.items k d) (get_or new.histories.items k H) (get_or new.audits.items k a))
         (sym last)
-        (three _ audited.document _ audited.trace.events _ keeps.audit
-        (ap (λ xs. get_or xs n d) keeps.documents ∙ at_end old.documents.items audited.document n d h.count)
-        (ap (λ xs. get_or xs n H) keeps.histories
-        ∙ at_end old.histories.items audited.trace.events n H (h.audited.histories ∙ h.count))
-        (ap (λ xs. get_or xs n a) keeps.audits
-        ∙ at_end old.audits.items keeps.audit n a (h.audited.audits ∙ h.count))
-        now)
+        (three _ part.document _ part.history _ part.audit
+        (ap (λ xs. get_or xs n d) part.documents ∙ at_end old.documents.items part.document n d h.count)
+        (ap (λ xs. get_or xs n H) part.histories
+        ∙ at_end old.histories.items part.history n H (h.audited.histories ∙ h.count))
+        (ap (λ xs. get_or xs n a) part.audits
+        ∙ at_end old.audits.items part.audit n a (h.audited.audits ∙ h.count))
+        part.audited)
     audit_of r d H a below (inr earlier) =
         let there : r < n = omega (arith, below, earlier) in
         three _ (get_or old.documents.items r d) _ (get_or old.histories.items r H) _ (get_or old.audits.items r a)
-        (ap (λ xs. get_or xs r d) keeps.documents
-        ∙ at_before old.documents.items audited.document n r d h.count there)
-        (ap (λ xs. get_or xs r H) keeps.histories
-        ∙ at_before old.histories.items audited.trace.events n r H (h.audited.histories ∙ h.count) there)
-        (ap (λ xs. get_or xs r a) keeps.audits
-        ∙ at_before old.audits.items keeps.audit n r a (h.audited.audits ∙ h.count) there)
+        (ap (λ xs. get_or xs r d) part.documents
+        ∙ at_before old.documents.items part.document n r d h.count there)
+        (ap (λ xs. get_or xs r H) part.histories
+        ∙ at_before old.histories.items part.history n r H (h.audited.histories ∙ h.count) there)
+        (ap (λ xs. get_or xs r a) part.audits
+        ∙ at_before old.audits.items part.audit n r a (h.audited.audits ∙ h.count) there)
         (h.audited.each r d H a (subst (λ k. r < k) (sym h.count) there))
+
+-- a trace of version 2 is audited as it stands
+pub audited_as_it_stands : (t : Tables) (trace : Trace Global) (steps : ℕ) (audit : Audit Global)
+    → IsFoundLegal t trace steps audit → trace.version ≡ Two → IsAudit t trace.events audit
+audited_as_it_stands t trace steps audit found version =
+    subst (λ v. IsAudit (audited_under v t) (history_of v (audited_under v t) trace.events) audit) version found.audited
 
 -- ---- homes
 
@@ -316,7 +294,7 @@ module _ (d : Document) (network : IsNetwork d.tables) (cut : List Part) (is : I
       (length (part_at cut r).tables.channels) c c [] there (omega arith)
 
   capacity_is : (home : ChannelHome) (c : ℕ) → IsHome t cut home c
-      → capacity_in audits home ≡ capacity_at cut loaded.histories.items home
+      → audited_capacity audits home ≡ capacity_at cut loaded.histories.items home
   capacity_is home c at =
       let below = home_part t cut home c at in
       let H = history_at loaded.histories.items home.part in
@@ -341,9 +319,9 @@ module _ (d : Document) (network : IsNetwork d.tables) (cut : List Part) (is : I
         at.there),
       )
 
-  pub capacities_are : map (capacity_in audits) homes ≡ map (capacity_at cut loaded.histories.items) homes
+  pub capacities_are : map (audited_capacity audits) homes ≡ map (capacity_at cut loaded.histories.items) homes
   capacities_are =
-      map_same (capacity_in audits) (capacity_at cut loaded.histories.items) homes (record { part = 0; channel = 0 })
+      map_same (audited_capacity audits) (capacity_at cut loaded.histories.items) homes (record { part = 0; channel = 0 })
       (λ c below. capacity_is _ c (are.each c _ (subst (λ n. c < n) are.count below)))
 
   module _ (order : List PartEvent)
@@ -355,15 +333,15 @@ module _ (d : Document) (network : IsNetwork d.tables) (cut : List Part) (is : I
     shown r c below there = journal_is r c below there ∙ ap (λ H. written_on H c) (sym (whole r))
 
     at_home : (home : ChannelHome) (c : ℕ) → IsHome t cut home c
-        → journal_of audits home ≡ written_on (whole_history t cut order) c
+        → audited_journal audits home ≡ written_on (whole_history t cut order) c
     at_home home c at =
         shown home.part home.channel (home_part t cut home c at) at.there
         ∙ sym (journal_same t network cut is home.part home.channel at.there at.own order joined.legal)
         ∙ ap (written_on (whole_history t cut order)) at.same
 
-    pub journals_are : map (journal_of audits) homes ≡ lists_of t (written_on (whole_history t cut order))
+    pub journals_are : map (audited_journal audits) homes ≡ lists_of t (written_on (whole_history t cut order))
     journals_are =
-        map_range (journal_of audits) (written_on (whole_history t cut order)) 0 homes (record { part = 0; channel = 0 })
+        map_range (audited_journal audits) (written_on (whole_history t cut order)) 0 homes (record { part = 0; channel = 0 })
         (λ c below.
         at_home _ c (are.each c _ (subst (λ n. c < n) are.count below))
         ∙ ap (written_on (whole_history t cut order)) (omega arith))
@@ -418,10 +396,10 @@ module _ (d : Document) (network : IsNetwork d.tables) (cut : List Part) (is : I
           ≡ eqb (length (written_on (events_of_part r order) c))
           (length (written_on (whole_history t cut order) (whole_channel (part_at cut r) c)))
       test_is =
-          ap (λ it. option_map_or (λ h. eqb (length (journal_in audits r c)) (length (journal_of audits h))) it false)
+          ap (λ it. option_map_or (λ h. eqb (length (journal_in audits r c)) (length (audited_journal audits h))) it false)
           (slice_get-get_or homes (whole_channel (part_at cut r) c) _
           (subst (λ n. whole_channel (part_at cut r) c < n) (sym are.count) there.1))
-          ∙ ap (λ xs. eqb (length xs) (length (journal_of audits home)))
+          ∙ ap (λ xs. eqb (length xs) (length (audited_journal audits home)))
           (shown r c (has_part cut r p below) there.0)
           ∙ ap (λ xs. eqb (length (written_on (events_of_part r order) c)) (length xs))
           (at_home home (whole_channel (part_at cut r) c) is_home)

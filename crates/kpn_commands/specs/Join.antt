@@ -46,7 +46,7 @@ pub record HasEvents (may_give : Loads) (trace : List ℕ) (events : List Event)
   pub same : stored.events ≡ events
 
 -- one file spells a part, the other its history
-pub record IsReadFrom (may_give : Loads) (part trace : List ℕ) (tables : Tables) (history : List Event)
+pub record IsPartIn (may_give : Loads) (part trace : List ℕ) (tables : Tables) (history : List Event)
     : Type 0 where
   pub document : Document
   pub described : IsDescribed may_give part document
@@ -58,7 +58,7 @@ pub record AreRead (may_give : Loads) (words : List (List ℕ)) (cut : List Part
     : Type 0 where
   pub count : length cut ≡ length words / 2
   pub each : (r : ℕ) → r < length cut
-      → IsReadFrom may_give (part_file words r) (trace_file words r) (part_at cut r).tables (history_at histories r)
+      → IsPartIn may_give (part_file words r) (trace_file words r) (part_at cut r).tables (history_at histories r)
   pub same : length histories ≡ length cut
 
 -- ---- what is told
@@ -100,14 +100,19 @@ IsFlawIn trace (Illegal k) text status = (text ≡ line_at (codes "illegal") k t
 IsFlawIn trace (Budget k) text status = (text ≡ line_at (codes "budget") k trace) × (status ≡ 5)
 
 -- what is told of a part whose trace is not found legal
-pub record TellsOfFlaw (may_give : Loads) (words : List (List ℕ)) (steps : ℕ) (text : List ℕ) (status : ℕ) : Type 0 where
-  pub part : ℕ
-  pub there : part < length words / 2
+pub record IsFlawOf (may_give : Loads) (part trace : List ℕ) (steps : ℕ) (text : List ℕ) (status : ℕ) : Type 0 where
   pub audited : Audited
-  pub is_audited : IsAudited may_give (part_file words part) (trace_file words part) steps audited
+  pub is_audited : IsAudited may_give part trace steps audited
   pub flaw : Flaw
   pub found : audited.finding ≡ NotLegal flaw
-  pub told : IsFlawIn (trace_file words part) flaw text status
+  pub told : IsFlawIn trace flaw text status
+
+-- the same of one of these parts
+pub record TellsOfFlaw (may_give : Loads) (words : List (List ℕ)) (steps : ℕ) (text : List ℕ) (status : ℕ)
+    : Type 0 where
+  pub part : ℕ
+  pub there : part < length words / 2
+  pub flaw : IsFlawOf may_give (part_file words part) (trace_file words part) steps text status
 
 -- what is told of parts whose traces are legal
 pub data TellsOfParts (d : Document) (words : List (List ℕ)) (cut : List Part) (histories : List (List Event))
@@ -135,15 +140,22 @@ pub record IsOld (may_give : Loads) (trace : List ℕ) : Type 0 where
   pub traced : IsTraced may_give trace stored
   pub version : stored.version ≡ One
 
--- a part is refused by an audit, or its trace is of version 1
+-- a part is refused as by an audit, or its trace is of version 1
+abbrev pub IsRefusalOfPart : (may_give : Loads) (part trace : List ℕ) → Refusal → Type 0
+IsRefusalOfPart may_give part trace refused =
+    IsRefusalOfAudit may_give part trace refused ⊎ ((refused ≡ refusal.Trace BadHead) × IsOld may_give trace)
+
+-- so is one of these parts
 pub record IsPartRefused (may_give : Loads) (words : List (List ℕ)) (refused : Refusal) : Type 0 where
   pub part : ℕ
   pub there : part < length words / 2
-  pub why : IsRefusalOfAudit may_give (part_file words part) (trace_file words part) refused
-      ⊎ ((refused ≡ refusal.Trace BadHead) × IsOld may_give (trace_file words part))
+  pub why : IsRefusalOfPart may_give (part_file words part) (trace_file words part) refused
 
--- the description is read first, then each part in turn, and then memory may run out
+-- a part is refused, or memory runs out
+abbrev pub IsRefusalOfParts : (may_give : Loads) (words : List (List ℕ)) → Refusal → Type 0
+IsRefusalOfParts may_give words refused = IsPartRefused may_give words refused ⊎ (refused ≡ refusal.NoMemory)
+
+-- the description is read first, then each part in turn
 abbrev pub IsRefusalOfJoin : (may_give : Loads) (file : List ℕ) (words : List (List ℕ)) → Refusal → Type 0
 IsRefusalOfJoin may_give file words refused =
-    IsRefusalOfDescription may_give file refused ⊎ IsPartRefused may_give words refused
-    ⊎ (refused ≡ refusal.NoMemory)
+    IsRefusalOfDescription may_give file refused ⊎ IsRefusalOfParts may_give words refused

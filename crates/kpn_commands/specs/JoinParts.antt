@@ -1,30 +1,30 @@
 -- What the parts of the code of `kpn join` keep and answer. A reader of the public contract needs none of it.
-use Rattle.std.specs.Prelude.{◌≡◌, ℕ, ◌<◌, ℤ, Bool, true, false, ◌&&◌, ◌==◌, List, [], ◌∷◌, ◌++◌, length, map, Option, Some, None, slice_get, slice_index_or}
+use Rattle.std.specs.Prelude.{◌≡◌, ◌⊎◌, ℕ, ◌<◌, ℤ, Bool, true, false, ◌&&◌, ◌==◌, List, [], ◌∷◌, ◌++◌, length, map, Option, Some, None, slice_get, slice_index_or}
 use Rattle.std.specs.List.{list_all}
 use Rattle.std.specs.Option.{option_map_or}
 use Rattle.std.specs.declared.alloc.Global.{Global}
 use Rattle.kpn_net.specs.declared.wait.Wait.{Wait}
 use Rattle.kpn_net.specs.declared.wait.Wait.TheVariants.{Empty}
 use Rattle.kpn_history.specs.declared.event.Event.{Event}
-use Rattle.kpn_history.specs.declared.stored.Version.TheVariants.{Two}
 use Rattle.kpn_audit.specs.declared.findings.Audit.{Audit}
 use Rattle.kpn_audit.specs.Audit.{IsAudit}
 use Rattle.kpn_parts.specs.declared.link.ChannelHome.{ChannelHome}
 use Rattle.kpn_parts.specs.Cut.{Part, whole_channel}
 use Rattle.kpn_text.specs.Document.{Document}
 use Rattle.kpn_shelf.specs.Shelf.{Loads}
-use Rattle.kpn_command_base.specs.declared.auditing.Audited.{Audited}
-use Rattle.kpn_command_base.specs.declared.auditing.Finding.TheVariants.{Legal, NotLegal}
-use Rattle.kpn_command_base.specs.declared.flaw.Flaw.{Flaw}
+use Rattle.kpn_trace.specs.declared.fault.TraceFault.TheVariants.{BadHead}
+use Rattle.kpn_command_base.specs.declared.refusal.Refusal.{Refusal}
+use Rattle.kpn_command_base.specs.declared.refusal.Refusal.TheVariants as refusal
+use Rattle.kpn_command_base.specs.Audited.{IsRefusalOfTrace}
 use Rattle.kpn_command_base.specs.Description.{IsDescribed}
 use Rattle.kpn_commands.specs.declared.join.LoadedParts.{LoadedParts}
-use Rattle.kpn_commands.specs.Join.{part_file, trace_file, HasEvents, IsFlawIn, TellsOfParts}
+use Rattle.kpn_commands.specs.Join.{part_file, trace_file, HasEvents, IsOld, TellsOfParts}
 
 -- ---- parts that are loaded
 
 -- nothing is loaded
-abbrev pub IsEmpty : LoadedParts → Type 0
-IsEmpty loaded =
+abbrev pub IsUnloaded : LoadedParts → Type 0
+IsUnloaded loaded =
     (loaded.documents.items ≡ []) × (loaded.histories.items ≡ []) × (loaded.audits.items ≡ [])
 
 -- each part has an audit of its history
@@ -44,18 +44,22 @@ pub record AreLoaded (may_give : Loads) (words : List (List ℕ)) (n : ℕ) (loa
   pub traced : (r : ℕ) (H : List Event) → r < n
       → HasEvents may_give (trace_file words r) (slice_index_or loaded.histories.items r H)
 
--- one part more is kept
-pub record Keeps (audited : Audited) (old new : LoadedParts) : Type 0 where
+-- a part of these files is put to those that are loaded
+pub record LoadsPart (may_give : Loads) (part trace : List ℕ) (old new : LoadedParts) : Type 0 where
+  pub document : Document
+  pub described : IsDescribed may_give part document
+  pub history : List Event
+  pub traced : HasEvents may_give trace history
   pub audit : Audit Global
-  pub legal : audited.finding ≡ Legal audit
-  pub version : audited.trace.version ≡ Two
-  pub documents : new.documents.items ≡ old.documents.items ++ audited.document ∷ []
-  pub histories : new.histories.items ≡ old.histories.items ++ audited.trace.events ∷ []
+  pub audited : IsAudit document.tables history audit
+  pub documents : new.documents.items ≡ old.documents.items ++ document ∷ []
+  pub histories : new.histories.items ≡ old.histories.items ++ history ∷ []
   pub audits : new.audits.items ≡ old.audits.items ++ audit ∷ []
 
--- what is told of a trace of this name that is not found legal
-abbrev pub IsFlawOf : Audited → (trace : List ℕ) → (text : List ℕ) (status : ℕ) → Type 0
-IsFlawOf audited trace text status = (flaw : Flaw) × (audited.finding ≡ NotLegal flaw) × IsFlawIn trace flaw text status
+-- why a file gives no trace of version 2
+abbrev pub IsRefusalOfNewTrace : (may_give : Loads) (trace : List ℕ) → Refusal → Type 0
+IsRefusalOfNewTrace may_give trace refused =
+    IsRefusalOfTrace may_give trace refused ⊎ ((refused ≡ refusal.Trace BadHead) × IsOld may_give trace)
 
 -- the parts have the tables of these documents
 abbrev pub HasTables : List Part → List Document → Type 0
@@ -73,11 +77,11 @@ TellsOfLoaded d words loaded text status =
 abbrev pub journal_in : List (Audit Global) → (r c : ℕ) → List ℤ
 journal_in audits r c = slice_index_or (slice_index_or (map (λ audit. audit.journals) audits) r []) c []
 
-abbrev pub journal_of : List (Audit Global) → ChannelHome → List ℤ
-journal_of audits home = journal_in audits home.part home.channel
+abbrev pub audited_journal : List (Audit Global) → ChannelHome → List ℤ
+audited_journal audits home = journal_in audits home.part home.channel
 
-abbrev pub capacity_in : List (Audit Global) → ChannelHome → Option ℕ
-capacity_in audits home =
+abbrev pub audited_capacity : List (Audit Global) → ChannelHome → Option ℕ
+audited_capacity audits home =
     slice_index_or (slice_index_or (map (λ audit. audit.caps) audits) home.part []) home.channel None
 
 -- these channels are there
@@ -91,7 +95,7 @@ AreIn audits homes =
 -- part r has as many items on its channel c as were put there
 abbrev pub has_all : Part → List ChannelHome → List (Audit Global) → (r c : ℕ) → Bool
 has_all part homes audits r c =
-    option_map_or (λ home. length (journal_in audits r c) == length (journal_of audits home))
+    option_map_or (λ home. length (journal_in audits r c) == length (audited_journal audits home))
     (slice_get homes (whole_channel part c)) false
 
 -- nothing is on the way to a process that waits for this

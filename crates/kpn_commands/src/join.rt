@@ -1,35 +1,32 @@
 //! The command reads a network, and the descriptions and traces of its parts, and tells what a join of the traces finds.
-ghost use Rattle.std.specs.Prelude.{◌≡◌, ◌⊎◌, ◌↔◌, ◌<◌, ◌/◌, ℕ, true, List, [], map, length, slice_index_or, None, IfOk, IfErr, IfSome, IfNone, IsTrue};
-ghost use Rattle.kpn_history.specs.declared.stored.Version.TheVariants.{One};
-ghost use Rattle.kpn_trace.specs.declared.fault.TraceFault.TheVariants.{BadHead};
+ghost use Rattle.std.specs.Prelude.{◌≡◌, ◌↔◌, ◌<◌, ◌/◌, ℕ, true, List, map, length, IfOk, IfErr, IfSome, IfNone, IsTrue};
+ghost use Rattle.kpn_history.specs.declared.stored.Version.TheVariants.{Two};
 ghost use Rattle.kpn_parts.specs.declared.order.PartEvent.{PartEvent};
 ghost use Rattle.kpn_parts.specs.Cut.{IsCut, part_at};
 ghost use Rattle.kpn_parts.specs.Homes.{AreHomes};
 ghost use Rattle.kpn_parts.specs.Joined.{events_of_part, IsJoined};
 ghost use Rattle.kpn_parts.specs.Links.{history_at};
-ghost use Rattle.kpn_command_base.specs.declared.refusal.Refusal.TheVariants.{NoMemory, Trace};
-ghost use Rattle.kpn_command_base.specs.Added.{Adds};
-ghost use Rattle.kpn_command_base.specs.ListText.{lines_from};
-ghost use Rattle.kpn_command_base.specs.AuditText.{channel_line, journal_line};
 ghost use Rattle.kpn_command_base.specs.Conclusion.{TellsOnly};
 ghost use Rattle.kpn_command_base.specs.Description.{IsDescribed};
-ghost use Rattle.kpn_commands.specs.Join.{AnswersJoin, IsRefusalOfJoin, IsPartRefused, TellsOfFlaw, IsFlawIn, line_at};
-ghost use Rattle.kpn_commands.specs.Join.{IsToldOfRun};
-ghost use Rattle.kpn_commands.specs.JoinParts.{IsEmpty, Keeps, IsFlawOf, AreLoaded, AreAudited, HasTables, TellsOfLoaded};
-ghost use Rattle.kpn_commands.specs.JoinParts.{AreIn, journal_in, journal_of, capacity_in, has_all, is_settled, is_part_at_rest};
+ghost use Rattle.kpn_command_base.specs.Audited.{IsTraced};
+ghost use Rattle.kpn_commands.specs.Join.{AnswersJoin, IsRefusalOfJoin, IsRefusalOfParts, IsPartRefused, IsRefusalOfPart};
+ghost use Rattle.kpn_commands.specs.Join.{TellsOfFlaw, IsFlawOf, IsFlawIn, line_at, IsToldOfRun};
+ghost use Rattle.kpn_commands.specs.JoinParts.{IsUnloaded, LoadsPart, AreLoaded, AreAudited, HasTables, TellsOfLoaded};
+ghost use Rattle.kpn_commands.specs.JoinParts.{AreIn, journal_in, audited_journal, audited_capacity, has_all, is_settled};
+ghost use Rattle.kpn_commands.specs.JoinParts.{is_part_at_rest, IsRefusalOfNewTrace};
 
 use kpn_audit::Audit;
+use kpn_chan::Journal;
 use kpn_command_base::{
-    Audited, Conclusion, Finding, Flaw, Pushed, Refusal, exact_line, load_audited, load_document,
-    push_channel,
+    Conclusion, Finding, Flaw, Refusal, audit_trace, load_document, text_of_audit,
 };
-use kpn_history::{Event, Version};
+use kpn_history::{Event, Trace, Version};
 use kpn_lang::Sequence;
 use kpn_net::Wait;
 use kpn_parts::{ChannelHome, CutPart, Joined, homes_of, join, links_of};
 use kpn_shelf::Shelf;
 use kpn_text::Document;
-use kpn_trace::TraceFault;
+use kpn_trace::{TraceFault, read_trace};
 use std::alloc::{AllocError, Global};
 
 /// The parts of a network as their files spell them: of each the description, its events, and the audit of these.
@@ -88,13 +85,12 @@ fn answer_of<S: Shelf>(
     shelf: &S,
     loaded: &mut LoadedParts,
 ) -> Result<Conclusion, Refusal>
-    requires { IsEmpty loaded.old }
+    requires { IsUnloaded loaded.old }
     ensures ok { (file : List ℕ) → IsDescribed (S.may_give shelf.now) file whole.now
         → IfOk result (TellsOnly (AnswersJoin (S.may_give shelf.now) file
         (map (λ word. word.now) words.now) steps)) }
-    ensures refused { IfErr result (λ refused.
-        IsPartRefused (S.may_give shelf.now) (map (λ word. word.now) words.now) refused
-        ⊎ (refused ≡ NoMemory)) }
+    ensures refused { IfErr result
+        (IsRefusalOfParts (S.may_give shelf.now) (map (λ word. word.now) words.now)) }
 {
     match load_parts(alloc, words, steps, shelf, loaded)? {
         Some(flawed) => Ok(flawed),
@@ -110,20 +106,16 @@ fn load_parts<S: Shelf>(
     shelf: &S,
     loaded: &mut LoadedParts,
 ) -> Result<Option<Conclusion>, Refusal>
-    requires { IsEmpty loaded.old }
+    requires { IsUnloaded loaded.old }
     ensures loaded { IfOk result (λ flawed. IfNone flawed (AreLoaded (S.may_give shelf.now)
         (map (λ word. word.now) words.now) (length words.now / 2) loaded.new)) }
     ensures flawed { IfOk result (λ flawed. IfSome flawed (TellsOnly
         (TellsOfFlaw (S.may_give shelf.now) (map (λ word. word.now) words.now) steps))) }
-    ensures refused { IfErr result (λ refused.
-        IsPartRefused (S.may_give shelf.now) (map (λ word. word.now) words.now) refused
-        ⊎ (refused ≡ NoMemory)) }
+    ensures refused { IfErr result
+        (IsPartRefused (S.may_give shelf.now) (map (λ word. word.now) words.now)) }
 {
     for r in 0..words.len() / 2 {
-        let part = words[2 * r];
-        let trace = words[2 * r + 1];
-        let audited = load_audited(alloc, shelf, part, trace, steps)?;
-        let flawed = keep_part(alloc, audited, trace, loaded)?;
+        let flawed = load_part(alloc, words[2 * r], words[2 * r + 1], steps, shelf, loaded)?;
         if flawed.is_some() {
             return Ok(flawed);
         }
@@ -131,30 +123,45 @@ fn load_parts<S: Shelf>(
     Ok(None)
 }
 
-// Puts a part to those that are loaded, or tells what is wrong with its trace, which has this name.
-fn keep_part(
+// Loads a part, or tells what is wrong with its trace.
+fn load_part<S: Shelf>(
     alloc: Global,
-    audited: Audited,
+    part: &str,
     name: &str,
+    steps: u64,
+    shelf: &S,
     loaded: &mut LoadedParts,
 ) -> Result<Option<Conclusion>, Refusal>
-    ensures kept { IfOk result (λ flawed.
-        IfNone flawed (Keeps audited.entry loaded.old loaded.new)) }
-    ensures flawed { IfOk result (λ flawed.
-        IfSome flawed (TellsOnly (IsFlawOf audited.entry name.now))) }
-    ensures refused { IfErr result (λ refused. ((refused ≡ Trace BadHead)
-        × (audited.entry.trace.version ≡ One)) ⊎ (refused ≡ NoMemory)) }
+    ensures loaded { IfOk result (λ flawed. IfNone flawed
+        (LoadsPart (S.may_give shelf.now) part.now name.now loaded.old loaded.new)) }
+    ensures flawed { IfOk result (λ flawed. IfSome flawed
+        (TellsOnly (IsFlawOf (S.may_give shelf.now) part.now name.now steps))) }
+    ensures refused { IfErr result (IsRefusalOfPart (S.may_give shelf.now) part.now name.now) }
 {
-    let (document, trace, finding) = audited.into_parts();
-    match (trace.version, finding) {
-        (Version::One, _) => Err(Refusal::Trace(TraceFault::BadHead)),
-        (Version::Two, Finding::NotLegal(flaw)) => Ok(Some(flaw_in(alloc, flaw, name)?)),
-        (Version::Two, Finding::Legal(audit)) => {
+    let document = load_document(alloc, shelf, part)?;
+    let trace = load_trace(alloc, shelf, name)?;
+    match audit_trace(alloc, document.network(), &trace, steps)? {
+        Finding::NotLegal(flaw) => Ok(Some(flaw_in(alloc, flaw, name)?)),
+        Finding::Legal(audit) => {
             loaded.documents.push(document)?;
             loaded.histories.push(trace.events)?;
             loaded.audits.push(audit)?;
             Ok(None)
         }
+    }
+}
+
+// The trace in a file. One of version 1 is refused: its growths do not state the new capacity.
+fn load_trace<S: Shelf>(alloc: Global, shelf: &S, file: &str) -> Result<Trace, Refusal>
+    ensures ok { IfOk result (λ trace.
+        IsTraced (S.may_give shelf.now) file.now trace × (trace.version ≡ Two)) }
+    ensures refused { IfErr result (IsRefusalOfNewTrace (S.may_give shelf.now) file.now) }
+{
+    let bytes = shelf.load(alloc, file).map_err(Refusal::Input)?;
+    let trace = read_trace(alloc, &bytes).map_err(Refusal::Trace)?;
+    match trace.version {
+        Version::One => Err(Refusal::Trace(TraceFault::BadHead)),
+        Version::Two => Ok(trace),
     }
 }
 
@@ -263,45 +270,53 @@ fn report(
         → IfOk result (TellsOnly (λ text status.
         IsToldOfRun whole.now parts.now loaded.now.histories.items text × (status ≡ 0))) }
 {
-    let is_exact = is_at_rest(parts, homes, &loaded.audits);
-    let mut text = String::new(alloc);
-    text.push_str("legal\n")?;
-    text.push_str(exact_line(is_exact))?;
-    push_channels(&mut text, whole, homes, &loaded.audits)?;
+    let exact = is_at_rest(parts, homes, &loaded.audits);
+    let audit = whole_audit(alloc, homes, &loaded.audits, exact)?;
     Ok(Conclusion {
-        text: text.into_bytes(),
+        text: text_of_audit(alloc, whole, &audit)?,
         status: 0,
         files: Vec::new(alloc),
     })
 }
 
-// A line for each channel, with the capacity and the journal that it has where it is written.
-fn push_channels(
-    text: &mut String,
-    whole: &Document,
+// What the text of an audit shows of the whole: of each channel the journal and the capacity where it is written.
+fn whole_audit(
+    alloc: Global,
     homes: &[ChannelHome],
     audits: &[Audit],
-) -> Pushed
+    exact: bool,
+) -> Result<Audit, AllocError>
     requires { AreIn audits.now homes.now }
-    ensures { Adds result text.old text.new (lines_from
-        (channel_line whole.now.names.channels (map (capacity_in audits.now) homes.now)) 0
-        (map (journal_of audits.now) homes.now)) }
+    ensures journals { IfOk result (λ audit.
+        audit.journals ≡ map (audited_journal audits.now) homes.now) }
+    ensures caps { IfOk result (λ audit.
+        audit.caps ≡ map (audited_capacity audits.now) homes.now) }
+    ensures exact { IfOk result (λ audit. audit.exact ≡ exact) }
 {
+    let mut journals = Vec::new(alloc);
+    let mut caps = Vec::new(alloc);
     for c in 0..homes.len() {
         let home = homes[c];
-        push_home(text, whole.channel_name(c), &audits[home.part], home.channel)?;
+        let audit = &audits[home.part];
+        journals.push(copy_of(alloc, &audit.journals.as_slice()[home.channel])?)?;
+        caps.push(audit.caps.as_slice().get(home.channel).copied().unwrap_or(None))?;
     }
-    Ok(())
+    Ok(Audit {
+        journals: Sequence::from_vec(journals),
+        reads: Sequence::new(alloc),
+        caps: Sequence::from_vec(caps),
+        complete: Sequence::new(alloc),
+        waits: Sequence::new(alloc),
+        ends: Sequence::new(alloc),
+        exact,
+    })
 }
 
-// The line of a channel that is written in a part.
-fn push_home(text: &mut String, name: &str, audit: &Audit, channel: usize) -> Pushed
-    requires { channel < length audit.now.journals }
-    ensures { Adds result text.old text.new (journal_line name.now
-        (slice_index_or audit.now.caps channel None) (slice_index_or audit.now.journals channel [])) }
+fn copy_of(alloc: Global, journal: &Journal) -> Result<Journal, AllocError>
+    ensures { IfOk result (λ copy. copy ≡ journal.now) }
 {
-    let cap = audit.caps.as_slice().get(channel).copied().unwrap_or(None);
-    push_channel(text, name, cap, &audit.journals.as_slice()[channel])
+    let items = journal.copy_first(alloc, journal.len())?;
+    Ok(Journal::from_vec(alloc, items))
 }
 
 // Whether the whole is at rest: each part is, and nothing is on the way to a process that waits for it.
@@ -349,13 +364,7 @@ fn is_settled(
 }
 
 // Whether part `r` has all items that were put on its channel `c`.
-fn has_all(
-    part: &CutPart<'_>,
-    homes: &[ChannelHome],
-    audits: &[Audit],
-    r: usize,
-    c: usize,
-) -> bool
+fn has_all(part: &CutPart<'_>, homes: &[ChannelHome], audits: &[Audit], r: usize, c: usize) -> bool
     ensures { result ≡ has_all part.now homes.now audits.now r c }
 {
     match homes.get(part.whole_channel(c)) {

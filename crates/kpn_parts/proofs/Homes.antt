@@ -27,8 +27,7 @@ module _ (t : Tables) (network : IsNetwork t) (cut : List Part) (is : IsCut t cu
       writes_back t (part_at cut at.part) (part_of t cut is at.part) at.process at.there c
       (subst (λ y. Writes t y c) (sym at.is) writes) in
       let here : Writes (part_at cut at.part).tables at.process back.channel =
-      record { process = at.there; place = back.stands } in
-      (
+      record { process = at.there; place = back.stands } in (
         record { part = at.part; channel = back.channel },
         record {
           there = Writes-below (part_at cut at.part).tables (part_of t cut is at.part).network _ _ here;
@@ -44,8 +43,7 @@ module _ (t : Tables) (network : IsNetwork t) (cut : List Part) (is : IsCut t cu
       reads_back t (part_at cut at.part) (part_of t cut is at.part) at.process at.there c
       (subst (λ y. Reads t y c) (sym at.is) reads) in
       let here : Reads (part_at cut at.part).tables at.process back.channel =
-      record { process = at.there; place = back.stands } in
-      (
+      record { process = at.there; place = back.stands } in (
         record { part = at.part; channel = back.channel },
         record {
           there = Reads-below (part_at cut at.part).tables (part_of t cut is at.part).network _ _ here;
@@ -107,8 +105,11 @@ module _ (t : Tables) (cut : List Part) (c : ℕ) where
         | inl there ↦ before home (inl (omega (arith, there, all))) is
         | inr past ↦
             absurd
-            omega (arith, subst (λ part. home.channel < length part.tables.channels)
-            (get_or_past cut home.part empty_part past) is.there)
+            omega (
+              arith,
+              subst (λ part. home.channel < length part.tables.channels)
+                  (get_or_past cut home.part empty_part past) is.there,
+            )
       ]
 
 -- ---- all homes

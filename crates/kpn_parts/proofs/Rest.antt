@@ -149,8 +149,7 @@ module _ (t : Tables) (network : IsNetwork t) (cut : List Part) (is : IsCut t cu
       let H = events_of_part r order in
       let w = empty_wait part.tables H (last_event H p) c waits in
       let reads =
-      (IsStarved-last part.tables (part_of t cut is r).network p H (joined.legal r) w.process c w.is).reads in
-      (
+      (IsStarved-last part.tables (part_of t cut is r).network p H (joined.legal r) w.process c w.is).reads in (
         Reads-below part.tables (part_of t cut is r).network p c reads,
         Reads-below t network _ _ (reads_in_whole t part (part_of t cut is r) p below c reads),
       )

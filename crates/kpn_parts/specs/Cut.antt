@@ -53,8 +53,8 @@ pub record IsSameProcess (t : Tables) (part : Part) (p : ℕ) : Type 0 where
       ≡ map (whole_channel part) (instance_at part.tables p).outs
 
 -- different channels of a part are different ones in the whole
-abbrev pub AreDistinct : Part → Type 0
-AreDistinct part =
+abbrev pub AreApart : Part → Type 0
+AreApart part =
     (c d : ℕ) → c < length part.tables.channels → d < length part.tables.channels
     → whole_channel part c ≡ whole_channel part d → c ≡ d
 
@@ -63,7 +63,7 @@ AreDistinct part =
 pub record IsPart (t : Tables) (part : Part) : Type 0 where
   pub network : IsNetwork part.tables
   pub processes : (p : ℕ) → p < length part.tables.instances → IsSameProcess t part p
-  pub distinct : AreDistinct part
+  pub distinct : AreApart part
 
 -- process p of the whole is a process of this part
 pub record HasHome (cut : List Part) (p : ℕ) : Type 0 where

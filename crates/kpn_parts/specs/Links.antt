@@ -65,9 +65,9 @@ pub record ComesInNone (histories : List (List Event)) (links : List PartLink) (
       → length (events_of_part r order) ≤ k
 
 -- what a join comes to
-abbrev pub ComesTo : List (List Event) → List PartLink → Joined → Type 0
-ComesTo histories links (Whole order) = IsJoinOf histories links order
-ComesTo histories links (Stuck r k) = ComesInNone histories links r k
+abbrev pub JoinComesTo : List (List Event) → List PartLink → Joined → Type 0
+JoinComesTo histories links (Whole order) = IsJoinOf histories links order
+JoinComesTo histories links (Stuck r k) = ComesInNone histories links r k
 
 -- ---- scaffolding: what the code keeps
 

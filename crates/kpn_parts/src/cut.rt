@@ -2,7 +2,7 @@
 ghost use Rattle.std.specs.Prelude.{◌≡◌, ◌↔◌, ℕ, ◌<◌, true, false, length, map, slice_index_or, IsTrue, IfOk, IfSome, IfNone};
 ghost use Rattle.kpn_net.specs.Tables.{instance_at, program_of};
 ghost use Rattle.kpn_parts.specs.declared.link.ChannelHome.{ChannelHome};
-ghost use Rattle.kpn_parts.specs.Cut.{whole_process, whole_channel, part_at, HasHome, IsSameProcess, AreDistinct, IsPart, AreOnce, IsCut, IsCutSource};
+ghost use Rattle.kpn_parts.specs.Cut.{whole_process, whole_channel, part_at, HasHome, IsSameProcess, AreApart, IsPart, AreOnce, IsCut, IsCutSource};
 ghost use Rattle.kpn_parts.specs.Homes.{IsWrittenIn, IsHome, AreHomes};
 ghost use Rattle.kpn_parts.specs.Links.{EndsIn, AreLinks};
 
@@ -137,7 +137,8 @@ fn is_joined_alike(whole: &Network, w: usize, part: &CutPart<'_>, p: usize) -> b
         × ((instance_at whole.now w).outs
         ≡ map (whole_channel part.now) (instance_at part.now.tables p).outs)) }
 {
-    are_at(whole.ins(w), part, part.network.ins(p)) && are_at(whole.outs(w), part, part.network.outs(p))
+    are_at(whole.ins(w), part, part.network.ins(p))
+        && are_at(whole.outs(w), part, part.network.outs(p))
 }
 
 /// Whether these ports of a part are at these channels of the whole.
@@ -145,12 +146,15 @@ fn are_at(channels: &[usize], part: &CutPart<'_>, ports: &[usize]) -> bool
     ensures { IsTrue result ↔ (channels.now ≡ map (whole_channel part.now) ports.now) }
 {
     channels.len() == ports.len()
-        && channels.iter().zip(ports).all(|(channel, port)| *channel == part.whole_channel(*port))
+        && channels
+            .iter()
+            .zip(ports)
+            .all(|(channel, port)| *channel == part.whole_channel(*port))
 }
 
 /// Whether different channels of a part are different ones in the whole.
 fn are_distinct(part: &CutPart<'_>) -> bool
-    ensures { IsTrue result ↔ AreDistinct part.now }
+    ensures { IsTrue result ↔ AreApart part.now }
 {
     for c in 0..part.network.channels() {
         for d in 0..c {

@@ -4,7 +4,7 @@ ghost use Rattle.kpn_lang.specs.Prefix.{IsPrefix};
 ghost use Rattle.kpn_history.specs.declared.event.Event.{Event};
 ghost use Rattle.kpn_parts.specs.declared.order.PartEvent.{PartEvent};
 ghost use Rattle.kpn_parts.specs.Joined.{events_of_part};
-ghost use Rattle.kpn_parts.specs.Links.{IsSentOn, IsJoinOf, history_at, items_of, fed_after, IsNext, IsCarried, AreCarried, CarryNothing, CarryMore, FedAtMost, MayCome, SoFar, IsStuck, UsesAll, ComesTo};
+ghost use Rattle.kpn_parts.specs.Links.{IsSentOn, IsJoinOf, history_at, items_of, fed_after, IsNext, IsCarried, AreCarried, CarryNothing, CarryMore, FedAtMost, MayCome, SoFar, IsStuck, UsesAll, JoinComesTo};
 
 use crate::items::{item_of, push_item};
 use crate::link::PartLink;
@@ -39,7 +39,7 @@ pub fn join(
     histories: &[Sequence<Event>],
     links: &[PartLink],
 ) -> Result<Joined, AllocError>
-    ensures { IfOk result (ComesTo histories.now links.now) }
+    ensures { IfOk result (JoinComesTo histories.now links.now) }
 {
     let mut at = zeros(alloc, histories.len())?;
     let mut order = Vec::new(alloc);

@@ -24,8 +24,8 @@ loop-c-preserved c =
           subst (HaveLinks t cut r (c.loop-c.c + 1)) (sym (ap (λ v. v.items) w.links-is))
           (links_past t cut r c.loop-c.c c.loop-c.links.items c.loop-c.invariant
           (λ source.
-              let is = w.if-is_cut_source.ensures.1 (subst (λ part. IsCutSource t part c.loop-c.c) (sym here) source) in
-              absurd (search rules)))
+          let is = w.if-is_cut_source.ensures.1 (subst (λ part. IsCutSource t part c.loop-c.c) (sym here) source) in
+          absurd (search rules)))
     ]
 
 pub loop-r-preserved : goal.loop-r-preserved

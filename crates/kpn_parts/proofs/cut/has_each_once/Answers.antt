@@ -11,8 +11,7 @@ use Rattle.kpn_parts.proofs.cut.has_each_once.Goals as goal
 pub loop-r-init : goal.loop-r-init
 loop-r-init c =
     let n = length c.args.whole.now.instances in
-    let none : c.in_ok-seen.seen.items ≡ replicate n false = search rules in
-    (
+    let none : c.in_ok-seen.seen.items ≡ replicate n false = search rules in (
       subst (AreSeen c.args.parts.now 0 0) (sym none) (seen_start c.args.parts.now n),
       ap length none ∙ length-replicate n false,
     )
@@ -26,10 +25,9 @@ loop-p-preserved c =
     let there : c.loop-p.p < length (part_at cut r).tables.instances =
     subst (λ part. c.loop-p.p < length part.tables.instances) here (search rules) in
     let is : whole_process (part_at cut r) c.loop-p.p ≡ c.whole_process-w.result =
-    subst (λ part. whole_process part c.loop-p.p ≡ c.whole_process-w.result) here (search rules) in
-    (
+    subst (λ part. whole_process part c.loop-p.p ≡ c.whole_process-w.result) here (search rules) in (
       seen_next cut r c.loop-p.p c.whole_process-w.result c.loop-p.seen.items c.loop-p.invariant.0 there is
-      (search rules) (search rules),
+          (search rules) (search rules),
       length-set c.loop-p.seen.items c.whole_process-w.result true ∙ c.loop-p.invariant.1,
     )
 
@@ -46,17 +44,17 @@ loop-r-preserved c =
 pub returns-clause-home : goal.returns-clause-home
 returns-clause-home c =
     λ yes p below.
-        let seen = c.loop-r.seen.items in
-        let no : c.contains.result ≡ false = search rules in
-        let none : list_any (λ y. beq y false) seen ≡ false = search rules in
-        elim (cases_Bool (get_or seen p false)) [
-          | inl is ↦ c.loop-r.invariant.0.homes p is
-          | inr is ↦
-              absurd
-              (both_ways _ none
-              (list_any_at (λ y. beq y false) seen p false (subst (λ n. p < n) (sym c.loop-r.invariant.1) below)
-              (ap (λ y. beq y false) is)))
-        ]
+    let seen = c.loop-r.seen.items in
+    let no : c.contains.result ≡ false = search rules in
+    let none : list_any (λ y. beq y false) seen ≡ false = search rules in
+    elim (cases_Bool (get_or seen p false)) [
+      | inl is ↦ c.loop-r.invariant.0.homes p is
+      | inr is ↦
+          absurd
+          (both_ways _ none
+          (list_any_at (λ y. beq y false) seen p false (subst (λ n. p < n) (sym c.loop-r.invariant.1) below)
+          (ap (λ y. beq y false) is)))
+    ]
 
 pub returns-clause-once : goal.returns-clause-once
 returns-clause-once c =

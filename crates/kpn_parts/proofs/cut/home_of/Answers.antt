@@ -15,9 +15,9 @@ loop-d-preserved c =
     part_there cut c.loop-r.r _ c.index-parts-r.result c.index-parts-r.is (search rules) in
     none_past c.args.whole.now cut c.args.c c.loop-r.r c.loop-d.d c.loop-d.invariant
     (λ is.
-        let written = c.if-is_written_in.ensures.1
-        (subst (λ part. IsWrittenIn c.args.whole.now part c.loop-d.d c.args.c) (sym here) is) in
-        absurd (search rules))
+    let written = c.if-is_written_in.ensures.1
+    (subst (λ part. IsWrittenIn c.args.whole.now part c.loop-d.d c.args.c) (sym here) is) in
+    absurd (search rules))
 
 pub loop-r-preserved : goal.loop-r-preserved
 loop-r-preserved c =

@@ -5,8 +5,8 @@ use Rattle.kpn_parts.proofs.cut.homes_of.Goals as goal
 pub returns-in_default-clause-none : goal.returns-in_default-clause-none
 returns-in_default-clause-none c =
     λ is.
-        let home = has_home c.args.whole.now c.known.ensures c.args.parts.now is c.loop-c.c (search rules) in
-        c.in_default.ensures.none home.0 home.1
+    let home = has_home c.args.whole.now c.known.ensures c.args.parts.now is c.loop-c.c (search rules) in
+    c.in_default.ensures.none home.0 home.1
 
 pub loop-c-preserved : goal.loop-c-preserved
 loop-c-preserved c =
