@@ -1,6 +1,8 @@
 -- Parts that are loaded one after the other, and what their audits show of the whole if they are joined.
-use Rattle.std.proofs.Common.{◌≡◌, ◌↔◌, ℕ, zero, suc, ◌+◌, ◌<◌, ◌≤◌, ◌⊎◌, ℤ, Bool, true, false, ◌&&◌, eqb, List, [], ◌∷◌, ◌++◌, length, map, take, get_or, Option, Some, None, refl, sym, ap, ◌∙◌, subst, inl, inr, arith}
-use Rattle.std.specs.Prelude.{slice_get}
+use Rattle.std.proofs.Common.{◌≡◌, ◌↔◌, ℕ, zero, suc, ◌+◌, ◌*◌, ◌/◌, codes, Result, IfErr, ◌<◌, ◌≤◌, ◌⊎◌, ℤ, Bool, true, false, ◌&&◌, eqb, List, [], ◌∷◌, ◌++◌, length, map, take, get_or, Option, Some, None, refl, sym, ap, ◌∙◌, subst, inl, inr, arith}
+use Rattle.std.specs.Prelude.{slice_get, unwrap_or, IfSome, IfNone, is_some}
+use Rattle.std.specs.Borrow.{Bor}
+use Rattle.std.proofs.lemmas.Result.{IfErr-weaker}
 use Rattle.std.specs.List.{list_all, range_with_len}
 use Rattle.std.specs.Option.{option_map_or}
 use Rattle.std.specs.declared.alloc.Global.{Global}
@@ -8,7 +10,8 @@ use Rattle.std.proofs.lemmas.Bool.{cases_eq, cases_lt, cases_Bool, both_ways, eq
 use Rattle.std.proofs.lemmas.List.{length-map, get_or-map, get_or_past, map-append, take_more}
 use Rattle.std.proofs.lemmas.List.Folds.{list_all_at}
 use Rattle.std.proofs.lemmas.List.FromFn.{get_or-map-range_with_len, length-map-range_with_len}
-use Rattle.std.proofs.lemmas.Option.{slice_get-get_or}
+use Rattle.std.proofs.lemmas.Option.{slice_get-get_or, unwrap_or-slice_get}
+use Rattle.std.proofs.Math.ListN as ListN
 use Rattle.std.proofs.Math.ListN.{get_or-append}
 use Rattle.std.proofs.Math.Seq.{get_or-append_seam}
 use Rattle.kpn_lang.proofs.Prefixes.{same_from_prefix}
@@ -21,6 +24,8 @@ use Rattle.kpn_history.specs.declared.event.Event.{Event}
 use Rattle.kpn_history.specs.declared.stored.Version.TheVariants.{Two}
 use Rattle.kpn_history.specs.declared.stored.Trace.{Trace}
 use Rattle.kpn_history.specs.Channels.{written_on, capacity_after}
+use Rattle.kpn_history.specs.Legal.{Legal}
+use Rattle.kpn_history.proofs.Legality.{Legal-nil}
 use Rattle.kpn_history.specs.Ends.{IsQuiet}
 use Rattle.kpn_history.specs.Waiting.{wait_of}
 use Rattle.kpn_audit.specs.declared.findings.Audit.{Audit}
@@ -38,9 +43,14 @@ use Rattle.kpn_parts.proofs.Rest.{waited_there}
 use Rattle.kpn_text.specs.Document.{Document}
 use Rattle.kpn_shelf.specs.Shelf.{Loads}
 use Rattle.kpn_command_base.specs.Audited.{IsFoundLegal}
+use Rattle.kpn_command_base.specs.declared.conclusion.Conclusion.{Conclusion}
+use Rattle.kpn_command_base.specs.declared.refusal.Refusal.{Refusal}
+use Rattle.kpn_command_base.specs.Conclusion.{TellsOnly}
+use Rattle.kpn_command_base.specs.ListText.{lines_from}
+use Rattle.kpn_command_base.specs.AuditText.{channel_line, exact_line}
 use Rattle.kpn_command_base.specs.Description.{IsDescribed}
 use Rattle.kpn_commands.specs.declared.join.LoadedParts.{LoadedParts}
-use Rattle.kpn_commands.specs.Join.{part_file, trace_file, HasEvents, capacity_at}
+use Rattle.kpn_commands.specs.Join.{part_file, trace_file, HasEvents, IsPartIn, AreRead, capacity_at, IsFlawOf, TellsOfFlaw, IsPartRefused, IsRefusalOfPart}
 use Rattle.kpn_commands.specs.JoinParts.{IsUnloaded, AreAudited, AreLoaded, LoadsPart, HasTables, journal_in, audited_journal, audited_capacity, AreIn, has_all, is_settled, is_part_at_rest}
 
 -- ---- lists
@@ -83,7 +93,7 @@ map_range f g a [] d same = refl
 map_range f g a (x ∷ xs) d same =
     ap (λ y. y ∷ map f xs) (same 0 (omega arith) ∙ ap g (omega arith))
     ∙ ap (λ ys. g a ∷ ys)
-    (map_range f g (suc a) xs d (λ i below. same (suc i) (omega (arith, below)) ∙ ap g (omega arith)))
+    (map_range f g (a + 1) xs d (λ i below. same (suc i) (omega (arith, below)) ∙ ap g (omega arith)))
 
 list_all_from : {X : Type 0} (q : X → Bool) (xs : List X) (d : X)
     → ((i : ℕ) → i < length xs → q (get_or xs i d) ≡ true) → list_all q xs ≡ true
@@ -138,6 +148,19 @@ module _ (audits : List (Audit Global)) (home : ChannelHome) (a : Audit Global) 
       let caps : Audit Global → List (Option ℕ) = λ it. it.caps in
       ap (λ xs. get_or xs home.channel None) (sym (get_or-map caps audits home.part a [] there))
 
+-- whether a part rests, by its audit
+pub part_rests : (part : Part) (homes : List ChannelHome) (audits : List (Audit Global)) (r : ℕ) (audit a : Audit Global)
+    → r < length audits → audit ≡ get_or audits r a → audit.exact ≡ true
+    → list_all (is_settled part homes audits r) audit.waits ≡ is_part_at_rest part homes audits r
+part_rests part homes audits r audit a below is rests =
+    let exact : Audit Global → Bool = λ it. it.exact in
+    let waits : Audit Global → List Wait = λ it. it.waits in
+    let q = is_settled part homes audits r in
+    sym
+    (ap (λ b. b && list_all q (get_or (map waits audits) r []))
+    (get_or-map exact audits r a false below ∙ ap exact (sym is) ∙ rests)
+    ∙ ap (list_all q) (get_or-map waits audits r a [] below ∙ ap waits (sym is)))
+
 -- ---- loading
 
 pub loaded_start : (may_give : Loads) (words : List (List ℕ)) (loaded : LoadedParts) → IsUnloaded loaded
@@ -147,17 +170,17 @@ loaded_start may_give words loaded empty =
       count = ap length empty.0;
       audited =
           record {
-            histories = ap length empty.1.0 ∙ sym (ap length empty.0);
-            audits = ap length empty.1.1 ∙ sym (ap length empty.0);
+            histories = ap length empty.1 ∙ sym (ap length empty.0);
+            audits = ap length empty.2 ∙ sym (ap length empty.0);
             each = λ r d H audit below.
-                absurd (no (subst (λ xs. r < length xs) empty.0 below));
+                absurd (none (subst (λ xs. r < length xs) empty.0 below));
           };
-      described = λ r d below. absurd (no below);
-      traced = λ r H below. absurd (no below);
+      described = λ r d below. absurd (none below);
+      traced = λ r H below. absurd (none below);
     }
   where
-    no : {r : ℕ} → r < 0 → ⊥
-    no below = absurd omega (arith, below)
+    none : {r : ℕ} → r < 0 → ⊥
+    none below = absurd omega (arith, below)
 
 pub loaded_next : (may_give : Loads) (words : List (List ℕ)) (n : ℕ) (old new : LoadedParts)
     → AreLoaded may_give words n old → LoadsPart may_give (part_file words n) (trace_file words n) old new
@@ -230,6 +253,122 @@ pub audited_as_it_stands : (t : Tables) (trace : Trace Global) (steps : ℕ) (au
 audited_as_it_stands t trace steps audit found version =
     subst (λ v. IsAudit (audited_under v t) (history_of v (audited_under v t) trace.events) audit) version found.audited
 
+-- ---- words
+
+some_weaker : {X : Type 0} (o : Option X) (P Q : X → Type 0) → ((x : X) → P x → Q x) → IfSome o P → IfSome o Q
+some_weaker None P Q more is = tt
+some_weaker (Some x) P Q more is = more x is
+
+pub none_gives : {X : Type 0} (o : Option X) (P : Type 0) → is_some o ≡ false → IfNone o P → P
+none_gives None P none is = is
+none_gives (Some x) P none is = absurd cc
+
+abbrev pub no_word : Bor (List ℕ)
+no_word = record { ref_ptr = (0, 0); now = [] }
+
+abbrev pub texts_of : List (Bor (List ℕ)) → List (List ℕ)
+texts_of words = map (λ word. word.now) words
+
+-- the text of a word, or nothing
+pub named : (words : List (Bor (List ℕ))) (k : ℕ) (empty word : Bor (List ℕ)) (found : Option (Bor (List ℕ)))
+    → empty.now ≡ [] → found ≡ slice_get words k → word ≡ unwrap_or found empty
+    → word.now ≡ get_or (texts_of words) k []
+named words k empty word found none is same =
+    let text : Bor (List ℕ) → List ℕ = λ it. it.now in
+    ap text (same ∙ ap (λ o. unwrap_or o empty) is ∙ unwrap_or-slice_get words k empty)
+    ∙ sym (ListN.get_or-map text words k empty) ∙ ap (get_or (texts_of words) k) none
+
+module _ (may_give : Loads) (words : List (Bor (List ℕ))) (r : ℕ) (there : r < length words / 2)
+    (inside : 2 * r + 1 < length words) where
+  now : Bor (List ℕ) → List ℕ
+  now word = word.now
+
+  first : (get_or words (2 * r) no_word).now ≡ part_file (texts_of words) r
+  first = sym (get_or-map (λ (word : Bor (List ℕ)). word.now) words (2 * r) no_word [] (omega (arith, inside)))
+
+  second : (get_or words (2 * r + 1) no_word).now ≡ trace_file (texts_of words) r
+  second = sym (get_or-map (λ (word : Bor (List ℕ)). word.now) words (2 * r + 1) no_word [] inside)
+
+  below : r < length (texts_of words) / 2
+  below = subst (λ n. r < n / 2) (sym (length-map words (λ (word : Bor (List ℕ)). word.now))) there
+
+  pub part_refused : {X : Type 0} (result : Result X Refusal)
+      → IfErr result
+      (IsRefusalOfPart may_give (get_or words (2 * r) no_word).now (get_or words (2 * r + 1) no_word).now)
+      → IfErr result (IsPartRefused may_give (texts_of words))
+  part_refused result is =
+      IfErr-weaker result _ _
+      (λ refused why. record {
+        part = r;
+        there = below;
+        why =
+            subst (λ part. IsRefusalOfPart may_give part (trace_file (texts_of words) r) refused) first
+            (subst (λ trace. IsRefusalOfPart may_give (get_or words (2 * r) no_word).now trace refused) second why);
+      }) is
+
+  pub flaw_told : (steps : ℕ) (flawed : Option Conclusion)
+      → IfSome flawed
+      (TellsOnly
+      (IsFlawOf may_give (get_or words (2 * r) no_word).now (get_or words (2 * r + 1) no_word).now steps))
+      → IfSome flawed (TellsOnly (TellsOfFlaw may_give (texts_of words) steps))
+  flaw_told steps flawed is =
+      some_weaker flawed _ _
+      (λ made told. (
+        record {
+          part = r;
+          there = below;
+          flaw =
+              subst
+              (λ part. IsFlawOf may_give part (trace_file (texts_of words) r) steps made.text.items made.status)
+              first
+              (subst
+              (λ trace.
+              IsFlawOf may_give (get_or words (2 * r) no_word).now trace steps made.text.items made.status)
+              second told.0);
+        },
+        told.1,
+      )) is
+
+  pub part_loaded : (old new : LoadedParts) → AreLoaded may_give (texts_of words) r old
+      → LoadsPart may_give (get_or words (2 * r) no_word).now (get_or words (2 * r + 1) no_word).now old new
+      → AreLoaded may_give (texts_of words) (r + 1) new
+  part_loaded old new h part =
+      loaded_next may_give (texts_of words) r old new h
+      (subst (λ file. LoadsPart may_give file (trace_file (texts_of words) r) old new) first
+      (subst (λ trace. LoadsPart may_give (get_or words (2 * r) no_word).now trace old new) second part))
+
+-- the parts and their histories are those of the files
+pub read_if_loaded : (may_give : Loads) (words : List (Bor (List ℕ))) (d : Document) (cut : List Part)
+    (loaded : LoadedParts) → AreLoaded may_give (texts_of words) (length words / 2) loaded
+    → HasTables cut loaded.documents.items → AreRead may_give (texts_of words) cut loaded.histories.items
+read_if_loaded may_give words d cut loaded h tables =
+    record {
+      count = count ∙ ap (λ n. n / 2) (sym (length-map words (λ (word : Bor (List ℕ)). word.now)));
+      each = λ r below.
+          let inside : r < length words / 2 = subst (λ n. r < n) count below in
+          record {
+            document = get_or loaded.documents.items r d;
+            described = h.described r d inside;
+            spells =
+                sym (get_or-map second loaded.documents.items r d d.tables (subst (λ n. r < n) (sym h.count) inside))
+                ∙ ap (λ ts. get_or ts r d.tables) (sym tables)
+                ∙ get_or-map first cut r empty_part d.tables below;
+            events = h.traced r [] inside;
+          };
+      same = h.audited.histories ∙ h.count ∙ sym count;
+    }
+  where
+    first : Part → Tables
+    first part = part.tables
+
+    second : Document → Tables
+    second document = document.tables
+
+    count : length cut ≡ length words / 2
+    count =
+        sym (length-map cut (λ (part : Part). part.tables)) ∙ ap length tables
+        ∙ length-map loaded.documents.items (λ (document : Document). document.tables) ∙ h.count
+
 -- ---- homes
 
 pub home_part : (t : Tables) (cut : List Part) (home : ChannelHome) (c : ℕ) → IsHome t cut home c
@@ -244,8 +383,16 @@ home_part t cut home c is =
     ]
 
 -- an audit that stands for one that is not there
-no_audit : Audit Global
+pub no_audit : Audit Global
 no_audit = record { journals = []; reads = []; caps = []; complete = []; waits = []; ends = []; exact = false }
+
+-- texts of the same parts
+pub text_is : (names : List (List ℕ)) (told exact : Bool) (some caps : List (Option ℕ)) (lists journals : List (List ℤ))
+    → told ≡ exact → some ≡ caps → lists ≡ journals
+    → codes "legal\n" ++ exact_line told ++ lines_from (channel_line names some) 0 lists
+    ≡ codes "legal\n" ++ exact_line exact ++ lines_from (channel_line names caps) 0 journals
+text_is names told exact some caps lists journals p q s =
+    λ i. codes "legal\n" ++ exact_line (p i) ++ lines_from (channel_line names (q i)) 0 (s i)
 
 -- ---- what the audits show
 
@@ -319,6 +466,21 @@ module _ (d : Document) (network : IsNetwork d.tables) (cut : List Part) (is : I
         at.there),
       )
 
+  -- each part has a legal history
+  pub are_legal : (r : ℕ) → Legal (part_at cut r).tables (history_at loaded.histories.items r)
+  are_legal r =
+      elim (cases_lt r (length cut)) [
+        | inl below ↦ (audit_at r no_audit below).legal
+        | inr past ↦
+            subst (λ part. Legal part.tables (history_at loaded.histories.items r))
+            (sym (get_or_past cut r empty_part past))
+            (subst (Legal empty_part.tables)
+            (sym
+            (get_or_past loaded.histories.items r []
+            (subst (λ n. n ≤ r) (count ∙ audited.audits ∙ sym audited.histories) past)))
+            (Legal-nil empty_part.tables))
+      ]
+
   pub capacities_are : map (audited_capacity audits) homes ≡ map (capacity_at cut loaded.histories.items) homes
   capacities_are =
       map_same (audited_capacity audits) (capacity_at cut loaded.histories.items) homes (record { part = 0; channel = 0 })
@@ -368,7 +530,7 @@ module _ (d : Document) (network : IsNetwork d.tables) (cut : List Part) (is : I
         let same = get_or-map (λ a. a.exact) audits r no_audit false (subst (λ n. r < n) count below) in
         let exact = (audit_at r no_audit below).exact in
         (
-          λ yes. subst (IsQuiet (part_at cut r).tables) (sym (whole r)) (exact.0 (sym same ∙ yes)),
+          λ is-exact. subst (IsQuiet (part_at cut r).tables) (sym (whole r)) (exact.0 (sym same ∙ is-exact)),
           λ quiet. same ∙ exact.1 (subst (IsQuiet (part_at cut r).tables) (whole r) quiet),
         )
 
@@ -386,7 +548,7 @@ module _ (d : Document) (network : IsNetwork d.tables) (cut : List Part) (is : I
       there : (c < length (part_at cut r).tables.channels) × (whole_channel (part_at cut r) c < length t.channels)
       there = waited_there t network cut is order joined r p c below waits
 
-      home : ChannelHome
+      abbrev home : ChannelHome
       home = get_or homes (whole_channel (part_at cut r) c) (record { part = 0; channel = 0 })
 
       is_home : IsHome t cut home (whole_channel (part_at cut r) c)
@@ -405,8 +567,8 @@ module _ (d : Document) (network : IsNetwork d.tables) (cut : List Part) (is : I
           (at_home home (whole_channel (part_at cut r) c) is_home)
 
       has_if : has_all (part_at cut r) homes audits r c ≡ true → HasAll t cut order r c
-      has_if yes =
-          let same = eqb-true _ _ (sym test_is ∙ yes) in
+      has_if passes =
+          let same = eqb-true _ _ (sym test_is ∙ passes) in
           same_from_prefix _ _ (journal_begins t network cut is r c there.0 order joined) (omega (arith, same))
 
       if_has : HasAll t cut order r c → has_all (part_at cut r) homes audits r c ≡ true

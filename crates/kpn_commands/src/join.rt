@@ -1,5 +1,6 @@
 //! The command reads a network, and the descriptions and traces of its parts, and tells what a join of the traces finds.
-ghost use Rattle.std.specs.Prelude.{◌≡◌, ◌↔◌, ◌<◌, ◌/◌, ℕ, true, List, map, length, IfOk, IfErr, IfSome, IfNone, IsTrue};
+ghost use Rattle.std.specs.Prelude.{◌≡◌, ◌↔◌, ◌<◌, ◌/◌, ◌++◌, ◌∷◌, [], ℕ, true, List, map, length, slice_index_or, IfOk, IfErr, IfSome, IfNone, IsTrue, OnOk};
+ghost use Rattle.std.specs.List.{list_all};
 ghost use Rattle.kpn_history.specs.declared.stored.Version.TheVariants.{Two};
 ghost use Rattle.kpn_parts.specs.declared.order.PartEvent.{PartEvent};
 ghost use Rattle.kpn_parts.specs.Cut.{IsCut, part_at};
@@ -10,7 +11,7 @@ ghost use Rattle.kpn_command_base.specs.Conclusion.{TellsOnly};
 ghost use Rattle.kpn_command_base.specs.Description.{IsDescribed};
 ghost use Rattle.kpn_command_base.specs.Audited.{IsTraced};
 ghost use Rattle.kpn_commands.specs.Join.{AnswersJoin, IsRefusalOfJoin, IsRefusalOfParts, IsPartRefused, IsRefusalOfPart};
-ghost use Rattle.kpn_commands.specs.Join.{TellsOfFlaw, IsFlawOf, IsFlawIn, line_at, IsToldOfRun};
+ghost use Rattle.kpn_commands.specs.Join.{TellsOfFlaw, IsFlawOf, IsFlawIn, line_at, IsToldOfRun, TellsOfParts};
 ghost use Rattle.kpn_commands.specs.JoinParts.{IsUnloaded, LoadsPart, AreLoaded, AreAudited, HasTables, TellsOfLoaded};
 ghost use Rattle.kpn_commands.specs.JoinParts.{AreIn, journal_in, audited_journal, audited_capacity, has_all, is_settled};
 ghost use Rattle.kpn_commands.specs.JoinParts.{is_part_at_rest, IsRefusalOfNewTrace};
@@ -176,21 +177,44 @@ fn join_parts(
     ensures { IfOk result (TellsOnly
         (TellsOfLoaded whole.now (map (λ word. word.now) words.now) loaded.now)) }
 {
-    let network = whole.network();
     let parts = cut_parts(alloc, whole, &loaded.documents)?;
-    let Some(links) = links_of(alloc, network, &parts)? else {
+    join_cut(alloc, whole, words, loaded, &parts)
+}
+
+// What a join of parts comes to whose numbers in the whole are found.
+fn join_cut(
+    alloc: Global,
+    whole: &Document,
+    words: &[&str],
+    loaded: &LoadedParts,
+    parts: &[CutPart<'_>],
+) -> Result<Conclusion, AllocError>
+    requires audited { AreAudited loaded.now }
+    requires tables { HasTables parts.now loaded.now.documents.items }
+    ensures { IfOk result (TellsOnly (TellsOfParts whole.now (map (λ word. word.now) words.now)
+        parts.now loaded.now.histories.items)) }
+{
+    let network = whole.network();
+    network.known();
+    let Some(links) = links_of(alloc, network, parts)? else {
         return told(alloc, "no cut\n");
     };
-    let Some(homes) = homes_of(alloc, network, &parts)? else {
+    let Some(homes) = homes_of(alloc, network, parts)? else {
         return told(alloc, "no cut\n");
     };
     match join(alloc, &loaded.histories, &links)? {
-        Joined::Whole(_) => report(alloc, whole, &parts, &homes, loaded),
+        Joined::Whole(_order) => report(alloc, whole, parts, &homes, loaded),
         Joined::Stuck { part, event } => {
-            let trace = words.get(2 * part + 1).copied().unwrap_or("");
+            let trace = word_at(words, 2 * part + 1);
             told_at(alloc, "not joined", event, trace, 1)
         }
     }
+}
+
+fn word_at<'w>(words: &[&'w str], k: usize) -> &'w str
+    ensures { result.now ≡ slice_index_or (map (λ word. word.now) words.now) k [] }
+{
+    words.get(k).copied().unwrap_or("")
 }
 
 // The parts, with the numbers that their processes and channels have in the whole by their names.
@@ -270,6 +294,8 @@ fn report(
         → IfOk result (TellsOnly (λ text status.
         IsToldOfRun whole.now parts.now loaded.now.histories.items text × (status ≡ 0))) }
 {
+    let network = whole.network();
+    network.known();
     let exact = is_at_rest(parts, homes, &loaded.audits);
     let audit = whole_audit(alloc, homes, &loaded.audits, exact)?;
     Ok(Conclusion {
@@ -296,10 +322,7 @@ fn whole_audit(
     let mut journals = Vec::new(alloc);
     let mut caps = Vec::new(alloc);
     for c in 0..homes.len() {
-        let home = homes[c];
-        let audit = &audits[home.part];
-        journals.push(copy_of(alloc, &audit.journals.as_slice()[home.channel])?)?;
-        caps.push(audit.caps.as_slice().get(home.channel).copied().unwrap_or(None))?;
+        push_home(alloc, audits, homes[c], &mut journals, &mut caps)?;
     }
     Ok(Audit {
         journals: Sequence::from_vec(journals),
@@ -310,6 +333,28 @@ fn whole_audit(
         ends: Sequence::new(alloc),
         exact,
     })
+}
+
+// Adds the journal and the capacity of the channel that is written there.
+fn push_home(
+    alloc: Global,
+    audits: &[Audit],
+    home: ChannelHome,
+    journals: &mut Vec<Journal>,
+    caps: &mut Vec<Option<u32>>,
+) -> Result<(), AllocError>
+    requires part { home.part < length audits.now }
+    requires channel { (audit : Audit Global)
+        → home.channel < length (slice_index_or audits.now home.part audit).journals }
+    ensures journals { OnOk result
+        (journals.new.items ≡ journals.old.items ++ audited_journal audits.now home ∷ []) }
+    ensures caps { OnOk result
+        (caps.new.items ≡ caps.old.items ++ audited_capacity audits.now home ∷ []) }
+{
+    let audit = &audits[home.part];
+    journals.push(copy_of(alloc, &audit.journals.as_slice()[home.channel])?)?;
+    caps.push(audit.caps.as_slice().get(home.channel).copied().unwrap_or(None))?;
+    Ok(())
 }
 
 fn copy_of(alloc: Global, journal: &Journal) -> Result<Journal, AllocError>
@@ -339,12 +384,22 @@ fn is_part_at_rest(part: &CutPart<'_>, homes: &[ChannelHome], audits: &[Audit], 
     ensures { result ≡ is_part_at_rest part.now homes.now audits.now r }
 {
     let audit = &audits[r];
-    audit.exact
-        && audit
-            .waits
-            .as_slice()
-            .iter()
-            .all(|wait| is_settled(part, homes, audits, r, *wait))
+    audit.exact && are_settled(part, homes, audits, r, audit.waits.as_slice())
+}
+
+// Whether nothing is on the way to processes of part `r` that wait for these.
+fn are_settled(
+    part: &CutPart<'_>,
+    homes: &[ChannelHome],
+    audits: &[Audit],
+    r: usize,
+    waits: &[Wait],
+) -> bool
+    ensures { result ≡ list_all (is_settled part.now homes.now audits.now r) waits.now }
+{
+    waits
+        .iter()
+        .all(|wait| is_settled(part, homes, audits, r, *wait))
 }
 
 // Whether nothing is on the way to a process of part `r` that waits for this.
