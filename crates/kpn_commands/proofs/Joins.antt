@@ -1,6 +1,6 @@
 -- Parts that are loaded one after the other, and what their audits show of the whole if they are joined.
 use Rattle.std.proofs.Common.{◌≡◌, ◌↔◌, ℕ, zero, suc, ◌+◌, ◌*◌, ◌/◌, codes, Result, IfErr, ◌<◌, ◌≤◌, ◌⊎◌, ℤ, Bool, true, false, ◌&&◌, eqb, List, [], ◌∷◌, ◌++◌, length, map, take, get_or, Option, Some, None, refl, sym, ap, ◌∙◌, subst, inl, inr, arith}
-use Rattle.std.specs.Prelude.{slice_get, unwrap_or, IfSome, IfNone, is_some}
+use Rattle.std.specs.Prelude.{slice_get, IfSome, IfNone, is_some}
 use Rattle.std.specs.Borrow.{Bor}
 use Rattle.std.proofs.lemmas.Result.{IfErr-weaker}
 use Rattle.std.specs.List.{list_all, range_with_len}
@@ -10,8 +10,7 @@ use Rattle.std.proofs.lemmas.Bool.{cases_eq, cases_lt, cases_Bool, both_ways, eq
 use Rattle.std.proofs.lemmas.List.{length-map, get_or-map, get_or_past, map-append, take_more}
 use Rattle.std.proofs.lemmas.List.Folds.{list_all_at}
 use Rattle.std.proofs.lemmas.List.FromFn.{get_or-map-range_with_len, length-map-range_with_len}
-use Rattle.std.proofs.lemmas.Option.{slice_get-get_or, unwrap_or-slice_get}
-use Rattle.std.proofs.Math.ListN as ListN
+use Rattle.std.proofs.lemmas.Option.{slice_get-get_or}
 use Rattle.std.proofs.Math.ListN.{get_or-append}
 use Rattle.std.proofs.Math.Seq.{get_or-append_seam}
 use Rattle.kpn_lang.proofs.Prefixes.{same_from_prefix}
@@ -268,15 +267,6 @@ no_word = record { ref_ptr = (0, 0); now = [] }
 
 abbrev pub texts_of : List (Bor (List ℕ)) → List (List ℕ)
 texts_of words = map (λ word. word.now) words
-
--- the text of a word, or nothing
-pub named : (words : List (Bor (List ℕ))) (k : ℕ) (empty word : Bor (List ℕ)) (found : Option (Bor (List ℕ)))
-    → empty.now ≡ [] → found ≡ slice_get words k → word ≡ unwrap_or found empty
-    → word.now ≡ get_or (texts_of words) k []
-named words k empty word found none is same =
-    let text : Bor (List ℕ) → List ℕ = λ it. it.now in
-    ap text (same ∙ ap (λ o. unwrap_or o empty) is ∙ unwrap_or-slice_get words k empty)
-    ∙ sym (ListN.get_or-map text words k empty) ∙ ap (get_or (texts_of words) k) none
 
 module _ (may_give : Loads) (words : List (Bor (List ℕ))) (r : ℕ) (there : r < length words / 2)
     (inside : 2 * r + 1 < length words) where

@@ -214,7 +214,7 @@ fn join_cut(
 fn word_at<'w>(words: &[&'w str], k: usize) -> &'w str
     ensures { result.now ≡ slice_index_or (map (λ word. word.now) words.now) k [] }
 {
-    words.get(k).copied().unwrap_or("")
+    if k < words.len() { words[k] } else { "" }
 }
 
 // The parts, with the numbers that their processes and channels have in the whole by their names.
