@@ -1,6 +1,6 @@
 -- Parts that are loaded one after the other, and what their audits show of the whole if they are joined.
-use Rattle.std.proofs.Common.{◌≡◌, ◌↔◌, ℕ, zero, suc, ◌+◌, ◌*◌, ◌/◌, codes, Result, IfErr, ◌<◌, ◌≤◌, ◌⊎◌, ℤ, Bool, true, false, ◌&&◌, eqb, List, [], ◌∷◌, ◌++◌, length, map, take, get_or, Option, Some, None, refl, sym, ap, ◌∙◌, subst, inl, inr, arith}
-use Rattle.std.specs.Prelude.{slice_get, IfSome, IfNone, is_some}
+use Rattle.std.proofs.Common.{◌≡◌, ◌↔◌, ℕ, suc, ◌+◌, ◌*◌, ◌/◌, codes, Result, IfErr, ◌<◌, ◌≤◌, ◌⊎◌, ℤ, Bool, true, false, ◌&&◌, eqb, List, [], ◌∷◌, ◌++◌, length, map, take, get_or, Option, Some, None, refl, sym, ap, ◌∙◌, subst, inl, inr, arith}
+use Rattle.std.specs.Prelude.{IfSome, IfNone, is_some}
 use Rattle.std.specs.Borrow.{Bor}
 use Rattle.std.proofs.lemmas.Result.{IfErr-weaker}
 use Rattle.std.specs.List.{list_all, range_with_len}
@@ -49,7 +49,7 @@ use Rattle.kpn_command_base.specs.ListText.{lines_from}
 use Rattle.kpn_command_base.specs.AuditText.{channel_line, exact_line}
 use Rattle.kpn_command_base.specs.Description.{IsDescribed}
 use Rattle.kpn_commands.specs.declared.join.LoadedParts.{LoadedParts}
-use Rattle.kpn_commands.specs.Join.{part_file, trace_file, HasEvents, IsPartIn, AreRead, capacity_at, IsFlawOf, TellsOfFlaw, IsPartRefused, IsRefusalOfPart}
+use Rattle.kpn_commands.specs.Join.{part_file, trace_file, HasEvents, AreRead, capacity_at, IsFlawOf, TellsOfFlaw, IsPartRefused, IsRefusalOfPart}
 use Rattle.kpn_commands.specs.JoinParts.{IsUnloaded, AreAudited, AreLoaded, LoadsPart, HasTables, journal_in, audited_journal, audited_capacity, AreIn, has_all, is_settled, is_part_at_rest}
 
 -- ---- lists
@@ -368,8 +368,11 @@ home_part t cut home c is =
       | inl there ↦ there
       | inr past ↦
           absurd
-          omega (arith, subst (λ part. home.channel < length part.tables.channels)
-          (get_or_past cut home.part empty_part past) is.there)
+          omega (
+            arith,
+            subst (λ part. home.channel < length part.tables.channels)
+                (get_or_past cut home.part empty_part past) is.there,
+          )
     ]
 
 -- an audit that stands for one that is not there
@@ -445,15 +448,14 @@ module _ (d : Document) (network : IsNetwork d.tables) (cut : List Part) (is : I
   are_in c home audit below =
       let at = are.each c home (subst (λ n. c < n) are.count below) in
       let it = get_or homes c home in
-      let part = home_part t cut it c at in
-      (
+      let part = home_part t cut it c at in (
         subst (λ n. it.part < n) count part,
         subst (λ xs. it.channel < length xs) (sym (audit_at it.part audit part).journals)
-        (subst (λ n. it.channel < n)
-        (sym
-        (length-map-range_with_len (written_on (history_at loaded.histories.items it.part)) 0
-        (length (part_at cut it.part).tables.channels)))
-        at.there),
+            (subst (λ n. it.channel < n)
+            (sym
+            (length-map-range_with_len (written_on (history_at loaded.histories.items it.part)) 0
+            (length (part_at cut it.part).tables.channels)))
+            at.there),
       )
 
   -- each part has a legal history
@@ -518,8 +520,7 @@ module _ (d : Document) (network : IsNetwork d.tables) (cut : List Part) (is : I
         ↔ IsQuiet (part_at cut r).tables (events_of_part r order)
     exact_at r below =
         let same = get_or-map (λ a. a.exact) audits r no_audit false (subst (λ n. r < n) count below) in
-        let exact = (audit_at r no_audit below).exact in
-        (
+        let exact = (audit_at r no_audit below).exact in (
           λ is-exact. subst (IsQuiet (part_at cut r).tables) (sym (whole r)) (exact.0 (sym same ∙ is-exact)),
           λ quiet. same ∙ exact.1 (subst (IsQuiet (part_at cut r).tables) (whole r) quiet),
         )

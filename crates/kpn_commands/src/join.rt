@@ -353,7 +353,14 @@ fn push_home(
 {
     let audit = &audits[home.part];
     journals.push(copy_of(alloc, &audit.journals.as_slice()[home.channel])?)?;
-    caps.push(audit.caps.as_slice().get(home.channel).copied().unwrap_or(None))?;
+    caps.push(
+        audit
+            .caps
+            .as_slice()
+            .get(home.channel)
+            .copied()
+            .unwrap_or(None),
+    )?;
     Ok(())
 }
 

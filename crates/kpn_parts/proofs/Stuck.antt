@@ -11,7 +11,7 @@ use Rattle.kpn_history.specs.Channels.{written_in, written_on}
 use Rattle.kpn_parts.specs.declared.order.PartEvent.{PartEvent}
 use Rattle.kpn_parts.specs.declared.link.PartLink.{PartLink}
 use Rattle.kpn_parts.specs.Joined.{event_of, events_of_part}
-use Rattle.kpn_parts.specs.Links.{put_on_link, fed_on, IsSentOn, AreSent, history_at, MayCome, IsStuck, ComesInNone}
+use Rattle.kpn_parts.specs.Links.{put_on_link, fed_on, IsSentOn, AreSent, history_at, MayCome, IsStuck}
 use Rattle.kpn_parts.proofs.Orders.{event_of-own, event_of-other, events_of-push}
 
 -- ---- beginnings

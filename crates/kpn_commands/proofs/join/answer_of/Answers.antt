@@ -15,9 +15,8 @@ returns-in_ok-join_parts-in-None-clause-ok g c = λ file described.
     subst
     (λ flawed.
     IfNone flawed (AreLoaded may_give (map (λ word. word.now) words) (length words / 2) c.load_parts.new.loaded))
-    c.in-None.is c.in_ok-flawed.ensures.loaded in
-    (
+    c.in-None.is c.in_ok-flawed.ensures.loaded in (
       joins c.args.whole.now described told.0 c.load_parts.new.loaded.histories.items
-      (read_if_loaded may_give words c.args.whole.now told.0 c.load_parts.new.loaded loaded told.1) told.2,
+          (read_if_loaded may_give words c.args.whole.now told.0 c.load_parts.new.loaded loaded told.1) told.2,
       c.in_ok-join_parts-in-None.ensures.1,
     )

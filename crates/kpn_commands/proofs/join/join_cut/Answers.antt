@@ -1,5 +1,5 @@
 -- The order that is found is that of a joined run, and what can't come comes in none.
-use Rattle.std.proofs.Common.{◌∙◌, List, map, codes, ap, subst}
+use Rattle.std.proofs.Common.{◌∙◌, codes, ap, subst}
 use Rattle.std.specs.Prelude.{IfSome}
 use Rattle.std.proofs.lemmas.Result.{IfOk-weaker}
 use Rattle.kpn_net.specs.Tables.{Tables}
@@ -62,6 +62,6 @@ returns c =
     IfOk-weaker c.told_at.result _ _
     (λ made told. (
       stuck is links are part event comes
-      (told.0.0 ∙ ap (line_at (codes "not joined") event) c.word_at-trace.ensures) told.0.1,
+          (told.0.0 ∙ ap (line_at (codes "not joined") event) c.word_at-trace.ensures) told.0.1,
       told.1,
     )) c.told_at.ensures

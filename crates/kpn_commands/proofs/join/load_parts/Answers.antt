@@ -1,5 +1,5 @@
 -- One part more is loaded, or refused, or has a flaw.
-use Rattle.std.proofs.Common.{◌≡◌, ◌<◌, ◌+◌, ◌*◌, ◌/◌, false, length, rules, IfErr}
+use Rattle.std.proofs.Common.{◌≡◌, ◌<◌, ◌+◌, ◌*◌, ◌/◌, false, length, rules}
 use Rattle.std.specs.Prelude.{is_some}
 use Rattle.kpn_commands.proofs.Joins.{part_refused, flaw_told, part_loaded, none_gives}
 use Rattle.kpn_commands.proofs.join.load_parts.Goals as goal

@@ -24,8 +24,7 @@ returns c = λ order whole joined.
     ↔ ((r : ℕ) → r < length loaded.audits.items → is_part_at_rest (part_at cut r) homes loaded.audits.items r ≡ true) =
     subst
     (λ audits. (exact ≡ true) ↔ ((r : ℕ) → r < length audits → is_part_at_rest (part_at cut r) homes audits r ≡ true))
-    c.deref.ensures.value c.is_at_rest-exact.ensures in
-    (
+    c.deref.ensures.value c.is_at_rest-exact.ensures in (
       (
         record {
           order = order;

@@ -1,4 +1,4 @@
-use Rattle.std.proofs.Common.{ℕ, ◌≡◌, ◌≤◌, length, sym, subst, rules}
+use Rattle.std.proofs.Common.{◌≡◌, ◌≤◌, length, sym, subst, rules}
 use Rattle.kpn_parts.specs.Cut.{part_at}
 use Rattle.kpn_parts.specs.Homes.{IsWrittenIn}
 use Rattle.kpn_parts.proofs.Cuts.{part_there}

@@ -1,4 +1,4 @@
-use Rattle.std.proofs.Common.{◌+◌, ap, sym, subst, rules}
+use Rattle.std.proofs.Common.{◌+◌, sym, subst, rules}
 use Rattle.kpn_parts.proofs.Homes.{AreFirst, has_home, first_next}
 use Rattle.kpn_parts.proofs.cut.homes_of.Goals as goal
 
