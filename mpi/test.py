@@ -30,8 +30,9 @@ import tempfile
 import time
 
 TOP = pathlib.Path(__file__).resolve().parent.parent
-sys.path += [str(TOP / 'bench/stress'), str(TOP / 'python')]
+sys.path += [str(TOP / 'bench/stress'), str(TOP / 'python'), str(TOP / 'python/tests')]
 
+import joins  # noqa: E402
 import random_cells  # noqa: E402
 import random_networks  # noqa: E402
 from kpn import mpi, program  # noqa: E402
@@ -177,7 +178,10 @@ class Tests:
         stored = [it for file in (self.room / 'traces').glob('*.kpn') for it in CAPACITY.findall(file.read_text())]
         self.counts['opened anew'] += any(capacities.get(name, capacity) != capacity for name, capacity in stored)
         found = mpi.audit(self.room / 'net.kpn', self.room / 'traces')
-        same(f'{said}\naudit {found.lines}', 0, found.status)
+        other = joins.audit(self.room / 'net.kpn', self.room / 'traces')
+        same(f'{said}\naudit {found.lines}, {other.lines}', (0, 0), (found.status, other.status))
+        # The script also wants all that was put to be fed to a process that waits elsewhere.
+        same(f'{said}\nexact {found.lines}, {other.lines}', True, found.is_exact or not other.is_exact)
         self.counts['exact' if found.is_exact else 'joined, not exact'] += 1
 
     def told(self, what):

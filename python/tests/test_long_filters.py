@@ -8,9 +8,10 @@ import tempfile
 import unittest
 
 from support import kpn, run_one
+import joins
 from test_signals import A, B, convolved, joined, stuffed
 
-from kpn import mpi, parts
+from kpn import parts
 from kpn.parts import shown
 from kpn.program import answer
 
@@ -198,10 +199,10 @@ class LongFilters(unittest.TestCase):
         with tempfile.TemporaryDirectory() as folder:
             path = pathlib.Path(folder, 'net.kpn')
             path.write_text(str(net))
-            whole = mpi.read_description(path)
+            whole = joins.read_description(path)
             ranks = {name: number % 2 for number, (name, _) in enumerate(whole.instances)}
             for rank in range(2):
-                text = mpi.part_of(whole, ranks, rank, False).text()
+                text = joins.part_of(whole, ranks, rank, False).text()
                 self.assertTrue(text.startswith('language 2;\n'))
                 self.assertTrue(answer('check', text).startswith('ok: '))
 

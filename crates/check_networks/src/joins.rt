@@ -1,7 +1,7 @@
 //! Two copies joined by the links between them.
 use kpn_history::Event;
 use kpn_lang::Sequence;
-use kpn_parts::{PartLink, join};
+use kpn_parts::{Joined, PartLink, join};
 use std::alloc::{AllocError, Global};
 use std::test::Fail;
 
@@ -41,8 +41,8 @@ fn joined(
     histories.push(copy_run(alloc, first)?)?;
     histories.push(copy_run(alloc, second)?)?;
     match join(alloc, &histories, links)? {
-        Some(order) => Ok(Some(order.as_slice().len())),
-        None => Ok(None),
+        Joined::Whole(order) => Ok(Some(order.as_slice().len())),
+        Joined::Stuck { .. } => Ok(None),
     }
 }
 

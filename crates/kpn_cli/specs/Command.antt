@@ -15,6 +15,7 @@ use Rattle.kpn_commands.specs.TextOf.{IsTextOf}
 use Rattle.kpn_commands.specs.Rounds.{IsRounds}
 use Rattle.kpn_commands.specs.Run.{IsRunAnswer, IsNoRun}
 use Rattle.kpn_commands.specs.Answers.{AnswersAudit}
+use Rattle.kpn_commands.specs.Join.{AnswersJoin, IsRefusalOfJoin}
 use Rattle.kpn_command_explain.specs.Answers.{IsExplained, IsRefusalOfExplaining, AreItemsExplained, IsRefusalOfItemFile}
 use Rattle.kpn_command_explain.specs.TraceAnswers as traces
 use Rattle.kpn_command_views.specs.DrawAnswers.{IsDrawn, IsRefusalOfDrawing}
@@ -27,7 +28,7 @@ use Rattle.kpn_command_line.specs.Asked.{AreUnclear, IsAsked}
 use Rattle.kpn_command_line.specs.declared.request.Request.{Request}
 use Rattle.kpn_command_line.specs.declared.request.Request.TheVariants.{Alone, Check, Explain, ExplainItems}
 use Rattle.kpn_command_line.specs.declared.request.Request.TheVariants.{Print, Draw, Rounds, Run, Stream}
-use Rattle.kpn_command_line.specs.declared.request.Request.TheVariants.{Audit, Stats, Timeline, Picture, Help}
+use Rattle.kpn_command_line.specs.declared.request.Request.TheVariants.{Audit, Join, Stats, Timeline, Picture, Help}
 use Rattle.kpn_command_line.specs.declared.request.WordsFault.{WordsFault}
 use Rattle.kpn_command_line.specs.declared.request.WordsFault.TheVariants.{Usage, NoMemory as Unread}
 use Rattle.kpn_cli.specs.declared.here.Progress.{Progress}
@@ -82,6 +83,10 @@ IsRequestAnswer may_give may_alias remaining (Stream stream) input read answer =
 IsRequestAnswer may_give may_alias remaining (Audit file trace steps) input read answer =
     (read ≡ input) × Answers (TellsOnly (AnswersAudit may_give file.now trace.now steps))
     (IsRefusalOfAudit may_give file.now trace.now) answer
+IsRequestAnswer may_give may_alias remaining (Join file parts steps) input read answer =
+    let words = map (λ word. word.now) parts.items in
+    (read ≡ input) × Answers (TellsOnly (AnswersJoin may_give file.now words steps))
+    (IsRefusalOfJoin may_give file.now words) answer
 IsRequestAnswer may_give may_alias remaining (Stats file trace steps tables) input read answer =
     (read ≡ input) × Answers (TellsOnly (IsAnyToldOf may_give file.now trace.now steps))
     (IsRefusalOfAudit may_give file.now trace.now) answer

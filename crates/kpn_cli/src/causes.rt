@@ -33,16 +33,7 @@ pub(crate) fn push_causes<R: Files, S: Shelf>(
     let Some(named) = NamedFiles::of(request) else {
         return push_wrong_input(text, alloc, line, known);
     };
-    if push_unread(text, rt, named.file, MOST_FILE_BYTES)?
-        || !is_plain(rt, named.file)
-        || named.is_items
-    {
-        return Ok(());
-    }
-    if push_marked(text, alloc, named.file, shelf)? {
-        return Ok(());
-    }
-    if !named.has_explained && push_told(text, explain_command(alloc, named.file, shelf))? {
+    if push_wrong_description(text, alloc, &named, shelf, rt)? {
         return Ok(());
     }
     let Ok(document) = load_document(alloc, shelf, named.file) else {
@@ -53,12 +44,79 @@ pub(crate) fn push_causes<R: Files, S: Shelf>(
         || push_wrong_end(text, alloc, &named, line, known, shelf, rt)?
         || push_wrong_items(text, alloc, &named, line, shelf, rt)?
         || push_wrong_trace(text, alloc, &named, shelf, rt)?
+        || push_wrong_part(text, alloc, &named, known, shelf, rt)?
         || push_unwritable(text, rt, &named)?
     {
         return Ok(());
     }
     push_full(text, &named, line)
 }
+
+// Adds what is wrong with a description, if something is. It returns whether nothing more can be said.
+fn push_wrong_description<R: Files, S: Shelf>(
+    text: &mut Vec<u8>,
+    alloc: Global,
+    named: &NamedFiles<'_, '_>,
+    shelf: &S,
+    rt: &R,
+) -> Result<bool, AllocError> {
+    Ok(
+        push_unread(text, rt, named.file, MOST_FILE_BYTES)?
+            || !is_plain(rt, named.file)
+            || named.is_items
+            || push_marked(text, alloc, named.file, shelf)?
+            || !named.has_explained && push_told(text, explain_command(alloc, named.file, shelf))?,
+    )
+}
+
+// Adds what is wrong with the first part that is wrong, or why the parts are not joined.
+fn push_wrong_part<R: Files, S: Shelf>(
+    text: &mut Vec<u8>,
+    alloc: Global,
+    named: &NamedFiles<'_, '_>,
+    known: &SeenBytes<'_>,
+    shelf: &S,
+    rt: &R,
+) -> Result<bool, AllocError> {
+    if named.parts.is_empty() {
+        return Ok(false);
+    }
+    for r in 0..named.parts.len() / 2 {
+        let (part, trace) = (named.parts[2 * r], named.parts[2 * r + 1]);
+        let part = NamedFiles::traced(part, Some(trace), named.steps);
+        if push_wrong_description(text, alloc, &part, shelf, rt)?
+            || push_wrong_trace(text, alloc, &part, shelf, rt)?
+        {
+            return Ok(true);
+        }
+    }
+    push(text, unjoined(text_of(known.written)))?;
+    Ok(true)
+}
+
+// Why parts that are right by themselves are not joined, by what was written.
+fn unjoined(written: &str) -> &'static str {
+    if written.starts_with("no cut") {
+        NO_CUT
+    } else if written.starts_with("not joined") {
+        NOT_JOINED
+    } else {
+        OLD_TRACE
+    }
+}
+
+const NO_CUT: &str = "\
+The parts are not those of this network. Each of its processes has to be in one part, once, with its
+name, program and parameters, at channels of the same names. Give the description and the parts of one run.
+";
+
+const NOT_JOINED: &str = "\
+This event feeds an item that no part has put there before. Give the traces of one run, unchanged.
+";
+
+const OLD_TRACE: &str = "\
+A trace of version 1 can't be joined: its growths do not say the new capacity. Run the network again.
+";
 
 // Adds what is wrong with the items of standard input.
 fn push_wrong_input(

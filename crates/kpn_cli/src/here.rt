@@ -8,7 +8,8 @@ use kpn_command_explain::{explain_command, explain_items_command, explain_trace_
 use kpn_command_line::Request;
 use kpn_command_views::{draw_command, picture_command, stats_command};
 use kpn_commands::{
-    alone_command, audit_command, check_command, print_command, rounds_command, run_command,
+    alone_command, audit_command, check_command, join_command, print_command, rounds_command,
+    run_command,
 };
 use kpn_limits::USUAL_COUNT;
 use kpn_shelf::Shelf;
@@ -68,6 +69,9 @@ pub fn answer_here<'a, S: Shelf, I: Read>(
         Request::Stream(stream) => Progress::NeedsDevices(stream),
         Request::Audit { file, trace, steps } => {
             Progress::Answered(audit_command(alloc, file, trace, steps, shelf))
+        }
+        Request::Join { file, parts, steps } => {
+            Progress::Answered(join_command(alloc, file, &parts, steps, shelf))
         }
         Request::Timeline { file, trace, steps } => Progress::NeedsOutput { file, trace, steps },
         Request::Picture {

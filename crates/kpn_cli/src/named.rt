@@ -12,6 +12,7 @@ pub(crate) struct NamedFiles<'r, 'a> {
     pub(crate) sources: &'r [&'a str],
     pub(crate) sinks: &'r [&'a str],
     pub(crate) read: Option<&'a str>,
+    pub(crate) parts: &'r [&'a str],
     pub(crate) stored: Option<&'a str>,
     pub(crate) steps: u64,
     pub(crate) is_items: bool,
@@ -39,6 +40,11 @@ impl<'r, 'a> NamedFiles<'r, 'a> {
                 Some(trace),
                 *steps,
             )),
+            Request::Join { file, parts, steps } => Some(NamedFiles {
+                parts,
+                steps: *steps,
+                ..NamedFiles::bare(file)
+            }),
             Request::Timeline { file, trace, steps } => {
                 Some(NamedFiles::traced(file, Some(trace), *steps))
             }
@@ -67,6 +73,7 @@ impl<'r, 'a> NamedFiles<'r, 'a> {
             sources: &[],
             sinks: &[],
             read: None,
+            parts: &[],
             stored: None,
             steps: USUAL_COUNT,
             is_items: false,

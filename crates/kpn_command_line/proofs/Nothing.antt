@@ -1,22 +1,24 @@
 -- Words that name a command and do not give it what it needs ask for nothing.
-use Rattle.std.proofs.Common.{◌≡◌, ◌∙◌, ◌||◌, ℕ, Bool, true, false, true≢false, List, [], ◌∷◌, map, refl, sym, ap, subst}
+use Rattle.std.specs.Borrow.{Bor}
+use Rattle.std.proofs.Common.{◌≡◌, ◌∙◌, ◌||◌, ◌%◌, ℕ, length, Bool, true, false, true≢false, List, [], ◌∷◌, map, refl, sym, ap, subst}
 use Rattle.std.proofs.Common.{inl, inr, Option, Some, None, codes, Result, Ok, Err}
 use Rattle.std.specs.Prelude.{unwrap_or, MatchResult}
 use Rattle.std.specs.List.{list_any}
 use Rattle.std.specs.Option.{is_some}
 use Rattle.std.specs.Str.{bytes_eq}
+use Rattle.std.proofs.lemmas.List.{length-map}
 use Rattle.std.proofs.lemmas.Slice.Eq.{bytes_eq-Decides}
 use Rattle.clap.specs.Kinds.{IsAmong}
 use Rattle.clap.specs.Faults.{fault_of}
 use Rattle.clap.specs.Walk.{Row}
 use Rattle.clap.specs.declared.error.kind.ErrorKind.TheVariants.{DisplayHelp, DisplayVersion}
 use Rattle.kpn_command_line.specs.declared.request.Request.{Request}
-use Rattle.kpn_command_line.specs.declared.request.Request.TheVariants.{Explain, ExplainItems, Rounds, Stats, Help}
+use Rattle.kpn_command_line.specs.declared.request.Request.TheVariants.{Explain, ExplainItems, Join, Rounds, Stats, Help}
 use Rattle.kpn_command_line.specs.declared.request.WordsFault.{WordsFault}
 use Rattle.kpn_command_line.specs.declared.request.WordsFault.TheVariants.{Usage, NoMemory}
 use Rattle.kpn_command_line.specs.CommandLine.{all_words, command_line}
 use Rattle.kpn_command_line.specs.Asked.{AnswersTo, AsksForHelp, IsAsked, IsNoneOf, IsNoTable, IsOf, IsRefused, IsUsageIf}
-use Rattle.kpn_command_line.specs.Asked.{NamesCommand, GivesToCommand, command_of, text_for, number_for, is_set}
+use Rattle.kpn_command_line.specs.Asked.{NamesCommand, GivesToCommand, command_of, text_for, texts_for, number_for, is_set}
 
 differ : (a b : List ℕ) → bytes_eq a a ≡ true → bytes_eq a b ≡ false → b ≡ a → ⊥
 differ a b same other e = true≢false (sym same ∙ (ap (bytes_eq a) (sym e) ∙ other))
@@ -101,3 +103,11 @@ module _ (given : List Row) where
   no_items_with_trace it set some (Explain file trace steps) is = true≢false (sym set ∙ is.1.3)
   no_items_with_trace it set some (ExplainItems file) is = some_not_none _ _ is.1.1 some
   no_items_with_trace it set some other is = differ (codes "explain") (command_of other) refl refl is.0
+
+  pub no_pairs : (words : List (Bor (List ℕ))) → texts_for (codes "PARTS") given ≡ map (λ word. word.now) words
+      → (length words % 2 ≡ 0 → ⊥) → (request : Request) → IsOf (codes "join") given request → ⊥
+  no_pairs words are odd (Join file parts steps) is =
+      let same : length parts.items ≡ length words =
+      sym (length-map parts.items (λ word. word.now)) ∙ ap length (sym is.1.1 ∙ are) ∙ length-map words (λ word. word.now) in
+      odd (ap (λ n. n % 2) (sym same) ∙ is.1.3)
+  no_pairs words are odd other is = differ (codes "join") (command_of other) refl refl is.0

@@ -1,5 +1,5 @@
 -- What the words of a command line ask for.
-use Rattle.std.specs.Prelude.{◌≡◌, ◌≤◌, ◌≢◌, ◌⊎◌, ◌&&◌, ◌^◌, ℕ, nat_lt, List, [], ◌∷◌}
+use Rattle.std.specs.Prelude.{◌≡◌, ◌≤◌, ◌≢◌, ◌⊎◌, ◌&&◌, ◌^◌, ◌%◌, ℕ, nat_lt, List, [], ◌∷◌, length}
 use Rattle.std.specs.Prelude.{Option, Some, None, option_map, option_and_then, unwrap_or, map, codes, ⊤}
 use Rattle.std.specs.Prelude.{if◌then◌else◌, Result, MatchResult}
 use Rattle.std.specs.Prelude.{Bool, true, false}
@@ -22,7 +22,7 @@ use Rattle.kpn_command_base.specs.declared.tables.StatsTables.TheVariants.{Peopl
 use Rattle.kpn_command_line.specs.declared.request.Request.{Request}
 use Rattle.kpn_command_line.specs.declared.request.Request.TheVariants.{Alone, Check, Explain, ExplainItems}
 use Rattle.kpn_command_line.specs.declared.request.Request.TheVariants.{Print, Draw, Rounds, Run, Stream}
-use Rattle.kpn_command_line.specs.declared.request.Request.TheVariants.{Audit, Stats, Timeline, Picture, Help}
+use Rattle.kpn_command_line.specs.declared.request.Request.TheVariants.{Audit, Join, Stats, Timeline, Picture, Help}
 use Rattle.kpn_command_line.specs.declared.request.WordsFault.{WordsFault}
 use Rattle.kpn_command_line.specs.declared.request.WordsFault.TheVariants.{Usage, NoMemory}
 use Rattle.kpn_command_line.specs.CommandLine.{command_line}
@@ -91,6 +91,7 @@ command_of (Rounds file n sources) = codes "rounds"
 command_of (Run run) = codes "run"
 command_of (Stream stream) = codes "stream"
 command_of (Audit file trace steps) = codes "audit"
+command_of (Join file parts steps) = codes "join"
 command_of (Stats file trace steps tables) = codes "stats"
 command_of (Timeline file trace steps) = codes "timeline"
 command_of (Picture file trace steps first last) = codes "timeline"
@@ -102,7 +103,7 @@ steps_for given = unwrap_or (number_for 64 (codes "STEPS") given) 10000000
 
 -- What the words give to its command is what the request has. A run has 10,000,000 commits without `--max-commits`, and
 -- statistics have the tables for people without `--tsv`. A picture begins with tick 1 without `--from`, and ends with
--- tick 1,000,000,000 without `--to`; it does not begin behind its end.
+-- tick 1,000,000,000 without `--to`; it does not begin behind its end. Each part of a join has two words.
 abbrev pub GivesToCommand : (given : List Row) → Request → Type 0
 GivesToCommand given (Alone name) = text_for (codes "NAME") given ≡ Some name.now
 GivesToCommand given (Check file) = text_for (codes "FILE") given ≡ Some file.now
@@ -138,6 +139,10 @@ GivesToCommand given (Stream stream) =
 GivesToCommand given (Audit file trace steps) =
     (text_for (codes "FILE") given ≡ Some file.now) × (text_for (codes "TRACE") given ≡ Some trace.now)
     × (steps_for given ≡ steps)
+GivesToCommand given (Join file parts steps) =
+    (text_for (codes "FILE") given ≡ Some file.now)
+    × (texts_for (codes "PARTS") given ≡ map (λ word. word.now) parts.items)
+    × (steps_for given ≡ steps) × (length parts.items % 2 ≡ 0)
 GivesToCommand given (Stats file trace steps tables) =
     (text_for (codes "FILE") given ≡ Some file.now) × (text_for (codes "TRACE") given ≡ Some trace.now)
     × (steps_for given ≡ steps) × (text_for (codes "TABLE") given ≡ table_name tables)

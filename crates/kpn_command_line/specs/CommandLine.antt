@@ -1,6 +1,7 @@
 -- The command line of the program, as a description that `clap` reads: the commands, the words of each in their order,
 -- and its options. No word and no option has a rule about another.
 use Rattle.std.specs.Prelude.{◌≡◌, ℕ, pos, true, false, List, [], ◌∷◌, map, Some, codes}
+use Rattle.clap.specs.Lexer.{usize_max}
 use Rattle.clap.specs.Walk.{Rule, rule_of}
 use Rattle.clap.specs.Simple.{App, app_of, new_app, new_rule, new_shape, on_top}
 use Rattle.clap.specs.declared.builder.command.Command.TheViews.{out-Command as fields_of}
@@ -34,6 +35,14 @@ file_word = word (codes "FILE")
 
 abbrev pub trace_word : Rule
 trace_word = word (codes "TRACE")
+
+-- one or more
+abbrev pub parts_word : Rule
+parts_word = record (word (codes "PARTS")) {
+  value_names = 1;
+  range = Some (record { start_inclusive = 1; end_inclusive = usize_max });
+  action = Some Append;
+}
 
 -- 0 to 1000
 abbrev pub rounds_word : Rule
@@ -141,6 +150,9 @@ stream_words =
 abbrev pub audit_words : App
 audit_words = command (codes "audit") (file_word ∷ trace_word ∷ steps_option ∷ [])
 
+abbrev pub join_words : App
+join_words = command (codes "join") (file_word ∷ parts_word ∷ steps_option ∷ [])
+
 abbrev pub stats_words : App
 stats_words = command (codes "stats") (file_word ∷ trace_word ∷ steps_option ∷ table_option ∷ [])
 
@@ -153,7 +165,7 @@ timeline_words =
 abbrev pub all_words : List App
 all_words =
     alone_words ∷ check_words ∷ explain_words ∷ print_words ∷ draw_words ∷ rounds_words ∷ run_words ∷ stream_words
-    ∷ audit_words ∷ stats_words ∷ timeline_words ∷ []
+    ∷ audit_words ∷ join_words ∷ stats_words ∷ timeline_words ∷ []
 
 -- the program, which has a version and one command on each line
 abbrev pub command_line : App

@@ -6,12 +6,12 @@ ghost use Rattle.clap.specs.Simple.{with_rule, with_subcommand};
 ghost use Rattle.kpn_command_line.specs.CommandLine.{IsArg, IsCommand, command_line};
 ghost use Rattle.kpn_command_line.specs.CommandLine.{optional_word, word, option, count, alone_words, check_words};
 ghost use Rattle.kpn_command_line.specs.CommandLine.{explain_words, print_words, draw_words, rounds_words, run_words};
-ghost use Rattle.kpn_command_line.specs.CommandLine.{stream_words, audit_words, stats_words, timeline_words};
+ghost use Rattle.kpn_command_line.specs.CommandLine.{stream_words, audit_words, join_words, stats_words, timeline_words};
 ghost use Rattle.kpn_command_line.specs.CommandLine.{file_word, rounds_word, source_option, sink_option};
 ghost use Rattle.kpn_command_line.specs.CommandLine.{workers_option, steps_option, items_flag, quiet_flag, svg_flag};
 ghost use Rattle.kpn_command_line.specs.CommandLine.{format_option, from_option, stats_flag, to_option, trace_word};
 ghost use Rattle.kpn_command_line.specs.CommandLine.{run_inputs, stream_ends, timeline_inputs, bare_command_line, flag};
-ghost use Rattle.kpn_command_line.specs.CommandLine.{across_flag, channels_option, rate_option};
+ghost use Rattle.kpn_command_line.specs.CommandLine.{across_flag, channels_option, parts_word, rate_option};
 
 use clap::builder::ValueParser;
 use clap::{Arg, ArgAction, Command};
@@ -39,6 +39,8 @@ pub(crate) const TAKE: &str = "K";
 pub(crate) const MAX_COMMITS: &str = "MAX_COMMITS";
 
 pub(crate) const TRACE: &str = "TRACE";
+
+pub(crate) const PARTS: &str = "PARTS";
 
 pub(crate) const STEPS: &str = "STEPS";
 
@@ -79,6 +81,7 @@ pub(crate) fn program<'a>(alloc: Global) -> Result<Command<'a>, AllocError>
     let program = with(program, run_words(alloc));
     let program = with(program, stream_words(alloc));
     let program = with(program, audit_words(alloc));
+    let program = with(program, join_words(alloc));
     let program = with(program, stats_words(alloc));
     with(program, timeline_words(alloc))
 }
@@ -120,10 +123,10 @@ const STATUSES: &str = "\
 which file it is about and what to do: always, never, or on a terminal, as without it.
 
 Statuses: 0 for success, 1 for a refused input or a device that fails, 2 for words that are not
-understood, 6 for want of memory; explain, draw, run, stream, audit, stats and timeline have more. If an
-input is refused, one line on standard error says why. If the words are not understood, standard error
-says how to use them. Standard output is then empty, except that explain writes there what is wrong, and
-stream what it has computed before.";
+understood, 6 for want of memory; explain, draw, run, stream, audit, join, stats and timeline have more.
+If an input is refused, one line on standard error says why. If the words are not understood, standard
+error says how to use them. Standard output is then empty, except that explain writes there what is
+wrong, and stream what it has computed before.";
 
 // The program without its commands.
 fn bare_program<'a>(alloc: Global) -> Command<'a>
@@ -462,6 +465,30 @@ fn audit_words<'a>(alloc: Global) -> Result<Command<'a>, AllocError>
     and(words, steps_word(alloc))
 }
 
+const JOIN_HELP: &str = "\
+Joins the traces of the parts of a network, as `kpn-mpi --traces FOLDER` stores them: for FOLDER the
+words are FOLDER/rank-*. A part is a description of some processes of FILE, with their names. A channel
+between two parts is a sink of the one and a source of the other. Writes what `kpn audit` writes, of the
+whole network: `legal`, if each trace is legal and the parts can have run side by side, so that each item
+was put before it was fed; whether the journals are exact, which are then those of Kahn's least solution;
+and each channel with its capacity and journal. Otherwise it writes one line: `illegal at K in TRACE` or
+`budget at K in TRACE` as `kpn audit` does; `no cut` if the parts do not have each process of FILE once,
+with its program, parameters and channels; or `not joined at K in TRACE` if event K feeds an item that no
+part has put there before.
+
+Statuses: 0 for legal, 1 for another line and for a refused file, 2 for words that are not understood, 5
+for budget: then give --steps a larger number; 6 for want of memory.";
+
+// The words of `kpn join`.
+fn join_words<'a>(alloc: Global) -> Result<Command<'a>, AllocError>
+    ensures { IfOk result (IsCommand join_words) }
+{
+    let about = "Checks the traces of the parts of a network that ran side by side";
+    let words = command(alloc, "join", about, JOIN_HELP).arg(file_word(alloc));
+    let words = and(words, parts_word(alloc));
+    and(words, steps_word(alloc))
+}
+
 const STATS_HELP: &str = "\
 Counts the events of a trace that `kpn run --trace` has stored. Writes how long the run is if each get
 and put takes one tick, with the capacities and without any, which processes bind it to this length, a
@@ -620,6 +647,15 @@ fn trace_word<'a>(alloc: Global) -> Arg<'a>
     ensures { IsArg trace_word result }
 {
     word(alloc, TRACE, "The file of the trace")
+}
+
+// The word for the files of parts.
+fn parts_word<'a>(alloc: Global) -> Arg<'a>
+    ensures { IsArg parts_word result }
+{
+    let help = "The description and the trace of each part";
+    let parts = word(alloc, PARTS, help).value_name("PART TRACE");
+    parts.num_args(1..).action(ArgAction::Append)
 }
 
 // The `--steps` option.

@@ -43,6 +43,12 @@ pub enum Request<'a> {
         trace: &'a str,
         steps: u64,
     },
+    /// `join FILE PART TRACE ..`, with the words behind FILE, and the most steps before an event.
+    Join {
+        file: &'a str,
+        parts: Vec<&'a str>,
+        steps: u64,
+    },
     /// `stats FILE TRACE`, with the most steps before an event, and the tables that it writes.
     Stats {
         file: &'a str,

@@ -10,8 +10,8 @@ ghost use Rattle.kpn_command_line.specs.Asked.{text_for, texts_for, number_for, 
 ghost use Rattle.kpn_command_line.specs.Asked.{is_across};
 
 use crate::command_line::{
-    ACROSS, CHANNELS, CLIP, FILE, FORMAT, FROM, ITEMS, MAX_COMMITS, NAME, QUIET, RATE, ROUNDS,
-    SINK, SOURCE, STATS, STEPS, SVG, TABLE, TAKE, TO, TRACE, WORKERS, program,
+    ACROSS, CHANNELS, CLIP, FILE, FORMAT, FROM, ITEMS, MAX_COMMITS, NAME, PARTS, QUIET, RATE,
+    ROUNDS, SINK, SOURCE, STATS, STEPS, SVG, TABLE, TAKE, TO, TRACE, WORKERS, program,
 };
 use crate::request::{Request, WordsFault};
 use clap::error::ErrorKind;
@@ -85,6 +85,7 @@ fn command_request<'a>(
             trace: required(program, given, TRACE)?,
             steps: count_or_usual(given, STEPS),
         }),
+        "join" => join_request(alloc, program, given),
         "stats" => stats_request(program, given),
         "timeline" => timeline_request(program, given),
         _ => Err(without_command(program)),
@@ -197,6 +198,27 @@ fn stream_request<'a>(
         quiet: is_set(stream, QUIET),
         stats: is_set(stream, STATS),
     }))
+}
+
+// What the words ask of `kpn join`. Each part has two words.
+fn join_request<'a>(
+    alloc: Global,
+    program: &mut Command<'a>,
+    join: &ArgMatches<'a>,
+) -> Result<Request<'a>, WordsFault>
+    ensures { AnswersTo (codes "join") (rows_in join.now) result }
+{
+    let file = required(program, join, FILE)?;
+    let parts = texts_of(alloc, join, PARTS)?;
+    let steps = count_or_usual(join, STEPS);
+    if parts.len() % 2 == 0 {
+        return Ok(Request::Join { file, parts, steps });
+    }
+    Err(unclear(
+        program,
+        ErrorKind::WrongNumberOfValues,
+        "each PART needs its TRACE behind it",
+    ))
 }
 
 // What the words ask of `kpn stats`.

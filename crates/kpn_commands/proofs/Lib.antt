@@ -2,3 +2,5 @@ pub mod Plain
 pub mod Pauses
 -- Lemmas: what a run is handed.
 pub mod Running
+-- Lemmas: parts that are joined.
+pub mod Joins

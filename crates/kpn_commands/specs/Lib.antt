@@ -1,4 +1,6 @@
 pub mod Answers
+pub mod Join
+pub mod JoinParts
 pub mod TextOf
 pub mod RoundsText
 pub mod Rounds

@@ -1,4 +1,4 @@
-//! `kpn alone`, `kpn check`, `kpn print`, `kpn rounds`, `kpn run` and `kpn audit`.
+//! `kpn alone`, `kpn check`, `kpn print`, `kpn rounds`, `kpn run`, `kpn audit` and `kpn join`.
 #![tactic(auto)]
 
 mod alone;
@@ -7,6 +7,7 @@ mod audit;
 mod built_in;
 mod check;
 mod files;
+mod join;
 pub mod laws;
 mod print;
 mod reporting;
@@ -17,6 +18,7 @@ mod run;
 pub use alone::alone_command;
 pub use audit::audit_command;
 pub use check::check_command;
+pub use join::join_command;
 pub use print::print_command;
 pub use rounds::rounds_command;
 pub use run::{run_command, run_command_by_workers};

@@ -14,3 +14,5 @@ pub mod Sending
 pub mod Carrying
 pub mod Stuck
 pub mod Merging
+pub mod Cuts
+pub mod Homes

@@ -9,9 +9,9 @@ use Rattle.kpn_parts.specs.declared.order.PartEvent.{PartEvent}
 use Rattle.kpn_parts.specs.Joined.{events_of_part}
 use Rattle.kpn_parts.specs.declared.link.PartLink.{PartLink}
 use Rattle.kpn_parts.specs.declared.joining.Carried.{Carried}
-use Rattle.kpn_parts.specs.Links.{IsJoinOf, history_at, AreCarried, CarryNothing, CarryMore, MayCome, SoFar, StandsStill, IsStuck, UsesAll, LacksOne}
+use Rattle.kpn_parts.specs.Links.{IsJoinOf, history_at, AreCarried, CarryNothing, CarryMore, MayCome, SoFar, StandsStill, IsStuck, UsesAll, ComesInNone}
 use Rattle.kpn_parts.proofs.Carrying.{carried_start, carried_next, carried_sent}
-use Rattle.kpn_parts.proofs.Stuck.{none_left}
+use Rattle.kpn_parts.proofs.Stuck.{none_behind}
 use Rattle.kpn_parts.proofs.Orders.{event_of-own, event_of-other, events_of-push}
 
 -- ---- the events of one part
@@ -227,11 +227,16 @@ joined_all histories links at order carried h uses =
       sent = carried_sent links order carried h.on_links;
     }
 
-pub joined_none : (histories : List (List Event)) (links : List PartLink) (at : List ℕ) (order : List PartEvent)
-    (carried : List Carried) → SoFar histories links at order carried → IsStuck histories links at order
-    → LacksOne histories at → (other : List PartEvent) → IsJoinOf histories links other → ⊥
-joined_none histories links at order carried h stuck lacks other join =
-    none_left histories links at order h.each (carried_sent links order carried h.on_links) stuck other join lacks
+pub comes_in_none : (histories : List (List Event)) (links : List PartLink) (at : List ℕ) (order : List PartEvent)
+    (carried : List Carried) → SoFar histories links at order carried → IsStuck histories links at order → (r : ℕ)
+    → get_or at r 0 < length (history_at histories r) → ComesInNone histories links r (get_or at r 0)
+comes_in_none histories links at order carried h stuck r left =
+    record {
+      there = left;
+      never = λ other begin sent.
+          none_behind histories links at order h.each (carried_sent links order carried h.on_links) stuck other begin sent
+          r;
+    }
 
 -- ---- the test
 

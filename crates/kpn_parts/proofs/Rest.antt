@@ -25,8 +25,9 @@ use Rattle.kpn_history.proofs.Below.{fed-source}
 use Rattle.kpn_history.proofs.Above.{empty_wait, IsStarved-last}
 use Rattle.kpn_parts.specs.declared.order.PartEvent.{PartEvent}
 use Rattle.kpn_parts.specs.Cut.{Part, whole_process, whole_channel, part_at, IsCut, IsCutSource}
-use Rattle.kpn_parts.specs.Joined.{events_of_part, in_whole, whole_history, IsJoined, HasAll, IsDelivered, AreQuiet}
+use Rattle.kpn_parts.specs.Joined.{events_of_part, in_whole, whole_history, IsJoined, HasAll, IsDelivered, AreQuiet, AreAtRest}
 use Rattle.kpn_parts.proofs.Spoken.{SaysAll, written_on-put}
+use Rattle.kpn_parts.proofs.Renaming.{reads_in_whole}
 use Rattle.kpn_parts.proofs.Ends.{part_of, by_reader}
 use Rattle.kpn_parts.proofs.Whole.{journal_same, read_same}
 use Rattle.kpn_parts.proofs.Ended.{last_same, ended_same, says_all}
@@ -139,8 +140,29 @@ module _ (t : Tables) (network : IsNetwork t) (cut : List Part) (is : IsCut t cu
       (last_same t network cut is r p below order joined.legal ∙ ap (option_map (in_whole part)) w.is)
       ∙ ap (λ b. cond b (Empty x) Nobody) empty
 
-  pub quiet_whole : AreQuiet cut order → IsDelivered t cut order → IsQuiet t (whole_history t cut order)
-  quiet_whole quiet delivered =
+  -- a channel for which a process waits is there, in its part and in the whole
+  pub waited_there : (r p c : ℕ) → p < length (part_at cut r).tables.instances
+      → wait_of (part_at cut r).tables (events_of_part r order) p ≡ Empty c
+      → (c < length (part_at cut r).tables.channels) × (whole_channel (part_at cut r) c < length t.channels)
+  waited_there r p c below waits =
+      let part = part_at cut r in
+      let H = events_of_part r order in
+      let w = empty_wait part.tables H (last_event H p) c waits in
+      let reads =
+      (IsStarved-last part.tables (part_of t cut is r).network p H (joined.legal r) w.process c w.is).reads in (
+        Reads-below part.tables (part_of t cut is r).network p c reads,
+        Reads-below t network _ _ (reads_in_whole t part (part_of t cut is r) p below c reads),
+      )
+
+  -- what a process waits for is not on the way
+  abbrev AreSettled : Type 0
+  AreSettled =
+      (r p c : ℕ) → p < length (part_at cut r).tables.instances
+      → wait_of (part_at cut r).tables (events_of_part r order) p ≡ Empty c
+      → IsCutSource t (part_at cut r) c → HasAll t cut order r c
+
+  quiet_if : AreQuiet cut order → AreSettled → IsQuiet t (whole_history t cut order)
+  quiet_if quiet settled =
       let W = whole_history t cut order in
       record {
         each = λ p below.
@@ -157,10 +179,16 @@ module _ (t : Tables) (network : IsNetwork t) (cut : List Part) (is : IsCut t cu
                     channel = whole_channel (part_at cut home.part) waits.channel;
                     blocked =
                         wait_in_whole home.part home.process waits.channel home.there waits.blocked
-                        (delivered.each home.part waits.channel);
+                        (settled home.part home.process waits.channel home.there waits.blocked);
                   })
             ]);
       }
+
+  quiet_whole : AreQuiet cut order → IsDelivered t cut order → IsQuiet t (whole_history t cut order)
+  quiet_whole quiet delivered = quiet_if quiet (λ r p c below waits. delivered.each r c)
+
+  pub quiet_at_rest : AreAtRest t cut order → IsQuiet t (whole_history t cut order)
+  quiet_at_rest rest = quiet_if rest.quiet (λ r p c below waits source. rest.settled r p c below waits)
 
   pub least_at_rest : AreQuiet cut order → IsDelivered t cut order → (given : Family)
       → AgreeOnSources t (fed t (whole_history t cut order)) given → (c : ℕ)

@@ -1,5 +1,5 @@
--- If no event of any part may come, and some are left, the histories can't be joined: what may come stays possible, so
--- another order would have got stuck as well.
+-- If no event of any part may come, and some are left, these come in no order: what may come stays possible, so another
+-- order would have got stuck as well.
 use Rattle.std.proofs.Common.{◌≡◌, ℕ, zero, suc, ◌+◌, ◌≤◌, min, List, [], ◌∷◌, ◌++◌, length, take, get_or, refl, sym, ap, ◌∙◌, subst, inl, inr, append_assoc, arith}
 use Rattle.std.proofs.lemmas.Bool.{cases_eq, cases_lt}
 use Rattle.std.proofs.lemmas.List.{append-nil, length-take}
@@ -11,7 +11,7 @@ use Rattle.kpn_history.specs.Channels.{written_in, written_on}
 use Rattle.kpn_parts.specs.declared.order.PartEvent.{PartEvent}
 use Rattle.kpn_parts.specs.declared.link.PartLink.{PartLink}
 use Rattle.kpn_parts.specs.Joined.{event_of, events_of_part}
-use Rattle.kpn_parts.specs.Links.{put_on_link, fed_on, IsSentOn, AreSent, IsJoinOf, history_at, MayCome, IsStuck, LacksOne}
+use Rattle.kpn_parts.specs.Links.{put_on_link, fed_on, IsSentOn, AreSent, history_at, MayCome, IsStuck}
 use Rattle.kpn_parts.proofs.Orders.{event_of-own, event_of-other, events_of-push}
 
 -- ---- beginnings
@@ -63,7 +63,7 @@ length_push (y ∷ xs) x = let e = length_push xs x in omega (arith, e)
 module _ (histories : List (List Event)) (links : List PartLink) (at : List ℕ) (order : List PartEvent)
     (made : (r : ℕ) → events_of_part r order ≡ take (get_or at r 0) (history_at histories r))
     (sent : AreSent links order) (stuck : IsStuck histories links at order) (M : List PartEvent)
-    (join : IsJoinOf histories links M) where
+    (begin : (r : ℕ) → IsPrefix (events_of_part r M) (history_at histories r)) (sent-M : AreSent links M) where
   order_begins : (r : ℕ) → IsPrefix (events_of_part r order) (history_at histories r)
   order_begins r =
       subst (λ xs. IsPrefix xs (history_at histories r)) (sym (made r))
@@ -74,7 +74,8 @@ module _ (histories : List (List Event)) (links : List PartLink) (at : List ℕ)
   count_is r = ap length (made r) ∙ length-take (get_or at r 0) (history_at histories r)
 
   part_begins : (B : List PartEvent) → IsPrefix B M → (r : ℕ) → IsPrefix (events_of_part r B) (history_at histories r)
-  part_begins B p r = subst (IsPrefix (events_of_part r B)) (join.whole r) (events_begin r B M p)
+  part_begins B p r =
+      IsPrefix-trans (events_of_part r B) (events_of_part r M) (history_at histories r) (events_begin r B M p) (begin r)
 
   -- an event that comes next of its part in both could come behind the order
   module _ (B : List PartEvent) (e : PartEvent) (p : IsPrefix (B ++ e ∷ []) M)
@@ -129,7 +130,7 @@ module _ (histories : List (List Event)) (links : List PartLink) (at : List ℕ)
           | inl earlier ↦ sent l x below begun earlier
           | inr now ↦
               subst (λ C. IsPrefix (fed_on C (get_or links l x)) (put_on_link C (get_or links l x))) (sym now)
-              (with_event (get_or links l x) (join.sent l x below) (sent l x below))
+              (with_event (get_or links l x) (sent-M l x below) (sent l x below))
         ]
 
     -- so it would not stand still
@@ -197,9 +198,7 @@ module _ (histories : List (List Event)) (links : List PartLink) (at : List ℕ)
       let longer : (B ++ e ∷ []) ++ rest ≡ M = append_assoc B (e ∷ []) rest ∙ same in
       all_more rest (B ++ e ∷ []) longer (one_more B e (IsPrefix-from_rest (B ++ e ∷ []) rest M longer) h)
 
-  pub none_left : LacksOne histories at → ⊥
-  none_left lacks =
-      let r = lacks.0 in
+  pub none_behind : (r : ℕ) → length (events_of_part r M) ≤ get_or at r 0
+  none_behind r =
       let few : length (events_of_part r M) ≤ length (events_of_part r order) = all_more M [] refl (λ s. omega arith) r in
-      let whole : length (events_of_part r M) ≡ length (history_at histories r) = ap length (join.whole r) in
-      let count = count_is r in let left = lacks.1 in omega (arith, few, whole, count, left)
+      let count = count_is r in omega (arith, few, count)

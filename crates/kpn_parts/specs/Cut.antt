@@ -52,13 +52,18 @@ pub record IsSameProcess (t : Tables) (part : Part) (p : ℕ) : Type 0 where
   pub outs : (instance_at t (whole_process part p)).outs
       ≡ map (whole_channel part) (instance_at part.tables p).outs
 
+-- different channels of a part are different ones in the whole
+abbrev pub AreApart : Part → Type 0
+AreApart part =
+    (c d : ℕ) → c < length part.tables.channels → d < length part.tables.channels
+    → whole_channel part c ≡ whole_channel part d → c ≡ d
+
 -- a part of a network: a network of processes of the whole, and different channels are different ones there. Capacities
 -- and the rules of growth may be others
 pub record IsPart (t : Tables) (part : Part) : Type 0 where
   pub network : IsNetwork part.tables
   pub processes : (p : ℕ) → p < length part.tables.instances → IsSameProcess t part p
-  pub distinct : (c d : ℕ) → c < length part.tables.channels → d < length part.tables.channels
-      → whole_channel part c ≡ whole_channel part d → c ≡ d
+  pub distinct : AreApart part
 
 -- process p of the whole is a process of this part
 pub record HasHome (cut : List Part) (p : ℕ) : Type 0 where
@@ -67,13 +72,17 @@ pub record HasHome (cut : List Part) (p : ℕ) : Type 0 where
   pub there : process < length (part_at cut part).tables.instances
   pub is : whole_process (part_at cut part) process ≡ p
 
+-- a process of the whole is one process of one part
+abbrev pub AreOnce : List Part → Type 0
+AreOnce cut =
+    (r s p q : ℕ) → p < length (part_at cut r).tables.instances → q < length (part_at cut s).tables.instances
+    → whole_process (part_at cut r) p ≡ whole_process (part_at cut s) q → (r ≡ s) × (p ≡ q)
+
 -- a cut of a network: each process of the whole is one process of one part
 pub record IsCut (t : Tables) (cut : List Part) : Type 0 where
   pub parts : (r : ℕ) → r < length cut → IsPart t (part_at cut r)
   pub home : (p : ℕ) → p < length t.instances → HasHome cut p
-  pub once : (r s p q : ℕ) → p < length (part_at cut r).tables.instances
-      → q < length (part_at cut s).tables.instances
-      → whole_process (part_at cut r) p ≡ whole_process (part_at cut s) q → (r ≡ s) × (p ≡ q)
+  pub once : AreOnce cut
 
 -- ---- which channels are cut
 

@@ -1,7 +1,7 @@
 -- Runs of all parts of a network in one order of all events. Each part is a run of its own, and what it is fed on a cut
 -- channel was put there before. That the feeds of each part are what another put, at the end, does not suffice: two
 -- parts could vouch for each other for items that nobody made.
-use Rattle.std.specs.Prelude.{◌≡◌, ℕ, Bool, true, nat_eq, if◌then◌else◌, List, [], ◌∷◌}
+use Rattle.std.specs.Prelude.{◌≡◌, ℕ, ◌<◌, length, Bool, true, nat_eq, if◌then◌else◌, List, [], ◌∷◌}
 use Rattle.std.specs.List.{flat_map}
 use Rattle.kpn_lang.specs.Prefix.{IsPrefix}
 use Rattle.kpn_net.specs.Tables.{Tables, channel_at, is_source, is_sink}
@@ -10,6 +10,8 @@ use Rattle.kpn_history.specs.declared.event.Event.TheVariants.{Get, Put, WaitEmp
 use Rattle.kpn_history.specs.Channels.{written_on}
 use Rattle.kpn_history.specs.Legal.{Legal}
 use Rattle.kpn_history.specs.Ends.{IsQuiet}
+use Rattle.kpn_history.specs.Waiting.{wait_of}
+use Rattle.kpn_net.specs.declared.wait.Wait.TheVariants.{Empty}
 use Rattle.kpn_parts.specs.declared.order.PartEvent.{PartEvent}
 use Rattle.kpn_parts.specs.Cut.{Part, whole_process, whole_channel, part_at, IsCutSource}
 
@@ -87,3 +89,9 @@ pub record IsDelivered (t : Tables) (cut : List Part) (order : List PartEvent) :
 -- each part is at rest: its processes have ended or wait on empty channels
 abbrev pub AreQuiet : List Part → List PartEvent → Type 0
 AreQuiet cut order = (r : ℕ) → IsQuiet (part_at cut r).tables (events_of_part r order)
+
+-- the whole is at rest: each part is, and what a process waits for is not on the way
+pub record AreAtRest (t : Tables) (cut : List Part) (order : List PartEvent) : Type 0 where
+  pub quiet : AreQuiet cut order
+  pub settled : (r p c : ℕ) → p < length (part_at cut r).tables.instances
+      → wait_of (part_at cut r).tables (events_of_part r order) p ≡ Empty c → HasAll t cut order r c

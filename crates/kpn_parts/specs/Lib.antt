@@ -1,3 +1,4 @@
 pub mod Cut
+pub mod Homes
 pub mod Joined
 pub mod Links

@@ -8,6 +8,8 @@ use Rattle.kpn_history.specs.Channels.{written_in, written_on}
 use Rattle.kpn_parts.specs.declared.order.PartEvent.{PartEvent}
 use Rattle.kpn_parts.specs.declared.link.PartLink.{PartLink}
 use Rattle.kpn_parts.specs.declared.joining.Carried.{Carried}
+use Rattle.kpn_parts.specs.declared.joining.Joined.{Joined}
+use Rattle.kpn_parts.specs.declared.joining.Joined.TheVariants.{Whole, Stuck}
 use Rattle.kpn_parts.specs.Cut.{Part, whole_channel, part_at, IsCutSource}
 use Rattle.kpn_parts.specs.Joined.{event_of, events_of_part}
 
@@ -53,6 +55,19 @@ history_at histories r = slice_index_or histories r []
 pub record IsJoinOf (histories : List (List Event)) (links : List PartLink) (order : List PartEvent) : Type 0 where
   pub whole : (r : ℕ) → events_of_part r order ≡ history_at histories r
   pub sent : AreSent links order
+
+-- event k of part r comes in no order in which each part has a beginning of its history, and what it was fed on a link
+-- was put there before
+pub record ComesInNone (histories : List (List Event)) (links : List PartLink) (r k : ℕ) : Type 0 where
+  pub there : k < length (history_at histories r)
+  pub never : (order : List PartEvent)
+      → ((s : ℕ) → IsPrefix (events_of_part s order) (history_at histories s)) → AreSent links order
+      → length (events_of_part r order) ≤ k
+
+-- what a join comes to
+abbrev pub JoinComesTo : List (List Event) → List PartLink → Joined → Type 0
+JoinComesTo histories links (Whole order) = IsJoinOf histories links order
+JoinComesTo histories links (Stuck r k) = ComesInNone histories links r k
 
 -- ---- scaffolding: what the code keeps
 
@@ -116,12 +131,9 @@ StandsStill histories links at order r =
 abbrev pub IsStuck : List (List Event) → List PartLink → (at : List ℕ) → List PartEvent → Type 0
 IsStuck histories links at order = (r : ℕ) → StandsStill histories links at order r
 
--- the order has all events, or lacks one
+-- the order has all events
 abbrev pub UsesAll : List (List Event) → List ℕ → Type 0
 UsesAll histories at = (r : ℕ) → length (history_at histories r) ≤ slice_index_or at r 0
-
-abbrev pub LacksOne : List (List Event) → List ℕ → Type 0
-LacksOne histories at = (r : ℕ) × (slice_index_or at r 0 < length (history_at histories r))
 
 -- what an event of a part writes on channel c of part r
 abbrev pub items_on : (r c : ℕ) → PartEvent → List ℤ

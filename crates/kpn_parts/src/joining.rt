@@ -4,7 +4,7 @@ ghost use Rattle.kpn_lang.specs.Prefix.{IsPrefix};
 ghost use Rattle.kpn_history.specs.declared.event.Event.{Event};
 ghost use Rattle.kpn_parts.specs.declared.order.PartEvent.{PartEvent};
 ghost use Rattle.kpn_parts.specs.Joined.{events_of_part};
-ghost use Rattle.kpn_parts.specs.Links.{IsSentOn, IsJoinOf, history_at, items_of, fed_after, IsNext, IsCarried, AreCarried, CarryNothing, CarryMore, FedAtMost, MayCome, SoFar, IsStuck, UsesAll, LacksOne};
+ghost use Rattle.kpn_parts.specs.Links.{IsSentOn, IsJoinOf, history_at, items_of, fed_after, IsNext, IsCarried, AreCarried, CarryNothing, CarryMore, FedAtMost, MayCome, SoFar, IsStuck, UsesAll, JoinComesTo};
 
 use crate::items::{item_of, push_item};
 use crate::link::PartLink;
@@ -20,8 +20,17 @@ struct Carried {
     fed: usize,
 }
 
+/// What a join of histories comes to.
+#[derive(Drop)]
+pub enum Joined {
+    /// An order of all events.
+    Whole(Sequence<PartEvent>),
+    /// There is none: this event of this part can't come. Parts and events are counted from 0.
+    Stuck { part: usize, event: usize },
+}
+
 /// An order of all events of these histories, in which each part has its history, and each part was fed only what was
-/// put before, on all links. It returns `None` if there is no such order.
+/// put before, on all links. If there is no such order, it returns an event that comes in none.
 ///
 /// `histories` has the history of each part, `links` the channels between parts. The error is that memory ran out. For
 /// each event it looks at each link.
@@ -29,20 +38,19 @@ pub fn join(
     alloc: Global,
     histories: &[Sequence<Event>],
     links: &[PartLink],
-) -> Result<Option<Sequence<PartEvent>>, AllocError>
-    ensures joined { IfOk result (λ joined.
-        IfSome joined (λ order. IsJoinOf histories.now links.now order)) }
-    ensures none { IfOk result (λ joined. IfNone joined ((order : List PartEvent)
-        → ¬ IsJoinOf histories.now links.now order)) }
+) -> Result<Joined, AllocError>
+    ensures { IfOk result (JoinComesTo histories.now links.now) }
 {
     let mut at = zeros(alloc, histories.len())?;
     let mut order = Vec::new(alloc);
     let mut carried = nothing_carried(alloc, links)?;
     go_rounds(histories, links, &mut at, &mut order, &mut carried)?;
-    if are_used(histories, &at) {
-        Ok(Some(Sequence::from_vec(order)))
-    } else {
-        Ok(None)
+    match left_in(histories, &at) {
+        None => Ok(Joined::Whole(Sequence::from_vec(order))),
+        Some(part) => Ok(Joined::Stuck {
+            part,
+            event: at.get(part).copied().unwrap_or(0),
+        }),
     }
 }
 
@@ -239,15 +247,16 @@ fn fed_after(fed: usize, feed: Option<i64>) -> usize
     if feed.is_some() { fed + 1 } else { fed }
 }
 
-/// Whether all events of the histories are in the order.
-fn are_used(histories: &[Sequence<Event>], at: &[usize]) -> bool
-    ensures all { result ≡ true → UsesAll histories.now at.now }
-    ensures lacks { result ≡ false → LacksOne histories.now at.now }
+/// The first part of whose history events are left.
+fn left_in(histories: &[Sequence<Event>], at: &[usize]) -> Option<usize>
+    ensures all { IfNone result (UsesAll histories.now at.now) }
+    ensures lacks { IfSome result (λ r.
+        slice_index_or at.now r 0 < length (history_at histories.now r)) }
 {
     for r in 0..histories.len() {
         if at.get(r).copied().unwrap_or(0) < histories[r].as_slice().len() {
-            return false;
+            return Some(r);
         }
     }
-    true
+    None
 }

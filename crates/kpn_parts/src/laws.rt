@@ -16,7 +16,7 @@ ghost use Rattle.kpn_history.specs.Complete.{IsComplete, IsFedFrom};
 ghost use Rattle.kpn_parts.specs.declared.order.PartEvent.{PartEvent};
 ghost use Rattle.kpn_parts.specs.declared.link.PartLink.{PartLink};
 ghost use Rattle.kpn_parts.specs.Cut.{Part, whole_process, whole_channel, part_at, IsCut, IsCutSource};
-ghost use Rattle.kpn_parts.specs.Joined.{events_of_part, whole_history, IsJoined, HasAll, IsDelivered, AreQuiet};
+ghost use Rattle.kpn_parts.specs.Joined.{events_of_part, whole_history, IsJoined, HasAll, IsDelivered, AreQuiet, AreAtRest};
 ghost use Rattle.kpn_parts.specs.Links.{AreLinks, history_at, IsJoinOf};
 
 /// Kahn's theorem of networks in parts: in every joined run each journal of the whole is a prefix of the least solution
@@ -37,7 +37,7 @@ pub fn journals_are_below()
 
 /// Parts at rest. If the processes of each part have ended or wait on empty channels, and each cut source was fed all
 /// that was put, then all journals are the least solution of the whole network, and those of each part are too. So it
-/// is whenever the history of the whole is quiet.
+/// is whenever the history of the whole is quiet. It is if nothing is on the way to a process that waits for it.
 pub fn rest_is_least()
     ensures whole { (t : Tables) → IsNetwork t → (cut : List Part) → IsCut t cut
         → (order : List PartEvent) → IsJoined t cut order
@@ -55,6 +55,9 @@ pub fn rest_is_least()
         → IsQuiet t (whole_history t cut order)
         → (given : Family) → AgreeOnSources t (fed t (whole_history t cut order)) given
         → (c : ℕ) → IsLeast t given c (written_on (whole_history t cut order) c) }
+    ensures settled { (t : Tables) → IsNetwork t → (cut : List Part) → IsCut t cut
+        → (order : List PartEvent) → IsJoined t cut order → AreAtRest t cut order
+        → IsQuiet t (whole_history t cut order) }
 {}
 
 /// The journal of a complete channel of the whole is the least solution there, for all lists from which the sources

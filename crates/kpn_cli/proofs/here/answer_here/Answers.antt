@@ -57,3 +57,8 @@ pub returns-in-Rounds : goal.returns-in-Rounds
 returns-in-Rounds g c =
     rw (c.in-Rounds.is, ← c.deref.ensures.value)
     (refl, (c.rounds_command.ensures.ok, c.rounds_command.ensures.refused))
+
+pub returns-in-Join : goal.returns-in-Join
+returns-in-Join g c =
+    rw (c.in-Join.is, ← c.deref.ensures.value)
+    (refl, (c.join_command.ensures.ok, c.join_command.ensures.refused))

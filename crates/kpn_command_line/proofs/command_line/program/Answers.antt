@@ -1,7 +1,7 @@
 -- One command after the other is added.
 use Rattle.kpn_command_line.specs.CommandLine.{alone_words, check_words, explain_words, print_words, draw_words}
-use Rattle.kpn_command_line.specs.CommandLine.{rounds_words, run_words, stream_words, audit_words, stats_words}
-use Rattle.kpn_command_line.specs.CommandLine.{timeline_words, bare_command_line}
+use Rattle.kpn_command_line.specs.CommandLine.{rounds_words, run_words, stream_words, audit_words, join_words}
+use Rattle.kpn_command_line.specs.CommandLine.{stats_words, timeline_words, bare_command_line}
 use Rattle.kpn_command_line.proofs.command_line.program.Goals as goal
 
 pub returns : goal.returns
@@ -16,5 +16,6 @@ returns c =
     let with_run = c.with-program-7.ensures _ run_words with_rounds c.run_words.ensures in
     let with_stream = c.with-program-8.ensures _ stream_words with_run c.stream_words.ensures in
     let with_audit = c.with-program-9.ensures _ audit_words with_stream c.audit_words.ensures in
-    let with_stats = c.with-program-10.ensures _ stats_words with_audit c.stats_words.ensures in
+    let with_join = c.with-program-10.ensures _ join_words with_audit c.join_words.ensures in
+    let with_stats = c.with-program-11.ensures _ stats_words with_join c.stats_words.ensures in
     c.with.ensures _ timeline_words with_stats c.timeline_words.ensures

@@ -1,6 +1,6 @@
 use Rattle.std.proofs.Common.{ℕ, ◌<◌, ◌≤◌, length, get_or}
 use Rattle.kpn_parts.specs.Links.{history_at}
-use Rattle.kpn_parts.proofs.joining.are_used.Given as goal
+use Rattle.kpn_parts.proofs.joining.left_in.Given as goal
 
 abbrev pub invariant-loop-r : goal.invariant-loop-r
 invariant-loop-r l = (j : ℕ) → j < l.r → length (history_at l.histories j) ≤ get_or l.at j 0

@@ -1,0 +1,13 @@
+-- One word after the other is added.
+use Rattle.std.proofs.Common.{codes}
+use Rattle.clap.specs.Simple.{new_app}
+use Rattle.kpn_command_line.specs.CommandLine.{file_word, parts_word, steps_option}
+use Rattle.kpn_command_line.proofs.Adding.{word_added}
+use Rattle.kpn_command_line.proofs.command_line.join_words.Goals as goal
+
+pub returns : goal.returns
+returns c =
+    let one = word_added (new_app (codes "join")) file_word c.command.result c.file_word.result c.command.ensures
+    c.file_word.ensures c.arg-words.result c.arg-words.ensures in
+    let two = c.and-words.ensures _ parts_word one c.parts_word.ensures in
+    c.and.ensures _ steps_option two c.steps_word.ensures
