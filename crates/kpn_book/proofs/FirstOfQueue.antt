@@ -55,7 +55,7 @@ module _ (b : Book) (kept : IsKept b) (p : ℕ) (holds : HoldsFirst p b.schedule
   pub kept_first : IsKept (first_claimed p b)
   kept_first = kept_claimed b kept p (first_claimed p b) claimed (λ is. omega (arith, is, more))
 
-no_first : (xs : List ℕ) → slice_get xs 0 ≡ None → xs ≡ []
+pub no_first : (xs : List ℕ) → slice_get xs 0 ≡ None → xs ≡ []
 no_first [] none = refl
 no_first (x ∷ xs) none = absurd cc
 

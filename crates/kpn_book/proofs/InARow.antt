@@ -1,5 +1,5 @@
 -- Turns in a row: each of them goes on where the one before it has led.
-use Rattle.std.proofs.Common.{◌≡◌, ℕ, ◌+◌, ◌-◌, ◌<◌, ◌≤◌, max, Bool, true, false, [], ◌∷◌, Option, Some, None, sym, ap, ◌∙◌, subst, inl, inr, arith}
+use Rattle.std.proofs.Common.{◌≡◌, ℕ, ◌+◌, ◌-◌, ◌<◌, ◌≤◌, max, Bool, true, false, [], ◌∷◌, Option, Some, None, refl, sym, ap, ◌∙◌, subst, inl, inr, arith}
 use Rattle.std.proofs.lemmas.Bool.{false≢true}
 use Rattle.kpn_history.specs.Views.{is_stopped}
 use Rattle.kpn_book.specs.declared.answers.Done.{Done}
@@ -53,26 +53,29 @@ module _ (limits : Limits) (quota : ℕ) (is_quota : quota ≡ max limits.quota 
   )
 
 -- none was put on a sink
-module _ (limits : Limits) (quota : ℕ) (is_quota : quota ≡ max limits.quota 1) (before after : Book)
-    (to_itself : IsLeftToItself before) (few : IsEnough before.tables before.history limits.take → ⊥)
-    (step : IsStepInRow quota None before after) where
-  inside : IsStepped limits false before after
+module _ (limits : Limits) (in_order : Bool) (quota : ℕ) (is_quota : quota ≡ max limits.quota 1)
+    (before after : Book) (to_itself : IsLeftToItself before)
+    (few : IsEnough before.tables before.history limits.take → ⊥) (step : IsStepInRow quota None before after) where
+  pub inside : IsStepped limits in_order false before after
   inside = by step.answer step.puts made.2
     where
       made : IsFrontStepped (max limits.quota 1) before after × IsCommitted before after
           × sinks_after (has_put (Some step.answer)) before after
       made = its_turn limits quota is_quota None before after to_itself few step
 
+      front : in_order ≡ true → IsFrontStepped (max limits.quota 1) before after
+      front _ = made.0
+
       by : (answer : Done) → PutsOnNoSink answer before after → sinks_after (has_put (Some answer)) before after
-          → IsStepped limits false before after
+          → IsStepped limits in_order false before after
       by done.Put off put =
-          put_inside_stepped limits before after to_itself made.0 made.1 few put
+          put_inside_stepped limits in_order before after to_itself front made.1 few put
           (off put.process put.channel put.item put.history)
-      by (done.Got v) off keeps = not_put limits before after to_itself made.1 made.0 keeps few
-      by done.Blocked off keeps = not_put limits before after to_itself made.1 made.0 keeps few
-      by (done.Grew d) off keeps = not_put limits before after to_itself made.1 made.0 keeps few
-      by done.Ended off keeps = not_put limits before after to_itself made.1 made.0 keeps few
-      by done.Paused off keeps = not_put limits before after to_itself made.1 made.0 keeps few
+      by (done.Got v) off keeps = not_put limits before after to_itself made.1 in_order front keeps few
+      by done.Blocked off keeps = not_put limits before after to_itself made.1 in_order front keeps few
+      by (done.Grew d) off keeps = not_put limits before after to_itself made.1 in_order front keeps few
+      by done.Ended off keeps = not_put limits before after to_itself made.1 in_order front keeps few
+      by done.Paused off keeps = not_put limits before after to_itself made.1 in_order front keeps few
 
 -- ---- a row of turns
 
@@ -95,13 +98,13 @@ module _ (limits : Limits) (quota : ℕ) (is_quota : quota ≡ max limits.quota 
   row (one_step_more before after steps step) within =
       let more = step_commits quota step.answer before after step.steps in
       let so_far = row steps (omega (arith, within, more)) in
-      let one = inside limits quota is_quota before after so_far.to_itself so_far.few step in
+      let one = inside limits true quota is_quota before after so_far.to_itself so_far.few step in
       let goes_on =
       went_on limits quota is_quota None before after so_far.to_itself so_far.few step within in
       record {
         made = λ f k turns.
             let made = so_far.made f k turns in
-            (made.0 + 1, one_turn_more before after made.1 goes_on one.turn);
+            (made.0 + 1, one_turn_more before after made.1 goes_on (one.turn refl));
         later = IsLater-trans first before after so_far.later one.later;
         to_itself = one.to_itself;
         few = λ enough. false≢true (one.decides.1 enough);
@@ -110,15 +113,15 @@ module _ (limits : Limits) (quota : ℕ) (is_quota : quota ≡ max limits.quota 
   module _ (most : ℕ) (is_most : most ≡ limits.commits - first.commits) (below : first.commits < limits.commits)
       (ready : first.schedule.queue ≡ [] → ⊥) (now : Book) where
     -- no turn has put an item on a sink
-    pub row_ends : RunsInRow quota most None first now → AreStepped limits false first now
+    pub row_ends : RunsInRow quota most None first now → AreStepped limits true false first now
     row_ends runs =
         let within = runs.within in
         let now_within : now.commits ≤ limits.commits = omega (arith, within, is_most, below) in
         let is = row runs.row
         (subst (λ b. b.commits ≤ limits.commits) runs.ends now_within) in
-        subst (λ b. AreStepped limits false first b) (sym runs.ends)
+        subst (λ b. AreStepped limits true false first b) (sym runs.ends)
         (record {
-          made = is.made;
+          made = λ _. is.made;
           later = is.later;
           further =
               subst (λ b. first.commits < b.commits) runs.ends (runs.some ready (omega (arith, is_most, below)));
@@ -156,8 +159,8 @@ module _ (limits : Limits) (quota : ℕ) (is_quota : quota ≡ max limits.quota 
         history = runs.ends.puts.history;
       }
 
-      pub row_and_take : (enough : Bool) (after : Book) → IsStepped limits enough runs.last after
-          → AreStepped limits enough first after
+      pub row_and_take : (enough : Bool) (after : Book) → IsStepped limits true enough runs.last after
+          → AreStepped limits true enough first after
       row_and_take enough after is =
           let within = now_within in
           let more = step_commits quota runs.ends.answer runs.last now runs.ends.steps in
@@ -166,9 +169,9 @@ module _ (limits : Limits) (quota : ℕ) (is_quota : quota ≡ max limits.quota 
           let goes_on =
           went_on limits quota is_quota (Some sink) runs.last now so_far.to_itself so_far.few runs.ends within in
           record {
-            made = λ f k turns.
+            made = λ _ f k turns.
                 let made = so_far.made f k turns in
-                (made.0 + 1, one_turn_more runs.last after made.1 goes_on is.turn);
+                (made.0 + 1, one_turn_more runs.last after made.1 goes_on (is.turn refl));
             later = IsLater-trans first runs.last after so_far.later is.later;
             further = omega (arith, further, more, one);
             within = omega (arith, within, more, one);

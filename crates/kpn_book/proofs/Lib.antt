@@ -11,6 +11,7 @@ pub mod Answering
 pub mod Reserved
 pub mod Committing
 pub mod FirstOfQueue
+pub mod GoingOn
 pub mod Standing
 pub mod Outside
 pub mod Seen
@@ -32,6 +33,7 @@ pub mod Supplying
 pub mod SettledReports
 pub mod Stepped
 pub mod InARow
+pub mod AnyOrder
 pub mod Told
 pub mod Turning
 pub mod Completing

@@ -1,5 +1,5 @@
 -- What a book keeps, it keeps through all calls.
-use Rattle.std.proofs.Common.{◌≡◌, ℕ, ◌<◌, Bool, true, false, List, [], ◌∷◌, length, Option, Some, None, max, sym, ap, ◌∙◌, subst, inl, inr}
+use Rattle.std.proofs.Common.{◌≡◌, ℕ, ◌<◌, Bool, true, false, List, [], ◌∷◌, length, Option, Some, None, sym, ap, ◌∙◌, subst, inl, inr}
 use Rattle.kpn_step.specs.Stops.{Advanced}
 use Rattle.kpn_step.specs.declared.stop.Stop.{Stop}
 use Rattle.kpn_history.specs.declared.event.Event.{Event}
@@ -7,13 +7,11 @@ use Rattle.kpn_history.specs.Keeping.{keeps_items}
 use Rattle.kpn_region.specs.Batch.{Batch, stop_in}
 use Rattle.kpn_book.specs.declared.answers.Done.{Done}
 use Rattle.kpn_book.specs.declared.answers.Done.TheVariants as done
-use Rattle.kpn_book.specs.declared.outcome.Limits.{Limits}
 use Rattle.kpn_book.specs.Book.{Book, IsClaimed, standing_at, put_back, with_one_commit}
 use Rattle.kpn_book.specs.Appending.{Appends, AppendsAll, Happens, AllHappen}
 use Rattle.kpn_book.specs.Commits.{ready_if_paused, HandlesStop, Commits}
 use Rattle.kpn_book.specs.Stepping.{StepsNext, StepsInVain}
 use Rattle.kpn_book.specs.InARow.{StepsInRow, no_step, one_step_more, ends_row, RunsInRow, RunsInVain}
-use Rattle.kpn_book.specs.RunHere.{IsTurn, Turns, no_turn, one_turn_more, takes_from_sinks}
 use Rattle.kpn_book.specs.Regions.{SettleBelow, none_yet, one_more, Settles, settles_if, goes_to, commits_or_not, has_part}
 use Rattle.kpn_book.specs.RegionClaims.{IsSameBook, ClaimsRegion}
 use Rattle.kpn_book.specs.RegionCalls.{CommitsRegion}
@@ -166,16 +164,3 @@ region_much batch memory before after tables is =
           (is.joins.each_channel c (subst (λ t. c < length t.channels) (sym tables) there)).kept ∙ kept.items c there;
     })
     (settle_much batch (with_batch batch is.joined before) is.settle)
-
--- ---- runs on one thread
-
-turn_much : (quota : ℕ) (before after : Book) → IsTurn quota before after → RemembersAsMuch before after
-turn_much quota before after is =
-    much-trans before is.stepped after (steps_much (max quota 1) is.answer before is.stepped is.steps)
-    (happen_much (takes_from_sinks is.stepped.tables is.stepped.history) is.stepped after is.takes)
-
-pub turns_much : (limits : Limits) (first : Book) {n : ℕ} {last : Book} → Turns limits first n last
-    → RemembersAsMuch first last
-turns_much limits first no_turn = λ keeping is. is
-turns_much limits first (one_turn_more before after turns none turn) =
-    much-trans first before after (turns_much limits first turns) (turn_much limits.quota before after turn)

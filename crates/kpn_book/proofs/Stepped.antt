@@ -31,6 +31,8 @@ use Rattle.kpn_book.specs.Running.{IsLeftToItself, IsFrontStepped, IsLater, IsCo
 use Rattle.kpn_book.proofs.Ends.{AddNothing, nothing_more, sink_there, closed_later}
 use Rattle.kpn_book.specs.RunHere.{takes_of, takes_from_sinks}
 use Rattle.kpn_book.proofs.Held.{held_after_step, held_after_take}
+use Rattle.kpn_book.specs.Remembering.{RemembersAsMuch}
+use Rattle.kpn_book.proofs.Remembered.{same_much, much-trans, happens_much, steps_much}
 use Rattle.kpn_book.proofs.Happening.{happens_tables, happens_prefix, happens_commits, happens_written, happens_read, one}
 use Rattle.kpn_book.proofs.Turning.{nothing_lies, takes_nothing, takes_there, the_one, front_stepped}
 
@@ -47,19 +49,21 @@ enough_same t G H same (Some items) enough =
 -- ---- the same run, later
 
 pub IsLater-refl : (b : Book) → IsLater b b
-IsLater-refl b = record { tables = refl; history = IsPrefix-refl b.history }
+IsLater-refl b = record { tables = refl; history = IsPrefix-refl b.history; keeps = λ keeping is. is }
 
 pub IsLater-trans : (a b c : Book) → IsLater a b → IsLater b c → IsLater a c
 IsLater-trans a b c first second = record {
   tables = second.tables ∙ first.tables;
   history = IsPrefix-trans a.history b.history c.history first.history second.history;
+  keeps = much-trans a b c first.keeps second.keeps;
 }
 
 pub IsLater-events : (before after : Book) (es : List Event) → after.tables ≡ before.tables
-    → after.history ≡ before.history ++ es → IsLater before after
-IsLater-events before after es tables history = record {
+    → after.history ≡ before.history ++ es → RemembersAsMuch before after → IsLater before after
+IsLater-events before after es tables history much = record {
   tables = tables;
   history = subst (IsPrefix before.history) (sym history) (IsPrefix-append before.history es);
+  keeps = much;
 }
 
 -- ---- a step
@@ -175,7 +179,8 @@ stepped quota None before after was is held some steps = absurd (some steps.0)
 stepped quota (Some answer) before after was is held some steps = (
   record {
     later = IsLater-events before after (events quota answer before after steps)
-        (step_tables quota answer before after steps) (step_history quota answer before after steps);
+        (step_tables quota answer before after steps) (step_history quota answer before after steps)
+        (steps_much quota answer before after steps);
     commits = step_commits quota answer before after steps;
     nobody_held = held_after_step quota answer before after was steps ∙ held;
   },
@@ -210,13 +215,14 @@ module _ (limits : Limits) (before after : Book) (to_itself : IsLeftToItself bef
           omega arith;
     }
 
-    pub not_put : IsFrontStepped (max limits.quota 1) before after → KeepsSinks before after
-        → (IsEnough before.tables before.history limits.take → ⊥) → IsStepped limits false before after
-    not_put front keeps few = record {
-      turn = record {
-        answer = front.0;
+    pub not_put : (in_order : Bool) → (in_order ≡ true → IsFrontStepped (max limits.quota 1) before after)
+        → KeepsSinks before after → (IsEnough before.tables before.history limits.take → ⊥)
+        → IsStepped limits in_order false before after
+    not_put in_order front keeps few = record {
+      turn = λ is. record {
+        answer = (front is).0;
         stepped = after;
-        steps = front.1;
+        steps = (front is).1;
         takes = takes_nothing after (left_then keeps);
       };
       later = committed.later;
@@ -262,6 +268,7 @@ module _ (before now : Book) (p c : ℕ) (v : ℤ) (put : now.history ≡ before
 pub record IsTaken (before after : Book) (c : ℕ) : Type 0 where
   pub tables : after.tables ≡ before.tables
   pub history : IsPrefix before.history after.history
+  pub keeps : RemembersAsMuch before after
   pub commits : after.commits ≡ before.commits
   pub written : (d : ℕ) → written_on after.history d ≡ written_on before.history d
   pub all : length (written_on after.history c) ≤ length (read_on before.history c) + 1
@@ -289,6 +296,7 @@ taken c item before after book takes = by item takes.takes
     by None same = record {
       tables = ap (λ b. b.tables) same.1;
       history = subst (λ b. IsPrefix before.history b.history) (sym same.1) (IsPrefix-refl before.history);
+      keeps = same_much before after same.1;
       commits = ap (λ b. b.commits) same.1;
       written = λ d. ap (λ b. written_on b.history d) same.1;
       all = λ bound.
@@ -308,6 +316,7 @@ taken c item before after book takes = by item takes.takes
         record {
           tables = happens_tables e before after is;
           history = happens_prefix e before after is;
+          keeps = happens_much e before after is;
           commits = happens_commits e before after is;
           written = λ d. happens_written e before after is d ∙ written_on-same before.history e d refl;
           all = λ bound. omega arith;
@@ -402,11 +411,14 @@ module _ (limits : Limits) (before now after : Book) (to_itself : IsLeftToItself
           (subst (λ xs. length xs ≤ 1) (sym unread_now) few_unread))
           (one (event.Take c w) now after taken.1)
 
-  pub put_taken : IsFrontStepped (max limits.quota 1) before now → (enough : Bool)
-      → (IsTrue enough ↔ IsEnough after.tables after.history limits.take) → IsStepped limits enough before after
-  put_taken front enough decides = record {
-    turn = record { answer = front.0; stepped = now; steps = front.1; takes = put_takes };
-    later = IsLater-trans before now after committed.later (record { tables = took.tables; history = took.history });
+  pub put_taken : (in_order : Bool) → (in_order ≡ true → IsFrontStepped (max limits.quota 1) before now)
+      → (enough : Bool) → (IsTrue enough ↔ IsEnough after.tables after.history limits.take)
+      → IsStepped limits in_order enough before after
+  put_taken in_order front enough decides = record {
+    turn = λ is. record { answer = (front is).0; stepped = now; steps = (front is).1; takes = put_takes };
+    later =
+        IsLater-trans before now after committed.later
+        (record { tables = took.tables; history = took.history; keeps = took.keeps });
     commits = took.commits ∙ committed.commits;
     to_itself = record {
       nobody_held = held_after_take now book c item after takes ∙ committed.nobody_held;
@@ -421,17 +433,17 @@ module _ (limits : Limits) (before now after : Book) (to_itself : IsLeftToItself
 
 -- ---- all of it
 
-module _ (limits : Limits) (before now : Book) (to_itself : IsLeftToItself before)
-    (front : IsFrontStepped (max limits.quota 1) before now) (committed : IsCommitted before now)
+module _ (limits : Limits) (in_order : Bool) (before now : Book) (to_itself : IsLeftToItself before)
+    (front : in_order ≡ true → IsFrontStepped (max limits.quota 1) before now) (committed : IsCommitted before now)
     (few : IsEnough before.tables before.history limits.take → ⊥) where
   pub put_taken_stepped : (sink : ℕ) → HasPutOn sink before now → IsBook now → (item : Option ℤ)
       (after : Book) → Takes sink item now after → (enough : Bool)
       → ((B : List Event) → ReadsOneMore after.tables sink B after.history
       → (IsEnough after.tables B limits.take → ⊥) → IsTrue enough ↔ IsEnough after.tables after.history limits.take)
-      → IsStepped limits enough before after
+      → IsStepped limits in_order enough before after
   put_taken_stepped sink put book item after takes enough decides =
-      put_taken limits before now after to_itself committed put.process sink put.item put.history book item takes front
-      enough
+      put_taken limits before now after to_itself committed put.process sink put.item put.history book item takes
+      in_order front enough
       (decides before.history
       (put_taken_more limits before now after to_itself committed put.process sink put.item put.history book item takes)
       (λ has.
@@ -441,9 +453,9 @@ module _ (limits : Limits) (before now : Book) (to_itself : IsLeftToItself befor
 
   -- it was put on a channel between processes
   pub put_inside_stepped : (put : HasPut before now) → is_sink (channel_at before.tables put.channel) ≡ false
-      → IsStepped limits false before now
+      → IsStepped limits in_order false before now
   put_inside_stepped put inside =
-      not_put limits before now to_itself committed front
+      not_put limits before now to_itself committed in_order front
       (record {
         written = λ d sink.
             put_elsewhere before now put.process put.channel put.item put.history d

@@ -1,5 +1,5 @@
 -- The report of a run that was left to itself has what a report promises.
-use Rattle.std.proofs.Common.{◌≡◌, ℕ, ◌+◌, ◌<◌, ◌≤◌, max, ℤ, List, length, Some, refl, sym, ap, ◌∙◌, subst, arith, [], ◌∷◌, ◌++◌, take, map, get_or, zero, suc, slice_get, IfSome, None, Option, true, count_by}
+use Rattle.std.proofs.Common.{◌≡◌, ℕ, ◌+◌, ◌<◌, ◌≤◌, max, Bool, ℤ, List, length, Some, refl, sym, ap, ◌∙◌, subst, arith, [], ◌∷◌, ◌++◌, take, map, get_or, zero, suc, slice_get, IfSome, None, Option, true, count_by}
 use Rattle.std.proofs.lemmas.List.{take_all}
 use Rattle.std.proofs.lemmas.List.FromFn.{length-map-range_with_len, get_or-map-range_with_len}
 use Rattle.kpn_lang.proofs.Prefixes.{IsPrefix-same, length_of_prefix}
@@ -176,9 +176,9 @@ module _ (t : Tables) (lists : List (List ℤ)) (limits : Limits) (report : Repo
 -- ---- a run that was left to itself
 
 -- the same of a run that was left to itself: its sources were fed their whole lists
-module _ (t : Tables) (network : IsNetwork t) (lists : List (List ℤ)) (limits : Limits) (outcome : Outcome)
-    (fed after : Book) (sources : IsFedBelow t (given_by t lists) (length t.channels) fed)
-    (comes : ComesToOutcome limits outcome fed after) (book : IsBook after) where
+module _ (t : Tables) (network : IsNetwork t) (lists : List (List ℤ)) (limits : Limits) (in_order : Bool)
+    (outcome : Outcome) (fed after : Book) (sources : IsFedBelow t (given_by t lists) (length t.channels) fed)
+    (comes : ComesToOutcome limits in_order outcome fed after) (book : IsBook after) where
   same_tables : after.tables ≡ t
   same_tables = comes.later.tables ∙ sources.tables
 
@@ -213,23 +213,26 @@ module _ (t : Tables) (network : IsNetwork t) (lists : List (List ℤ)) (limits 
         (sources.closed c (source_there t c source) source);
   }
 
-  made_turns : (report : Report) → IsWrittenFrom after outcome report → Turns limits fed report.commits after
-  made_turns report tells =
-      let made = commits_are_turns limits fed comes.made in
+  made_turns : in_order ≡ true → (report : Report) → IsWrittenFrom after outcome report
+      → Turns limits fed report.commits after
+  made_turns ordered report tells =
+      let turns = comes.made ordered in
+      let made = commits_are_turns limits fed turns.1 in
       let none = sources.commits in
       let same = tells.commits in
-      let turns : comes.turns ≡ report.commits = omega arith in subst (λ n. Turns limits fed n after) turns comes.made
+      let all : turns.0 ≡ report.commits = omega arith in
+      subst (λ n. Turns limits fed n after) all turns.1
 
   pub IsReportHere-told : (first : Book) → IsNewBook t first → AllHappen (supplies t (given_by t lists)) first fed
-      → (report : Report) → IsWrittenFrom after outcome report → IsReportHere t lists limits report
-  IsReportHere-told first begins supplied report tells = record {
+      → in_order ≡ true → (report : Report) → IsWrittenFrom after outcome report → IsReportHere t lists limits report
+  IsReportHere-told first begins supplied ordered report tells = record {
     last = after;
     runs = record {
       first = first;
       begins = begins;
       fed = fed;
       supplied = supplied;
-      made = made_turns report tells;
+      made = made_turns ordered report tells;
       comes_to =
           subst (λ o. IsOutcome after.tables after.history after.commits limits (Some o)) (sym tells.is)
           comes.comes_to;

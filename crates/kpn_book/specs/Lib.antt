@@ -9,6 +9,7 @@ pub mod Refusals
 pub mod Stepping
 pub mod InARow
 pub mod Kept
+pub mod GoingOn
 pub mod Open
 pub mod Snapshot
 pub mod Detached

@@ -1,5 +1,6 @@
 -- What stays true of a book in the midst of a call. A reader of the public contracts needs none of it.
-use Rattle.std.specs.Prelude.{◌≡◌, ◌≢◌, ℕ, ◌+◌, ◌<◌, ◌≤◌, ◌^◌, ◌⊎◌, false, ℤ, IsTrue, if◌then◌else◌, List, [], ◌∷◌, ◌++◌, length, Option, Some, None, Contains, Result, Ok, Err, slice_index}
+use Rattle.std.specs.Prelude.{◌≡◌, ◌≢◌, ℕ, ◌+◌, ◌<◌, ◌≤◌, ◌^◌, ◌⊎◌, false, ℤ, IsTrue, if◌then◌else◌, List, [], ◌∷◌, ◌++◌, length, Option, Some, None, Contains, Result, Ok, Err, slice_get, slice_index}
+use Rattle.std.specs.Option.{option_to_list}
 use Rattle.kpn_net.specs.Tables.{Tables, instance_at, channel_at, is_sink}
 use Rattle.kpn_net.specs.Waits.{AreDistinct}
 use Rattle.kpn_step.specs.declared.stop.Stop.{Stop}
@@ -12,18 +13,19 @@ use Rattle.kpn_history.specs.Legal.{OwesGrowth, growth_after, waiter}
 use Rattle.kpn_history.specs.Stops.{OwesNothing}
 use Rattle.kpn_machine.specs.Machine.{channel_in, with_channel}
 use Rattle.kpn_history.specs.declared.state.State.TheVariants.{Held}
-use Rattle.kpn_book.specs.Schedule.{Schedule, HoldsFirst, state_at, first_held}
+use Rattle.kpn_book.specs.Schedule.{Schedule, HoldsFirst, state_at, first_held, made_ready}
 use Rattle.kpn_book.specs.declared.open_book.Hold.{Hold}
 use Rattle.kpn_book.specs.declared.open_book.Hold.TheVariants as hold
 use Rattle.kpn_book.specs.declared.open_book.OpenBook.{OpenBook}
 use Rattle.kpn_book.specs.declared.answers.Done.{Done}
 use Rattle.kpn_book.specs.declared.answers.Done.TheVariants as done
 use Rattle.kpn_book.specs.Book.{Book, IsClaimed, held_count}
-use Rattle.kpn_book.specs.Appending.{Appends, AppendsAll}
+use Rattle.kpn_book.specs.Appending.{Appends, AppendsAll, all_made_ready}
 use Rattle.kpn_book.specs.Commits.{IsWriteTo, IsAnswer, ready_if_paused}
 use Rattle.kpn_book.specs.Stepping.{ClaimsNobody}
 use Rattle.kpn_book.specs.Kept.{IsInStep, IsKept}
 use Rattle.kpn_book.specs.InARow.{IsStepInRow}
+use Rattle.kpn_book.specs.GoingOn.{IsReordered, TurnsInAnyOrder}
 
 -- the book that has these parts
 abbrev pub book_of : {A : Type 0} → OpenBook A → Book
@@ -45,6 +47,10 @@ reserved_on c b =
 -- the book whose first ready process, p, is held
 abbrev pub first_claimed : (p : ℕ) → Book → Book
 first_claimed p b = record b { schedule = first_held p b.schedule }
+
+-- the book with this schedule, in which these processes are ready besides
+abbrev pub with_ready : List ℕ → Schedule → Book → Book
+with_ready ps s b = record b { schedule = all_made_ready ps s }
 
 -- ---- a process that is held while it is committed
 
@@ -144,6 +150,16 @@ pub record IsCommit {A : Type 0} (hold : Hold) (p : ℕ) (asks : Stop → Type 0
   pub answered : Answered p asks answer (held_by hold p (book_of before)) (book_of after)
   pub room : before.history.room ≤ after.history.room + 2
 
+-- the same but for the schedule, which stays: it is left to say that the process is ready again, and then the one that
+-- it wakes
+pub record LeavesReady {A : Type 0} (hold : Hold) (p : ℕ) (asks : Stop → Type 0) (answer : Done) (woken : Option ℕ)
+    (before after : OpenBook A) : Type 0 where
+  pub schedule : after.schedule ≡ before.schedule
+  pub may : MayBeReady (made_ready p (holding hold p before.schedule)) (option_to_list woken)
+  pub answered : Answered p asks answer (held_by hold p (book_of before))
+      (with_ready (option_to_list woken) (made_ready p (holding hold p before.schedule)) (book_of after))
+  pub room : before.history.room ≤ after.history.room + 1
+
 -- the growth that is owed, if one is, happens, and the book is sound again
 pub record GrowsIfOwed (p : ℕ) (answer : Done) (before after : Book) : Type 0 where
   pub grows : grows_if_owed p answer before after
@@ -213,3 +229,44 @@ pub record IsTurn (quota : ℕ) (sink : Option ℕ) (before after : Book) : Type
   pub kept : IsKept after
   pub commits : after.commits ≡ before.commits + 1
   pub held : held_count after ≡ held_count before
+
+-- ---- turns in any order
+
+-- the first process of the queue, p, is committed at a stop of this kind, and stays the first. With the schedule of a
+-- commit, which it does not have, the book would be that of the commit
+pub record StaysFirst {A : Type 0} (p : ℕ) (asks : Stop → Type 0) (answer : Done) (before after : OpenBook A)
+    : Type 0 where
+  pub woken : Option ℕ
+  pub may : MayBeReady (made_ready p (first_held p before.schedule)) (option_to_list woken)
+  pub schedule : after.schedule ≡ all_made_ready (option_to_list woken) before.schedule
+  pub answered : Answered p asks answer (first_claimed p (book_of before))
+      (with_ready (option_to_list woken) (made_ready p (first_held p before.schedule)) (book_of after))
+
+-- the same at this stop, by which it has put an item on this sink or on none
+pub record HandlesAhead (p : ℕ) (s : Stop) (sink : Option ℕ) (before after : Book) : Type 0 where
+  pub woken : Option ℕ
+  pub may : MayBeReady (made_ready p (first_held p before.schedule)) (option_to_list woken)
+  pub schedule : after.schedule ≡ all_made_ready (option_to_list woken) before.schedule
+  pub handles : HandlesFirst p s sink (first_claimed p before)
+      (with_ready (option_to_list woken) (made_ready p (first_held p before.schedule)) after)
+
+-- one turn in any order: a step of a row, after which the queue is in another order
+pub record IsTurnAhead (quota : ℕ) (sink : Option ℕ) (before after : Book) : Type 0 where
+  pub between : Book
+  pub turn : IsTurn quota sink before between
+  pub order : IsReordered between after
+
+-- the sink on which a turn has put an item, if it has ended so
+abbrev pub sink_at_end : Option (Option ℕ) → Option ℕ
+sink_at_end (Some sink) = sink
+sink_at_end None = None
+
+-- process p, the first of the queue, has gone on in its turn, in which it had made this many gets and puts. If the turn
+-- has not ended, p stays the first, and is committed once more
+pub record GoesFurther (quota p made : ℕ) (ended : Option (Option ℕ)) (before after : Book) : Type 0 where
+  pub turns : TurnsInAnyOrder quota before (sink_at_end ended) after
+  pub held : held_count after ≡ held_count before
+  pub not_less : before.commits ≤ after.commits
+  pub at_most : after.commits ≤ before.commits + 1
+  pub begins : made ≡ 0 → after.commits ≡ before.commits + 1
+  pub goes_on : ended ≡ None → (slice_get after.schedule.queue 0 ≡ Some p) × (after.commits ≡ before.commits + 1)

@@ -15,6 +15,7 @@ use Rattle.kpn_book.specs.declared.outcome.Limits.{Limits}
 use Rattle.kpn_book.specs.declared.outcome.Outcome.{Outcome}
 use Rattle.kpn_book.specs.Outcomes.{IsEnough, IsOutcome}
 use Rattle.kpn_book.specs.RunHere.{IsTurn, Turns}
+use Rattle.kpn_book.specs.Remembering.{RemembersAsMuch}
 
 -- ---- the sources are fed
 
@@ -51,10 +52,11 @@ pub record IsLeftToItself (b : Book) : Type 0 where
 abbrev pub IsFrontStepped : (quota : ℕ) → (before after : Book) → Type 0
 IsFrontStepped quota before after = (answer : Done) × StepsNext quota answer before after
 
--- the same run, later
+-- the same run, later, of which as much is kept
 pub record IsLater (before after : Book) : Type 0 where
   pub tables : after.tables ≡ before.tables
   pub history : IsPrefix before.history after.history
+  pub keeps : RemembersAsMuch before after
 
 -- a step that answers so has put an item
 abbrev pub has_put : Option Done → Bool
@@ -99,27 +101,28 @@ pub record ReadsOneMore (t : Tables) (sink : ℕ) (before after : List Event) : 
   pub elsewhere : (c : ℕ) → is_sink (channel_at t c) ≡ true → c ≢ sink
       → length (read_on after c) ≡ length (read_on before c)
 
--- a step and what the outside takes after it
-pub record IsStepped (limits : Limits) (enough : Bool) (before after : Book) : Type 0 where
-  pub turn : IsTurn limits.quota before after
+-- a step and what the outside takes after it: a turn, if it was made in the order of the queue
+pub record IsStepped (limits : Limits) (in_order enough : Bool) (before after : Book) : Type 0 where
+  pub turn : in_order ≡ true → IsTurn limits.quota before after
   pub later : IsLater before after
   pub commits : after.commits ≡ before.commits + 1
   pub to_itself : IsLeftToItself after
   pub decides : IsTrue enough ↔ IsEnough after.tables after.history limits.take
 
 -- turns, at least one, that have not gone beyond the limit of the commits
-pub record AreStepped (limits : Limits) (enough : Bool) (before after : Book) : Type 0 where
-  pub made : (first : Book) (n : ℕ) → Turns limits first n before → (m : ℕ) × Turns limits first m after
+pub record AreStepped (limits : Limits) (in_order enough : Bool) (before after : Book) : Type 0 where
+  pub made : in_order ≡ true → (first : Book) (n : ℕ) → Turns limits first n before
+      → (m : ℕ) × Turns limits first m after
   pub later : IsLater before after
   pub further : before.commits < after.commits
   pub within : after.commits ≤ limits.commits
   pub to_itself : IsLeftToItself after
   pub decides : IsTrue enough ↔ IsEnough after.tables after.history limits.take
 
--- the run has come to this outcome by turns, and its commits have not gone beyond their limit
-pub record ComesToOutcome (limits : Limits) (outcome : Outcome) (before after : Book) : Type 0 where
-  pub turns : ℕ
-  pub made : Turns limits before turns after
+-- the run has come to this outcome by turns, in the order of the queue or in any, and its commits have not gone beyond
+-- their limit
+pub record ComesToOutcome (limits : Limits) (in_order : Bool) (outcome : Outcome) (before after : Book) : Type 0 where
+  pub made : in_order ≡ true → (turns : ℕ) × Turns limits before turns after
   pub later : IsLater before after
   pub nobody_held : held_count after ≡ 0
   pub comes_to : IsOutcome after.tables after.history after.commits limits (Some outcome)

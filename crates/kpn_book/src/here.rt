@@ -1,5 +1,5 @@
 //! A run on the calling thread only.
-ghost use Rattle.std.specs.Prelude.{◌≡◌, ◌≤◌, length, IsTrue, IfOk};
+ghost use Rattle.std.specs.Prelude.{◌≡◌, ◌≤◌, length, true, IsTrue, IfOk};
 ghost use Rattle.kpn_net.specs.Iteration.{sources};
 ghost use Rattle.kpn_history.specs.Keeping.{keeps_all};
 ghost use Rattle.kpn_book.specs.Reports.{events_of, AreSupplied, IsReport};
@@ -60,17 +60,58 @@ pub fn run_here_keeping(
     ensures commits { IfOk result (λ report. report.commits ≤ limits.now.commits) }
     ensures kept { IfOk result (λ report. report.history.is_kept ≡ keeps_all keeping) }
 {
+    run_by_order(alloc, network, lists, limits, keeping, true)
+}
+
+/// The same run, but that nobody sees the order of its turns, so it is faster. Between two turns the queue may come to
+/// another order, and a process may have made steps.
+pub fn run_in_any_order(
+    alloc: Global,
+    network: &Network,
+    lists: &[Sequence<i64>],
+    limits: &Limits,
+    keeping: Keeping,
+) -> Result<Report, Unread>
+    requires { length lists.now ≡ sources network.now }
+    ensures report { IfOk result (λ report. IsReport network.now lists.now limits.now report) }
+    ensures supplied { IfOk result (λ report.
+        AreSupplied network.now lists.now (events_of report)) }
+    ensures commits { IfOk result (λ report. report.commits ≤ limits.now.commits) }
+    ensures kept { IfOk result (λ report. report.history.is_kept ≡ keeps_all keeping) }
+{
+    run_by_order(alloc, network, lists, limits, keeping, false)
+}
+
+/// The run whose turns are in the order of the queue, or in any.
+fn run_by_order(
+    alloc: Global,
+    network: &Network,
+    lists: &[Sequence<i64>],
+    limits: &Limits,
+    keeping: Keeping,
+    in_order: bool,
+) -> Result<Report, Unread>
+    requires { length lists.now ≡ sources network.now }
+    ensures report { IfOk result (λ report. IsReport network.now lists.now limits.now report) }
+    ensures here { in_order ≡ true
+        → IfOk result (λ report. IsReportHere network.now lists.now limits.now report) }
+    ensures supplied { IfOk result (λ report.
+        AreSupplied network.now lists.now (events_of report)) }
+    ensures commits { IfOk result (λ report. report.commits ≤ limits.now.commits) }
+    ensures kept { IfOk result (λ report. report.history.is_kept ≡ keeps_all keeping) }
+{
     let mut book = Book::keeping(alloc, network, keeping)?;
     feed_sources(&mut book, network, lists)?;
-    let outcome = run(&mut book, limits)?;
+    let outcome = run(&mut book, limits, in_order)?;
     book.known();
     report_of(alloc, book, outcome)
 }
 
 /// Steps processes until there is an outcome.
-fn run(book: &mut Book<'_>, limits: &Limits) -> Result<Outcome, AllocError>
+fn run(book: &mut Book<'_>, limits: &Limits, in_order: bool) -> Result<Outcome, AllocError>
     requires { IsLeftToItself book.old }
-    ensures { IfOk result (λ outcome. ComesToOutcome limits.now outcome book.old book.new) }
+    ensures { IfOk result (λ outcome.
+        ComesToOutcome limits.now in_order outcome book.old book.new) }
 {
     if has_enough(book, limits.take) {
         return Ok(Outcome::Enough);
@@ -80,7 +121,7 @@ fn run(book: &mut Book<'_>, limits: &Limits) -> Result<Outcome, AllocError>
         if let Some(outcome) = outcome_unless_enough(book, limits) {
             return Ok(outcome);
         }
-        if step(book, limits, quota)? {
+        if step(book, limits, quota, in_order)? {
             return Ok(Outcome::Enough);
         }
     }

@@ -30,7 +30,7 @@ pub use answers::{Done, Refused};
 pub use book::Book;
 pub use claim::Claim;
 pub use detached::Detached;
-pub use here::{run_here, run_here_keeping};
+pub use here::{run_here, run_here_keeping, run_in_any_order};
 pub use kpn_chan::Unread;
 pub use kpn_history::{Counts, Event, Keeping, State, Verdict, View};
 pub use outcome::{Limits, Outcome};

@@ -14,6 +14,7 @@ use kpn_machine::Machine;
 use kpn_net::Network;
 use std::alloc::Allocator;
 
+mod ahead;
 mod claims;
 mod commits;
 mod outside;

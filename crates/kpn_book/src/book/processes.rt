@@ -5,6 +5,7 @@ ghost use Rattle.kpn_step.specs.Frame.{fits};
 ghost use Rattle.kpn_step.specs.Stops.{IsAdvance, IsAtPort, advanced_of};
 ghost use Rattle.kpn_machine.specs.Machine.{frame_in};
 ghost use Rattle.kpn_book.specs.Book.{IsHeld, IsClaimed, held_count, put_back};
+ghost use Rattle.kpn_book.specs.GoingOn.{RunsInAnyOrder, AnyOrderInVain};
 ghost use Rattle.kpn_book.specs.InARow.{RunsInRow, RunsInVain};
 ghost use Rattle.kpn_book.specs.Commits.{Commits};
 ghost use Rattle.kpn_book.specs.Refusals.{RefusesCommit, RefusesPutBack};
@@ -211,6 +212,19 @@ impl<'n, A: Allocator> Book<'n, A> {
         ensures in_vain { OnErr result (RunsInVain quota most self.old self.new) }
     {
         self.parts.run_on(quota, most)
+    }
+
+    /// Makes turns in any order, in place, until one has put an item on a sink or no process is ready, and at most
+    /// `most`. It returns that sink. The first process of the queue gets and puts items as long as it can, and stays
+    /// the first meanwhile. The error is that memory ran out: what was done before stays.
+    pub fn go_on(&mut self, quota: u32, most: u64) -> Result<Option<usize>, AllocError>
+    where
+        A: Copy,
+        requires { self.old.commits + held_count self.old + most < 2 ^ 64 }
+        ensures goes { IfOk result (λ sink. RunsInAnyOrder quota most sink self.old self.new) }
+        ensures in_vain { OnErr result (AnyOrderInVain quota most self.old self.new) }
+    {
+        self.parts.go_on(quota, most)
     }
 }
 

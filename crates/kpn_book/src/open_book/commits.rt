@@ -1,12 +1,12 @@
 //! The commit of a held process at its stop. One function for each kind of stop makes the event that is due there, and
 //! after a wait or an end the growth that is owed.
-ghost use Rattle.std.specs.Prelude.{◌≡◌, ◌≢◌, ◌<◌, ◌≤◌, ◌+◌, ℕ, ℤ, [], true, false, length, option_to_list, IsTrue};
+ghost use Rattle.std.specs.Prelude.{◌≡◌, ◌≢◌, ◌<◌, ◌≤◌, ◌+◌, ℕ, ℤ, [], true, false, length, option_to_list, IsSome, IsTrue};
 ghost use Rattle.kpn_net.specs.Tables.{program_of};
 ghost use Rattle.kpn_step.specs.declared.stop.Stop.{Stop as Place};
 ghost use Rattle.kpn_step.specs.declared.stop.Stop.TheVariants.{Paused};
 ghost use Rattle.kpn_step.specs.Frame.{Frame};
 ghost use Rattle.kpn_step.specs.Stops.{IsAtPort};
-ghost use Rattle.kpn_chan.specs.Channel.{is_channel_full, unread};
+ghost use Rattle.kpn_chan.specs.Channel.{is_channel_full, next_item, unread};
 ghost use Rattle.kpn_history.specs.Legal.{OwesGrowth, growth_after};
 ghost use Rattle.kpn_history.specs.Stops.{OwesNoCycleGrowth};
 ghost use Rattle.kpn_history.specs.Views.{is_ready};
@@ -16,16 +16,15 @@ ghost use Rattle.kpn_machine.specs.Owed.{IsAwaitedBelowLimit};
 ghost use Rattle.kpn_book.specs.Schedule.{made_ready, with_state};
 ghost use Rattle.kpn_book.specs.declared.answers.Done.TheVariants as done;
 ghost use Rattle.kpn_book.specs.Appending.{all_made_ready};
-ghost use Rattle.kpn_book.specs.Book.{IsHeld};
 ghost use Rattle.kpn_book.specs.Commits.{IsReadFrom, IsWriteTo};
 ghost use Rattle.kpn_book.specs.Kept.{IsInStep};
-ghost use Rattle.kpn_book.specs.Open.{book_of, reserves_by, IsSound, IsHeldBy, holding, held_by, MayCommit, IsCommit, Follows, EndsWithWait, GrowsIfOwed, GrowsAtStop, Answered, MayBeReady};
+ghost use Rattle.kpn_book.specs.Open.{book_of, reserves_by, IsSound, IsHeldBy, holding, held_by, MayCommit, IsCommit, LeavesReady, Follows, EndsWithWait, GrowsIfOwed, GrowsAtStop, MayBeReady};
 
 use super::{Hold, OpenBook, number, wake};
 use crate::answers::Done;
 use crate::schedule::Schedule;
 use kpn_history::{Event, How, State};
-use kpn_machine::{in_channel, out_channel};
+use kpn_machine::{Got, in_channel, out_channel};
 use kpn_step::Stop;
 use std::alloc::{AllocError, Allocator};
 
@@ -100,11 +99,27 @@ impl<'n, A: Allocator> OpenBook<'n, A> {
         if !self.machine.has_item(c) {
             return self.wait_on_empty(hold, p, c);
         }
-        let got = self.machine.get(network, p, c);
+        let got = self.get_item(hold, p, c);
         go_on(&mut self.schedule, hold, p, got.woken);
+        Done::Got(got.item)
+    }
+
+    /// Process `p` gets the next item of channel `c`, at a read from which it is. The schedule stays: that `p` and the
+    /// process that this wakes are ready is left to the caller.
+    #[inline(always)]
+    pub(super) fn get_item(&mut self, hold: Hold, p: usize, c: usize) -> Got
+        requires may { MayCommit hold p self.old }
+        requires reads { ReadsFrom self.old.network.now self.old.machine p c }
+        requires item { IsSome (next_item (channel_in self.old.machine c)) }
+        ensures { let t = self.old.network.now in
+            LeavesReady hold p (λ s. IsReadFrom t p s c) (done.Got result.item) result.woken self.old self.new }
+    {
+        let network = self.network;
+        network.known();
+        let got = self.machine.get(network, p, c);
         self.history
             .push(Event::Get(number(p), number(c), got.item));
-        Done::Got(got.item)
+        got
     }
 
     /// Process `p`, which is at a write of this item to channel `c`, puts it there, or waits if the channel is full.
@@ -135,11 +150,26 @@ impl<'n, A: Allocator> OpenBook<'n, A> {
         ensures { let t = self.old.network.now in
             IsCommit hold p (λ s. IsWriteTo t p s c item) done.Put self.old self.new }
     {
+        let woken = self.put_item(hold, p, c, item);
+        go_on(&mut self.schedule, hold, p, woken);
+    }
+
+    /// Process `p` puts this item on channel `c`, at a write of it to which it is. The schedule stays: that `p` and the
+    /// process that this wakes are ready is left to the caller.
+    #[inline(always)]
+    pub(super) fn put_item(&mut self, hold: Hold, p: usize, c: usize, item: i64) -> Option<usize>
+        requires may { MayCommit hold p self.old }
+        requires writes { WritesTo self.old.network.now self.old.machine p c item }
+        requires ready { is_channel_full (channel_in self.old.machine c) ≡ false }
+        requires reserved { IsTrue (channel_in self.old.machine c).is_reserved }
+        ensures { let t = self.old.network.now in
+            LeavesReady hold p (λ s. IsWriteTo t p s c item) done.Put result self.old self.new }
+    {
         let network = self.network;
         network.known();
         let woken = self.machine.put(network, p, c, item);
-        go_on(&mut self.schedule, hold, p, woken);
         self.history.push(Event::Put(number(p), number(c), item));
+        woken
     }
 
     // The next three are rare. They write the state of the process once: a ready one goes from there to its wait or

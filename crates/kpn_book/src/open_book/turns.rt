@@ -84,7 +84,7 @@ impl<'n, A: Allocator> OpenBook<'n, A> {
     /// Commits process `p`, which is the first of the queue, at this stop. Returns the sink on which it has put an
     /// item, if it has. The error is that memory ran out, and then nothing has changed.
     #[inline(always)]
-    fn handle_first(&mut self, p: usize, stop: Stop) -> Result<Option<usize>, AllocError>
+    pub(super) fn handle_first(&mut self, p: usize, stop: Stop) -> Result<Option<usize>, AllocError>
     where
         A: Copy,
         requires first { HoldsFirst p self.old.schedule (first_held p self.old.schedule) }
@@ -148,14 +148,14 @@ fn turns_for(room: usize, left: u64) -> u64
 /// Whether an item can be put on a channel at once: its reader is there, it is not full, and the item is reserved.
 // The reader comes first, since the compiler then tests only once whether there is a ring.
 #[inline(always)]
-fn is_open<A: Allocator>(channel: &Channel<A>) -> bool
+pub(super) fn is_open<A: Allocator>(channel: &Channel<A>) -> bool
     ensures { result ≡ true → IsTrue channel.now.is_reserved × (is_channel_full channel.now ≡ false) }
 {
     !channel.is_retired() && !channel.is_full() && channel.room()
 }
 
 /// The channel, if it is a sink.
-fn if_sink(network: &Network, c: usize) -> Option<usize>
+pub(super) fn if_sink(network: &Network, c: usize) -> Option<usize>
     requires { c < length network.now.channels }
     ensures { result ≡ if_sink network.now c }
 {

@@ -14,6 +14,7 @@ use std::alloc::Allocator;
 
 impl<A: Allocator> Machine<A> {
     /// Makes at most `quota` steps of process `p` from its frame on. It returns how many, and the stop after them.
+    #[inline(always)]
     pub fn step(&mut self, network: &Network, p: usize, quota: u32) -> (u32, Stop)
         requires shape { IsMachine network.now self.old }
         requires process { p < length network.now.instances }

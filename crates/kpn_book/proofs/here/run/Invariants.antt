@@ -1,4 +1,4 @@
-use Rattle.std.proofs.Common.{ℕ, ◌-◌, ◌≤◌}
+use Rattle.std.proofs.Common.{◌≡◌, true, ℕ, ◌-◌, ◌≤◌}
 use Rattle.kpn_book.specs.Outcomes.{IsEnough}
 use Rattle.kpn_book.specs.RunHere.{Turns}
 use Rattle.kpn_book.specs.Running.{IsLeftToItself, IsLater}
@@ -6,7 +6,7 @@ use Rattle.kpn_book.proofs.here.run.Given as goal
 
 abbrev pub invariant-run : goal.invariant-run
 invariant-run l = record {
-  turns : (n : ℕ) × Turns l.limits l.initial.book n l.book;
+  turns : l.in_order ≡ true → (n : ℕ) × Turns l.limits l.initial.book n l.book;
   later : IsLater l.initial.book l.book;
   to_itself : IsLeftToItself l.book;
   few : ¬ IsEnough l.book.tables l.book.history l.limits.take;

@@ -1,78 +1,40 @@
-use Rattle.std.proofs.Common.{refl, ap, subst, ◌∙◌, arith, w64, SFits, to_z, of_z, rules}
+use Rattle.std.proofs.Common.{sym, ap, subst, ◌∙◌, arith, w64, SFits, to_z, of_z, rules}
 use Rattle.std.proofs.lemmas.Int.{to_z-of_z}
 use Rattle.std.specs.Option.{option_to_list}
-use Rattle.kpn_history.specs.declared.event.Event.TheVariants as event
-use Rattle.kpn_machine.specs.Changes.{Changes}
-use Rattle.kpn_machine.proofs.Ports.{writes_below}
-use Rattle.kpn_machine.proofs.Due.{Legal-due}
 use Rattle.kpn_book.specs.Schedule.{made_ready}
-use Rattle.kpn_book.specs.Open.{book_of, held_by}
-use Rattle.kpn_book.proofs.Following.{own_held, held_is_there, held_is_free, may_be_woken, followed, recorded, process_fits, channel_fits}
-use Rattle.kpn_book.proofs.Answering.{answered_put}
-use Rattle.kpn_book.proofs.FirstOfQueue.{held_so}
+use Rattle.kpn_book.specs.Appending.{all_made_ready}
+use Rattle.kpn_book.specs.declared.answers.Done.TheVariants as done
+use Rattle.kpn_book.specs.Commits.{IsWriteTo}
+use Rattle.kpn_book.specs.Open.{book_of, held_by, holding, IsHeldBy, Answered, MayBeReady}
+use Rattle.kpn_book.proofs.Following.{moved}
 use Rattle.kpn_book.proofs.open_book.OpenBook.put.Goals as goal
 
-pub put-woken-requires-clause-process : goal.put-woken-requires-clause-process
-put-woken-requires-clause-process g c =
-    let o = held_by c.args.hold c.args.p (book_of c.args.self.now) in
-    let held = held_so c.args.hold c.args.p (book_of c.args.self.now) c.requires.may.held in
-    held_is_there o c.requires.may.sound.in_step c.args.p held
-
-pub put-woken-requires-clause-free : goal.put-woken-requires-clause-free
-put-woken-requires-clause-free g c =
-    let o = held_by c.args.hold c.args.p (book_of c.args.self.now) in
-    let held = held_so c.args.hold c.args.p (book_of c.args.self.now) c.requires.may.held in
-    held_is_free o c.requires.may.sound.in_step c.args.p held
-
-pub number-requires : goal.number-requires
-number-requires g c =
-    let o = held_by c.args.hold c.args.p (book_of c.args.self.now) in
-    let held = held_so c.args.hold c.args.p (book_of c.args.self.now) c.requires.may.held in
-    process_fits o.tables c.known.ensures c.args.p (held_is_there o c.requires.may.sound.in_step c.args.p held)
-
-pub number-requires-2 : goal.number-requires-2
-number-requires-2 g c =
-    let o = held_by c.args.hold c.args.p (book_of c.args.self.now) in
-    let held = held_so c.args.hold c.args.p (book_of c.args.self.now) c.requires.may.held in
-    let there = held_is_there o c.requires.may.sound.in_step c.args.p held in
-    channel_fits o.tables c.known.ensures c.args.c
-    (writes_below o.tables c.known.ensures o.machine c.args.p there c.args.c c.args.item c.requires.writes)
+pub go_on-requires-clause-held : goal.go_on-requires-clause-held
+go_on-requires-clause-held g c =
+    subst (IsHeldBy c.args.hold c.args.p) (sym c.put_item-woken.ensures.schedule) c.requires.may.held
 
 pub go_on-requires-clause-woken : goal.go_on-requires-clause-woken
 go_on-requires-clause-woken g c =
-    let o = held_by c.args.hold c.args.p (book_of c.args.self.now) in
-    let held = held_so c.args.hold c.args.p (book_of c.args.self.now) c.requires.may.held in
-    may_be_woken o c.known.ensures c.requires.may.sound.in_step (event.Put c.args.p c.args.c c.args.item)
-    (own_held o c.args.p held) tt (made_ready c.args.p o.schedule) (option_to_list c.put-woken.result)
-    refl (ap option_to_list c.put-woken.ensures.woken)
+    subst (λ s. MayBeReady (made_ready c.args.p (holding c.args.hold c.args.p s))
+    (option_to_list c.put_item-woken.result))
+    (sym c.put_item-woken.ensures.schedule) c.put_item-woken.ensures.may
 
 pub returns : goal.returns
 returns g c =
     let o = held_by c.args.hold c.args.p (book_of c.args.self.now) in
-    let held = held_so c.args.hold c.args.p (book_of c.args.self.now) c.requires.may.held in
-    let e = event.Put c.args.p c.args.c c.args.item in
-    let step = c.requires.may.sound.in_step in
-    let there = held_is_there o step c.args.p held in
-    let below =
-    writes_below o.tables c.known.ensures o.machine c.args.p there c.args.c c.args.item c.requires.writes in
-    let ready = c.requires.ready in
+    let put = c.put_item-woken.new.self in
     let fits : SFits w64 c.args.item = search rules in
-    let item = to_z w64 (of_z w64 c.args.item) in
-    let a = recorded o c.push.new.self c.put-woken.new.self c.go_on.new.schedule in
-    let pushed = c.push.ensures.room in
+    let order =
+    c.go_on.ensures
+    ∙ ap (λ s. all_made_ready (option_to_list c.put_item-woken.result)
+    (made_ready c.args.p (holding c.args.hold c.args.p s))) c.put_item-woken.ensures.schedule in
+    let pushed = c.put_item-woken.ensures.room in
     record {
       answered =
-          answered_put o a c.known.ensures c.args.p c.args.c c.args.item ready
-          (followed o c.known.ensures step e (own_held o c.args.p held) tt c.put-woken.new.self
-          (subst (λ x. Changes o.tables (event.Put c.args.p c.args.c x) o.machine c.put-woken.new.self)
-          (to_z-of_z w64 c.args.item fits) c.put-woken.ensures.changes) c.put-woken.ensures.shape
-          (Legal-due o.tables c.known.ensures o.history o.machine step.run c.requires.may.sound.nothing_owed e
-          (there, below) (held_is_free o step c.args.p held, c.requires.writes, ready))
-          (event.Put c.number.result c.number-2.result item) c.push.new.self (made_ready c.args.p o.schedule)
-          c.go_on.new.schedule (option_to_list c.put-woken.result)
-          (ap (λ x. event.Put x c.number-2.result item) c.number.ensures
-          ∙ ap (λ x. event.Put c.args.p x item) c.number-2.ensures
-          ∙ ap (λ x. event.Put c.args.p c.args.c x) (to_z-of_z w64 c.args.item fits))
-          c.push.ensures.events c.push.ensures.kept refl c.go_on.ensures (ap option_to_list c.put-woken.ensures.woken));
+          subst (λ v. Answered c.args.p (λ s. IsWriteTo o.tables c.args.p s c.args.c v) done.Put o
+          (moved (book_of put) put.machine c.go_on.new.schedule)) (to_z-of_z w64 c.args.item fits)
+          (subst (λ z. Answered c.args.p
+          (λ s. IsWriteTo o.tables c.args.p s c.args.c (to_z w64 (of_z w64 c.args.item))) done.Put o
+          (moved (book_of put) put.machine z)) (sym order) c.put_item-woken.ensures.answered);
       room = omega (arith, pushed);
     }

@@ -4,9 +4,9 @@ use Rattle.kpn_net.specs.Faults.{IsNetwork}
 use Rattle.kpn_net.specs.Iteration.{given_by}
 use Rattle.kpn_book.proofs.Supplying.{IsFedBelow-first, IsLeftToItself-fed}
 use Rattle.kpn_book.specs.RunHere.{supplies}
-use Rattle.kpn_book.proofs.Remembered.{happen_much, turns_much}
+use Rattle.kpn_book.proofs.Remembered.{happen_much}
 use Rattle.kpn_book.proofs.Told.{IsReport-told, AreSupplied-told, IsReportHere-told}
-use Rattle.kpn_book.proofs.here.run_here_keeping.Goals as goal
+use Rattle.kpn_book.proofs.here.run_by_order.Goals as goal
 
 pub feed_sources-requires-clause-first : goal.feed_sources-requires-clause-first
 feed_sources-requires-clause-first c =
@@ -24,7 +24,8 @@ returns-clause-report c =
     IfOk-weaker c.report_of.result _ _
     (IsReport-told c.args.network.now
     (subst IsNetwork c.in_ok-book.ensures.tables c.in_ok-book.ensures.book.network) c.args.lists.now
-    c.args.limits.now c.in_ok-outcome.outcome c.feed_sources.new.book c.run.new.book c.in_ok-feed_sources.ensures.fed
+    c.args.limits.now c.args.in_order c.in_ok-outcome.outcome c.feed_sources.new.book c.run.new.book
+    c.in_ok-feed_sources.ensures.fed
     c.in_ok-outcome.ensures c.known.ensures)
     c.report_of.ensures
 
@@ -33,16 +34,18 @@ returns-clause-supplied c =
     IfOk-weaker c.report_of.result _ _
     (AreSupplied-told c.args.network.now
     (subst IsNetwork c.in_ok-book.ensures.tables c.in_ok-book.ensures.book.network) c.args.lists.now
-    c.args.limits.now c.in_ok-outcome.outcome c.feed_sources.new.book c.run.new.book c.in_ok-feed_sources.ensures.fed
+    c.args.limits.now c.args.in_order c.in_ok-outcome.outcome c.feed_sources.new.book c.run.new.book
+    c.in_ok-feed_sources.ensures.fed
     c.in_ok-outcome.ensures c.known.ensures)
     c.report_of.ensures
 
 pub returns-clause-here : goal.returns-clause-here
-returns-clause-here c =
+returns-clause-here c ordered =
     let begun = c.in_ok-book.ensures in
     IfOk-weaker c.report_of.result _ _
     (IsReportHere-told c.args.network.now (subst IsNetwork begun.tables begun.book.network) c.args.lists.now
-    c.args.limits.now c.in_ok-outcome.outcome c.feed_sources.new.book c.run.new.book c.in_ok-feed_sources.ensures.fed
+    c.args.limits.now c.args.in_order c.in_ok-outcome.outcome c.feed_sources.new.book c.run.new.book
+    c.in_ok-feed_sources.ensures.fed
     c.in_ok-outcome.ensures c.known.ensures c.in_ok-book.book
     (record {
       book = begun.book;
@@ -52,7 +55,7 @@ returns-clause-here c =
       schedule = begun.schedule;
       commits = begun.commits;
     })
-    c.in_ok-feed_sources.ensures.supplies)
+    c.in_ok-feed_sources.ensures.supplies ordered)
     c.report_of.ensures
 
 pub returns-clause-commits : goal.returns-clause-commits
@@ -69,6 +72,5 @@ returns-clause-kept c =
     let at_start =
     happen_much (supplies t (given_by t c.args.lists.now)) first fed c.in_ok-feed_sources.ensures.supplies
     c.args.keeping c.in_ok-book.ensures.kept in
-    let at_end =
-    turns_much c.args.limits.now fed c.in_ok-outcome.ensures.made c.args.keeping at_start in
+    let at_end = c.in_ok-outcome.ensures.later.keeps c.args.keeping at_start in
     IfOk-weaker c.report_of.result _ _ (λ report tells. tells.kept ∙ at_end.events) c.report_of.ensures

@@ -1,0 +1,16 @@
+use Rattle.std.proofs.Common.{◌≡◌, ◌+◌, ◌*◌, ◌≤◌, slice_get, Some, None}
+use Rattle.kpn_book.specs.Book.{held_count}
+use Rattle.kpn_book.specs.Kept.{IsKept}
+use Rattle.kpn_book.specs.GoingOn.{TurnsInAnyOrder}
+use Rattle.kpn_book.specs.Open.{book_of}
+use Rattle.kpn_book.proofs.open_book.OpenBook.turn_ahead.Given as goal
+
+abbrev pub invariant-events : goal.invariant-events
+invariant-events g l = record {
+  turns : TurnsInAnyOrder l.quota (book_of l.fn.self) None (book_of l.self);
+  kept : IsKept (book_of l.self);
+  held : held_count (book_of l.self) ≡ held_count (book_of l.fn.self);
+  commits : l.self.commits ≡ l.fn.self.commits + l.made;
+  first : slice_get l.self.schedule.queue 0 ≡ Some l.p;
+  room : 2 * l.most ≤ l.self.history.room + 2 * l.made;
+}
