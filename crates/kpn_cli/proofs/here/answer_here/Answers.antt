@@ -60,5 +60,5 @@ returns-in-Rounds g c =
 
 pub returns-in-Join : goal.returns-in-Join
 returns-in-Join g c =
-    rw (c.in-Join.is, ← c.deref.ensures.value)
+    rw (c.in-Join.is, ← c.deref-in-Join.ensures.value)
     (refl, (c.join_command.ensures.ok, c.join_command.ensures.refused))
