@@ -1,4 +1,5 @@
 pub mod Plain
 pub mod Pauses
+pub mod AnyOrder
 -- Lemmas: what a run is handed.
 pub mod Running

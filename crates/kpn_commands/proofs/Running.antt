@@ -1,5 +1,5 @@
 -- What holds of the parts that a run is handed holds of the inputs and of the request.
-use Rattle.std.proofs.Common.{◌≡◌, ◌∙◌, ℕ, ℤ, List, Option, Some, None, subst}
+use Rattle.std.proofs.Common.{◌≡◌, ◌∙◌, ℕ, ℤ, List, Option, Some, None, is_some, subst}
 use Rattle.kpn_net.specs.Tables.{Tables}
 use Rattle.kpn_book.specs.declared.outcome.Limits.{Limits}
 use Rattle.kpn_book.specs.Reports.{IsReport}
@@ -26,12 +26,12 @@ pub reported_by : (may_give : Loads) (request : RunRequest) (reported : Reported
     → AreInputs may_give request.file request.sources reported.inputs.document reported.inputs.given.items
     → AreSinksNamed request reported.inputs.document reported.sinks.items
     → IsReport network lists limits reported.report
-    → (request.workers ≡ None → RanHere network lists limits reported.report)
+    → (request.workers ≡ None → RanHere (is_some request.trace) network lists limits reported.report)
     → network ≡ reported.inputs.document.tables → lists ≡ reported.inputs.given.items
     → limits ≡ run_limits_of request → IsRunReported may_give request reported
 reported_by may_give request reported inputs sinks report here is same be = record {
   are_inputs = inputs;
   are_sinks = sinks;
   is_report = along (λ t ls l. IsReport t ls l reported.report) is same be report;
-  here = λ without. along (λ t ls l. RanHere t ls l reported.report) is same be (here without);
+  here = λ without. along (λ t ls l. RanHere (is_some request.trace) t ls l reported.report) is same be (here without);
 }

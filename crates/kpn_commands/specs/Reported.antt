@@ -1,5 +1,5 @@
 -- What was run, and the report; or why there is none.
-use Rattle.std.specs.Prelude.{◌≡◌, ◌≤◌, ℕ, ℤ, List, Option, None, IsSome, ⊤}
+use Rattle.std.specs.Prelude.{◌≡◌, ◌≤◌, ℕ, Bool, true, is_some, ℤ, List, Option, None, IsSome, ⊤}
 use Rattle.kpn_net.specs.Tables.{Tables}
 use Rattle.kpn_book.specs.declared.outcome.Limits.{Limits}
 use Rattle.kpn_book.specs.declared.report.Report.{Report}
@@ -14,10 +14,11 @@ use Rattle.kpn_commands.specs.declared.reporting.Reported.{Reported}
 use Rattle.kpn_commands.specs.Limits.{run_limits_of}
 use Rattle.kpn_command_base.specs.Outputs.{AreSinksNamed}
 
--- a run on one thread: it made turns of the front of the queue, each source was fed its whole list, and there are no
--- more commits than the limit
-pub record RanHere (t : Tables) (lists : List (List ℤ)) (limits : Limits) (report : Report) : Type 0 where
-  pub here : IsReportHere t lists limits report
+-- a run on one thread: each source was fed its whole list, and there are no more commits than the limit. If it is
+-- traced, it made turns of the front of the queue
+pub record RanHere (traced : Bool) (t : Tables) (lists : List (List ℤ)) (limits : Limits) (report : Report)
+    : Type 0 where
+  pub here : traced ≡ true → IsReportHere t lists limits report
   pub supplied : AreSupplied t lists (events_of report)
   pub few : report.commits ≤ limits.commits
 
@@ -30,7 +31,8 @@ pub record IsRunReported (may_give : Loads) (request : RunRequest) (reported : R
   pub is_report :
       IsReport reported.inputs.document.tables reported.inputs.given.items (run_limits_of request) reported.report
   pub here : request.workers ≡ None
-      → RanHere reported.inputs.document.tables reported.inputs.given.items (run_limits_of request) reported.report
+      → RanHere (is_some request.trace) reported.inputs.document.tables reported.inputs.given.items
+      (run_limits_of request) reported.report
 
 -- why a run gives no report: there is no memory, or something befell the workers, if there are any
 abbrev pub IsRefusalOfReport : (workers : Option ℕ) → Refusal → Type 0

@@ -6,8 +6,9 @@ ghost use Rattle.kpn_commands.specs.Files.{IsRefusalOfFiles};
 ghost use Rattle.kpn_book.specs.Reports.{events_of};
 
 use crate::files::files_of;
-use crate::reporting::{Reported, keeping_of, limits_of, run_by_workers};
-use kpn_book::run_here_keeping;
+use crate::reporting::{
+    Reported, is_traced, keeping_of, limits_of, run_by_workers, run_on_this_thread,
+};
 use kpn_command_base::{
     Conclusion, Refusal, RunInputs, RunRequest, prepare, status_of, text_of_report,
 };
@@ -36,7 +37,8 @@ pub fn run_command<S: Shelf>(
     let limits = limits_of(request);
     let network = inputs.document.network();
     let keeping = keeping_of(request);
-    let report = match run_here_keeping(alloc, network, &inputs.given, &limits, keeping) {
+    let traced = is_traced(request);
+    let report = match run_on_this_thread(alloc, network, &inputs.given, &limits, keeping, traced) {
         Ok(report) => report,
         Err(_) => return Err(Refusal::NoMemory),
     };
