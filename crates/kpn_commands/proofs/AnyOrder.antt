@@ -1,5 +1,5 @@
 -- What a run in any order comes to under fewer commits, unless these stop it.
-use Rattle.std.proofs.Common.{◌≡◌, ℕ, ◌≤◌, ℤ, List, Some, refl, arith}
+use Rattle.std.proofs.Common.{◌≡◌, ℕ, ◌≤◌, ℤ, List, Option, Some, None, refl, arith}
 use Rattle.kpn_net.specs.Tables.{Tables}
 use Rattle.kpn_history.specs.declared.event.Event.{Event}
 use Rattle.kpn_book.specs.declared.outcome.Limits.{Limits}
@@ -8,7 +8,7 @@ use Rattle.kpn_book.specs.declared.outcome.Outcome.TheVariants.{Ended, Clogged, 
 use Rattle.kpn_book.specs.declared.report.Report.{Report}
 use Rattle.kpn_book.specs.Outcomes.{IsOutcome}
 use Rattle.kpn_book.specs.Reports.{events_of, IsReport}
-use Rattle.kpn_commands.specs.Limits.{limits_in_any_order}
+use Rattle.kpn_commands.specs.Limits.{commits_in_any_order, limits_in_any_order}
 
 module _ (t : Tables) (H : List Event) (commits processes : ℕ) (limits : Limits) where
   same_outcome : (outcome : Outcome) → (outcome ≡ Stopped → ⊥)
@@ -35,5 +35,9 @@ same_report t lists processes limits report other is = record {
   outcome = same_outcome t (events_of report) report.commits processes limits report.outcome other is.outcome;
 }
 
+fewer : (processes : ℕ) (take : Option ℕ) (commits : ℕ) → commits_in_any_order processes take commits ≤ commits
+fewer processes None commits = omega arith
+fewer processes (Some items) commits = omega arith
+
 pub fewer_commits : (processes : ℕ) (limits : Limits) → (limits_in_any_order processes limits).commits ≤ limits.commits
-fewer_commits processes limits = omega arith
+fewer_commits processes limits = fewer processes limits.take limits.commits

@@ -1,5 +1,5 @@
 -- The limits of a run that is asked for.
-use Rattle.std.specs.Prelude.{ℕ, min, List, Option, Some, None}
+use Rattle.std.specs.Prelude.{ℕ, ◌-◌, ◌/◌, min, max, List, Option, Some, None}
 use Rattle.kpn_command_base.specs.RunRequest.{RunRequest}
 use Rattle.kpn_book.specs.declared.outcome.Limits.{Limits}
 
@@ -17,12 +17,11 @@ run_limits_of request = record { commits = commits_with request.trace request.co
 -- come within the limits. In that order a process waits at most once before each get or put, and once more. In each
 -- round of the queue it makes the next event of the other run, if that was not made before. They are at most an eighth
 -- of the limit, so that a run in vain costs little
-abbrev pub commits_in_any_order : (processes : ℕ) → Limits → ℕ
-commits_in_any_order processes limits = min (within limits.take) (limits.commits / 8)
-  where
-    within : Option ℕ → ℕ
-    within None = (limits.commits - processes) / 2
-    within (Some items) = min ((limits.commits - processes) / 2) (limits.commits / max processes 1 - 1)
+abbrev pub commits_in_any_order : (processes : ℕ) → (take : Option ℕ) → (commits : ℕ) → ℕ
+commits_in_any_order processes None commits = min ((commits - processes) / 2) (commits / 8)
+commits_in_any_order processes (Some items) commits =
+    min (min ((commits - processes) / 2) (commits / max processes 1 - 1)) (commits / 8)
 
 abbrev pub limits_in_any_order : (processes : ℕ) → Limits → Limits
-limits_in_any_order processes limits = record limits { commits = commits_in_any_order processes limits }
+limits_in_any_order processes limits =
+    record limits { commits = commits_in_any_order processes limits.take limits.commits }

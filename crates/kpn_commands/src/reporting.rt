@@ -4,7 +4,7 @@ ghost use Rattle.kpn_net.specs.Iteration.{sources};
 ghost use Rattle.kpn_book.specs.Reports.{events_of, AreSupplied, IsReport};
 ghost use Rattle.kpn_book.specs.RunHere.{IsReportHere};
 ghost use Rattle.kpn_pool.specs.Fed.{keeps_ends};
-ghost use Rattle.kpn_commands.specs.Limits.{commits_with, limits_in_any_order, run_limits_of};
+ghost use Rattle.kpn_commands.specs.Limits.{commits_in_any_order, commits_with, limits_in_any_order, run_limits_of};
 ghost use Rattle.kpn_commands.specs.Reported.{IsRefusalOfReport};
 
 use kpn_book::{Keeping, Limits, Outcome, Report, Unread, run_here_keeping, run_in_any_order};
@@ -145,15 +145,22 @@ fn limits_in_any_order(network: &Network, limits: &Limits) -> Limits
     ensures { result ≡ limits_in_any_order (length network.now.instances) limits.now }
 {
     let processes = network.instances() as u64;
-    let most = limits.commits.saturating_sub(processes) / 2;
-    let commits = match limits.take {
-        Some(_) => most.min((limits.commits / processes.max(1)).saturating_sub(1)),
-        None => most,
-    };
     Limits {
-        commits: commits.min(limits.commits / 8),
+        commits: commits_in_any_order(processes, limits.take, limits.commits),
         take: limits.take,
         quota: limits.quota,
+    }
+}
+
+fn commits_in_any_order(processes: u64, take: Option<u64>, commits: u64) -> u64
+    ensures { result ≡ commits_in_any_order processes take commits }
+{
+    let most = commits.saturating_sub(processes) / 2;
+    match take {
+        Some(_) => most
+            .min((commits / processes.max(1)).saturating_sub(1))
+            .min(commits / 8),
+        None => most.min(commits / 8),
     }
 }
 

@@ -1,4 +1,4 @@
-use Rattle.std.proofs.Common.{◌≡◌, length, subst, arith, rules}
+use Rattle.std.proofs.Common.{◌≡◌, ◌≤◌, length, subst, arith, rules}
 use Rattle.kpn_book.specs.declared.outcome.Limits.{Limits}
 use Rattle.kpn_book.specs.declared.outcome.Outcome.TheVariants.{Stopped}
 use Rattle.kpn_book.specs.Reports.{IsReport}
