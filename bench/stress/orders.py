@@ -1,12 +1,14 @@
 #!/usr/bin/env python3
 """Random networks in any order of their turns, and in that of the queue.
 
+usage: bench/stress/orders.py [--networks N] [--first N] [--program FILE]
+
 `kpn run` without a trace makes turns in any order, where this is faster. With one it makes them in the order of the
 queue. Both have to write the same, and the same files of sinks, under any limit of commits and any number of wanted
-items. Half of the networks get channels with room for several items. It is no part of the gate. A word may name how
-many networks there are; the default is 3,000. A second word says with which number they begin, and a third names a
-program in place of `kpn`.
+items. Half of the networks get channels with room for several items. It is no part of the gate. There are N networks
+(3,000), counted from number N (1). Without --program it takes `kpn` of the repository, and builds it if need be.
 """
+import argparse
 import pathlib
 import random
 import re
@@ -57,12 +59,16 @@ def compare(program, number, folder):
 
 
 def main():
-    networks, first = (int(word) for word in (sys.argv[1:3] + ['3000', '1'][len(sys.argv[1:3]):]))
-    program = sys.argv[3] if len(sys.argv) > 3 else measure.kpn()
+    parser = argparse.ArgumentParser(description=__doc__, formatter_class=argparse.RawDescriptionHelpFormatter)
+    parser.add_argument('--networks', type=int, default=3000)
+    parser.add_argument('--first', type=int, default=1)
+    parser.add_argument('--program')
+    asked = parser.parse_args()
+    program = asked.program or measure.kpn()
     with tempfile.TemporaryDirectory() as folder:
-        for number in range(first, first + networks):
+        for number in range(asked.first, asked.first + asked.networks):
             compare(program, number, pathlib.Path(folder))
-    print(f'{networks} networks from number {first} on wrote the same in any order and in that of the queue')
+    print(f'{asked.networks} networks from number {asked.first} on wrote the same in any order and in that of the queue')
 
 
 if __name__ == '__main__':
