@@ -23,8 +23,8 @@ module _ {A : Type 0} where
   AreFull chunks = All (λ v. length v.items ≡ CHUNK) chunks
 
   -- what holds of a channel's chunks: each but the last is full, and the last never has more places than a full one. Of
-  -- those that keep their items nothing was forgotten; the others have one chunk. What was forgotten is counted. The
-  -- next chunk is free
+  -- those that keep their items nothing was forgotten; the others have one chunk, and no places for more. What was
+  -- forgotten is counted. The next chunk is free
   pub record IsChunks (c : Chunks A) : Type 0 where
     pub full : AreFull c.full.items
     pub few : vec_len c.full ≤ MAX_CHUNKS
@@ -36,6 +36,7 @@ module _ {A : Type 0} where
     pub next : c.next.items ≡ []
     pub next_places : vec_capacity c.next ≤ CHUNK
     pub no_next : c.keeps ≡ false → vec_capacity c.next ≡ 0
+    pub no_full : c.keeps ≡ false → vec_capacity c.full ≡ 0
 
   -- the last chunk has the places of a full one, and there are a free chunk to follow it and a place for it among the
   -- full ones

@@ -1,7 +1,8 @@
 //! A history as a list of events. Memory is reserved first, so that a push asks for none.
-ghost use Rattle.std.specs.Prelude.{◌≡◌, ℕ, ◌+◌, ◌<◌, ◌≤◌, [], ◌∷◌, ◌++◌, length, slice_get, true, IsTrue, OnOk, OnErr, vec_len, vec_capacity};
+ghost use Rattle.std.specs.Prelude.{◌≡◌, ◌+◌, ◌*◌, ◌<◌, ◌≤◌, false, max, [], ◌∷◌, ◌++◌, length, slice_get, true, IsTrue, OnOk, OnErr, vec_len, vec_capacity};
 ghost use Rattle.std.specs.List.{last_or};
 ghost use Rattle.kpn_history.specs.Keeping.{keeps_all};
+ghost use Rattle.kpn_history.specs.declared.history.TheConstants.{FEWEST_EVENTS};
 
 use crate::event::Event;
 use crate::keeping::Keeping;
@@ -14,7 +15,7 @@ use std::mem;
 const _: () = prove!(size_of::<Event>() <= 16);
 
 /// For how many events there is memory at least where none is kept.
-const FEWEST_EVENTS: usize = 256;
+pub const FEWEST_EVENTS: usize = 256;
 
 /// The events of a run so far, oldest first, and memory for some more.
 ///
@@ -38,6 +39,7 @@ impl<A: Allocator> Model for History<A> {
       events = h.past.items ++ h.events.items;
       room = vec_capacity h.events - vec_len h.events;
       is_kept = h.keeps;
+      places = vec_capacity h.events;
     } };
 
     ghost invariant = { λ h. IsNoted h.keeps h.newest h.past.items };
@@ -50,6 +52,7 @@ impl<A: Allocator> History<A> {
         ensures events { result.events ≡ [] }
         ensures room { result.room ≡ 0 }
         ensures kept { result.is_kept ≡ true }
+        ensures places { result.places ≡ 0 }
     {
         History::keeping(alloc, Keeping::All)
     }
@@ -59,6 +62,7 @@ impl<A: Allocator> History<A> {
         ensures events { result.events ≡ [] }
         ensures room { result.room ≡ 0 }
         ensures kept { result.is_kept ≡ keeps_all keeping }
+        ensures places { result.places ≡ 0 }
     {
         History {
             past: Past::new(),
@@ -69,7 +73,8 @@ impl<A: Allocator> History<A> {
     }
 
     /// Reserves memory, so that there is room for `n` events or more. The events stay. It fails only if there was less
-    /// room and memory ran out, and the history is then as before.
+    /// room and memory ran out, and the history is then as before. If the events are not kept, there are places only for
+    /// the most events that were asked for at once, and for twice as many or 256 more, however long the history is.
     #[inline(always)]
     pub fn reserve(&mut self, n: usize) -> Result<(), AllocError>
         ensures events { self.new.events ≡ self.old.events }
@@ -78,6 +83,8 @@ impl<A: Allocator> History<A> {
         ensures lacking { OnErr result (self.old.room < n) }
         ensures refused { OnErr result (self.new ≡ self.old) }
         ensures kept { self.new.is_kept ≡ self.old.is_kept }
+        ensures bounded { self.old.is_kept ≡ false
+            → self.new.places ≤ max self.old.places (n + max (2 * n) FEWEST_EVENTS) }
     {
         if n <= self.room() {
             return Ok(());
@@ -95,13 +102,16 @@ impl<A: Allocator> History<A> {
         ensures grows { self.old.room ≤ self.new.room }
         ensures refused { OnErr result (self.new ≡ self.old) }
         ensures kept { self.new.is_kept ≡ self.old.is_kept }
+        ensures bounded { self.old.is_kept ≡ false
+            → self.new.places ≤ max self.old.places (n + max (2 * n) FEWEST_EVENTS) }
     {
         if self.keeps {
             return self.events.reserve(n);
         }
         if self.events.capacity() < n {
             // more than asked for, so that not each call that asks for as much comes here
-            return self.events.reserve(n.saturating_mul(2).max(FEWEST_EVENTS));
+            let more = n.saturating_mul(2).max(FEWEST_EVENTS);
+            return self.events.reserve_exact(more);
         }
         forget(&mut self.past, &mut self.newest, &mut self.events);
         Ok(())
@@ -121,6 +131,7 @@ impl<A: Allocator> History<A> {
         ensures events { self.new.events ≡ self.old.events ++ event ∷ [] }
         ensures room { self.old.room ≤ self.new.room + 1 }
         ensures kept { self.new.is_kept ≡ self.old.is_kept }
+        ensures places { self.new.places ≡ self.old.places }
     {
         self.events.push_reserved(event);
     }
@@ -131,6 +142,7 @@ impl<A: Allocator> History<A> {
         ensures events { self.new.events ≡ self.old.events ++ events.now }
         ensures room { self.old.room ≤ self.new.room + length events.now }
         ensures kept { self.new.is_kept ≡ self.old.is_kept }
+        ensures places { self.old.is_kept ≡ false → self.new.places ≡ self.old.places }
     {
         if self.keeps {
             let _appended = self.events.extend_from_slice(events);

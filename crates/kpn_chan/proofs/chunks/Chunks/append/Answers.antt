@@ -38,4 +38,5 @@ returns-clause-chunks g c =
       next = search rules;
       next_places = search rules;
       no_next = λ no. absurd (false≢true (sym no ∙ keeps));
+      no_full = λ no. absurd (false≢true (sym no ∙ keeps));
     }
