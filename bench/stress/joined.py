@@ -5,9 +5,9 @@ usage: bench/stress/joined.py [--networks N] [--mutations M] [--seed S]
 
 N random networks (500) are run by `kpn run`, and cut at random. The trace of the whole is taken apart into those of the
 parts: a cut channel is fed at its put, and taken from at its get. Then both have to say the same, and a join that is
-legal has to show the journals that an audit of the whole trace shows. The same of M sets of traces (4) for each network,
-in one of which a line was changed, left out, repeated, or moved, or whose end was cut off. It takes `kpn` from
-KPN_PROGRAM or the repository.
+legal has to show the journals that an audit of the whole trace shows. The same of M sets of traces (4) for each
+network, in one of which a line was changed, left out, repeated, or moved, or whose end was cut off. It takes `kpn`
+from KPN_PROGRAM or the repository.
 """
 import argparse
 import collections

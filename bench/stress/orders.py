@@ -68,7 +68,7 @@ def main():
     with tempfile.TemporaryDirectory() as folder:
         for number in range(asked.first, asked.first + asked.networks):
             compare(program, number, pathlib.Path(folder))
-    print(f'{asked.networks} networks from number {asked.first} on wrote the same in any order and in that of the queue')
+    print(f'{asked.networks} networks from number {asked.first} on wrote the same in both orders')
 
 
 if __name__ == '__main__':

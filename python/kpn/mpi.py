@@ -2,8 +2,8 @@
 
     python -m kpn.mpi audit FILE FOLDER [--steps N]
 
-has `kpn join` judge the traces that `kpn-mpi FILE --traces FOLDER` has stored, if all are there and no others. It writes
-what `kpn join` writes, and ends with its status.
+has `kpn join` judge the traces that `kpn-mpi FILE --traces FOLDER` has stored, if all are there and no others. It
+writes what `kpn join` writes, and ends with its status.
 """
 from __future__ import annotations
 

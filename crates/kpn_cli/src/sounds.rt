@@ -1,5 +1,5 @@
-//! What a person may not have meant of the WAV files that a stream has read: their channels, their samples a second, and
-//! samples of 8 bits.
+//! What a person may not have meant of the WAV files that a stream has read: their channels, their samples a second,
+//! and samples of 8 bits.
 ghost use Rattle.std.specs.Prelude.{◌<◌};
 
 use crate::keeping::MOST_GIVEN;

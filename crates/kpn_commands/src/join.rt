@@ -1,4 +1,4 @@
-//! The command reads a network, and the descriptions and traces of its parts, and tells what a join of the traces finds.
+//! The command reads a network, and the descriptions and traces of its parts. It tells what a join of the traces finds.
 ghost use Rattle.std.specs.Prelude.{◌≡◌, ◌↔◌, ◌<◌, ◌/◌, ◌++◌, ◌∷◌, [], ℕ, true, List, map, length, slice_index_or, IfOk, IfErr, IfSome, IfNone, IsTrue, OnOk};
 ghost use Rattle.std.specs.List.{list_all};
 ghost use Rattle.kpn_history.specs.declared.stored.Version.TheVariants.{Two};

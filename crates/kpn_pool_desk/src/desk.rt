@@ -134,10 +134,10 @@ impl<'n, J: Job, A: Allocator> Desk<'n, J, A> {
     /// Does nothing. A caller's proof learns from it what holds whenever the lock is free: the book is one of the run's
     /// network and keeps what it was told to keep, the ledger's total is the number of its commits, and each journal is
     /// a prefix of Kahn's least solution for the items fed so far, and is what was read followed by what is queued,
-    /// within capacity; the counts of blocked processes are exact; each growth took the smallest awaited full channel of
-    /// a blocked cycle or of a settled network; when every process has ended or waits on an empty channel, the journals
-    /// are that solution; no blocked cycle has a full channel below the limit; and under the policy `all` no process
-    /// waits on one once the book is settled. There are as many workers as the ledger has parts.
+    /// within capacity; the counts of blocked processes are exact; each growth took the smallest awaited full channel
+    /// of a blocked cycle or of a settled network; when every process has ended or waits on an empty channel, the
+    /// journals are that solution; no blocked cycle has a full channel below the limit; and under the policy `all` no
+    /// process waits on one once the book is settled. There are as many workers as the ledger has parts.
     pub fn known(&self)
         ensures network { self.now.book.tables ≡ J.network }
         ensures book { IsBook self.now.book }
