@@ -31,3 +31,4 @@ pub mod Standing
 pub mod OwedSets
 pub mod OneEnd
 pub mod SameEnds
+pub mod SameViews

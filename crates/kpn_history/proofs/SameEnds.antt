@@ -32,11 +32,11 @@ EndAlike-sym t H G alike =
     }
 
 module _ (t : Tables) (H G : List Event) (alike : EndAlike t H G) where
-  same_waits : (p : ℕ) → p < length t.instances → wait_of t H p ≡ wait_of t G p
+  pub same_waits : (p : ℕ) → p < length t.instances → wait_of t H p ≡ wait_of t G p
   same_waits p there =
       sym (wait_at-waits_of t H p there) ∙ ap (λ waits. wait_at waits p) alike.waits ∙ wait_at-waits_of t G p there
 
-  same_ended : (p : ℕ) → has_ended H p ≡ true → has_ended G p ≡ true
+  pub same_ended : (p : ℕ) → has_ended H p ≡ true → has_ended G p ≡ true
   same_ended p ended = let end = end_among H p ended in ended_by G p end.0 ((alike.ended p end.0).0 end.1)
 
   -- ---- the verdict
