@@ -1,15 +1,18 @@
--- A body only adds variables to the names of its process.
-use Rattle.std.proofs.Common.{◌≡◌, ℕ, ◌||◌, List, [], ◌++◌, Ok, refl, sym, ap, subst, ◌∙◌, append_assoc, append-nil}
+-- A body only adds variables to the names of its process, and so do its targets before it.
+use Rattle.std.proofs.Common.{◌≡◌, ℕ, Bool, true, false, cond, ◌||◌, List, [], ◌++◌, Ok, refl, sym, ap, subst, ◌∙◌, append_assoc, append-nil}
 use Rattle.std.specs.List.{position_or_len}
 use Rattle.std.specs.Str.{bytes_eq}
 use Rattle.kpn_lang.specs.Tree.{Tree}
+use Rattle.kpn_text_tokens.specs.declared.tokens.Language.{Language}
 use Rattle.kpn_text_grammar.specs.Syntax.{NameBytes, StatementNode, assign, store, receive, send, choice, loop, Statements, no_statements, statement}
 use Rattle.kpn_text_names.specs.declared.scope.NameScope.{NameScope}
 use Rattle.kpn_text_names.specs.Names.{with_name}
-use Rattle.kpn_text_names.specs.Scope.{is_port, is_row, target}
+use Rattle.kpn_text_names.specs.Scope.{is_port, is_row, target, with_target}
+use Rattle.kpn_text_names.specs.Targets.{known_before}
 use Rattle.kpn_text_names.specs.Body.{statement_in, tree_in}
 use Rattle.kpn_text_names.proofs.Chains.{ok_is, went}
 use Rattle.kpn_text_names.proofs.KnownNames.{with_name_longer, if_not}
+use Rattle.kpn_text_names.proofs.KnownTargets.{known_keep}
 
 -- a process knows more variables from here on
 pub record Grows (s t : NameScope) : Type 0 where
@@ -90,3 +93,24 @@ mutual
       subst (λ q. Grows s q.0) (ok_is _ r rest.rest)
       (grows_on s first.value.0 rest.value.0 (statement_grows shared s x first.value first.first)
       (block_grows shared first.value.0 xs rest.value rest.first))
+
+-- ---- the targets before the body
+
+unless_grows : (s : NameScope) (x : NameBytes) (b : Bool) → Grows s (cond b s (record s { vars = with_name s.vars x }))
+unless_grows s x true = grows_not s
+unless_grows s x false =
+    let longer = with_name_longer s.vars x in
+    record { ins = refl; outs = refl; arrays = refl; tables = refl; more = longer.more; vars = longer.is }
+
+with_target_grows : (shared : List NameBytes) (s : NameScope) (x : NameBytes) → Grows s (with_target shared s x)
+with_target_grows shared s x = unless_grows s x (is_port s x || is_row shared s x)
+
+-- from the names before the targets on
+pub body_grows : (l : Language) (shared : List NameBytes) (s : NameScope) (b : Statements) (r : NameScope × Tree)
+    → tree_in shared (known_before l shared s b) b ≡ Ok r → Grows s r.0
+body_grows l shared s b r h =
+    let start : NameScope = known_before l shared s b in
+    grows_on s start r.0
+    (known_keep (λ t. Grows s t) shared (λ t x g. grows_on s t (with_target shared t x) g (with_target_grows shared t x)) l
+    s b (grows_not s))
+    (block_grows shared start b r h)

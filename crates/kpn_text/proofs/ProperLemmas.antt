@@ -15,6 +15,7 @@ use Rattle.kpn_text_tokens.specs.Laws.{HasSpelling, tokens_of}
 use Rattle.kpn_text_tokens.specs.Rules.{IsName}
 use Rattle.kpn_text_tokens.specs.Spelling.{has_keyword, has_mark}
 use Rattle.kpn_text_grammar.specs.Operators.{operator_mark}
+use Rattle.kpn_text_tokens.proofs.NumeralLaws.{number_small as is_below}
 use Rattle.kpn_text_tokens.proofs.WithoutPlaces.{read_spelled}
 use Rattle.kpn_text_grammar.specs.Syntax.{NameBytes, ExpressionNode, numeral, variable, element, minus, negation, complement, binary, conditional, StatementNode, assign, store, receive, send, choice, loop, Statements, no_statements, statement, Table, Declaration, array, table, ProcessNode, Literal, plain, negated, Item, channel, source, sink, instance, NetworkNode, Description}
 use Rattle.kpn_text_grammar.specs.Spelling.{SpellsTight, as_number, as_name, as_element, as_minus, as_negation, as_complement, in_parentheses, as_sides, as_conditional, as_binary, SpellsStatement, as_assignment, as_store, as_read, as_write, as_if, as_while, SpellsStatements, nothing, one_more, SpellsElse, left_out, behind_else, SpellsSecond, with_braces, as_branch, SpellsProcess, SpellsAll, IsDescription, spell_all, spell_further, spell_list, spell_name, spell_names, spell_table, spell_declaration, spell_part, spell_later_part, spell_parts, spell_literal, spell_values, spell_item, spell_limit, spell_policy, spell_growth, spell_network, spell_language}
@@ -30,7 +31,7 @@ record And (l : Language) (P : Type 0) (tokens : List Token) : Type 0 where
   rest : AreSpelled l tokens
 
 number_small : (l : Language) (n : ℕ) → HasSpelling l (token.Number n) → n < 2 ^ 63
-number_small l n h = omega (arith, h.1.small)
+number_small l n h = is_below l n h.0 h.1
 
 is_name : (l : Language) (x : NameBytes) → HasSpelling l (token.Name x) → IsName l x
 is_name l x h = h.1.0

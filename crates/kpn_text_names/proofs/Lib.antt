@@ -6,5 +6,6 @@ mod Writing
 mod Heads
 mod Trees
 pub mod KnownNames
+pub mod KnownTargets
 pub mod Counts
 mod Once

@@ -16,6 +16,7 @@ mod process;
 mod rows;
 mod scope;
 mod tables;
+mod targets;
 mod writer;
 
 pub use document::{Named, resolve};
