@@ -67,6 +67,12 @@ impl<I: NonblockingRead, F: NonblockingRead + Drop> Sources for SourceInputs<'_,
         }
     }
 
+    fn next_at_hand(&mut self, source: usize) -> Option<i64> {
+        let i = input_of(self.each, source)?;
+        let input = &mut self.each[i];
+        input.window.next_item(input.format)
+    }
+
     fn look(&mut self, source: usize) -> Shown {
         let Some(i) = input_of(self.each, source) else {
             return Shown::AtHand;
