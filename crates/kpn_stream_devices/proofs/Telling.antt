@@ -77,7 +77,7 @@ long_tells w count all many line = (omega (arith, all), record { counted = refl;
         (λ l r. LineGives l r (Err (BadItem (one_after w.used))))
     told None known = tt
     told (Some ds) known =
-        let enough = omega (arith, all, many) in
+        let enough : 22 ≤ length w.unused = omega (arith, all, many) in
         let first = begins w.unused ds enough in
         (first.0, first.1, first.2, λ item spells. long_line w.unused ds enough line first.0 first.1 item first.2 spells)
 

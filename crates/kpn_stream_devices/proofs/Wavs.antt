@@ -143,25 +143,23 @@ module _ (w : Window) (count : ℕ) (wav : Wav) (head : head_at w.wav w.unused �
     given = told;
   })
     where
-      abbrev width : ℕ
-      width = sample_width wav.sample
-
-      abbrev answer : Result (Option ℤ) SourceFault
-      answer = answer_of (sample_value wav.sample us) (one_after w.used)
-
       told : (device : Option (List ℕ)) → IsEndKnown w device → IfKnown (left_of w device)
-          (left_of (with_one (count + width) (Some (shorter wav width)) w) device)
-          (λ l r. WavGives (head_at w.wav l) l (Some (shorter wav width)) r answer)
+          (left_of (with_one (count + sample_width wav.sample) (Some (shorter wav (sample_width wav.sample))) w) device)
+          (λ l r. WavGives (head_at w.wav l) l (Some (shorter wav (sample_width wav.sample))) r
+          (answer_of (sample_value wav.sample us) (one_after w.used)))
       told None known = tt
       told (Some ds) known =
-          gives ds (Some (shorter wav width)) (drop (count + width) w.unused ++ ds) answer
-          (data_gives (take wav.left (us ++ ds)) (take (wav.left - width) (drop (count + width) w.unused ++ ds))
+          gives ds (Some (shorter wav (sample_width wav.sample))) (drop (count + sample_width wav.sample) w.unused ++ ds)
+          (answer_of (sample_value wav.sample us) (one_after w.used))
+          (data_gives (take wav.left (us ++ ds))
+          (take (wav.left - sample_width wav.sample) (drop (count + sample_width wav.sample) w.unused ++ ds))
           (sample_value wav.sample us) (one_after w.used)
           (sample_gives wav.sample (take wav.left (us ++ ds))
-          (take (wav.left - width) (drop (count + width) w.unused ++ ds)) (sample_value wav.sample us) (one_after w.used)
+          (take (wav.left - sample_width wav.sample) (drop (count + sample_width wav.sample) w.unused ++ ds))
+          (sample_value wav.sample us) (one_after w.used)
           (omega (arith, some, enough, length-take wav.left (us ++ ds), length-append us ds))
-          (rest_is width ds some enough) (first_is ds some enough)))
-          (goes_on width (one_after w.used) (sample_value wav.sample us))
+          (rest_is (sample_width wav.sample) ds some enough) (first_is ds some enough)))
+          (goes_on (sample_width wav.sample) (one_after w.used) (sample_value wav.sample us))
 
   pub wav_tells : (item : Option ℤ) (width : ℕ) → width ≡ sample_width wav.sample → width ≤ length us
       → width ≤ wav.left → item ≡ sample_value wav.sample us

@@ -3,7 +3,9 @@ ghost use Rattle.std.specs.Prelude.{◌≡◌, ◌+◌, ◌<◌, ◌≤◌, ◌+
 ghost use Rattle.kpn_stream_devices.specs.Formats.{sample_width};
 ghost use Rattle.kpn_stream_devices.specs.Head.{HasHead, head_at};
 ghost use Rattle.kpn_stream_devices.specs.Window.{answer_of, end_told, fills_up, fresh, ends_samples, one_after, with_one, NeedsMore, LineNeedsMore, SampleNeedsMore, WindowTells, WavNeedsMore, Tells, TellsWav};
+ghost use Rattle.kpn_stream.specs.declared.faults.SourceFault.TheVariants.{BadHead};
 ghost use Rattle.kpn_stream_devices.specs.declared.head.Head.TheVariants.{Whole};
+ghost use Rattle.kpn_stream_devices.specs.declared.window.Told.TheVariants.{Other};
 ghost use Rattle.kpn_stream_devices.specs.declared.formats.ItemFormat.TheVariants.{Lines, Samples};
 
 use crate::formats::{ItemFormat, SampleFormat};
@@ -135,6 +137,7 @@ impl Window {
     /// The next item, if no more bytes are needed to tell it. Otherwise nothing changes.
     pub fn next_item(&mut self, format: ItemFormat) -> Option<i64>
         ensures told { IfSome result (λ item. WindowTells format self.old (Ok (Some item)) self.new) }
+        ensures at_hand { IfSome result (λ item. NeedsMore format self.old → ⊥) }
         ensures as_before { result ≡ None → self.new ≡ self.old }
         ensures over { self.new.is_over ≡ self.old.is_over }
     {
@@ -279,7 +282,9 @@ impl Window {
 }
 
 /// The head of a WAV file is wrong from this byte on.
-fn bad_head(at: usize) -> Told {
+fn bad_head(at: usize) -> Told
+    ensures { result ≡ Other (Err (BadHead at)) }
+{
     Told::Other(Err(SourceFault::BadHead(at as u64)))
 }
 
