@@ -51,6 +51,10 @@ impl Sources for Sensor {
         true
     }
 
+    fn next_at_hand(&mut self, _source: usize) -> Option<i64> {
+        None
+    }
+
     fn look(&mut self, _source: usize) -> Readiness {
         Readiness::AtHand
     }
