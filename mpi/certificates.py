@@ -1,6 +1,7 @@
 """What `kpn-mpi --certify` refuses: judges that say something else, wrong bodies of kpn-mpi itself, and files and
 descriptors that fail. `mpi/test.py certificates` calls it.
 """
+import collections
 import fcntl
 import os
 import pathlib
@@ -37,7 +38,8 @@ JUDGES = {
 }
 # Wrong bodies of kpn-mpi: a file, a text that stands there once, and what stands there instead.
 WRONG = {
-    'an item sent twice': ('rank.c', '  out->sent += count;', '  out->sent += count - (count > 1);'),
+    'an item sent in place of another': ('rank.c', 'in->local, items, count,',
+                                         'in->local, (((int64_t *)items)[count - 1] = items[0], items), count,'),
     'an item changed': ('rank.c', 'in->local, items, count,', 'in->local, (((int64_t *)items)[0] ^= 1, items), count,'),
     'an item dropped': ('rank.c', 'in->local, items, count,', 'in->local, items + (count > 1), count - (count > 1),'),
     'items of a sink changed': ('rank.c', '      sent += count;\n',
@@ -122,9 +124,10 @@ class Certificates:
     def devices(self):
         """Folders and descriptors that fail."""
         refused = (9, '', 'kpn: not certified: the traces cannot be stored in TMPDIR\n')
-        for start in self.both():
-            same('no folder', refused, self.call(start(), environment=self.environment(TMPDIR='/nowhere')))
+        # Open MPI makes the folder that TMPDIR names.
         for start in self.both()[:1]:
+            nothing = self.environment(TMPDIR=str(self.room / 'nothing'))
+            same('no folder', refused, self.call(start(), environment=nothing))
             few = ['bash', '-c', 'ulimit -f 0; exec "$0" "$@"', *start()]
             same('no room', refused, self.call(few))
             closed = {'<&-': (0, REPORT, CERTIFIED), '>&-': (1, '', CERTIFIED + 'kpn: 27 Write\n'), '2>&-': (0, REPORT, ''),
@@ -182,12 +185,12 @@ class Certificates:
         return sorted(found)
 
     def wrong_bodies(self, networks):
-        """Each wrong body makes some random network differ, and what differs is never certified."""
+        """What differs by a wrong body is never certified, and `kpn join` refuses some run of each."""
         for name, (file, old, new) in WRONG.items():
             program = self.wrong(name, file, old, new)
-            refused = sum(self.is_refused(name, number, program) for number in range(networks))
-            print(f'{name}: {refused} of {networks} runs refused', flush=True)
-            same(f'{name}: nothing was refused', True, refused > 0)
+            counts = collections.Counter(self.outcome(name, number, program) for number in range(networks))
+            print(f'{name}: {", ".join(f"{count} {it}" for it, count in sorted(counts.items()))}', flush=True)
+            same(f'{name}: a run is refused', True, counts['refused'] > 0)
 
     def wrong(self, name, file, old, new):
         """The simulator with a wrong body."""
@@ -201,8 +204,8 @@ class Certificates:
                         'FLAGS=-std=c11 -O1 -w -DKPN_JUDGE=\'"kpn"\''], check=True)
         return folder / 'kpn-mpi-simulator'
 
-    def is_refused(self, name, number, program):
-        """Whether one random network is refused by a wrong program. What is certified has to be right."""
+    def outcome(self, name, number, program):
+        """What comes of one random network by a wrong program. What is certified has to be right."""
         chance = random.Random(f'wrong {number}')
         ranks = chance.randrange(2, 5)
         text, items, cut, room, take = self.tests.random_case(chance, ranks)
@@ -210,18 +213,18 @@ class Certificates:
         self.tests.raised(text, ranks, room, cut_words)
         more = [*words, *(['--take', take] if take else [])]
         wanted = self.tests.call(self.tests.kpn, 'run', 'raised.kpn', '--max-commits', '20000', *more)
-        words = [program, 'net.kpn', *more, *cut_words, '--room', room, '--certify', '--ranks', ranks, '--seed', number]
+        words = ['net.kpn', *more, *cut_words, '--room', room, '--certify', '--ranks', ranks, '--seed', number]
         try:
-            found = self.tests.call(*words, timeout=10)
+            found = self.tests.call(program, *words, timeout=5)
         except subprocess.TimeoutExpired:
-            return False
-        if found[0] == 9 or wanted[0] == 5:
-            return found[0] == 9
+            return 'without end'
+        if found[0] in (9, 70):
+            return 'refused' if found[0] == 9 else 'given up'
         # A certificate is about the items, and about the outcome `ended`.
-        if found[0] < 6:
+        if wanted[0] != 5 and found[0] < 6:
             is_right = [(it[0] == 0, items_of(it[1])) for it in (wanted, found)]
             same(f'{name}: {text}\n{items} {cut} {room} {take}', *is_right)
-        return False
+        return 'right' if found[0] < 6 else f'with status {found[0]}'
 
 
 def items_of(report):

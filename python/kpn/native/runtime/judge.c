@@ -3,8 +3,12 @@
 
 #include <errno.h>
 #include <fcntl.h>
+#include <signal.h>
 #include <stdlib.h>
 #include <string.h>
+#ifdef __linux__
+#include <sys/prctl.h>
+#endif
 #include <sys/wait.h>
 #include <unistd.h>
 
@@ -56,6 +60,9 @@ FILE *kpn_start_judge(char *const *words, pid_t *child) {
   }
   *child = fork();
   if (*child == 0) {
+#ifdef __linux__
+    prctl(PR_SET_PDEATHSIG, SIGKILL); /* it does not outlive who asks */
+#endif
     dup2(ends[1], STDOUT_FILENO);
     kpn_become(words);
   }
