@@ -46,7 +46,6 @@ WRONG = {
                                 '      sent += count;\n      of->to[0].at[of->to[0].count - 1] += 1;\n'),
     'items of a sink dropped': ('rank.c', '  const size_t wanted = kpn_wanted_of(of, sink);\n    for (size_t sent = 0;',
                                 '  const size_t wanted = kpn_wanted_of(of, sink);\n    for (size_t sent = wanted > 2;'),
-    'an end too early': ('chief.c', 'it->sent != it->received || it->got != it->credited', 'false'),
     'rest too early': ('chief.c', '!of->is_known[rank] || !of->is_at_rest[rank]', '!of->is_known[rank]'),
     'a ring that is none': ('chief.c', '      return JAMMED;', '      return ENDED;'),
     'a wait that is none': ('chief.c', '    found = CLOGGED;', '    found = found;'),
