@@ -14,7 +14,7 @@ use Rattle.kpn_stream_devices.specs.Formats.{sample_width, sample_value, signed_
 use Rattle.kpn_stream_devices.specs.declared.formats.SampleFormat.{SampleFormat}
 use Rattle.kpn_stream_devices.specs.declared.formats.SampleFormat.TheVariants.{U8, S8, S16, S24, S32, S64, F32}
 use Rattle.kpn_stream_devices.specs.declared.formats.ItemFormat.TheVariants.{Lines, Samples}
-use Rattle.kpn_stream_devices.specs.Window.{Window, SpellsNone, one_after, with_one, left_of, IfKnown, IsEndKnown, LineGives, SampleGives, CountsUsed, answer_of, IsTold}
+use Rattle.kpn_stream_devices.specs.Window.{Window, SpellsNone, one_after, with_one, left_of, IfKnown, IsEndKnown, LineGives, SampleGives, CountsUsed, answer_of, IsRightOf}
 use Rattle.kpn_stream_devices.specs.declared.window.Told.TheVariants.{One}
 use Rattle.kpn_stream_devices.proofs.Lines.{is_feed, feed_within, begins, first_line, only_line, long_line}
 
@@ -32,7 +32,7 @@ counts used None = refl
 -- a line with a line feed behind it
 pub line_tells : (w : Window) (end : ℕ) (item : Option ℤ) → position is_feed w.unused ≡ Some end
     → MatchOption item (SpellsNone (strip_carriage_return (take end w.unused)))
-    (SpellsItem (strip_carriage_return (take end w.unused))) → IsTold Lines w (One item (end + 1) w.wav)
+    (SpellsItem (strip_carriage_return (take end w.unused))) → IsRightOf Lines w (One item (end + 1) w.wav)
 line_tells w end item found match = (
   feed_within w.unused end found,
   record {
@@ -52,7 +52,7 @@ line_tells w end item found match = (
 -- the last line, which lacks its line feed
 pub whole_tells : (w : Window) (item : Option ℤ) (count : ℕ) → count ≡ length w.unused → 0 < count
     → w.is_over ≡ true → position is_feed w.unused ≡ None → MatchOption item (SpellsNone w.unused) (SpellsItem w.unused)
-    → IsTold Lines w (One item count w.wav)
+    → IsRightOf Lines w (One item count w.wav)
 whole_tells w item count all some over line match = (
   omega (arith, all),
   record {
@@ -75,7 +75,7 @@ whole_tells w item count all some over line match = (
 
 -- a line that is too long
 pub long_tells : (w : Window) (count : ℕ) → count ≡ length w.unused → 22 ≤ count → position is_feed w.unused ≡ None
-    → IsTold Lines w (One None count w.wav)
+    → IsRightOf Lines w (One None count w.wav)
 long_tells w count all many line = (omega (arith, all), record { counted = refl; given = told })
   where
     told : (device : Option (List ℕ)) → IsEndKnown w device
@@ -114,7 +114,7 @@ sample_gives sample left rest None number within past is = (within, is)
 
 -- a sample whose bytes were read
 sample_told : (w : Window) (sample : SampleFormat) → sample_width sample ≤ length w.unused
-    → IsTold (Samples sample) w (One (sample_value sample w.unused) (sample_width sample) w.wav)
+    → IsRightOf (Samples sample) w (One (sample_value sample w.unused) (sample_width sample) w.wav)
 sample_told w sample within = (within, record { counted = counts w.used (sample_value sample w.unused); given = told })
   where
     told : (device : Option (List ℕ)) → IsEndKnown w device
@@ -127,8 +127,8 @@ sample_told w sample within = (within, record { counted = counts w.used (sample_
         (sym (drop-append-le (sample_width sample) w.unused ds within)) (value_again sample w.unused ds within)
 
 pub sample_tells : (w : Window) (sample : SampleFormat) (item : Option ℤ) (width : ℕ) → width ≡ sample_width sample
-    → width ≤ length w.unused → item ≡ sample_value sample w.unused → IsTold (Samples sample) w (One item width w.wav)
+    → width ≤ length w.unused → item ≡ sample_value sample w.unused → IsRightOf (Samples sample) w (One item width w.wav)
 sample_tells w sample item width wide within value =
-    subst (λ (i : Option ℤ). IsTold (Samples sample) w (One i width w.wav)) (sym value)
-    (subst (λ (n : ℕ). IsTold (Samples sample) w (One (sample_value sample w.unused) n w.wav)) (sym wide)
+    subst (λ (i : Option ℤ). IsRightOf (Samples sample) w (One i width w.wav)) (sym value)
+    (subst (λ (n : ℕ). IsRightOf (Samples sample) w (One (sample_value sample w.unused) n w.wav)) (sym wide)
     (sample_told w sample (omega (arith, wide, within))))

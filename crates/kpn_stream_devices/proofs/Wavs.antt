@@ -15,7 +15,7 @@ use Rattle.kpn_stream_devices.specs.declared.head.Head.{Head}
 use Rattle.kpn_stream_devices.specs.declared.head.Head.TheVariants.{Open, Bad, Whole}
 use Rattle.kpn_stream_devices.specs.Formats.{sample_width, sample_value}
 use Rattle.kpn_stream_devices.specs.Head.{head_at, least_unknown}
-use Rattle.kpn_stream_devices.specs.Window.{Window, one_after, with_one, left_of, IfKnown, IsEndKnown, SampleGives, SamplesGoOn, DataGives, WavGives, answer_of, IsTold, IsWavTold, data_of, end_told, fills_up, ends_samples}
+use Rattle.kpn_stream_devices.specs.Window.{Window, one_after, with_one, left_of, IfKnown, IsEndKnown, SampleGives, SamplesGoOn, DataGives, WavGives, answer_of, IsRightOf, IsRightOfWav, data_of, end_told, fills_up, ends_samples}
 use Rattle.kpn_stream_devices.specs.declared.window.Told.{Told}
 use Rattle.kpn_stream_devices.specs.declared.window.Told.TheVariants.{One, Other}
 use Rattle.kpn_stream_devices.proofs.Heads.{head_at_again}
@@ -48,7 +48,7 @@ few_wide (F32 power) = omega arith
 -- ---- a head that is not there
 
 -- a wrong head is wrong whatever follows
-pub bad_tells : (w : Window) (at : ℕ) → head_at w.wav w.unused ≡ Bad at → IsWavTold w (Other (Err (BadHead at)))
+pub bad_tells : (w : Window) (at : ℕ) → head_at w.wav w.unused ≡ Bad at → IsRightOfWav w (Other (Err (BadHead at)))
 bad_tells w at is written = record { counted = refl; given = told }
   where
     told : (device : Option (List ℕ)) → IsEndKnown w device → IfKnown (left_of w device) (left_of w device)
@@ -63,7 +63,7 @@ bad_tells w at is written = record { counted = refl; given = told }
 
 -- one within which the input ends is wrong there
 pub open_tells : (w : Window) → w.is_over ≡ true → head_at w.wav w.unused ≡ Open
-    → IsWavTold w (Other (Err (BadHead (length w.unused))))
+    → IsRightOfWav w (Other (Err (BadHead (length w.unused))))
 open_tells w over is written = record { counted = refl; given = told }
   where
     told : (device : Option (List ℕ)) → IsEndKnown w device → IfKnown (left_of w device) (left_of w device)
@@ -136,7 +136,7 @@ module _ (w : Window) (count : ℕ) (wav : Wav) (head : head_at w.wav w.unused �
 
   -- a sample whose bytes were read
   sample_told : sample_width wav.sample ≤ length us → sample_width wav.sample ≤ wav.left
-      → IsWavTold w (One (sample_value wav.sample us) (count + sample_width wav.sample)
+      → IsRightOfWav w (One (sample_value wav.sample us) (count + sample_width wav.sample)
       (Some (shorter wav (sample_width wav.sample))))
   sample_told some enough written = (
     omega (arith, within, some, length-drop count w.unused),
@@ -166,10 +166,10 @@ module _ (w : Window) (count : ℕ) (wav : Wav) (head : head_at w.wav w.unused �
 
   pub wav_tells : (item : Option ℤ) (width : ℕ) → width ≡ sample_width wav.sample → width ≤ length us
       → width ≤ wav.left → item ≡ sample_value wav.sample us
-      → IsWavTold w (One item (count + width) (Some (shorter wav width)))
+      → IsRightOfWav w (One item (count + width) (Some (shorter wav width)))
   wav_tells item width wide some enough value =
-      subst (λ (i : Option ℤ). IsWavTold w (One i (count + width) (Some (shorter wav width)))) (sym value)
-      (subst (λ (n : ℕ). IsWavTold w (One (sample_value wav.sample us) (count + n) (Some (shorter wav n)))) (sym wide)
+      subst (λ (i : Option ℤ). IsRightOfWav w (One i (count + width) (Some (shorter wav width)))) (sym value)
+      (subst (λ (n : ℕ). IsRightOfWav w (One (sample_value wav.sample us) (count + n) (Some (shorter wav n)))) (sym wide)
       (sample_told (omega (arith, wide, some)) (omega (arith, wide, enough))))
 
   -- no more samples come: the input is over, or all of them were read
@@ -193,7 +193,7 @@ module _ (w : Window) (count : ℕ) (wav : Wav) (head : head_at w.wav w.unused �
 
   -- what is left behind the last sample is the end, or a part of one
   end_tells : AllRead → length (take wav.left us) < sample_width wav.sample → (at_end : Bool)
-      → ends_samples wav (take wav.left us) ≡ at_end → IsWavTold w (Other (told_by at_end))
+      → ends_samples wav (take wav.left us) ≡ at_end → IsRightOfWav w (Other (told_by at_end))
   end_tells all few true is written = record {
     counted = refl;
     given = few_tells (Ok None) all (λ rest. is) (λ after. tt);
@@ -217,13 +217,13 @@ module _ (w : Window) (count : ℕ) (wav : Wav) (head : head_at w.wav w.unused �
       ends bytes = nat_eq (length bytes) 0 || fills_up wav bytes
 
   -- so the answer is right where no more come
-  pub few_tell : AllRead → min wav.left (length us) < sample_width wav.sample → IsWavTold w (Other (end_told wav us))
+  pub few_tell : AllRead → min wav.left (length us) < sample_width wav.sample → IsRightOfWav w (Other (end_told wav us))
   few_tell all few =
       end_tells all (omega (arith, few, length-take wav.left us)) (ends_samples wav us) (same_end few)
 
 -- what the bytes of any WAV file tell
 pub any_tells : (result : Option Told) (format : ItemFormat) (written : WavFormat) (w : Window)
-    → format ≡ item_format.Wav written → IfSome result (IsWavTold w) → IfSome result (IsTold format w)
+    → format ≡ item_format.Wav written → IfSome result (IsRightOfWav w) → IfSome result (IsRightOf format w)
 any_tells None format written w is told = tt
 any_tells (Some found) format written w is told =
-    subst (λ (f : ItemFormat). IsTold f w found) (sym is) (told written)
+    subst (λ (f : ItemFormat). IsRightOf f w found) (sym is) (told written)

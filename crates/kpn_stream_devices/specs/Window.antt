@@ -209,14 +209,14 @@ answer_of (Some item) number = Ok (Some item)
 answer_of None number = Err (BadItem number)
 
 -- the answer that was told, and the window behind it
-abbrev pub IsTold : ItemFormat → Window → Told → Type 0
-IsTold format w (One item count wav) =
+abbrev pub IsRightOf : ItemFormat → Window → Told → Type 0
+IsRightOf format w (One item count wav) =
     (count ≤ length w.unused) × WindowTells format w (answer_of item (one_after w.used)) (with_one count wav w)
-IsTold format w (Other answer) = WindowTells format w answer w
+IsRightOf format w (Other answer) = WindowTells format w answer w
 
 -- the same of a WAV file
-abbrev pub IsWavTold : Window → Told → Type 0
-IsWavTold w told = (written : WavFormat) → IsTold (format.Wav written) w told
+abbrev pub IsRightOfWav : Window → Told → Type 0
+IsRightOfWav w told = (written : WavFormat) → IsRightOf (format.Wav written) w told
 
 -- the answer where no more bytes come than these, which are too few for a sample
 abbrev pub end_told : Wav → List ℕ → Result (Option ℤ) SourceFault

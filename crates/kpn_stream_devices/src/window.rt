@@ -2,7 +2,7 @@
 ghost use Rattle.std.specs.Prelude.{◌≡◌, ◌+◌, ◌<◌, ◌≤◌, ◌++◌, [], true, false, Ok, Err, Some, None, drop, length, vec_len, IfOk, OnOk, OnErr, IfSome, MatchOption, position, ◌==◌, min};
 ghost use Rattle.kpn_stream_devices.specs.Formats.{sample_width};
 ghost use Rattle.kpn_stream_devices.specs.Head.{HasHead, head_at};
-ghost use Rattle.kpn_stream_devices.specs.Window.{answer_of, end_told, fills_up, fresh, ends_samples, one_after, with_one, NeedsMore, LineNeedsMore, SampleNeedsMore, WindowTells, WavNeedsMore, IsTold, IsWavTold};
+ghost use Rattle.kpn_stream_devices.specs.Window.{answer_of, end_told, fills_up, fresh, ends_samples, one_after, with_one, NeedsMore, LineNeedsMore, SampleNeedsMore, WindowTells, WavNeedsMore, IsRightOf, IsRightOfWav};
 ghost use Rattle.kpn_stream.specs.declared.faults.SourceFault.TheVariants.{BadHead};
 ghost use Rattle.kpn_stream_devices.specs.declared.head.Head.TheVariants.{Whole};
 ghost use Rattle.kpn_stream_devices.specs.declared.window.Told.TheVariants.{Other};
@@ -152,7 +152,7 @@ impl Window {
 
     /// What the unused bytes tell, if no more are needed.
     fn tell(&self, format: ItemFormat) -> Option<Told>
-        ensures told { IfSome result (λ told. IsTold format self.now told) }
+        ensures told { IfSome result (λ told. IsRightOf format self.now told) }
         ensures needs { result ≡ None → NeedsMore format self.now }
         ensures enough { NeedsMore format self.now → result ≡ None }
     {
@@ -172,7 +172,7 @@ impl Window {
     }
 
     fn tell_line(&self) -> Option<Told>
-        ensures told { IfSome result (λ told. IsTold Lines self.now told) }
+        ensures told { IfSome result (λ told. IsRightOf Lines self.now told) }
         ensures needs { result ≡ None → LineNeedsMore self.now }
         ensures enough { LineNeedsMore self.now → result ≡ None }
     {
@@ -185,7 +185,7 @@ impl Window {
     /// What the line tells that has a line feed behind so many bytes.
     fn tell_line_of(&self, end: usize) -> Told
         requires { position (λ byte. byte == 10) self.now.unused ≡ Some end }
-        ensures { IsTold Lines self.now result }
+        ensures { IsRightOf Lines self.now result }
     {
         let item = item_of_line(without_carriage_return(&self.unused()[..end]));
         Told::One(item, end + 1, self.wav)
@@ -194,7 +194,7 @@ impl Window {
     /// What the last line tells, which lacks its line feed.
     fn tell_last_line(&self) -> Option<Told>
         requires { position (λ byte. byte == 10) self.now.unused ≡ None }
-        ensures told { IfSome result (λ told. IsTold Lines self.now told) }
+        ensures told { IfSome result (λ told. IsRightOf Lines self.now told) }
         ensures needs { result ≡ None → LineNeedsMore self.now }
         ensures enough { LineNeedsMore self.now → result ≡ None }
     {
@@ -214,7 +214,7 @@ impl Window {
 
     /// What the bytes of a sample tell.
     fn tell_sample(&self, sample: SampleFormat) -> Option<Told>
-        ensures told { IfSome result (λ told. IsTold (Samples sample) self.now told) }
+        ensures told { IfSome result (λ told. IsRightOf (Samples sample) self.now told) }
         ensures needs { result ≡ None → SampleNeedsMore sample self.now }
         ensures enough { SampleNeedsMore sample self.now → result ≡ None }
     {
@@ -245,7 +245,7 @@ impl Window {
 
     /// What the bytes of a WAV file tell.
     fn tell_wav(&self) -> Option<Told>
-        ensures told { IfSome result (λ told. IsWavTold self.now told) }
+        ensures told { IfSome result (λ told. IsRightOfWav self.now told) }
         ensures needs { result ≡ None → WavNeedsMore self.now }
         ensures enough { WavNeedsMore self.now → result ≡ None }
     {
@@ -261,7 +261,7 @@ impl Window {
     fn tell_behind(&self, start: usize, wav: Wav) -> Option<Told>
         requires head { head_at self.now.wav self.now.unused ≡ Whole start wav }
         requires within { start ≤ length self.now.unused }
-        ensures told { IfSome result (λ told. IsWavTold self.now told) }
+        ensures told { IfSome result (λ told. IsRightOfWav self.now told) }
         ensures needs { result ≡ None → WavNeedsMore self.now }
         ensures enough { WavNeedsMore self.now → result ≡ None }
     {

@@ -6,7 +6,7 @@ use Rattle.kpn_text_items.specs.ItemLine.{SpellsItem}
 use Rattle.kpn_stream_devices.specs.declared.formats.ItemFormat.TheVariants.{Lines}
 use Rattle.kpn_stream_devices.specs.declared.head.Wav.{Wav}
 use Rattle.kpn_stream_devices.specs.declared.window.Told.TheVariants.{One}
-use Rattle.kpn_stream_devices.specs.Window.{Window, SpellsNone, IsTold}
+use Rattle.kpn_stream_devices.specs.Window.{Window, SpellsNone, IsRightOf}
 use Rattle.kpn_stream_devices.proofs.Telling.{line_tells}
 use Rattle.kpn_stream_devices.proofs.window.Window.tell_line_of.Goals as goal
 
@@ -14,7 +14,7 @@ pub returns : goal.returns
 returns c =
     let w = c.args.self.now in
     let item = c.item_of_line-item.result in
-    subst (λ (wav : Option Wav). IsTold Lines w (One item (c.args.end + 1) wav))
+    subst (λ (wav : Option Wav). IsRightOf Lines w (One item (c.args.end + 1) wav))
     (sym (ap (λ (x : Window). x.wav) c.self.view_is))
     (line_tells w c.args.end item c.requires
     (subst (λ line. MatchOption item (SpellsNone line) (SpellsItem line))
