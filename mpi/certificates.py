@@ -137,6 +137,11 @@ class Certificates:
             few = ['bash', '-c', 'ulimit -n 6; exec "$0" "$@"', *start()]
             same('no descriptors', refused, self.call(few))
             same('a pipe that does not wait', (0, REPORT), self.through_pipe(start()))
+            same('a reader that has gone', (0, '', CERTIFIED + 'kpn: 27 Write\n'),
+                 self.call(['bash', '-c', '"$0" "$@" | true', *start()]))
+            swaps = self.judge('echo nothing > net; exec "$JUDGE" "$@"')
+            same('a description that is swapped', (0, REPORT, CERTIFIED), self.call(start(), swaps))
+            (self.room / 'net').write_text(TWO)
 
     def through_pipe(self, words):
         """A run whose output is a pipe that does not wait, with little room."""

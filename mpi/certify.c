@@ -12,6 +12,7 @@
 
 /* The file of the description, and then of each rank those of its part and its trace. */
 enum { OF_RANK = 2, MOST_FILES = 1 + OF_RANK * MOST_RANKS, LONGEST_LINE = 128, PAUSE_IN_MILLISECONDS = 100 };
+enum { LONGEST_TRACE = 268435456 };
 
 /* What the judge is asked. */
 struct question {
@@ -124,6 +125,11 @@ static int compare(FILE *from, const struct question *asked, const struct kpn_ra
 }
 
 int kpn_certify(const struct kpn_rank *of, const struct kpn_text *description) {
+  for (int rank = 0; rank < of->cut->ranks; rank++) {
+    if (of->chief->traces[rank].length > LONGEST_TRACE) {
+      return refuse("the trace of rank %d has more than %d bytes, which `kpn` does not read", rank, LONGEST_TRACE);
+    }
+  }
   struct question *asked = kpn_memory(sizeof *asked);
   pid_t child;
   int status;

@@ -257,7 +257,8 @@ def number(token):
     """The value of a number: of base 10, of base 16 or 2 behind `0x` or `0b`, or a byte in quotes."""
     if token[0] == "'":
         return ESCAPED[token[2]] if token[1] == '\\' else ord(token[1])
-    return int(token, 0) if token[1:2] in ('x', 'b') else int(token)
+    base = {'0x': 16, '0b': 2}.get(token[:2], 10)
+    return int(token.replace('_', ''), base)
 
 
 def sides(mark):

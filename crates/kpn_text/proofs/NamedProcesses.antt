@@ -32,7 +32,7 @@ use Rattle.kpn_text.specs.Named.{statements_named, literal_named, array_named, t
 use Rattle.kpn_text_names.proofs.Chains.{ok_is, went}
 use Rattle.kpn_text_names.proofs.KnownNames.{if_so, if_not, declared_is}
 use Rattle.kpn_text.proofs.DeclaredRows.{Laid, rows_of, Declares, all_declared, or_parts}
-use Rattle.kpn_text.proofs.Growing.{body_grows}
+use Rattle.kpn_text_names.proofs.Growing.{body_grows}
 use Rattle.kpn_text.proofs.NamedBodies.{block_back}
 use Rattle.kpn_text.proofs.SharedTables.{sorted_process}
 use Rattle.kpn_text.proofs.SortedDeclarations.{arrays_of, tables_of, sorted}

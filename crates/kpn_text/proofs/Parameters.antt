@@ -19,7 +19,7 @@ use Rattle.kpn_text_names.specs.Network.{wiring}
 use Rattle.kpn_text_names.specs.Named.{Named, NamedProgram, Programs, free_of, values_of, with_uses, at_body, named_program, programs_of, with_named_process, resolve}
 use Rattle.kpn_text_names.proofs.Chains.{ok_is, went}
 use Rattle.kpn_text_names.proofs.Steps.{keeps}
-use Rattle.kpn_text.proofs.Growing.{Grows, body_grows}
+use Rattle.kpn_text_names.proofs.Growing.{Grows, body_grows}
 
 -- the parameters are among the variables, and with cells there are 64 of them
 pub record HasItsParameters (p : NamedProgram) : Type 0 where

@@ -7,5 +7,7 @@ mod Heads
 mod Trees
 pub mod KnownNames
 pub mod KnownTargets
+pub mod Growing
+mod FirstTargets
 pub mod Counts
 mod Once
