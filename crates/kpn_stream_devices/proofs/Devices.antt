@@ -28,7 +28,7 @@ use Rattle.kpn_stream_devices.specs.declared.inputs.SourceInput.{SourceInput}
 use Rattle.kpn_stream_devices.specs.SourceInputs.{device_left, most_read, HasReadOn, InputGives, IsInputAsked, IsSparing, HaveMoved, FailsToRead, ReadsOnly, WaitsForDevice, kept_fault}
 use Rattle.kpn_stream_devices.specs.declared.inputs.Failed.{Failed}
 use Rattle.kpn_stream_devices.specs.declared.inputs.Failed.TheVariants as look_fault
-use Rattle.kpn_stream_devices.specs.SinkOutputs.{HandsOn, TakesItem}
+use Rattle.kpn_stream_devices.specs.SinkOutputs.{HandsOn, KeepsFew, TakesItem}
 
 -- ---- inputs
 
@@ -400,6 +400,11 @@ handed format item written before kept after (Err Gone) bytes has is put on = tt
 handed format item written before kept after (Err Write) bytes has is put on = tt
 handed format item written before kept after (Err sink_fault.NoMemory) bytes has is put on = absurd on.1
 handed format item written before kept after (Err (NoSample other)) bytes has is put on = absurd on.1
+
+pub few_handed : (before after : Option (List ℕ)) (answer : Result (Unit {0}) SinkFault) (bytes : List ℕ)
+    → HandsOn answer bytes before after → KeepsFew answer bytes
+few_handed before after (Ok done) bytes on = omega (arith, ap length on.0)
+few_handed before after (Err fault) bytes on = tt
 
 -- bytes that are kept were put
 pub kept_more : (device : Option (List ℕ)) (old new bytes : List ℕ) → new ≡ old ++ bytes
