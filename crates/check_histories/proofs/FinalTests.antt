@@ -65,11 +65,11 @@ left_fed =
     (passes-legal copy_network 6 left_after_one_run refl))
 
 -- nothing was fed, which begins each list
+nothing : (c : ℕ) → IsPrefix (fed copy_network early_close_run c) (fed copy_network copy_run c)
+unfolding copy_network early_close_run
+nothing zero = tt
+nothing (suc zero) = tt
+nothing (suc (suc c)) = tt
+
 pub fed_early : IsPrefixOnSources copy_network (fed copy_network early_close_run) (fed copy_network copy_run)
 fed_early = record { each = λ c source. nothing c }
-  where
-    nothing : (c : ℕ) → IsPrefix (fed copy_network early_close_run c) (fed copy_network copy_run c)
-    unfolding copy_network early_close_run
-    nothing zero = tt
-    nothing (suc zero) = tt
-    nothing (suc (suc c)) = tt

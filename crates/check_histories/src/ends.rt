@@ -15,7 +15,7 @@ pub fn a_stop_that_owes_a_growth_has_less()
     ensures run { IsRunFrom resolved_network (λ c. []) (take 4 resolved_run) }
     ensures settled { IsSettled resolved_network (take 4 resolved_run) }
     ensures growths { growths_of (take 4 resolved_run) 0 ≡ 0 }
-    ensures final { IsFinalRun resolved_network (λ c. []) resolved_run }
+    ensures end { IsFinalRun resolved_network (λ c. []) resolved_run }
     ensures more { growths_of resolved_run 0 ≡ 2 }
 {}
 

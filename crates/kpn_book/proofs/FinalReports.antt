@@ -22,7 +22,7 @@ use Rattle.kpn_book.specs.declared.outcome.Limits.{Limits}
 use Rattle.kpn_book.specs.declared.outcome.Outcome.{Outcome}
 use Rattle.kpn_book.specs.declared.outcome.Outcome.TheVariants.{Ended, Clogged, Jammed, Enough, Stopped}
 use Rattle.kpn_book.specs.declared.report.Report.{Report}
-use Rattle.kpn_book.specs.Outcomes.{HaveRead, IsEnough, IsOutcome, verdict_of}
+use Rattle.kpn_book.specs.Outcomes.{IsEnough, IsOutcome, verdict_of}
 use Rattle.kpn_book.specs.Reports.{events_of, sink_numbers, AreSupplied, IsReport, ReportsAgree}
 use Rattle.kpn_book.proofs.Agreement.{fed_begins}
 use Rattle.kpn_book.proofs.Completing.{fed_from}

@@ -18,9 +18,9 @@ pub returns-clause-growths : goal.returns-clause-growths
 unfolding resolved_run
 returns-clause-growths c = refl
 
-pub returns-clause-final : goal.returns-clause-final
+pub returns-clause-end : goal.returns-clause-end
 unfolding resolved_network resolved_run
-returns-clause-final c =
+returns-clause-end c =
     final_run resolved_network (λ c. []) 1 resolved_run refl refl refl (fed_nothing resolved_run)
 
 pub returns-clause-more : goal.returns-clause-more
