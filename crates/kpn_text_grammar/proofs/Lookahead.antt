@@ -204,7 +204,7 @@ module _ {X Y : Type 0} {end : ℕ} {MayFirst May : List Token → Type 0} (call
   behind_kept x mid k forgets = forgets
   behind_kept x mid k nests = nests
 
-  in_turn : (one : X → List Lexeme → Read Y) (r : Read X) → Look end MayFirst call ls r
+  pub in_turn : (one : X → List Lexeme → Read Y) (r : Read X) → Look end MayFirst call ls r
       → ((x : X) (mid : List Lexeme) → r ≡ Ok (x, mid) → Look end May (deeper x) mid (one x mid))
       → Look end May (both call deeper) ls (and_then r (λ x. one x.0 x.1))
   unfolding and_then
@@ -268,12 +268,36 @@ module _ {Y : Type 0} {end : ℕ} {May : List Token → Type 0} (picks : List Le
 -- what is read behind the first token, or that token is refused
 abbrev pub Starts : {Y : Type 0} → (end : ℕ) → (ok : Type 0) → (May : List Token → Type 0) → ℕ → (from deeper : List Lexeme → Read Y) → Type 0
 Starts {Y} end ok May start from deeper =
-    (ok → Looks end May from deeper × Fills May deeper)
+    (ok → Looks end May from deeper)
     ⊎ ((ls : List Lexeme) → (from ls ≡ Err (fault.Grammar start)) × (deeper ls ≡ Err (fault.Grammar start)))
 
 abbrev pub CanStart : {A B : Type 0} → A ⊎ B → Type 0
 CanStart (inl x) = Unit {0}
 CanStart (inr y) = ⊥
+
+-- one token more in front of what another call reads
+pub passed : {Y : Type 0} {end : ℕ} {May : List Token → Type 0} {call deeper : List Lexeme → Read Y} (l : Lexeme)
+    → ((ts : List Lexeme) → call (l ∷ ts) ≡ deeper ts) → {ls : List Lexeme} {r : Read Y} → Look end May deeper ls r
+    → Look end May call (l ∷ ls) r
+passed l same (returns k) = returns (record {
+  before = l ∷ k.before;
+  whole = ap (λ ts. l ∷ ts) k.whole;
+  again = λ other near. same (k.before ++ other) ∙ k.again other near;
+})
+passed l same (refuses f) = refuses (record {
+  before = l ∷ f.before;
+  rest = f.rest;
+  whole = ap (λ ts. l ∷ ts) f.whole;
+  place = f.place;
+  again = λ other h. same (f.before ++ other) ∙ f.again other h;
+  leads = record {
+    fill = f.leads.fill;
+    value = f.leads.value;
+    reads = λ other may. same (f.before ++ (f.leads.fill ++ other)) ∙ f.leads.reads other may;
+  };
+})
+passed l same forgets = forgets
+passed l same nests = nests
 
 abbrev pub by_first : {Y : Type 0} → Scope → (Lexeme → List Lexeme → Read Y) → List Lexeme → Read Y
 by_first s from ls = and_then (next s ls) (λ l. from l.0 l.1)
@@ -291,21 +315,6 @@ module _ {Y : Type 0} (s : Scope) (deeper : Lexeme → List Lexeme → Read Y) w
   unfolding next and_then
   none [] h = refl
   none (m ∷ ms) h = absurd cc
-
-  passed : {May : List Token → Type 0} (l : Lexeme) {ls : List Lexeme} {r : Read Y} → Look s.end May (deeper l) ls r → Look s.end May (by_first s deeper) (l ∷ ls) r
-  unfolding next and_then
-  passed l (returns k) =
-      returns (record { before = l ∷ k.before; whole = ap (λ ts. l ∷ ts) k.whole; again = k.again })
-  passed l (refuses f) = refuses (record {
-    before = l ∷ f.before;
-    rest = f.rest;
-    whole = ap (λ ts. l ∷ ts) f.whole;
-    place = f.place;
-    again = f.again;
-    leads = record { fill = f.leads.fill; value = f.leads.value; reads = f.leads.reads };
-  })
-  passed l forgets = forgets
-  passed l nests = nests
 
   -- by a token that can start, what is read then
   pub start_fills : {May : List Token → Type 0} (l : Lexeme) → Fills May (deeper l) → Fills May (by_first s deeper)
@@ -326,7 +335,8 @@ module _ {Y : Type 0} (s : Scope) (deeper : Lexeme → List Lexeme → Read Y) w
 
     started : (from : Lexeme → List Lexeme → Read Y) (ok : Type 0) → ok → (l : Lexeme) (ls : List Lexeme)
         → Starts s.end ok May l.start (from l) (deeper l) → Look s.end May (by_first s deeper) (l ∷ ls) (from l ls)
-    started from ok so l ls (inl p) = passed l ((p so).0.at ls)
+    unfolding next and_then
+    started from ok so l ls (inl looks) = passed l (λ ts. refl) ((looks so).at ls)
     started from ok so l ls (inr fails) =
         subst (λ (r : Read Y). Look s.end May (by_first s deeper) (l ∷ ls) r) (sym (fails ls).0) (refused l ls (λ ts. (fails ts).1))
 
@@ -344,6 +354,16 @@ module _ {Y : Type 0} (s : Scope) (deeper : Lexeme → List Lexeme → Read Y) w
         leads = record { fill = sample.fill; value = sample.value; reads = sample.reads };
       })
       at (l ∷ ls) = started from ok so l ls (starts l)
+
+pub starts_on : {X Y : Type 0} {end start : ℕ} {ok : Type 0} {MayFirst May : List Token → Type 0} {first call : List Lexeme → Read X}
+    {one deeper : X → List Lexeme → Read Y} → Meets MayFirst May deeper
+    → ((before : List Lexeme) → Fills MayFirst (λ ts. call (before ++ ts))
+    → Fills May (λ ts. and_then (call (before ++ ts)) (λ x. deeper x.0 x.1)))
+    → Starts end ok MayFirst start first call → (ok → (x : X) → Looks end May (one x) (deeper x))
+    → Starts end ok May start (λ ls. and_then (first ls) (λ x. one x.0 x.1)) (λ ls. and_then (call ls) (λ x. deeper x.0 x.1))
+unfolding and_then
+starts_on meets finish (inl looks) tail = inl (λ so. bind_looks meets finish (looks so) (tail so))
+starts_on meets finish (inr fails) tail = inr (λ ls. (rw (fails ls).0 refl, rw (fails ls).1 refl))
 
 -- ---- one after another
 

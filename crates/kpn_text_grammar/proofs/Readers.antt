@@ -51,6 +51,19 @@ pub as_seen : {Z Y : Type 0} {end : ℕ} {ok : Type 0} {make : Z → Y} {spell :
     → Row end ok make spell Within May low one → Seen end ok make spell Within May low one
 as_seen row = record { laws = row.laws; looks = row.looks }
 
+-- a row of what is seen of one
+pub sampled : {Z Y : Type 0} {end : ℕ} {ok : Type 0} {make : Z → Y} {spell : Z → List Token → List Token}
+    {Within : Z → List Token → Type 0} {May : List Token → Type 0} {low one : List Lexeme → Read Y}
+    → Seen end ok make spell Within May low one → (ok → Fills May one) → Row end ok make spell Within May low one
+sampled seen sample = record { laws = seen.laws; looks = seen.looks; sample = sample }
+
+-- the same where more is known
+pub given : {Z Y : Type 0} {end : ℕ} {ok also : Type 0} {make : Z → Y} {spell : Z → List Token → List Token}
+    {Within : Z → List Token → Type 0} {May : List Token → Type 0} {low one : List Lexeme → Read Y} → (also → ok)
+    → Row end ok make spell Within May low one → Row end also make spell Within May low one
+given known row =
+    record { laws = row.laws; looks = λ so. row.looks (known so); sample = λ so. row.sample (known so) }
+
 -- a reader whose values are what it returns
 abbrev pub Reader : {A : Type 0} → ℕ → Type 0 → (A → List Token → List Token) → (A → Type 0) → (List Token → Type 0)
     → (low one : List Lexeme → Read A) → Type 0
@@ -146,8 +159,8 @@ pub bind_by : {A X Z Y : Type 0} {end : ℕ} {ok : Type 0} {make_first : A → X
     → Row end ok make_first spell_first First MayFirst low_first first
     → ((x : X) → Seen end ok (make x) spell (Within x) May (low x) (one x))
     → ((x : X) (z : Z) (more : List Token) → Within x z more → May more → MayFirst (spell z more))
-    → (Meets MayFirst May one → ok → (f : List Lexeme → Read X) (a : Fills MayFirst f)
-    → Fills May (λ ts. and_then (f ts) (λ x. one x.0 x.1)))
+    → (Meets MayFirst May one → ok → (before : List Lexeme) → Fills MayFirst (λ ts. first (before ++ ts))
+    → Fills May (λ ts. and_then (first (before ++ ts)) (λ x. one x.0 x.1)))
     → Row {Z = A × Z} end ok (λ z. make (make_first z.0) z.1) (λ z more. spell_first z.0 (spell z.1 more))
     (λ z more. First z.0 (spell z.1 more) × Within (make_first z.0) z.1 more) May
     (λ ls. and_then (low_first ls) (λ x. low x.0 x.1)) (λ ls. and_then (first ls) (λ x. one x.0 x.1))
@@ -175,9 +188,9 @@ bind_by {A} {X} {Z} {Y} {end} {ok} {make_first} {spell_first} {First} {MayFirst}
               (then (make_first z.0)).laws.no_gap z.1 more within.1,
             );
       };
-      looks = λ so. bind_looks meets (λ before f. leads meets so (λ ts. first (before ++ ts)) f) (head.looks so)
+      looks = λ so. bind_looks meets (leads meets so) (head.looks so)
           (λ x. (then x).looks so);
-      sample = λ so. leads meets so first (head.sample so);
+      sample = λ so. leads meets so [] (head.sample so);
     } where
       meets : Meets MayFirst May one
       meets x ts rest y e may =
@@ -195,9 +208,9 @@ pub bind : {A X Z Y : Type 0} {end : ℕ} {ok : Type 0} {make_first : A → X} {
     → Row {Z = A × Z} end ok (λ z. make (make_first z.0) z.1) (λ z more. spell_first z.0 (spell z.1 more))
     (λ z more. First z.0 (spell z.1 more) × Within (make_first z.0) z.1 more) May
     (λ ls. and_then (low_first ls) (λ x. low x.0 x.1)) (λ ls. and_then (first ls) (λ x. one x.0 x.1))
-bind {one = one} head then follows =
+bind {first = first} {one = one} head then follows =
     bind_by head (λ x. as_seen (then x)) follows
-    (λ meets so first f. bind_fills first one meets f ((then f.value).sample so))
+    (λ meets so before f. bind_fills (λ ts. first (before ++ ts)) one meets f ((then f.value).sample so))
 
 -- the same where anything may stand behind its value
 pub value : {A X Z Y : Type 0} {end : ℕ} {ok : Type 0} {make_first : A → X} {spell_first : A → List Token → List Token}
@@ -298,7 +311,7 @@ mapped to row follows =
 
 token_looks : {A : Type 0} (end start : ℕ) (found : Option A)
     → Starts end (Unit {0}) Anything start (λ ls. or_fault_at start ls found) (λ ls. or_fault_at start ls found)
-token_looks end start (Some x) = inl (λ so. (done_looks x, done_fills x))
+token_looks end start (Some x) = inl (λ so. done_looks x)
 token_looks end start None = inr (λ ls. (refl, refl))
 
 -- a token that stands for something, as for this
@@ -387,11 +400,10 @@ pub choose : {Z W Y : Type 0} {end : ℕ} {ok : Type 0} (picks : List Lexeme →
     → May more → picks ts ≡ true)
     → ((ls ts : List Lexeme) (w : W) (more : List Token) → picks ls ≡ false → kinds ts ≡ spell_other w more
     → Other w more → May more → picks ts ≡ false)
-    → (ok → Fills May (λ ls. cond (picks ls) (one ls) (other ls)))
-    → Row end ok (either make_one make_other) (spell_either spell_one spell_other) (Either First Second) May
+    → Seen end ok (either make_one make_other) (spell_either spell_one spell_other) (Either First Second) May
     (λ ls. cond (picks ls) (low_one ls) (low_other ls)) (λ ls. cond (picks ls) (one ls) (other ls))
 choose {Z} {W} {Y} {end} {ok} picks looking {make_one} {spell_one} {One} {low_one} {one} {make_other} {spell_other} {Other}
-    {low_other} {other} {May} First Second first second picked passed pick pass as_one as_other picks_on passes_on sample = record {
+    {low_other} {other} {May} First Second first second picked passed pick pass as_one as_other picks_on passes_on = record {
       laws = record {
         takes = λ ls y rest h.
             by_test (picks ls) (one ls) (other ls) (Ok (y, rest)) h
@@ -403,7 +415,6 @@ choose {Z} {W} {Y} {end} {ok} picks looking {make_one} {spell_one} {One} {low_on
       looks = λ so. pick_looks picks looking (first.looks so) (second.looks so)
           (λ ls ts rest y b e may. let t = first.laws.takes ts y rest e in picks_on ls ts t.0 (kinds rest) b t.3 t.2 may)
           (λ ls ts rest y b e may. let t = second.laws.takes ts y rest e in passes_on ls ts t.0 (kinds rest) b t.3 t.2 may);
-      sample = sample;
     } where
       chosen : (ls : List Lexeme) (more : List Token) → May more → (z : Z ⊎ W) → Either First Second z more
           → kinds ls ≡ spell_either spell_one spell_other z more → (rest : List Lexeme)
@@ -423,6 +434,35 @@ choose {Z} {W} {Y} {end} {ok} picks looking {make_one} {spell_one} {One} {low_on
       gapless more (inr w) within = second.laws.no_gap w more (as_other w more within)
 
 -- the same by the token at the front
+module _ {Z W Y : Type 0} {end : ℕ} {ok : Type 0} (goes : Token → Bool) {make_one : Z → Y} {spell_one : Z → List Token → List Token}
+    {One : Z → List Token → Type 0} {low_one one : List Lexeme → Read Y} {make_other : W → Y}
+    {spell_other : W → List Token → List Token} {Other : W → List Token → Type 0} {low_other other : List Lexeme → Read Y}
+    {May : List Token → Type 0} (first : Seen end ok make_one spell_one One May low_one one)
+    (second : Seen end ok make_other spell_other Other May low_other other)
+    (at_one : (z : Z) (more : List Token) → One z more → May more → begins goes (spell_one z more) ≡ true)
+    (at_other : (w : W) (more : List Token) → Other w more → May more → begins goes (spell_other w more) ≡ false) where
+  begun : (ls : List Lexeme) (z : Z) (more : List Token) → kinds ls ≡ spell_one z more → One z more → May more
+      → first_is goes ls ≡ true
+  begun ls z more h is may = first_begins goes ls ∙ ap (begins goes) h ∙ at_one z more is may
+
+  missed : (ls : List Lexeme) (w : W) (more : List Token) → kinds ls ≡ spell_other w more → Other w more → May more
+      → first_is goes ls ≡ false
+  missed ls w more h is may = first_begins goes ls ∙ ap (begins goes) h ∙ at_other w more is may
+
+  pub choice_seen : Seen end ok (either make_one make_other) (spell_either spell_one spell_other) (Either One Other) May
+      (λ ls. cond (first_is goes ls) (low_one ls) (low_other ls)) (λ ls. cond (first_is goes ls) (one ls) (other ls))
+  choice_seen =
+      choose (first_is goes) (first_looks goes) One Other first second (λ ls z more b h is. is) (λ ls w more b h is. is)
+      (λ ls z more h is may. (begun ls z more h is may, is)) (λ ls w more h is may. (missed ls w more h is may, is))
+      (λ z more is. is) (λ w more is. is) (λ ls ts z more b h is may. begun ts z more h is may)
+      (λ ls ts w more b h is may. missed ts w more h is may)
+
+  -- what the second one reads
+  pub passed_fills : Fills May other → Fills May (λ ls. cond (first_is goes ls) (one ls) (other ls))
+  passed_fills f = fills_as (λ more may. may) (λ ts rest y e may.
+      let t = second.laws.takes ts y rest e in
+      no_test (first_is goes ts) (one ts) (other ts) (other ts) (missed ts t.0 (kinds rest) t.3 t.2 may) refl) f
+
 pub choice : {Z W Y : Type 0} {end : ℕ} {ok : Type 0} (goes : Token → Bool) {make_one : Z → Y} {spell_one : Z → List Token → List Token}
     {One : Z → List Token → Type 0} {low_one one : List Lexeme → Read Y} {make_other : W → Y}
     {spell_other : W → List Token → List Token} {Other : W → List Token → Type 0} {low_other other : List Lexeme → Read Y}
@@ -432,23 +472,9 @@ pub choice : {Z W Y : Type 0} {end : ℕ} {ok : Type 0} (goes : Token → Bool) 
     → ((w : W) (more : List Token) → Other w more → May more → begins goes (spell_other w more) ≡ false)
     → Row end ok (either make_one make_other) (spell_either spell_one spell_other) (Either One Other) May
     (λ ls. cond (first_is goes ls) (low_one ls) (low_other ls)) (λ ls. cond (first_is goes ls) (one ls) (other ls))
-choice {Z} {W} goes {spell_one = spell_one} {One} {one = one} {spell_other = spell_other} {Other} {other = other} {May} first second
-    at_one at_other =
-        choose (first_is goes) (first_looks goes) One Other first (as_seen second) (λ ls z more b h is. is) (λ ls w more b h is. is)
-        (λ ls z more h is may. (begun ls z more h is may, is)) (λ ls w more h is may. (missed ls w more h is may, is))
-        (λ z more is. is) (λ w more is. is) (λ ls ts z more b h is may. begun ts z more h is may)
-        (λ ls ts w more b h is may. missed ts w more h is may)
-        (λ so. fills_as (λ more may. may) (λ ts rest y e may.
-        let t = second.laws.takes ts y rest e in
-        no_test (first_is goes ts) (one ts) (other ts) (other ts) (missed ts t.0 (kinds rest) t.3 t.2 may) refl)
-        (second.sample so)) where
-          begun : (ls : List Lexeme) (z : Z) (more : List Token) → kinds ls ≡ spell_one z more → One z more → May more
-              → first_is goes ls ≡ true
-          begun ls z more h is may = first_begins goes ls ∙ ap (begins goes) h ∙ at_one z more is may
-
-          missed : (ls : List Lexeme) (w : W) (more : List Token) → kinds ls ≡ spell_other w more → Other w more → May more
-              → first_is goes ls ≡ false
-          missed ls w more h is may = first_begins goes ls ∙ ap (begins goes) h ∙ at_other w more is may
+choice goes first second at_one at_other =
+    sampled (choice_seen goes first (as_seen second) at_one at_other)
+    (λ so. passed_fills goes first (as_seen second) at_one at_other (second.sample so))
 
 guarded_look : {Y : Type 0} {end : ℕ} {May : List Token → Type 0} {low one : List Lexeme → Read Y} (p : ℕ) (b d : Bool)
     → (b ≡ false → d ≡ false) → Looks end May low one
@@ -531,6 +557,7 @@ pub record Arm {A : Type 0} (end : ℕ) (ok : Type 0) (Spells : A → List Token
   pub Within : Value → List Token → Type 0
   pub laws : (start : ℕ) → RowLaws make spell Within May (from start)
   pub looks : (start : ℕ) → Starts end ok May start (low start) (from start)
+  pub sample : (start : ℕ) → CanStart (looks start) → ok → Fills May (from start)
   pub back : (z : Value) (more : List Token) → Within z more → Spells (make z) (t ∷ spell z more) more
 
 -- those of all tokens, by the scope
@@ -549,7 +576,8 @@ arm {A} {Z} {end} {ok} {Spells} {May} {t} {low} {from} {make} {spell} {Within} r
   spell = spell;
   Within = Within;
   laws = λ start. (row start).laws;
-  looks = λ start. inl (λ so. ((row start).looks so, (row start).sample so));
+  looks = λ start. inl (row start).looks;
+  sample = λ start can so. (row start).sample so;
   back = back;
 }
 
@@ -567,6 +595,7 @@ no_arm {A} {end} {ok} {Spells} {May} {t} = record {
     no_gap = λ z more within. absurd within;
   };
   looks = λ start. inr (λ ls. (refl, refl));
+  sample = λ start can so. absurd can;
   back = λ z more within. absurd within;
 }
 
@@ -581,6 +610,7 @@ rearm {t = t} a same = record {
   Within = a.Within;
   laws = a.laws;
   looks = a.looks;
+  sample = a.sample;
   back = λ z more within. same (a.make z) (t ∷ a.spell z more) more (a.back z more within);
 }
 
@@ -599,14 +629,10 @@ module _ {A : Type 0} {end : ℕ} {ok : Type 0} {Spells : A → List Token → L
 
 module _ {A : Type 0} {Spells : A → List Token → List Token → Type 0} {May : List Token → Type 0} {ok : Type 0} (s : Scope)
     {low from : Token → ℕ → List Lexeme → Read A} (arms : (t : Token) → Arm s.end ok Spells May t (low t) (from t)) where
-  fills_of : {start : ℕ} {low one : List Lexeme → Read A} (at : Starts s.end ok May start low one) → CanStart at → ok → Fills May one
-  fills_of (inl p) can so = (p so).1
-  fills_of (inr f) can so = absurd can
-
   module _ (first : Token) (can : CanStart ((arms first).looks 0)) where
     this : ok → Fills May (λ ls. and_then (next s ls) (λ l. from l.0.token l.0.start l.1))
     this so = start_fills s (λ l ls. from l.token l.start ls) (record { token = first; start = 0 })
-        (fills_of ((arms first).looks 0) can so)
+        ((arms first).sample 0 can so)
 
     -- by the first token and the values behind it
     pub first_token : Row {Z = (t : Token) × (arms t).Value} s.end ok (λ z. (arms z.0).make z.1) (λ z more. z.0 ∷ (arms z.0).spell z.1 more)

@@ -234,7 +234,7 @@ module _ (s : Scope) (goes : Token → Bool) where
   starts : (start : ℕ) (b : Bool)
       → Starts {Y = Unit {0}} s.end (Unit {0}) Anything start (λ ls. cond b (Ok (tt, ls)) (Err (fault.Grammar start)))
       (λ ls. cond b (Ok (tt, ls)) (Err (fault.Grammar start)))
-  starts start true = inl (λ so. (done_looks tt, done_fills tt))
+  starts start true = inl (λ so. done_looks tt)
   starts start false = inr (λ ls. (refl, refl))
 
   passes : (t : Token) → ((u : Token) → goes u ≡ true → u ≡ t) → goes t ≡ true
