@@ -11,9 +11,8 @@ use Rattle.kpn_text_grammar.specs.Syntax.{Table, Declaration, array, table}
 use Rattle.kpn_text_grammar.specs.Spelling.{spell_all, spell_list, spell_literal, spell_table, spell_declaration, TableIsWithin, DeclarationIsWithin}
 use Rattle.kpn_text_grammar.specs.TokenTests.{is_keyword}
 use Rattle.kpn_text_grammar.specs.Reading.{all_of, token_size, read_as, array_behind, table_behind, declaration_behind, declaration, declares, shared_table}
-use Rattle.kpn_text_grammar.proofs.Steps.{this_mark, this_keyword}
 use Rattle.kpn_text_grammar.proofs.Lookahead.{lower, Anything}
-use Rattle.kpn_text_grammar.proofs.Readers.{Reads, HasRoom, spell_number, Unless, done, behind, value, bind, reads, a_name, a_token, Arms, arm, no_arm, Begun, by_token, token_longer, Exactly, exactly, begins, Elements, each_of}
+use Rattle.kpn_text_grammar.proofs.Readers.{this_mark, this_keyword, Reads, HasRoom, spell_number, Unless, done, behind, value, bind, reads, a_name, a_token, Arms, arm, no_arm, Begun, by_token, token_longer, Exactly, exactly, begins, Elements, each_of}
 use Rattle.kpn_text_grammar.proofs.ValueLaws.{values_reads}
 
 -- ---- the size of an array

@@ -12,14 +12,14 @@ use Rattle.kpn_text_grammar.specs.declared.fault.GrammarFault.{GrammarFault}
 use Rattle.kpn_text_grammar.specs.declared.fault.GrammarFault.TheVariants as fault
 use Rattle.kpn_text_grammar.specs.declared.parser.Scope.{Scope}
 use Rattle.kpn_text_grammar.specs.Syntax.{Table, ProcessNode, NetworkNode, Description}
-use Rattle.kpn_text_grammar.specs.Spelling.{kinds, SpellsAll, SpellsProcess, spell_all, spell_table, spell_language, spell_network, IsWithinLimits, IsNested, IsDescription}
+use Rattle.kpn_text_grammar.specs.Spelling.{kinds, SpellsAll, SpellsProcess, spell_all, spell_table, spell_language, spell_network, IsWithinLimits, IsDescriptionWithin, IsDescription}
 use Rattle.kpn_text_tokens.specs.Results.{and_then}
 use Rattle.kpn_text_grammar.specs.TokenTests.{is_keyword}
 use Rattle.kpn_text_grammar.specs.Reading.{Read, language_at, all_of, shared_table, processes, network, at_end, contents, description, description_of}
 use Rattle.kpn_text_grammar.specs.Laws.{fault_place, IsFaultAt}
-use Rattle.kpn_text_grammar.proofs.Lookahead.{lower, Anything, ahead, Keeps, Refuses, Look, returns, refuses, forgets, nests, done_looks, done_fills, kept_too}
-use Rattle.kpn_text_grammar.proofs.Steps.{Passes, passes_on, bind_ok, bound, moved, no_value, ok_is, this_keyword, this_mark, this_two}
-use Rattle.kpn_text_grammar.proofs.Readers.{Row, ReadsBy, HasRoom, Unless, behind, bind, mapped, reads_by, begins}
+use Rattle.kpn_text_grammar.proofs.Lookahead.{lower, Anything, ahead, Keeps, Refuses, Look, returns, refuses, forgets, nests, kept_too}
+use Rattle.kpn_text_grammar.proofs.Steps.{bind_ok, bound, moved, no_value, ok_is}
+use Rattle.kpn_text_grammar.proofs.Readers.{Step, passes_on, this_keyword, this_mark, this_two, no_step, Row, ReadsBy, HasRoom, Unless, behind, bind, mapped, reads_by, begins}
 use Rattle.kpn_text_grammar.proofs.DeclarationLaws.{shared_reads}
 use Rattle.kpn_text_grammar.proofs.ProcessLaws.{processes_reads}
 use Rattle.kpn_text_grammar.proofs.NetworkLaws.{network_reads}
@@ -34,15 +34,10 @@ unfolding at_end
 at_end_again [] h = refl
 at_end_again (l ∷ ls) h = absurd cc
 
-language_passes : (s : Scope) (l : Language) → Passes s.end (spell_language l) (language_at (lower s) l) (language_at s l)
-unfolding language_at and_then
-language_passes s language.One = record {
-  takes = λ ls rest h. ap kinds (ok_is ls rest h);
-  again = λ ls more h. (ls, refl, h);
-  no_gap = λ more. omega arith;
-  looks = done_looks tt;
-  sample = done_fills tt;
-}
+language_passes : {ok : Type 0} (s : Scope) (l : Language)
+    → Step s.end ok (spell_language l) (language_at (lower s) l) (language_at s l)
+unfolding language_at
+language_passes s language.One = no_step
 language_passes s language.Two =
     passes_on (this_keyword s keyword_.Language) (passes_on (this_two s) (this_mark s mark_.Semicolon))
 
@@ -110,13 +105,13 @@ description_is s ls =
 
 -- What is read is spelled so and within the limits.
 pub description_takes : (s : Scope) (ls : List Lexeme) (d : Description) → 0 < s.levels → description s ls ≡ Ok d
-    → IsNested s.levels s.language (kinds ls) d
+    → IsDescriptionWithin s.levels s.language (kinds ls) d
 description_takes s ls d some h =
     let a = bind_ok (all s ls) last d (sym (description_is s ls) ∙ h) in
     let e = bind_ok (at_end a.0.1) (λ u. Ok a.0.0) d a.2 in
     let t = (all_reads s some).laws.takes ls a.0.0 a.0.1 a.1 in
-    moved (IsNested s.levels s.language (kinds ls)) a.0.0 d e.2
-    (subst (IsNested s.levels s.language (kinds ls)) t.1
+    moved (IsDescriptionWithin s.levels s.language (kinds ls)) a.0.0 d e.2
+    (subst (IsDescriptionWithin s.levels s.language (kinds ls)) t.1
     (record {
       spelled = record {
         inside = t.2.0;
@@ -129,7 +124,7 @@ description_takes s ls d some h =
 
 -- What is spelled so within the limits is read.
 pub description_again : (s : Scope) (ls : List Lexeme) (d : Description) → 0 < s.levels
-    → IsNested s.levels s.language (kinds ls) d → description s ls ≡ Ok d
+    → IsDescriptionWithin s.levels s.language (kinds ls) d → description s ls ≡ Ok d
 description_again s ls d some is =
     let rules = is.spelled in
     let a = (all_reads s some).laws.again ls (d, spell_all spell_table d.tables rules.inside) []
@@ -283,15 +278,15 @@ module _ (l : Language) (end at : ℕ) (ls : List Lexeme) where
 module _ (s : Scope) (some : 0 < s.levels) (before rest : List Lexeme) (never : (other : List Lexeme) (d : Description)
     → ahead other ≡ ahead rest → description s (before ++ other) ≡ Ok d → ⊥) where
   not_so : (other : List Lexeme) (d : Description) → ahead other ≡ ahead rest
-      → IsNested s.levels s.language (kinds before ++ kinds other) d → ⊥
+      → IsDescriptionWithin s.levels s.language (kinds before ++ kinds other) d → ⊥
   not_so other d same is =
       never other d same (description_again s (before ++ other) d some
-      (subst (λ (ts : List Token). IsNested s.levels s.language ts d) (sym (map-append (λ l. l.token) before other)) is))
+      (subst (λ (ts : List Token). IsDescriptionWithin s.levels s.language ts d) (sym (map-append (λ l. l.token) before other)) is))
 
 begins_none : (s : Scope) → 0 < s.levels → (before rest : List Lexeme)
     → ((other : List Lexeme) (d : Description) → ahead other ≡ ahead rest → description s (before ++ other) ≡ Ok d → ⊥)
     → (others : List Token) (d : Description) → take 1 others ≡ take 1 (kinds rest)
-    → IsNested s.levels s.language (kinds before ++ others) d → ⊥
+    → IsDescriptionWithin s.levels s.language (kinds before ++ others) d → ⊥
 begins_none s some before [] never [] d same is = not_so s some before [] never [] d refl is
 begins_none s some before [] never (t ∷ ts) d same is = absurd cc
 begins_none s some before (l ∷ ls) never [] d same is = absurd cc
@@ -299,7 +294,7 @@ begins_none s some before (l ∷ ls) never (t ∷ ts) d same is =
     let first : l.token ≡ t = cc in
     let tokens : kinds (l ∷ placed ts) ≡ t ∷ ts = rw (first, placed_kinds ts) refl in
     not_so s some before (l ∷ ls) never (l ∷ placed ts) d refl
-    (subst (λ (us : List Token). IsNested s.levels s.language (kinds before ++ us) d) (sym tokens) is)
+    (subst (λ (us : List Token). IsDescriptionWithin s.levels s.language (kinds before ++ us) d) (sym tokens) is)
 
 -- A fault stands at the first token that may not be there.
 pub description_fault : (l : Language) (end : ℕ) (ls : List Lexeme) (at : ℕ) → description_of l end ls ≡ Err (fault.Grammar at)
@@ -318,7 +313,7 @@ description_fault l end ls at h =
       some = (
         kinds f.fill,
         f.made,
-        subst (λ (ts : List Token). IsNested (suc MAX_LEVELS) l ts f.made) (map-append (λ l. l.token) f.before f.fill)
+        subst (λ (ts : List Token). IsDescriptionWithin (suc MAX_LEVELS) l ts f.made) (map-append (λ l. l.token) f.before f.fill)
             (description_takes s (f.before ++ f.fill) f.made (omega arith) f.leads),
       );
     }

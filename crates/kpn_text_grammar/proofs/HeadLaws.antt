@@ -10,9 +10,8 @@ use Rattle.kpn_text_grammar.specs.Spelling.{spell_names, spell_later_part, spell
 use Rattle.kpn_text_grammar.specs.TokenTests.{is_mark, is_name}
 use Rattle.kpn_text_grammar.specs.Reading.{next, name, separated, optional_names, HeadParts, after_outs, outs_or_pars, after_ins, parts_behind, parts}
 use Rattle.kpn_text_tokens.specs.Results.{and_then}
-use Rattle.kpn_text_grammar.proofs.Steps.{this_mark, this_keyword}
 use Rattle.kpn_text_grammar.proofs.Lookahead.{lower}
-use Rattle.kpn_text_grammar.proofs.Readers.{Row, Reads, HasRoom, Free, Unless, as_seen, done, behind, bind, As, recast, reads, choice, optional, mapped, maybe_some, a_name, Arms, arm, no_arm, rearm, Begun, by_token, Exactly, exactly, begins, either, spell_either, Either, Some_of, some_of, is_comma, with_commas}
+use Rattle.kpn_text_grammar.proofs.Readers.{this_mark, this_keyword, Row, Reads, HasRoom, Free, Unless, as_seen, done, behind, bind, As, recast, reads, choice, optional, mapped, maybe_some, a_name, Arms, arm, no_arm, rearm, Begun, by_token, Exactly, exactly, begins, either, spell_either, Either, Some_of, some_of, is_comma, with_commas}
 
 -- ---- names
 

@@ -1,10 +1,9 @@
 -- How far a reader looks, and what leads on from where it refuses. It is compared with a deeper one, which has a level
 -- more: what it returned that one returns too, in front of all tokens that may follow; where it refuses a token, that
 -- one does too, and reads on from there with some other tokens.
-use Rattle.std.proofs.Common.{◌≡◌, ◌⊎◌, inl, inr, ℕ, zero, suc, ◌+◌, ◌-◌, ◌<◌, ◌≤◌, Bool, true, false, cond, List, [], ◌∷◌, ◌++◌, length, Option, Some, None, Result, Ok, Err, refl, sym, ap, subst, ◌∙◌, append_assoc, arith}
+use Rattle.std.proofs.Common.{◌≡◌, ◌⊎◌, inl, inr, ℕ, zero, suc, ◌+◌, ◌-◌, ◌<◌, ◌≤◌, Bool, true, false, cond, List, [], ◌∷◌, ◌++◌, length, Option, Some, None, Ok, Err, refl, sym, ap, subst, ◌∙◌, append_assoc, arith}
 use Rattle.kpn_text_tokens.specs.declared.tokens.Lexeme.{Lexeme}
 use Rattle.kpn_text_tokens.specs.declared.tokens.Token.{Token}
-use Rattle.kpn_text_grammar.specs.declared.fault.GrammarFault.{GrammarFault}
 use Rattle.kpn_text_grammar.specs.declared.fault.GrammarFault.TheVariants as fault
 use Rattle.kpn_text_grammar.specs.declared.parser.Scope.{Scope}
 use Rattle.kpn_text_tokens.specs.Results.{and_then}
@@ -380,7 +379,6 @@ turn goes one i ls = and_then (one i ls) (λ x. with_others (each goes one (i + 
 module _ {A : Type 0} (goes : Token → Bool) (one : ℕ → List Lexeme → Read A)
     (shorter : (i : ℕ) (ls : List Lexeme) (x : A) (rest : List Lexeme) → one i ls ≡ Ok (x, rest)
     → length rest < length ls) where
-
   same_turn : (i n : ℕ) (fuel : List Lexeme → ℕ) (ls : List Lexeme)
       → ((ts : List Lexeme) → length ts < length ls → many goes one (i + 1) n ts ≡ many goes one (i + 1) (fuel ts) ts)
       → (r : Read A) → one i ls ≡ r

@@ -16,9 +16,9 @@ use Rattle.kpn_text_grammar.specs.Words.{growth_word, growth_spelled, policy_wor
 use Rattle.kpn_text_grammar.specs.Spelling.{spell_all, spell_values, spell_call, spell_item, spell_setting, spell_limit, spell_policy, spell_growth, spell_network}
 use Rattle.kpn_text_grammar.specs.TokenTests.{is_keyword}
 use Rattle.kpn_text_grammar.specs.Reading.{Read, all_of, number, stands_in_block, with_capacity, optional_values, call, instance_behind, item_behind, item, token_word, read_as, setting, network}
-use Rattle.kpn_text_grammar.proofs.Steps.{this_mark, this_keyword, is_keyword_same, Spells, growths_spelled, policies_spelled}
+use Rattle.kpn_text_grammar.proofs.Steps.{is_keyword_same, Spells, growths_spelled, policies_spelled}
 use Rattle.kpn_text_grammar.proofs.Lookahead.{lower, Anything}
-use Rattle.kpn_text_grammar.proofs.Readers.{Reads, HasRoom, Free, Unless, done, behind, value, bind, reads, a_name, a_number, a_token, optional, maybe_some, either, spell_either, Either, Arms, arm, no_arm, Begun, by_token, token_longer, Exactly, exactly, begins, Elements, each_of, all_free, is_comma}
+use Rattle.kpn_text_grammar.proofs.Readers.{this_mark, this_keyword, Reads, HasRoom, Free, Unless, done, behind, value, bind, reads, a_name, a_number, a_token, optional, maybe_some, either, spell_either, Either, Arms, arm, no_arm, Begun, by_token, token_longer, Exactly, exactly, begins, Elements, each_of, all_free, is_comma}
 use Rattle.kpn_text_grammar.proofs.HeadLaws.{semicolon, Closes, closes_not, optional_names_reads}
 use Rattle.kpn_text_grammar.proofs.ValueLaws.{values_reads}
 

@@ -1,7 +1,6 @@
 -- Processes: what is read is spelled so, and what is spelled so is read.
-use Rattle.std.proofs.Common.{◌≡◌, ◌<◌, ◌-◌, suc, subst, List, ◌∷◌, length, refl, sym, ap, arith}
+use Rattle.std.proofs.Common.{◌<◌, ◌-◌, suc, subst, List, ◌∷◌, length, refl, sym, ap, arith}
 use Rattle.std.specs.List.{AllByRecursion}
-use Rattle.kpn_text_tokens.specs.declared.tokens.Language.{Language}
 use Rattle.kpn_text_tokens.specs.declared.tokens.Token.{Token}
 use Rattle.kpn_text_tokens.specs.declared.tokens.Token.TheVariants as token
 use Rattle.kpn_text_tokens.specs.declared.tokens.Mark.TheVariants as mark_
@@ -11,9 +10,8 @@ use Rattle.kpn_text_grammar.specs.Syntax.{ProcessNode}
 use Rattle.kpn_text_grammar.specs.Spelling.{SpellsAll, SpellsProcess, spell_all, spell_declaration, ProcessIsWithin}
 use Rattle.kpn_text_grammar.specs.TokenTests.{is_keyword}
 use Rattle.kpn_text_grammar.specs.Reading.{many, process, numbered_process, processes}
-use Rattle.kpn_text_grammar.proofs.Steps.{this_mark, this_keyword}
 use Rattle.kpn_text_grammar.proofs.Lookahead.{lower, Anything}
-use Rattle.kpn_text_grammar.proofs.Readers.{ReadsBy, HasRoom, Unless, behind, value, bind, mapped, reads_by, a_name, begins, Elements, each_by}
+use Rattle.kpn_text_grammar.proofs.Readers.{this_mark, this_keyword, ReadsBy, HasRoom, Unless, behind, value, bind, mapped, reads_by, a_name, begins, Elements, each_by}
 use Rattle.kpn_text_grammar.proofs.DeclarationLaws.{declarations_reads}
 use Rattle.kpn_text_grammar.proofs.HeadLaws.{parts_reads}
 use Rattle.kpn_text_grammar.proofs.StatementLaws.{whole_body_reads, no_declaration}

@@ -6,7 +6,9 @@ use Rattle.std.specs.List.{AllByRecursion}
 use Rattle.kpn_text_tokens.specs.declared.tokens.Lexeme.{Lexeme}
 use Rattle.kpn_text_tokens.specs.declared.tokens.Token.{Token}
 use Rattle.kpn_text_tokens.specs.declared.tokens.Token.TheVariants as token
+use Rattle.kpn_text_tokens.specs.declared.tokens.Mark.{Mark}
 use Rattle.kpn_text_tokens.specs.declared.tokens.Mark.TheVariants as mark_
+use Rattle.kpn_text_tokens.specs.declared.tokens.Keyword.{Keyword}
 use Rattle.kpn_text_grammar.specs.declared.fault.GrammarFault.{GrammarFault}
 use Rattle.kpn_text_grammar.specs.declared.fault.GrammarFault.TheVariants as fault
 use Rattle.kpn_text_grammar.specs.declared.parser.Scope.{Scope}
@@ -14,12 +16,12 @@ use Rattle.kpn_lang.specs.declared.syntax.Op.TheVariants as op
 use Rattle.kpn_text_grammar.specs.Spelling.{kinds, spell_all, spell_further, spell_list, spell_name, SpellsAll}
 use Rattle.kpn_text_grammar.specs.Operators.{operator_mark}
 use Rattle.kpn_text_grammar.specs.Syntax.{NameBytes}
-use Rattle.kpn_text_grammar.specs.TokenTests.{is_mark}
+use Rattle.kpn_text_grammar.specs.TokenTests.{is_mark, is_keyword, is_number_two}
 use Rattle.kpn_text_tokens.specs.Results.{and_then}
-use Rattle.kpn_text_grammar.specs.Reading.{Read, first_is, next, read_as, token_name, name, token_number, number, token_operator, operator, or_fault_at, many, further, separated}
+use Rattle.kpn_text_grammar.specs.Reading.{Read, first_is, next, mark, keyword, two, read_as, token_name, name, token_number, number, token_operator, operator, or_fault_at, many, further, separated}
 use Rattle.kpn_text_grammar.proofs.Lookahead.{lower, Anything, Fills, Looks, Looking, Starts, CanStart, Meets, bind_fills, bind_looks, by_first, deep_looks, done_fills, done_looks, done_meets, each_looks, fills_as, first_looks, first_reads, kept_too, looks_same, pick_looks, start_fills, with_others}
 use Rattle.kpn_text_grammar.proofs.Lookahead as look
-use Rattle.kpn_text_grammar.proofs.Steps.{bind_ok, bound, by_test, found_is, kind_of, kinds_of, moved, next_takes, next_again, no_value, Passes, stepped, stepped_is, this_mark, token_operator_is, operator_back}
+use Rattle.kpn_text_grammar.proofs.Steps.{bind_ok, bound, by_test, found_is, kind_of, kinds_of, moved, next_takes, next_again, no_value, is_mark_true, is_mark_same, is_keyword_true, is_keyword_same, is_two_true, token_operator_is, operator_back}
 
 -- ---- the laws of a reader
 
@@ -46,23 +48,11 @@ pub record Row {Z Y : Type 0} (end : ℕ) (ok : Type 0) (make : Z → Y) (spell 
   pub looks : ok → Looks end May low one
   pub sample : ok → Fills May one
 
-pub as_seen : {Z Y : Type 0} {end : ℕ} {ok : Type 0} {make : Z → Y} {spell : Z → List Token → List Token}
-    {Within : Z → List Token → Type 0} {May : List Token → Type 0} {low one : List Lexeme → Read Y}
-    → Row end ok make spell Within May low one → Seen end ok make spell Within May low one
-as_seen row = record { laws = row.laws; looks = row.looks }
-
 -- a row of what is seen of one
 pub sampled : {Z Y : Type 0} {end : ℕ} {ok : Type 0} {make : Z → Y} {spell : Z → List Token → List Token}
     {Within : Z → List Token → Type 0} {May : List Token → Type 0} {low one : List Lexeme → Read Y}
     → Seen end ok make spell Within May low one → (ok → Fills May one) → Row end ok make spell Within May low one
 sampled seen sample = record { laws = seen.laws; looks = seen.looks; sample = sample }
-
--- the same where more is known
-pub given : {Z Y : Type 0} {end : ℕ} {ok also : Type 0} {make : Z → Y} {spell : Z → List Token → List Token}
-    {Within : Z → List Token → Type 0} {May : List Token → Type 0} {low one : List Lexeme → Read Y} → (also → ok)
-    → Row end ok make spell Within May low one → Row end also make spell Within May low one
-given known row =
-    record { laws = row.laws; looks = λ so. row.looks (known so); sample = λ so. row.sample (known so) }
 
 -- a reader whose values are what it returns
 abbrev pub Reader : {A : Type 0} → ℕ → Type 0 → (A → List Token → List Token) → (A → Type 0) → (List Token → Type 0)
@@ -124,93 +114,140 @@ done {Y} {end} {ok} {May} v = record {
   sample = λ so. done_fills v;
 }
 
--- one token, and a chain behind it
-pub behind : {Z Y : Type 0} {end : ℕ} {ok : Type 0} {make : Z → Y} {spell : Z → List Token → List Token}
-    {Within : Z → List Token → Type 0} {May : List Token → Type 0} {before : List Token → List Token}
-    {low_step step : List Lexeme → Result (List Lexeme) GrammarFault} {low one : List Lexeme → Read Y}
-    → Passes end before low_step step → Row end ok make spell Within May low one
-    → Row end ok make (λ z more. before (spell z more)) Within May (λ ls. and_then (low_step ls) low) (λ ls. and_then (step ls) one)
-behind {Z} {Y} {end} {ok} {make} {spell} {Within} {May} {before} {low_step} {step} {low} {one} first then = record {
-  laws = record {
-    takes = λ ls y rest h.
-        let b = bind_ok (step ls) one (y, rest) h in
-        let m = then.laws.takes b.0 y rest b.2 in
-        (m.0, m.1, m.2, first.takes ls b.0 b.1 ∙ ap before m.3);
-    again = λ ls z more within may h.
-        let a = first.again ls (spell z more) h in
-        let b = then.laws.again a.0 z more within may a.2 in
-        (b.0, bound (step ls) a.0 one (Ok (make z, b.0)) a.1 b.1, b.2);
-    no_gap = λ z more within. omega (arith, first.no_gap (spell z more), then.laws.no_gap z more within);
-  };
-  looks = λ so. looks_same (λ more may. may) (λ ls. stepped_is (low_step ls) low) (λ ls. stepped_is (step ls) one)
-      (bind_looks (λ x ts rest y e may. tt) (finish so) first.looks (λ u. then.looks so));
-  sample = λ so.
-      fills_as (λ more may. may) (λ ts rest y e may. stepped_is (step ts) one) (finish so [] first.sample);
-} where
-  finish : ok → (start : List Lexeme) → Fills Anything (λ ts. stepped step (start ++ ts))
-      → Fills May (λ ts. and_then (stepped step (start ++ ts)) (λ x. one x.1))
-  finish so start f = bind_fills (λ ts. stepped step (start ++ ts)) (λ u. one) (λ x ts rest y e may. tt) f (then.sample so)
+-- values as others that make the same thing and are spelled the same
+abbrev pub As : {Z W Y : Type 0} → (Z → Y) → (Z → List Token → List Token) → (W → Y) → (W → List Token → List Token)
+    → (W → List Token → Type 0) → Z → List Token → Type 0
+As {W = W} make spell other spell_other Other z more =
+    (w : W) × (other w ≡ make z) × Other w more × (spell_other w more ≡ spell z more)
 
--- a step that reads a value, and the others behind it, by what leads on from where it refuses
-pub bind_by : {A X Z Y : Type 0} {end : ℕ} {ok : Type 0} {make_first : A → X} {spell_first : A → List Token → List Token}
+-- the same of a row where more is known, where less may follow, of readers that return the same, and by other values
+module _ {Z Y : Type 0} {end : ℕ} {ok : Type 0} {make : Z → Y} {spell : Z → List Token → List Token}
+    {Within : Z → List Token → Type 0} {May : List Token → Type 0} {low one : List Lexeme → Read Y}
+    (row : Row end ok make spell Within May low one) where
+  pub as_seen : Seen end ok make spell Within May low one
+  as_seen = record { laws = row.laws; looks = row.looks }
+
+  pub given : {also : Type 0} → (also → ok) → Row end also make spell Within May low one
+  given known = record { laws = row.laws; looks = λ so. row.looks (known so); sample = λ so. row.sample (known so) }
+
+  pub narrow : {Then : List Token → Type 0} → ((more : List Token) → Then more → May more)
+      → Row end ok make spell Within Then low one
+  narrow less = record {
+    laws = record {
+      takes = row.laws.takes;
+      again = λ ls z more within may h. row.laws.again ls z more within (less more may) h;
+      no_gap = row.laws.no_gap;
+    };
+    looks = λ so. looks_same less (λ ls. refl) (λ ls. refl) (row.looks so);
+    sample = λ so. fills_as less (λ ts rest y e may. refl) (row.sample so);
+  }
+
+  pub same_row : {low_too one_too : List Lexeme → Read Y} → ((ls : List Lexeme) → low_too ls ≡ low ls)
+      → ((ls : List Lexeme) → one_too ls ≡ one ls) → Row end ok make spell Within May low_too one_too
+  same_row low_same same = record {
+    laws = record {
+      takes = λ ls y rest h. row.laws.takes ls y rest (sym (same ls) ∙ h);
+      again = λ ls z more within may h. let a = row.laws.again ls z more within may h in (a.0, same ls ∙ a.1, a.2);
+      no_gap = row.laws.no_gap;
+    };
+    looks = λ so. looks_same (λ more may. may) low_same same (row.looks so);
+    sample = λ so. fills_as (λ more may. may) (λ ts rest y e may. same ts) (row.sample so);
+  }
+
+  pub recast : {W : Type 0} {other : W → Y} {spell_other : W → List Token → List Token} {Other : W → List Token → Type 0}
+      → ((z : Z) (more : List Token) → Within z more → As make spell other spell_other Other z more)
+      → ((w : W) (more : List Token) → Other w more → As other spell_other make spell Within w more)
+      → Row end ok other spell_other Other May low one
+  recast there back = record {
+    laws = record {
+      takes = λ ls y rest h.
+          let t = row.laws.takes ls y rest h in
+          let w = there t.0 (kinds rest) t.2 in
+          (w.0, w.1 ∙ t.1, w.2, t.3 ∙ sym w.3);
+      again = λ ls w more within may h.
+          let z = back w more within in
+          let a = row.laws.again ls z.0 more z.2 may (h ∙ sym z.3) in
+          (a.0, subst (λ (v : Y). one ls ≡ Ok (v, a.0)) z.1 a.1, a.2);
+      no_gap = λ w more within.
+          let z = back w more within in
+          subst (λ (ts : List Token). length more ≤ length ts) z.3 (row.laws.no_gap z.0 more z.2);
+    };
+    looks = row.looks;
+    sample = row.sample;
+  }
+
+  -- the values as the parts of what is read
+  pub reads : {spell_made : Y → List Token → List Token} {Made : Y → Type 0}
+      → ((z : Z) (more : List Token) → Within z more → Made (make z) × (spell z more ≡ spell_made (make z) more))
+      → ((y : Y) (more : List Token) → Made y → (z : Z) × (make z ≡ y) × Within z more)
+      → Reader end ok spell_made Made May low one
+  reads {spell_made = spell_made} back parts =
+      recast (λ z more within. let is = back z more within in (make z, refl, is.0, sym is.1))
+      (λ y more within.
+      let p = parts y more within in
+      (p.0, p.1, p.2, (back p.0 more p.2).1 ∙ ap (λ (v : Y). spell_made v more) p.1))
+
+  -- the same where it may have many spellings
+  pub reads_by : {Spells : Y → List Token → List Token → Type 0}
+      → ((z : Z) (more : List Token) → Within z more → Spells (make z) (spell z more) more)
+      → ((y : Y) (tokens more : List Token) → Spells y tokens more
+      → (z : Z) × (make z ≡ y) × Within z more × (spell z more ≡ tokens))
+      → ReaderBy end ok Spells May low one
+  reads_by back parts =
+      recast (λ z more within. ((make z, spell z more), refl, back z more within, refl))
+      (λ y more within. parts y.0 y.1 more within)
+
+-- a step that reads a value, and the others behind it
+module _ {A X Z Y : Type 0} {end : ℕ} {ok : Type 0} {make_first : A → X} {spell_first : A → List Token → List Token}
     {First : A → List Token → Type 0} {MayFirst : List Token → Type 0} {low_first first : List Lexeme → Read X} {make : X → Z → Y}
     {spell : Z → List Token → List Token} {Within : X → Z → List Token → Type 0} {May : List Token → Type 0}
-    {low one : X → List Lexeme → Read Y}
-    → Row end ok make_first spell_first First MayFirst low_first first
-    → ((x : X) → Seen end ok (make x) spell (Within x) May (low x) (one x))
-    → ((x : X) (z : Z) (more : List Token) → Within x z more → May more → MayFirst (spell z more))
-    → (Meets MayFirst May one → ok → (before : List Lexeme) → Fills MayFirst (λ ts. first (before ++ ts))
-    → Fills May (λ ts. and_then (first (before ++ ts)) (λ x. one x.0 x.1)))
-    → Row {Z = A × Z} end ok (λ z. make (make_first z.0) z.1) (λ z more. spell_first z.0 (spell z.1 more))
-    (λ z more. First z.0 (spell z.1 more) × Within (make_first z.0) z.1 more) May
-    (λ ls. and_then (low_first ls) (λ x. low x.0 x.1)) (λ ls. and_then (first ls) (λ x. one x.0 x.1))
-bind_by {A} {X} {Z} {Y} {end} {ok} {make_first} {spell_first} {First} {MayFirst} {low_first} {first} {make} {spell} {Within} {May}
-    {low} {one} head then follows leads = record {
-      laws = record {
-        takes = λ ls y rest h.
-            let b = bind_ok (first ls) (λ (x : X × List Lexeme). one x.0 x.1) (y, rest) h in
-            let f = head.laws.takes ls b.0.0 b.0.1 b.1 in
-            let m = (then b.0.0).laws.takes b.0.1 y rest b.2 in (
-              (f.0, m.0),
-              ap (λ (x : X). make x m.0) f.1 ∙ m.1,
-              (subst (First f.0) m.3 f.2, subst (λ (x : X). Within x m.0 (kinds rest)) (sym f.1) m.2),
-              f.3 ∙ ap (spell_first f.0) m.3,
-            );
-        again = λ ls z more within may h.
-            let x = make_first z.0 in
-            let f = head.laws.again ls z.0 (spell z.1 more) within.0 (follows x z.1 more within.1 may) h in
-            let m = (then x).laws.again f.0 z.1 more within.1 may f.2 in
-            (m.0, bound (first ls) (x, f.0) (λ (x : X × List Lexeme). one x.0 x.1) (Ok (make x z.1, m.0)) f.1 m.1, m.2);
-        no_gap = λ z more within.
-            omega (
-              arith,
-              head.laws.no_gap z.0 (spell z.1 more) within.0,
-              (then (make_first z.0)).laws.no_gap z.1 more within.1,
-            );
-      };
-      looks = λ so. bind_looks meets (leads meets so) (head.looks so)
-          (λ x. (then x).looks so);
-      sample = λ so. leads meets so [] (head.sample so);
-    } where
-      meets : Meets MayFirst May one
-      meets x ts rest y e may =
-          let t = (then x).laws.takes ts y rest e in
-          subst MayFirst (sym t.3) (follows x t.0 (kinds rest) t.2 may)
+    {low one : X → List Lexeme → Read Y} (head : Row end ok make_first spell_first First MayFirst low_first first) where
+  -- by what leads on from where the first one refuses
+  pub bind_by : ((x : X) → Seen end ok (make x) spell (Within x) May (low x) (one x))
+      → ((x : X) (z : Z) (more : List Token) → Within x z more → May more → MayFirst (spell z more))
+      → (Meets MayFirst May one → ok → (before : List Lexeme) → Fills MayFirst (λ ts. first (before ++ ts))
+      → Fills May (λ ts. and_then (first (before ++ ts)) (λ x. one x.0 x.1))) → Row {Z = A × Z} end ok (λ z. make (make_first z.0) z.1)
+      (λ z more. spell_first z.0 (spell z.1 more)) (λ z more. First z.0 (spell z.1 more) × Within (make_first z.0) z.1 more) May
+      (λ ls. and_then (low_first ls) (λ x. low x.0 x.1)) (λ ls. and_then (first ls) (λ x. one x.0 x.1))
+  bind_by then follows leads = record {
+    laws = record {
+      takes = λ ls y rest h.
+          let b = bind_ok (first ls) (λ (x : X × List Lexeme). one x.0 x.1) (y, rest) h in
+          let f = head.laws.takes ls b.0.0 b.0.1 b.1 in
+          let m = (then b.0.0).laws.takes b.0.1 y rest b.2 in (
+            (f.0, m.0),
+            ap (λ (x : X). make x m.0) f.1 ∙ m.1,
+            (subst (First f.0) m.3 f.2, subst (λ (x : X). Within x m.0 (kinds rest)) (sym f.1) m.2),
+            f.3 ∙ ap (spell_first f.0) m.3,
+          );
+      again = λ ls z more within may h.
+          let x = make_first z.0 in
+          let f = head.laws.again ls z.0 (spell z.1 more) within.0 (follows x z.1 more within.1 may) h in
+          let m = (then x).laws.again f.0 z.1 more within.1 may f.2 in
+          (m.0, bound (first ls) (x, f.0) (λ (x : X × List Lexeme). one x.0 x.1) (Ok (make x z.1, m.0)) f.1 m.1, m.2);
+      no_gap = λ z more within.
+          omega (
+            arith,
+            head.laws.no_gap z.0 (spell z.1 more) within.0,
+            (then (make_first z.0)).laws.no_gap z.1 more within.1,
+          );
+    };
+    looks = λ so. bind_looks meets (leads meets so) (head.looks so) (λ x. (then x).looks so);
+    sample = λ so. leads meets so [] (head.sample so);
+  } where
+    meets : Meets MayFirst May one
+    meets x ts rest y e may =
+        let t = (then x).laws.takes ts y rest e in
+        subst MayFirst (sym t.3) (follows x t.0 (kinds rest) t.2 may)
 
--- the same where tokens that the others read lead on
-pub bind : {A X Z Y : Type 0} {end : ℕ} {ok : Type 0} {make_first : A → X} {spell_first : A → List Token → List Token}
-    {First : A → List Token → Type 0} {MayFirst : List Token → Type 0} {low_first first : List Lexeme → Read X} {make : X → Z → Y}
-    {spell : Z → List Token → List Token} {Within : X → Z → List Token → Type 0} {May : List Token → Type 0}
-    {low one : X → List Lexeme → Read Y}
-    → Row end ok make_first spell_first First MayFirst low_first first
-    → ((x : X) → Row end ok (make x) spell (Within x) May (low x) (one x))
-    → ((x : X) (z : Z) (more : List Token) → Within x z more → May more → MayFirst (spell z more))
-    → Row {Z = A × Z} end ok (λ z. make (make_first z.0) z.1) (λ z more. spell_first z.0 (spell z.1 more))
-    (λ z more. First z.0 (spell z.1 more) × Within (make_first z.0) z.1 more) May
-    (λ ls. and_then (low_first ls) (λ x. low x.0 x.1)) (λ ls. and_then (first ls) (λ x. one x.0 x.1))
-bind {first = first} {one = one} head then follows =
-    bind_by head (λ x. as_seen (then x)) follows
-    (λ meets so before f. bind_fills (λ ts. first (before ++ ts)) one meets f ((then f.value).sample so))
+  -- by tokens that the others read
+  pub bind : ((x : X) → Row end ok (make x) spell (Within x) May (low x) (one x))
+      → ((x : X) (z : Z) (more : List Token) → Within x z more → May more → MayFirst (spell z more)) → Row {Z = A × Z} end ok (λ z. make (make_first z.0) z.1)
+      (λ z more. spell_first z.0 (spell z.1 more)) (λ z more. First z.0 (spell z.1 more) × Within (make_first z.0) z.1 more) May
+      (λ ls. and_then (low_first ls) (λ x. low x.0 x.1)) (λ ls. and_then (first ls) (λ x. one x.0 x.1))
+  bind then follows =
+      bind_by (λ x. as_seen (then x)) follows
+      (λ meets so before f. bind_fills (λ ts. first (before ++ ts)) one meets f ((then f.value).sample so))
 
 -- the same where anything may stand behind its value
 pub value : {A X Z Y : Type 0} {end : ℕ} {ok : Type 0} {make_first : A → X} {spell_first : A → List Token → List Token}
@@ -223,79 +260,6 @@ pub value : {A X Z Y : Type 0} {end : ℕ} {ok : Type 0} {make_first : A → X} 
     (λ z more. First z.0 (spell z.1 more) × Within z.1 more) May
     (λ ls. and_then (low_first ls) (λ x. low x.0 x.1)) (λ ls. and_then (first ls) (λ x. one x.0 x.1))
 value head then = bind head then (λ x z more within may. tt)
-
--- the same where less may follow
-pub narrow : {Z Y : Type 0} {end : ℕ} {ok : Type 0} {make : Z → Y} {spell : Z → List Token → List Token}
-    {Within : Z → List Token → Type 0} {May Then : List Token → Type 0} {low one : List Lexeme → Read Y}
-    → Row end ok make spell Within May low one → ((more : List Token) → Then more → May more)
-    → Row end ok make spell Within Then low one
-narrow row less = record {
-  laws = record {
-    takes = row.laws.takes;
-    again = λ ls z more within may h. row.laws.again ls z more within (less more may) h;
-    no_gap = row.laws.no_gap;
-  };
-  looks = λ so. looks_same less (λ ls. refl) (λ ls. refl) (row.looks so);
-  sample = λ so. fills_as less (λ ts rest y e may. refl) (row.sample so);
-}
-
--- ---- the same reader by other values
-
--- values as others that make the same thing and are spelled the same
-abbrev pub As : {Z W Y : Type 0} → (Z → Y) → (Z → List Token → List Token) → (W → Y) → (W → List Token → List Token)
-    → (W → List Token → Type 0) → Z → List Token → Type 0
-As {W = W} make spell other spell_other Other z more =
-    (w : W) × (other w ≡ make z) × Other w more × (spell_other w more ≡ spell z more)
-
-pub recast : {Z W Y : Type 0} {end : ℕ} {ok : Type 0} {make : Z → Y} {spell : Z → List Token → List Token} {Within : Z → List Token → Type 0}
-    {May : List Token → Type 0} {low one : List Lexeme → Read Y} {other : W → Y} {spell_other : W → List Token → List Token}
-    {Other : W → List Token → Type 0} → Row end ok make spell Within May low one
-    → ((z : Z) (more : List Token) → Within z more → As make spell other spell_other Other z more)
-    → ((w : W) (more : List Token) → Other w more → As other spell_other make spell Within w more)
-    → Row end ok other spell_other Other May low one
-recast {Z} {W} {Y} {end} {ok} {make} {spell} {Within} {May} {low} {one} {other} {spell_other} {Other} row there back = record {
-  laws = record {
-    takes = λ ls y rest h.
-        let t = row.laws.takes ls y rest h in
-        let w = there t.0 (kinds rest) t.2 in
-        (w.0, w.1 ∙ t.1, w.2, t.3 ∙ sym w.3);
-    again = λ ls w more within may h.
-        let z = back w more within in
-        let a = row.laws.again ls z.0 more z.2 may (h ∙ sym z.3) in
-        (a.0, subst (λ (v : Y). one ls ≡ Ok (v, a.0)) z.1 a.1, a.2);
-    no_gap = λ w more within.
-        let z = back w more within in
-        subst (λ (ts : List Token). length more ≤ length ts) z.3 (row.laws.no_gap z.0 more z.2);
-  };
-  looks = row.looks;
-  sample = row.sample;
-}
-
--- the values as the parts of what is read
-pub reads : {Z Y : Type 0} {end : ℕ} {ok : Type 0} {make : Z → Y} {spell : Z → List Token → List Token} {Within : Z → List Token → Type 0}
-    {May : List Token → Type 0} {low one : List Lexeme → Read Y} {spell_made : Y → List Token → List Token} {Made : Y → Type 0}
-    → Row end ok make spell Within May low one
-    → ((z : Z) (more : List Token) → Within z more → Made (make z) × (spell z more ≡ spell_made (make z) more))
-    → ((y : Y) (more : List Token) → Made y → (z : Z) × (make z ≡ y) × Within z more)
-    → Reader end ok spell_made Made May low one
-reads {Z} {Y} {end} {ok} {make} {spell} {Within} {May} {low} {one} {spell_made} {Made} row back parts =
-    recast row
-    (λ z more within. let is = back z more within in (make z, refl, is.0, sym is.1))
-    (λ y more within.
-    let p = parts y more within in
-    (p.0, p.1, p.2, (back p.0 more p.2).1 ∙ ap (λ (v : Y). spell_made v more) p.1))
-
--- the same where it may have many spellings
-pub reads_by : {Z Y : Type 0} {end : ℕ} {ok : Type 0} {make : Z → Y} {spell : Z → List Token → List Token} {Within : Z → List Token → Type 0}
-    {May : List Token → Type 0} {low one : List Lexeme → Read Y} {Spells : Y → List Token → List Token → Type 0}
-    → Row end ok make spell Within May low one
-    → ((z : Z) (more : List Token) → Within z more → Spells (make z) (spell z more) more)
-    → ((y : Y) (tokens more : List Token) → Spells y tokens more
-    → (z : Z) × (make z ≡ y) × Within z more × (spell z more ≡ tokens))
-    → ReaderBy end ok Spells May low one
-reads_by {Z} {Y} {end} {ok} {make} {spell} {Within} {May} {low} {one} {Spells} row back parts =
-    recast row (λ z more within. ((make z, spell z more), refl, back z more within, refl))
-    (λ y more within. parts y.0 y.1 more within)
 
 -- what is made of the value of one reader
 pub mapped : {Z X Y : Type 0} {end : ℕ} {ok : Type 0} {make : Z → X} {spell : Z → List Token → List Token} {Within : Z → List Token → Type 0}
@@ -356,6 +320,93 @@ a_token {A} {Within} s what spelled means found x within = record {
             (Ok (x, ls)) (next_again s l ls) (rw is refl),
         kinds_of l ls (spelled x) more h,
       )
+
+-- ---- a step, which passes tokens and reads no value
+
+-- a step as a reader
+abbrev pub stepped : (List Lexeme → Result (List Lexeme) GrammarFault) → List Lexeme → Read (Unit {0})
+stepped step ls = and_then (step ls) (λ rest. Ok (tt, rest))
+
+-- tokens that stand so in front of others, by their step and one with a level less
+pub record Step (end : ℕ) (ok : Type 0) (spell : List Token → List Token)
+    (low step : List Lexeme → Result (List Lexeme) GrammarFault) : Type 0 where
+  pub row : Row {Z = Unit {0}} end ok (λ u. u) (λ u more. spell more) (λ u more. Unit {0}) Anything (stepped low) (stepped step)
+
+pub behind_step : {Y : Type 0} (r : Result (List Lexeme) GrammarFault) (one : List Lexeme → Read Y)
+    → and_then r one ≡ and_then (and_then {B = Unit {0} × List Lexeme} r (λ rest. Ok (tt, rest))) (λ x. one x.1)
+unfolding and_then
+behind_step (Ok rest) one = refl
+behind_step (Err e) one = refl
+
+-- a step, and a chain behind it
+pub behind : {Z Y : Type 0} {end : ℕ} {ok : Type 0} {make : Z → Y} {spell : Z → List Token → List Token}
+    {Within : Z → List Token → Type 0} {May : List Token → Type 0} {before : List Token → List Token}
+    {low_step step : List Lexeme → Result (List Lexeme) GrammarFault} {low one : List Lexeme → Read Y}
+    → Step end ok before low_step step → Row end ok make spell Within May low one
+    → Row end ok make (λ z more. before (spell z more)) Within May (λ ls. and_then (low_step ls) low) (λ ls. and_then (step ls) one)
+behind {low_step = low_step} {step} {low} {one} first then =
+    same_row (recast (value first.row (λ u. then)) (λ z more within. (z.1, refl, within.1, refl))
+    (λ w more within. ((tt, w), refl, (tt, within), refl))) (λ ls. behind_step (low_step ls) low)
+    (λ ls. behind_step (step ls) one)
+
+two_steps : (r : Result (List Lexeme) GrammarFault) (next : List Lexeme → Result (List Lexeme) GrammarFault)
+    → and_then {B = Unit {0} × List Lexeme} (and_then r next) (λ rest. Ok (tt, rest)) ≡ and_then r (stepped next)
+unfolding and_then
+two_steps (Ok rest) next = refl
+two_steps (Err e) next = refl
+
+pub passes_on : {end : ℕ} {ok : Type 0} {spell_first spell_next : List Token → List Token}
+    {low_first low_next first next : List Lexeme → Result (List Lexeme) GrammarFault} → Step end ok spell_first low_first first
+    → Step end ok spell_next low_next next
+    → Step end ok (λ more. spell_first (spell_next more)) (λ ls. and_then (low_first ls) low_next) (λ ls. and_then (first ls) next)
+passes_on {low_first = low_first} {low_next} {first} {next} a b =
+    record { row = same_row (behind a b.row) (λ ls. two_steps (low_first ls) low_next) (λ ls. two_steps (first ls) next) }
+
+pub no_step : {end : ℕ} {ok : Type 0} → Step end ok (λ more. more) (λ ls. Ok ls) (λ ls. Ok ls)
+unfolding and_then
+no_step = record { row = same_row (done tt) (λ ls. refl) (λ ls. refl) }
+
+-- the step that passes one token
+passed_by : (goes : Token → Bool) (t : Token) → ((u : Token) → goes u ≡ true → u ≡ t) → (u : Token) (b : Bool) → goes u ≡ b
+    → (x : Unit {0}) → cond b (Some tt) None ≡ Some x → (u ≡ t) × Free x
+passed_by goes t only u true e x h = (only u e, tt)
+passed_by goes t only u false e x h = absurd cc
+
+by_goes : (b : Bool) (start : ℕ) (ls : List Lexeme)
+    → and_then {B = Unit {0} × List Lexeme} (cond b (Ok ls) (Err (fault.Grammar start))) (λ rest. Ok (tt, rest))
+    ≡ or_fault_at start ls (cond b (Some tt) None)
+unfolding and_then
+by_goes true start ls = refl
+by_goes false start ls = refl
+
+module _ (s : Scope) (goes : Token → Bool) where
+  abbrev step_by : List Lexeme → Result (List Lexeme) GrammarFault
+  step_by ls = and_then (next s ls) (λ x. cond (goes x.0.token) (Ok x.1) (Err (fault.Grammar x.0.start)))
+
+  step_is : (ls : List Lexeme) → stepped step_by ls ≡ read_as (λ u. cond (goes u) (Some tt) None) s ls
+  unfolding next read_as and_then
+  step_is [] = refl
+  step_is (l ∷ ls) = by_goes (goes l.token) l.start ls
+
+passes : {ok : Type 0} (s : Scope) (goes : Token → Bool) (t : Token) → ((u : Token) → goes u ≡ true → u ≡ t) → goes t ≡ true
+    → Step s.end ok (λ more. t ∷ more) (step_by (lower s) goes) (step_by s goes)
+passes s goes t only here = record {
+  row = same_row (a_token s (λ u. cond (goes u) (Some tt) None) (λ x. t) (λ u x h. passed_by goes t only u (goes u) refl x h)
+      (λ x free. rw here refl) tt tt) (step_is (lower s) goes) (step_is s goes);
+}
+
+pub this_mark : {ok : Type 0} (s : Scope) (m : Mark) → Step s.end ok (λ more. token.Mark m ∷ more) (mark (lower s) m) (mark s m)
+unfolding mark
+this_mark s m = passes s (is_mark m) (token.Mark m) (is_mark_true m) (is_mark_same m)
+
+pub this_keyword : {ok : Type 0} (s : Scope) (k : Keyword)
+    → Step s.end ok (λ more. token.Keyword k ∷ more) (keyword (lower s) k) (keyword s k)
+unfolding keyword
+this_keyword s k = passes s (is_keyword k) (token.Keyword k) (is_keyword_true k) (is_keyword_same k)
+
+pub this_two : {ok : Type 0} (s : Scope) → Step s.end ok (λ more. token.Number 2 ∷ more) (two (lower s)) (two s)
+unfolding two
+this_two s = passes s is_number_two (token.Number 2) is_two_true refl
 
 -- ---- choices
 

@@ -16,12 +16,12 @@ use Rattle.kpn_text_tokens.specs.Results.{and_then}
 use Rattle.kpn_text_grammar.specs.Syntax.{NameBytes, ExpressionNode, StatementNode, assign, store, receive, send, choice, loop, Statements, no_statements, statement, as_statements}
 use Rattle.kpn_text_grammar.specs.Spelling.{kinds, SpellsAll, SpellsStatement, as_assignment, as_store, as_read, as_write, as_if, as_while, SpellsStatements, nothing, one_more, SpellsElse, left_out, behind_else, SpellsSecond, with_braces, as_branch, begins_else, inner_levels, deepest_term, BlockIsWithin}
 use Rattle.kpn_text_grammar.specs.TokenTests.{is_mark, is_keyword}
-use Rattle.kpn_text_grammar.specs.Reading.{Read, first_is, next, mark, keyword, whole, many, is_second, assignment_behind, store_behind, target_behind, receive_behind, send_behind, else_behind, choice_behind, loop_behind, statement_behind, one_statement, declares, stands_in_block, all_of, block_behind, opened, too_deep, is_branch, branch, block, second_block}
+use Rattle.kpn_text_grammar.specs.Reading.{Read, first_is, next, mark, whole, many, is_second, assignment_behind, store_behind, target_behind, receive_behind, send_behind, else_behind, choice_behind, loop_behind, statement_behind, one_statement, declares, stands_in_block, all_of, block_behind, opened, too_deep, is_branch, branch, block, second_block}
 use Rattle.kpn_text_grammar.proofs.Lookahead.{lower, Anything, Fills, Look, nests, Looking, Looks, bind_fills, bind_looks, deep_looks, fills_as, first_looks, looks_as, looks_same}
-use Rattle.kpn_text_grammar.proofs.Steps.{this_mark, this_keyword, bind_ok, by_test, first_kind, is_keyword_same, is_mark_true, no_value, second_is_two, stepped, stepped_is}
+use Rattle.kpn_text_grammar.proofs.Steps.{bind_ok, bound, by_test, first_kind, is_keyword_same, is_mark_true, no_value, second_is_two}
 use Rattle.kpn_text_grammar.proofs.TightLaws.{at_brace, at_bracket, at_semicolon}
 use Rattle.kpn_text_grammar.proofs.WholeLaws.{Expression, Over, expression_of, is_over}
-use Rattle.kpn_text_grammar.proofs.Readers.{Row, ReaderBy, ReadsBy, HasRoom, Unless, as_seen, sampled, given, narrow, done, behind, value, bind, mapped, As, recast, reads_by, a_name, choose, either, spell_either, Either, Arm, arm, no_arm, Begun, by_token, token_longer, begins, Elements, each_by, shortens}
+use Rattle.kpn_text_grammar.proofs.Readers.{this_mark, this_keyword, stepped, behind_step, Row, ReaderBy, ReadsBy, HasRoom, Unless, as_seen, sampled, given, narrow, done, behind, value, bind, mapped, As, recast, reads_by, a_name, choose, either, spell_either, Either, Arm, arm, no_arm, Begun, by_token, token_longer, begins, Elements, each_by, shortens}
 use Rattle.kpn_text_grammar.proofs.Readers as rows
 
 -- a statement within the limits of depth: its blocks nest at most so deep, and its expressions at most so many levels
@@ -540,19 +540,19 @@ module _ (s : Scope) (inner second : List Lexeme → Read Statements) where
   braces_fill : Fills Anything (opened s inner second)
   unfolding opened
   braces_fill =
-      fills_as (λ more may. may) (λ ts rest y e may. stepped_is (mark s mark_.LeftBrace ts) (block_behind s inner second))
+      fills_as (λ more may. may) (λ ts rest y e may. behind_step (mark s mark_.LeftBrace ts) (block_behind s inner second))
       (bind_fills (stepped (mark s mark_.LeftBrace)) (λ u. block_behind s inner second) (λ x ts rest y e may. tt)
-      (this_mark s mark_.LeftBrace).sample end_fill)
+      ((this_mark {ok = Unit {0}} s mark_.LeftBrace).row.sample tt) end_fill)
 
   -- where no level is left for the other reader, it refuses all but an opening brace
   braces_look : Looks s.end Anything (too_deep (lower s)) (opened s inner second)
   unfolding too_deep opened
   braces_look =
-      looks_same (λ more may. may) (λ ls. stepped_is (mark (lower s) mark_.LeftBrace ls) (λ rest. Err (fault.TooDeep s.process)))
-      (λ ls. stepped_is (mark s mark_.LeftBrace ls) (block_behind s inner second))
+      looks_same (λ more may. may) (λ ls. behind_step (mark (lower s) mark_.LeftBrace ls) (λ rest. Err (fault.TooDeep s.process)))
+      (λ ls. behind_step (mark s mark_.LeftBrace ls) (block_behind s inner second))
       (bind_looks (λ x ts rest y e may. tt)
       (λ before f. bind_fills (λ ts. stepped (mark s mark_.LeftBrace) (before ++ ts)) (λ u. block_behind s inner second)
-      (λ x ts rest y e may. tt) f end_fill) (this_mark s mark_.LeftBrace).looks
+      (λ x ts rest y e may. tt) f end_fill) ((this_mark {ok = Unit {0}} s mark_.LeftBrace).row.looks tt)
       (λ u. deep_looks (block_behind s inner second)))
 
   is_no_branch : (ts rest : List Lexeme) (b : Statements) → opened s inner second ts ≡ Ok (b, rest) → is_branch s ts ≡ false
@@ -560,7 +560,7 @@ module _ (s : Scope) (inner second : List Lexeme → Read Statements) where
   is_no_branch ts rest b h =
       let m = bind_ok (mark s mark_.LeftBrace ts) (block_behind s inner second) (b, rest) h in
       and_false _ _ (first_kind (is_keyword keyword_.If) ts (token.Mark mark_.LeftBrace) (kinds m.0)
-      ((this_mark s mark_.LeftBrace).takes ts m.0 m.1))
+      ((this_mark {ok = Unit {0}} s mark_.LeftBrace).row.laws.takes ts tt m.0 (bound (mark s mark_.LeftBrace ts) m.0 _ _ m.1 refl)).3)
 
   second_fill : Fills NoElse (branch_or_braces s inner second)
   second_fill = fills_as (λ more may. tt) (λ ts rest b h may. rw (is_no_branch ts rest b h) refl) braces_fill
@@ -596,8 +596,8 @@ mutual
     sample = λ so. braces_fill s (block s d) (second_block s d);
   }
   block_reads s (suc e) (suc d) =
-      given (λ so. (so.0, omega (arith, so.1))) (opened_reads s e d (block (lower s) e) (second_block (lower s) e) (block s d)
-      (second_block s d) (block_reads s e d) (second_block_reads s e d))
+      given (opened_reads s e d (block (lower s) e) (second_block (lower s) e) (block s d)
+      (second_block s d) (block_reads s e d) (second_block_reads s e d)) (λ so. (so.0, omega (arith, so.1)))
 
   pub second_block_reads : (s : Scope) (e d : ℕ) → ReadsSeconds s e d (second_block (lower s) e) (second_block s d)
   second_block_reads s e zero = record {
@@ -616,16 +616,16 @@ mutual
     sample = λ so. second_fill s (block s d) (second_block s d);
   }
   second_block_reads s (suc e) (suc d) =
-      given (λ so. (so.0, omega (arith, so.1))) (second_reads s e d (block (lower s) e) (second_block (lower s) e) (block s d)
-      (second_block s d) (block_reads s e d) (second_block_reads s e d))
+      given (second_reads s e d (block (lower s) e) (second_block (lower s) e) (block s d)
+      (second_block s d) (block_reads s e d) (second_block_reads s e d)) (λ so. (so.0, omega (arith, so.1)))
 
 -- the statements of a body and its closing brace
 pub whole_body_reads : (s : Scope) → ReadsBy s (BodyOf s (suc (s.levels - 1))) Anything
     (λ s. block_behind s (block s (s.levels - 1)) (second_block s (s.levels - 1)))
 whole_body_reads s =
-    given (λ so. (so, omega (arith, so))) (body_reads s (s.levels - 1 - 1) (s.levels - 1) (block (lower s) (s.levels - 1 - 1))
+    given (body_reads s (s.levels - 1 - 1) (s.levels - 1) (block (lower s) (s.levels - 1 - 1))
     (second_block (lower s) (s.levels - 1 - 1)) (block s (s.levels - 1)) (second_block s (s.levels - 1))
-    (block_reads s (s.levels - 1 - 1) (s.levels - 1)) (second_block_reads s (s.levels - 1 - 1) (s.levels - 1)))
+    (block_reads s (s.levels - 1 - 1) (s.levels - 1)) (second_block_reads s (s.levels - 1 - 1) (s.levels - 1))) (λ so. (so, omega (arith, so)))
 
 -- a statement takes a token or more
 pub statement_shortens : (s : Scope) (d : ℕ) (ls : List Lexeme) {st : StatementNode} {rest : List Lexeme}

@@ -1,5 +1,5 @@
 -- Steps of reading: what a chain of steps returns, and the laws of the parsers of one token.
-use Rattle.std.proofs.Common.{◌≡◌, inl, inr, ℕ, ◌≤◌, Bool, true, false, cond, List, [], ◌∷◌, ◌++◌, length, Option, Some, None, Result, Ok, Err, IfOk, refl, sym, ap, subst, ◌∙◌, arith}
+use Rattle.std.proofs.Common.{◌≡◌, ℕ, Bool, true, false, cond, List, [], ◌∷◌, Option, Some, None, Result, Ok, Err, IfOk, refl, sym, ap, subst, ◌∙◌}
 use Rattle.std.specs.Str.{bytes_eq}
 use Rattle.std.proofs.lemmas.Bool.{eqb-true}
 use Rattle.std.proofs.lemmas.Slice.Eq.{bytes_eq-Decides}
@@ -28,9 +28,8 @@ use Rattle.kpn_text_grammar.specs.Words.{growth_word, growth_spelled, policy_wor
 use Rattle.kpn_text_grammar.specs.Spelling.{kinds}
 use Rattle.kpn_text_tokens.specs.Results.{and_then, OkOr}
 use Rattle.kpn_text_grammar.specs.TokenTests.{same_mark, same_keyword, is_mark, is_keyword, is_number_two}
-use Rattle.kpn_text_grammar.specs.Reading.{Read, ReadingFails, ReadingGives, first_is, is_second, next, mark, keyword, token_operator, or_fault_at, two}
+use Rattle.kpn_text_grammar.specs.Reading.{ReadingFails, ReadingGives, first_is, is_second, next, token_operator, or_fault_at}
 use Rattle.kpn_text_tokens.proofs.Pieces.{find_passes}
-use Rattle.kpn_text_grammar.proofs.Lookahead.{lower, Anything, Fills, Looks, Starts, by_first, bind_fills, bind_looks, done_fills, done_looks, fills_as, first_reads, looks_same, start_fills}
 
 -- the value of a step that had no fault
 pub bind_ok : {A B : Type 0} (r : Result A GrammarFault) (f : A → Result B GrammarFault) (y : B) → and_then r f ≡ Ok y
@@ -157,123 +156,11 @@ pub next_again : (s : Scope) (l : Lexeme) (rest : List Lexeme) → next s (l ∷
 unfolding next
 next_again s l rest = refl
 
--- ---- a mark, a reserved word, the number 2
-
--- a step as a reader
-abbrev pub stepped : (List Lexeme → Result (List Lexeme) GrammarFault) → List Lexeme → Read (Unit {0})
-stepped step ls = and_then (step ls) (λ rest. Ok (tt, rest))
-
-pub stepped_is : {Y : Type 0} (r : Result (List Lexeme) GrammarFault) (one : List Lexeme → Read Y)
-    → and_then r one ≡ and_then (and_then {B = Unit {0} × List Lexeme} r (λ rest. Ok (tt, rest))) (λ x. one x.1)
-unfolding and_then
-stepped_is (Ok rest) one = refl
-stepped_is (Err e) one = refl
-
--- the step that passes tokens, which stand so in front of others, and one with a level less
-pub record Passes (end : ℕ) (spell : List Token → List Token) (low step : List Lexeme → Result (List Lexeme) GrammarFault)
-    : Type 0 where
-  pub takes : (ls rest : List Lexeme) → step ls ≡ Ok rest → kinds ls ≡ spell (kinds rest)
-  pub again : (ls : List Lexeme) (more : List Token) → kinds ls ≡ spell more
-      → (rest : List Lexeme) × (step ls ≡ Ok rest) × (kinds rest ≡ more)
-  pub no_gap : (more : List Token) → length more ≤ length (spell more)
-  pub looks : Looks end Anything (stepped low) (stepped step)
-  pub sample : Fills Anything (stepped step)
-
-pub passes_on : {end : ℕ} {spell_first spell_next : List Token → List Token}
-    {low_first low_next first next : List Lexeme → Result (List Lexeme) GrammarFault} → Passes end spell_first low_first first
-    → Passes end spell_next low_next next
-    → Passes end (λ more. spell_first (spell_next more)) (λ ls. and_then (low_first ls) low_next) (λ ls. and_then (first ls) next)
-unfolding and_then
-passes_on {end} {spell_first} {spell_next} {low_first} {low_next} {first} {next} a b = record {
-  takes = λ ls rest h.
-      let m = bind_ok (first ls) next rest h in
-      a.takes ls m.0 m.1 ∙ ap spell_first (b.takes m.0 rest m.2);
-  again = λ ls more h.
-      let m = a.again ls (spell_next more) h in
-      let n = b.again m.0 more m.2 in
-      (n.0, bound (first ls) m.0 next (Ok n.0) m.1 n.1, n.2);
-  no_gap = λ more. omega (arith, a.no_gap (spell_next more), b.no_gap more);
-  looks = looks_same (λ more may. may) (λ ls. same (low_first ls) low_next) (λ ls. same (first ls) next)
-      (bind_looks (λ x ts rest y e may. tt) finish a.looks (λ u. b.looks));
-  sample = fills_as (λ more may. may) (λ ts rest y e may. same (first ts) next) (finish [] a.sample);
-} where
-  same : (r : Result (List Lexeme) GrammarFault) (next : List Lexeme → Result (List Lexeme) GrammarFault)
-      → and_then {B = Unit {0} × List Lexeme} (and_then r next) (λ rest. Ok (tt, rest))
-      ≡ and_then (and_then {B = Unit {0} × List Lexeme} r (λ rest. Ok (tt, rest))) (λ x. stepped next x.1)
-  same (Ok rest) next = refl
-  same (Err e) next = refl
-
-  finish : (before : List Lexeme) → Fills Anything (λ ts. stepped first (before ++ ts))
-      → Fills Anything (λ ts. and_then (stepped first (before ++ ts)) (λ x. stepped next x.1))
-  finish before f = bind_fills (λ ts. stepped first (before ++ ts)) (λ u. stepped next) (λ x ts rest y e may. tt) f b.sample
-
-module _ (s : Scope) (goes : Token → Bool) where
-  abbrev step : Scope → List Lexeme → Result (List Lexeme) GrammarFault
-  step s ls = and_then (next s ls) (λ x. cond (goes x.0.token) (Ok x.1) (Err (fault.Grammar x.0.start)))
-
-  step_at : (ls : List Lexeme) (l : Lexeme) (rest : List Lexeme) → ls ≡ l ∷ rest → goes l.token ≡ true
-      → step s ls ≡ Ok rest
-  step_at ls l rest e h =
-      bound (next s ls) (l, rest) (λ x. cond (goes x.0.token) (Ok x.1) (Err (fault.Grammar x.0.start))) (Ok rest)
-      (rw (e, next_again s l rest) refl) (rw h refl)
-
-  abbrev from : Lexeme → List Lexeme → Read (Unit {0})
-  from l ls = cond (goes l.token) (Ok (tt, ls)) (Err (fault.Grammar l.start))
-
-  by_goes : (b : Bool) (ls : List Lexeme) (e : GrammarFault)
-      → and_then {B = Unit {0} × List Lexeme} (cond b (Ok ls) (Err e)) (λ rest. Ok (tt, rest)) ≡ cond b (Ok (tt, ls)) (Err e)
-  unfolding and_then
-  by_goes true ls e = refl
-  by_goes false ls e = refl
-
-  first_is_from : (t : Scope) (ls : List Lexeme) → stepped (step t) ls ≡ by_first t from ls
-  unfolding next and_then
-  first_is_from t [] = refl
-  first_is_from t (l ∷ ls) = by_goes (goes l.token) ls (fault.Grammar l.start)
-
-  starts : (start : ℕ) (b : Bool)
-      → Starts {Y = Unit {0}} s.end (Unit {0}) Anything start (λ ls. cond b (Ok (tt, ls)) (Err (fault.Grammar start)))
-      (λ ls. cond b (Ok (tt, ls)) (Err (fault.Grammar start)))
-  starts start true = inl (λ so. done_looks tt)
-  starts start false = inr (λ ls. (refl, refl))
-
-  passes : (t : Token) → ((u : Token) → goes u ≡ true → u ≡ t) → goes t ≡ true
-      → Passes s.end (λ more. t ∷ more) (step (lower s)) (step s)
-  passes t only here = record {
-    takes = λ ls rest h.
-        let b = bind_ok (next s ls) _ rest h in
-        let found = test_ok (goes b.0.0.token) b.0.1 rest (fault.Grammar b.0.0.start) b.2 in
-        ap kinds (next_takes s ls b.0.0 b.0.1 b.1) ∙ ap (λ (k : Token). k ∷ kinds b.0.1) (only b.0.0.token found.0)
-        ∙ ap (λ (r : List Lexeme). t ∷ kinds r) found.1;
-    again = λ ls more h.
-        let f = front ls t more h in
-        (f.rest, step_at ls f.lexeme f.rest f.whole (ap goes f.kind ∙ here), f.after);
-    no_gap = λ more. omega arith;
-    looks = looks_same (λ more may. may) (first_is_from (lower s)) (first_is_from s)
-        (first_reads s from this from (Unit {0}) tt (λ l. starts l.start (goes l.token)));
-    sample = fills_as (λ more may. may) (λ ts rest y e may. first_is_from s ts) this;
-  } where
-    this : Fills Anything (by_first s from)
-    this = start_fills s from (record { token = t; start = 0 })
-        (record { fill = []; value = tt; reads = λ other may. rw here refl })
-
-pub this_mark : (s : Scope) (m : Mark) → Passes s.end (λ more. token.Mark m ∷ more) (mark (lower s) m) (mark s m)
-unfolding mark
-this_mark s m = passes s (is_mark m) (token.Mark m) (is_mark_true m) (is_mark_same m)
-
-pub this_keyword : (s : Scope) (k : Keyword) → Passes s.end (λ more. token.Keyword k ∷ more) (keyword (lower s) k) (keyword s k)
-unfolding keyword
-this_keyword s k = passes s (is_keyword k) (token.Keyword k) (is_keyword_true k) (is_keyword_same k)
-
-is_two_true : (t : Token) → is_number_two t ≡ true → t ≡ token.Number 2
+pub is_two_true : (t : Token) → is_number_two t ≡ true → t ≡ token.Number 2
 is_two_true (token.Number n) h = ap token.Number (eqb-true n 2 h)
 is_two_true (token.Name x) h = absurd cc
 is_two_true (token.Mark m) h = absurd cc
 is_two_true (token.Keyword k) h = absurd cc
-
-pub this_two : (s : Scope) → Passes s.end (λ more. token.Number 2 ∷ more) (two (lower s)) (two s)
-unfolding two
-this_two s = passes s is_number_two (token.Number 2) is_two_true refl
 
 -- ---- operators and words
 

@@ -19,8 +19,8 @@ use Rattle.kpn_text_tokens.specs.Results.{and_then}
 use Rattle.kpn_text_grammar.specs.TokenTests.{is_mark}
 use Rattle.kpn_text_grammar.specs.Reading.{Read, next, mark, read_as, token_operator, operator, begins_expression, level_fault, first_is, operator_fits, goes_further, unless_full, sides_behind, behind_name, binary_behind, conditional_behind, is_second, inside_behind, tight_operand, tight_over, tight}
 use Rattle.kpn_text_grammar.proofs.Lookahead.{lower, Anything, Fills, Near, Look, returns, nests, Looks, Starts, Meets, bind_fills, fills_as, first_looks, first_reads, in_turn as look_in_turn, passed, start_fills, starts_on}
-use Rattle.kpn_text_grammar.proofs.Steps.{bind_ok, bound, by_test, first_is_one, moved, no_value, ok_is, second_is_two, this_mark, token_operator_is}
-use Rattle.kpn_text_grammar.proofs.Readers.{RowLaws, Seen, Row, ReaderBy, as_seen, begins, given, narrow, done, behind, value, bind, bind_by, mapped, guarded, an_operator, either, spell_either, Either, choose, choice_seen, passed_fills, optional, Arm, arm, no_arm, first_token}
+use Rattle.kpn_text_grammar.proofs.Steps.{bind_ok, bound, by_test, first_is_one, moved, no_value, ok_is, second_is_two, token_operator_is}
+use Rattle.kpn_text_grammar.proofs.Readers.{this_mark, RowLaws, Seen, Row, ReaderBy, as_seen, begins, given, narrow, done, behind, value, bind, bind_by, mapped, guarded, an_operator, either, spell_either, Either, choose, choice_seen, passed_fills, optional, Arm, arm, no_arm, first_token}
 use Rattle.kpn_text_grammar.proofs.TightLaws.{operator_takes, is_index, no_question, some_loosest, below_loosest, below_operand, right_below, left_below, left_is_tight, right_is_tighter, is_tight, first_tightness, at_bracket, at_close, at_question, at_colon, operator_first, no_index, looser_first, stops_first, Fits, fits_of, goes_of}
 
 -- ---- operators behind a left side
@@ -252,24 +252,24 @@ module _ (s : Scope) (e k depth d : ℕ) (laws : ReadsTight s depth) where
 
   part : (n : ℕ) → n ≤ OPERAND → (s.language ≡ language.One → OPERAND ≤ n)
       → ReaderBy s.end Enough (Tight s.language depth d n) (Looser n) (tight (lower s) e k n) (tight s depth d n)
-  part n small tight_enough = given (λ so. record {
+  part n small tight_enough = given (laws e k d n small) (λ so. record {
     deeper = omega (arith, so.deeper);
     higher = omega (arith, so.higher);
     first = λ one. omega (arith, so.first one);
     tight = tight_enough;
-  }) (laws e k d n small)
+  })
 
   inside_laws : ReaderBy s.end Enough Part (Looser least) (tight (lower s) e k least) (tight s depth d least)
   inside_laws = part least (below_loosest s.language) is_operand
 
   first_laws : ReaderBy s.end Enough (Tight s.language depth (suc d) least) (Looser least) (tight (lower s) e (suc k) least)
       (tight s depth (suc d) least)
-  first_laws = given (λ so. record {
+  first_laws = given (laws e (suc k) (suc d) least (below_loosest s.language)) (λ so. record {
     deeper = omega (arith, so.deeper);
     higher = so.higher;
     first = λ one. omega (arith, so.first one);
     tight = is_operand;
-  }) (laws e (suc k) (suc d) least (below_loosest s.language))
+  })
 
   fits_too : (c : ExpressionNode) → Enough → nat_le (suc k) (term_level c) ≡ false → nat_le (suc d) (term_level c) ≡ false
   fits_too c so fits = lt-leb (suc d) (term_level c) (omega (arith, so.higher, leb-false (suc k) (term_level c) fits))
@@ -858,8 +858,10 @@ module _ (s : Scope) (depth : ℕ) (laws : ReadsTight s depth) where
       (record { deeper = so.deeper; higher = so.higher; first = so.first; tight = λ one. omega arith })
       (λ l. starts_on meets (λ before f. bind_fills _ _ meets f (sides_fills s (tight s (suc depth) d) (suc d) n (suc d) OPERAND f.value))
       ((operand_arms s e k depth d laws l.token).looks l.start)
-      (λ so left. record { at = sides_look s (tight (lower s) (suc e) k) (tight s (suc depth) d) (suc k) (suc d) n so.higher
-      at_side (suc k) (suc d) (omega (arith, so.higher)) OPERAND left small })) where
+      (λ so left. record {
+        at = sides_look s (tight (lower s) (suc e) k) (tight s (suc depth) d) (suc k) (suc d) n so.higher
+            at_side (suc k) (suc d) (omega (arith, so.higher)) OPERAND left small;
+      })) where
         less : suc k - 1 ≡ k
         less = omega arith
 

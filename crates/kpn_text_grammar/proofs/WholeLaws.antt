@@ -29,12 +29,12 @@ pub expression_of : {ok : Type 0} (s : Scope) → (ok → HasRoom s)
     → ReaderBy s.end ok (Expression s) (Over s.language) (whole (lower s)) (whole s)
 unfolding whole
 expression_of s has =
-    given (λ so. record {
+    given (tight_reads s s.levels (s.levels - 1) (s.levels - 1) s.levels (loosest s.language) (below_loosest s.language)) (λ so. record {
       deeper = omega (arith, has so);
       higher = omega (arith, has so);
       first = λ one. omega arith;
       tight = λ one. subst (λ (l : Language). OPERAND ≤ loosest l) (sym one) (omega arith);
-    }) (tight_reads s s.levels (s.levels - 1) (s.levels - 1) s.levels (loosest s.language) (below_loosest s.language))
+    })
 
 -- the canonical spelling is one
 pub canonical_expression : (l : Language) (e : ExpressionNode) (more : List Token) → term_level e ≤ MAX_LEVELS

@@ -6,7 +6,7 @@ use Rattle.kpn_text_tokens.specs.declared.tokens.Language.{Language}
 use Rattle.kpn_text_tokens.specs.declared.tokens.Lexeme.{Lexeme}
 use Rattle.kpn_text_tokens.specs.declared.tokens.Token.{Token}
 use Rattle.kpn_text_grammar.specs.Syntax.{Description}
-use Rattle.kpn_text_grammar.specs.Spelling.{kinds, spell_description, IsWithinLimits, IsNested, IsDescription}
+use Rattle.kpn_text_grammar.specs.Spelling.{kinds, spell_description, IsWithinLimits, IsDescriptionWithin, IsDescription}
 use Rattle.kpn_text_grammar.specs.Reading.{description_of}
 
 -- Tokens are read as a description if and only if they spell it within the limits, wherever they are in the text.
@@ -39,5 +39,5 @@ pub record IsFaultAt (l : Language) (end : ℕ) (ls : List Lexeme) (at : ℕ) : 
   pub parts : ls ≡ before ++ rest
   pub place : at ≡ fault_place end rest
   pub none : (levels : ℕ) (others : List Token) (d : Description) → MAX_LEVELS ≤ levels
-      → take 1 others ≡ take 1 (kinds rest) → IsNested levels l (kinds before ++ others) d → ⊥
-  pub some : (others : List Token) × (d : Description) × IsNested (suc MAX_LEVELS) l (kinds before ++ others) d
+      → take 1 others ≡ take 1 (kinds rest) → IsDescriptionWithin levels l (kinds before ++ others) d → ⊥
+  pub some : (others : List Token) × (d : Description) × IsDescriptionWithin (suc MAX_LEVELS) l (kinds before ++ others) d

@@ -407,10 +407,10 @@ pub record IsWithinLimits (levels : ℕ) (d : Description) : Type 0 where
   pub processes : AllByRecursion (ProcessIsWithin levels levels) d.processes
 
 -- The tokens are those of the description in a language, and it is within the limits of the grammar.
-pub record IsNested (levels : ℕ) (l : Language) (tokens : List Token) (d : Description) : Type 0 where
+pub record IsDescriptionWithin (levels : ℕ) (l : Language) (tokens : List Token) (d : Description) : Type 0 where
   pub spelled : SpellsDescription levels l d tokens
   pub within : IsWithinLimits levels d
 
 -- the same with the 32 levels that there may be
 abbrev pub IsDescription : Language → List Token → Description → Type 0
-IsDescription = IsNested MAX_LEVELS
+IsDescription = IsDescriptionWithin MAX_LEVELS
