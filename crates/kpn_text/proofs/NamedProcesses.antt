@@ -6,7 +6,7 @@ use Rattle.std.specs.List.{AllByRecursion, flat_map}
 use Rattle.std.proofs.Math.Seq.{take-append_seam}
 use Rattle.std.proofs.lemmas.Bool.Decides.{nat_tests}
 use Rattle.std.proofs.lemmas.List.{take_at}
-use Rattle.kpn_limits.specs.declared.TheConstants.{MAX_VARIABLES, MAX_PORTS, MAX_CELLS, MAX_NODES}
+use Rattle.kpn_limits.specs.declared.TheConstants.{MAX_VARIABLES, MAX_PORTS, MAX_CELLS, MAX_NODES, MAX_LEVELS}
 use Rattle.kpn_lang.specs.declared.program.ProgramFault.{ProgramFault}
 use Rattle.kpn_lang.specs.declared.program.ProgramFault.TheVariants as rule
 use Rattle.kpn_lang.specs.Parts.{Parts, IsProgram, is_too_large, statement_nodes}
@@ -217,7 +217,7 @@ module _ (flat : BlocksAreTheTree) (l : Language) (shared : SharedTables) (fille
         body = body i;
       }
 
-  process_back : (p : ProcessNode) (made : NamedProgram) → ProcessIsWithin p → named_program l shared p ≡ Ok made
+  process_back : (p : ProcessNode) (made : NamedProgram) → ProcessIsWithin MAX_LEVELS MAX_LEVELS p → named_program l shared p ≡ Ok made
       → HasFewCells made.parts → ComesBack p made
   process_back p made within e few =
       let h = went (head_scope shared.names p) _ made e in
@@ -270,7 +270,7 @@ record Added (before : Programs) (processes : List ProcessNode) (after : Program
 
 module _ (flat : BlocksAreTheTree) (l : Language) (shared : SharedTables) (filled : AreFilled shared) where
   added : (before : Programs) (processes : List ProcessNode) (after : Programs)
-      → AllByRecursion ProcessIsWithin processes → each (with_named_process l shared) before processes ≡ Ok after
+      → AllByRecursion (ProcessIsWithin MAX_LEVELS MAX_LEVELS) processes → each (with_named_process l shared) before processes ≡ Ok after
       → Added before processes after
   unfolding each
   added before [] after within h =
@@ -308,7 +308,7 @@ module _ (flat : BlocksAreTheTree) (l : Language) (shared : SharedTables) (fille
       }
 
   -- the processes of a description come back, each with its arrays and then its tables
-  pub processes_back : (processes : List ProcessNode) (p : Programs) → AllByRecursion ProcessIsWithin processes
+  pub processes_back : (processes : List ProcessNode) (p : Programs) → AllByRecursion (ProcessIsWithin MAX_LEVELS MAX_LEVELS) processes
       → programs_of l shared processes ≡ Ok p → HaveFewCells p.programs
       → processes_named p.names p.programs ≡ map sorted_process processes
   processes_back processes p within h few =

@@ -3,7 +3,7 @@ use Rattle.std.proofs.Common.{◌≡◌, ℕ, ◌<◌, ◌≤◌, Bool, true, fa
 use Rattle.std.specs.Prelude.{nat_lt, All, IfOk}
 use Rattle.std.specs.List.{AllByRecursion}
 use Rattle.std.proofs.lemmas.Bool.Decides.{nat_tests}
-use Rattle.kpn_limits.specs.declared.TheConstants.{MAX_CAPACITY, MAX_TEXT_BYTES}
+use Rattle.kpn_limits.specs.declared.TheConstants.{MAX_CAPACITY, MAX_TEXT_BYTES, MAX_LEVELS}
 use Rattle.kpn_lang.specs.Parts.{IsProgram}
 use Rattle.kpn_net.specs.declared.tables.Growth.{Growth}
 use Rattle.kpn_net.specs.declared.tables.Growth.TheVariants as growth
@@ -136,7 +136,7 @@ pub record Kept (l : Language) (d : Description) (n : Named) : Type 0 where
   pub again : resolve l (printed n) ≡ Ok n
 
 kept_by : BlocksAreTheTree → (l : Language) (d : Description) (s : Settings) (shared : SharedTables) (p : Programs)
-    (w : Wiring) → IsWithinLimits d → HaveFewCells p.programs → s.limit ≤ MAX_CAPACITY → shared_of d.tables ≡ Ok shared
+    (w : Wiring) → IsWithinLimits MAX_LEVELS d → HaveFewCells p.programs → s.limit ≤ MAX_CAPACITY → shared_of d.tables ≡ Ok shared
     → programs_of l shared d.processes ≡ Ok p → wiring p.names d.network.items ≡ Ok w
     → Kept l d (named_with shared s p w)
 kept_by flat l d s shared p w within few small hs hp hw =
@@ -160,7 +160,7 @@ kept_by flat l d s shared p w within few small hs hp hw =
           ∙ ap (λ q. Ok (named_with shared q p w)) (settings_again s small);
     }
 
-kept : BlocksAreTheTree → LimitsAreInRange → (l : Language) (d : Description) (n : Named) → IsWithinLimits d
+kept : BlocksAreTheTree → LimitsAreInRange → (l : Language) (d : Description) (n : Named) → IsWithinLimits MAX_LEVELS d
     → resolve l d ≡ Ok n → IsNetwork n.tables → Kept l d n
 kept flat limits l d n within h net =
     let r = resolved l d n h in
@@ -218,7 +218,8 @@ sorted_proper l p h = record {
   body = h.body;
 }
 
-sorted_within : (p : ProcessNode) → ProcessIsWithin p → ProcessIsWithin (sorted_process p)
+sorted_within : (p : ProcessNode) → ProcessIsWithin MAX_LEVELS MAX_LEVELS p
+    → ProcessIsWithin MAX_LEVELS MAX_LEVELS (sorted_process p)
 sorted_within p h = record {
   declarations = sorted_keep DeclarationIsWithin plain_within p.declarations h.declarations;
   body = h.body;
@@ -247,15 +248,16 @@ proper text d s read k =
 printed_fits : CanonicalSpells → (text : List ℕ) (d : Document) (s : SpellsDocument text d) → Kept d.language s.tree s.named
     → IsDescription d.language (spell_description d.language (printed s.named)) (printed s.named)
 printed_fits spells text d s k =
-    let was : IsWithinLimits s.tree = s.spelled.within in
+    let was : IsWithinLimits MAX_LEVELS s.tree = s.spelled.within in
     spells d.language (printed s.named)
     (record {
       tables =
           subst (λ ts. AllByRecursion TableIsWithin ts) k.tables
           (all_mapped plain_table TableIsWithin TableIsWithin plain_within s.tree.tables was.tables);
       processes =
-          subst (λ ps. AllByRecursion ProcessIsWithin ps) k.processes
-          (all_mapped sorted_process ProcessIsWithin ProcessIsWithin sorted_within s.tree.processes was.processes);
+          subst (λ ps. AllByRecursion (ProcessIsWithin MAX_LEVELS MAX_LEVELS) ps) k.processes
+          (all_mapped sorted_process (ProcessIsWithin MAX_LEVELS MAX_LEVELS) (ProcessIsWithin MAX_LEVELS MAX_LEVELS) sorted_within
+          s.tree.processes was.processes);
     })
 
 pub spelled_kept : BlocksAreTheTree → LimitsAreInRange → (text : List ℕ) (d : Document) (s : SpellsDocument text d)
