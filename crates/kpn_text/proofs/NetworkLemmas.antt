@@ -166,7 +166,7 @@ language_read language.Two more tokens h =
     keyword_read keyword.Language (codes " 2;\n" ++ more) _ refl refl
     (space_read _ _
     (token_read (token.Number 2) (codes "2") (codes ";\n" ++ more) (token.Mark mark.Semicolon ∷ tokens)
-    (record { digits = refl; some = omega arith; few = lit≤ tt; has_value = refl; small = lit≤ tt }) refl
+    (record { begins = refl; goes_on = refl; has_value = refl }) refl
     (end_read more tokens h)))
 
 pub description_read : (l : Language) (d : Description) → IsProper l d

@@ -79,7 +79,7 @@ digits_no_equals (d ∷ ds) more all some =
 number_no_equals : (l : Language) (n : ℕ) (more : List ℕ) → n < 2 ^ 63
     → starts_with nat_eq (decimal n ++ more) (codes "=") ≡ false
 number_no_equals l n more small =
-    let is = decimal_spelled l n small in
+    let is = decimal_spelled language.One n small in
     digits_no_equals (decimal n) more is.digits is.some
 
 -- so no expression does
