@@ -26,7 +26,8 @@ only_one : {l : Language} {s : StatementNode} {tokens more : List Token}
 only_one (one_more h nothing) = h
 
 canonical_else : (l : Language) (b : Statements) (more : List Token) → begins_else more ≡ false
-    → ((after : List Token) → begins_else after ≡ false → SpellsStatements MAX_LEVELS l b (spell_statements l b after) after)
+    → ((after : List Token) → begins_else after ≡ false → SpellsStatements MAX_LEVELS l b
+    (spell_statements l b after) after)
     → SpellsElse MAX_LEVELS l b (spell_else l b (spell_statements l b) more) more
 canonical_else language.Two no_statements more ends inside = left_out refl ends
 canonical_else language.Two (statement (choice e a b) no_statements) more ends inside =
@@ -75,7 +76,8 @@ canonical_process l p more within = record {
   body = canonical_statements l p.body (token.Mark mark_.RightBrace ∷ more) within.body.terms refl;
 }
 
-canonical_processes : (l : Language) (ps : List ProcessNode) (more : List Token) → AllByRecursion (ProcessIsWithin MAX_LEVELS MAX_LEVELS) ps
+canonical_processes : (l : Language) (ps : List ProcessNode) (more : List Token) → AllByRecursion
+    (ProcessIsWithin MAX_LEVELS MAX_LEVELS) ps
     → SpellsAll (SpellsProcess MAX_LEVELS l) ps (spell_all (spell_process l) ps more) more
 canonical_processes l [] more within = refl
 canonical_processes l (p ∷ ps) more within = (

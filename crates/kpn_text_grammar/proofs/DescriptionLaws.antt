@@ -55,7 +55,8 @@ ContentsOf s d tokens more = (inside : List Token) × (tokens ≡ spell_all spel
 no_table : (levels : ℕ) (l : Language) (ps : List ProcessNode) (n : NetworkNode) (tokens more : List Token)
     → SpellsAll (SpellsProcess levels l) ps tokens (spell_network n more) → Unless (is_keyword keyword_.Table) tokens
 no_table levels l [] n tokens more h = ap (λ ts. begins (is_keyword keyword_.Table) ts) h
-no_table levels l (p ∷ ps) n tokens more (others, first, rest) = ap (λ ts. begins (is_keyword keyword_.Table) ts) first.head
+no_table levels l (p ∷ ps) n tokens more (others, first, rest) = ap
+    (λ ts. begins (is_keyword keyword_.Table) ts) first.head
 
 abbrev inside : Scope → List Lexeme → Read Description
 inside s ls =
@@ -159,7 +160,8 @@ one_description l ts d e is_d is_e =
 
 -- ---- the place of a fault
 
--- What a reader with a level more does where one refuses what stands in front of the rest: it refuses that, and all that
+-- What a reader with a level more does where one refuses what stands in front of the rest: it refuses that, and all
+-- that
 -- begins like it, and reads the tokens before it in front of some others.
 record Refused (s : Scope) (ls : List Lexeme) (at : ℕ) : Type 0 where
   before : List Lexeme
@@ -205,7 +207,8 @@ module _ (s : Scope) (has : HasRoom s) (ls : List Lexeme) where
         rest = l ∷ rest;
         whole = k.whole;
         place = sym same;
-        again = λ other ahead. refused_last s d l k.before other ahead (k.again other (inl ahead)) ∙ ap (λ n. Err (fault.Grammar n)) same;
+        again = λ other ahead. refused_last s d l k.before other ahead (k.again other (inl ahead)) ∙ ap
+            (λ n. Err (fault.Grammar n)) same;
         fill = [];
         made = d;
         leads = read_last s d (k.before ++ []) (k.again [] (inr tt));
@@ -224,19 +227,22 @@ module _ (s : Scope) (has : HasRoom s) (ls : List Lexeme) where
     leads = read_last s f.leads.value (f.before ++ (f.leads.fill ++ [])) (f.leads.reads [] tt);
   }
 
-  by_look : (at : ℕ) (r : Read Description) → Look s.end Anything (all s) ls r → and_then r last ≡ Err (fault.Grammar at)
+  by_look : (at : ℕ) (r : Read Description) → Look s.end Anything (all s) ls r → and_then r last ≡ Err
+      (fault.Grammar at)
       → Refused s ls at
   unfolding and_then
   by_look at r (returns {y} {rest} k) h = behind_all at y rest k h
   by_look at r (refuses {at = other} f) h =
-      within_all at other f (grammar_same other at (faults_same {A = Description} (fault.Grammar other) (fault.Grammar at) h))
+      within_all at other f (grammar_same other at
+      (faults_same {A = Description} (fault.Grammar other) (fault.Grammar at) h))
   by_look at r forgets h = absurd cc
   by_look at r nests h = absurd cc
 
   -- with a level more
   refused : (at : ℕ) → description (lower s) ls ≡ Err (fault.Grammar at) → Refused s ls at
   refused at h =
-      by_look at (all (lower s) ls) (((all_reads s (omega (arith, has))).looks has).at ls) (sym (description_is (lower s) ls) ∙ h)
+      by_look at (all (lower s) ls) (((all_reads s (omega (arith, has))).looks has).at ls)
+      (sym (description_is (lower s) ls) ∙ h)
 
   refused_too : (at : ℕ) → description (lower s) ls ≡ Err (fault.Grammar at) → description s ls ≡ Err (fault.Grammar at)
   refused_too at h =
@@ -247,7 +253,8 @@ module _ (s : Scope) (has : HasRoom s) (ls : List Lexeme) where
   unfolding and_then
   read_too d h =
       let a = bind_ok (all (lower s) ls) last d (sym (description_is (lower s) ls) ∙ h) in
-      description_is s ls ∙ bound (all s ls) a.0 last (Ok d) (kept_too ((all_reads s (omega (arith, has))).looks has) a.1) a.2
+      description_is s ls ∙ bound (all s ls) a.0 last (Ok d)
+      (kept_too ((all_reads s (omega (arith, has))).looks has) a.1) a.2
 
 -- with any number of levels more
 module _ (l : Language) (end at : ℕ) (ls : List Lexeme) where
@@ -266,7 +273,8 @@ module _ (l : Language) (end at : ℕ) (ls : List Lexeme) where
       (refused_too (with_levels l end (suc (suc MAX_LEVELS + more))) (omega arith) ls at
       (subst (λ s. description s ls ≡ Err (fault.Grammar at)) (sym (one_less (suc MAX_LEVELS + more))) before))
 
-  never_read : (levels : ℕ) (d : Description) → MAX_LEVELS ≤ levels → read_with (suc MAX_LEVELS) ≡ Err (fault.Grammar at)
+  never_read : (levels : ℕ) (d : Description) → MAX_LEVELS ≤ levels → read_with (suc MAX_LEVELS) ≡ Err
+      (fault.Grammar at)
       → read_with levels ≡ Ok d → ⊥
   never_read levels d enough h read =
       let deeper = read_too (with_levels l end (suc levels)) (omega (arith, enough)) ls d
@@ -281,7 +289,8 @@ module _ (s : Scope) (some : 0 < s.levels) (before rest : List Lexeme) (never : 
       → IsDescriptionWithin s.levels s.language (kinds before ++ kinds other) d → ⊥
   not_so other d same is =
       never other d same (description_again s (before ++ other) d some
-      (subst (λ (ts : List Token). IsDescriptionWithin s.levels s.language ts d) (sym (map-append (λ l. l.token) before other)) is))
+      (subst (λ (ts : List Token). IsDescriptionWithin s.levels s.language ts d)
+      (sym (map-append (λ l. l.token) before other)) is))
 
 begins_none : (s : Scope) → 0 < s.levels → (before rest : List Lexeme)
     → ((other : List Lexeme) (d : Description) → ahead other ≡ ahead rest → description s (before ++ other) ≡ Ok d → ⊥)
@@ -297,7 +306,8 @@ begins_none s some before (l ∷ ls) never (t ∷ ts) d same is =
     (subst (λ (us : List Token). IsDescriptionWithin s.levels s.language (kinds before ++ us) d) (sym tokens) is)
 
 -- A fault stands at the first token that may not be there.
-pub description_fault : (l : Language) (end : ℕ) (ls : List Lexeme) (at : ℕ) → description_of l end ls ≡ Err (fault.Grammar at)
+pub description_fault : (l : Language) (end : ℕ) (ls : List Lexeme) (at : ℕ) → description_of l end ls ≡ Err
+    (fault.Grammar at)
     → IsFaultAt l end ls at
 description_fault l end ls at h =
     let s = with_levels l end (suc MAX_LEVELS) in
@@ -307,13 +317,15 @@ description_fault l end ls at h =
       rest = f.rest;
       parts = f.whole;
       place = f.place;
-      none = λ levels others d enough same is. begins_none (with_levels l end levels) (omega (arith, enough)) f.before f.rest
+      none = λ levels others d enough same is. begins_none (with_levels l end levels)
+          (omega (arith, enough)) f.before f.rest
           (λ other e ahead read. never_read l end at (f.before ++ other) levels e enough (f.again other ahead) read)
           others d same is;
       some = (
         kinds f.fill,
         f.made,
-        subst (λ (ts : List Token). IsDescriptionWithin (suc MAX_LEVELS) l ts f.made) (map-append (λ l. l.token) f.before f.fill)
+        subst (λ (ts : List Token). IsDescriptionWithin (suc MAX_LEVELS) l ts f.made)
+            (map-append (λ l. l.token) f.before f.fill)
             (description_takes s (f.before ++ f.fill) f.made (omega arith) f.leads),
       );
     }

@@ -84,7 +84,8 @@ spell_pars : (pars : List NameBytes) (more : List Token) → Some_of pars
 spell_pars [] more some = absurd (omega (arith, some))
 spell_pars (x ∷ xs) more some = refl
 
-outs_arms : (s : Scope) (ins : List NameBytes) → Arms s (Exactly spell_behind (Behind ins)) Closes (λ s. outs_or_pars s ins)
+outs_arms : (s : Scope) (ins : List NameBytes) → Arms s (Exactly spell_behind (Behind ins)) Closes
+    (λ s. outs_or_pars s ins)
 unfolding outs_or_pars
 outs_arms s ins (token.Keyword keyword_.Out) =
     arm (λ start. bind (names_reads s) (after_outs_row s ins) (λ outs pars more within may. pars_end pars more may))
@@ -196,7 +197,8 @@ parts_reads s =
     (exactly (by_token s (parts_arms s) (token.Keyword keyword_.Par) tt
     (λ p tokens more is. parts_begin s p.ins p.outs p.pars tokens more is.0 is.1)))
     (λ u more within may. ap (begins (is_mark mark_.RightParen)) may.1)
-    (λ p more some may. parts_open p.ins p.outs p.pars more some)) back (λ p more free. parts_of p.ins p.outs p.pars more) where
+    (λ p more some may. parts_open p.ins p.outs p.pars more some)) back
+    (λ p more free. parts_of p.ins p.outs p.pars more) where
       back : (z : Unit {0} ⊎ HeadParts) (more : List Token) → Either (λ u more. Unit {0}) (λ p more. IsSome p) z more
           → Unit {0} × (spell_either (λ u more. more) spell_head_parts z more
           ≡ spell_head_parts (either (λ (u : Unit {0}). of_parts [] [] []) (λ p. p) z) more)

@@ -80,7 +80,8 @@ module _ {Y : Type 0} {May Then : List Token → Type 0} {call other : List Lexe
         read (f.fill ++ ts) ts f.value e may ∙ e;
   }
 
-pub looks_as : {Y : Type 0} {end : ℕ} {May Then : List Token → Type 0} {call other : List Lexeme → Read Y} {ls : List Lexeme}
+pub looks_as : {Y : Type 0} {end : ℕ} {May Then : List Token → Type 0} {call other : List Lexeme → Read Y}
+    {ls : List Lexeme}
     → ((more : List Token) → Then more → May more)
     → ((ts : List Lexeme) → ahead ts ≡ ahead ls → other ts ≡ call ts)
     → ((ts rest : List Lexeme) (y : Y) → call ts ≡ Ok (y, rest) → Then (kinds rest) → other ts ≡ call ts)
@@ -114,15 +115,18 @@ looks_same {end = end} {Then = Then} {other = other} narrow low high looks = rec
 }
 
 -- what was read the deeper one reads too
-pub kept_too : {Y : Type 0} {end : ℕ} {May : List Token → Type 0} {one deeper : List Lexeme → Read Y} → Looks end May one deeper
+pub kept_too : {Y : Type 0} {end : ℕ} {May : List Token → Type 0} {one deeper : List Lexeme → Read Y}
+    → Looks end May one deeper
     → {ls : List Lexeme} {y : Y} {rest : List Lexeme} → one ls ≡ Ok (y, rest) → deeper ls ≡ Ok (y, rest)
-kept_too {Y} {end} {May} {one} {deeper} looks {ls} {y} {rest} h = kept (subst (Look end May deeper ls) h (looks.at ls)) where
-  kept : Look end May deeper ls (Ok (y, rest)) → deeper ls ≡ Ok (y, rest)
-  kept (returns k) = ap deeper k.whole ∙ k.again rest (inl refl)
+kept_too {Y} {end} {May} {one} {deeper} looks {ls} {y} {rest} h = kept
+    (subst (Look end May deeper ls) h (looks.at ls)) where
+      kept : Look end May deeper ls (Ok (y, rest)) → deeper ls ≡ Ok (y, rest)
+      kept (returns k) = ap deeper k.whole ∙ k.again rest (inl refl)
 
 -- ---- the end of a chain, and one reader behind another
 
-pub done_looks : {Y : Type 0} {end : ℕ} {May : List Token → Type 0} (v : Y) → Looks end May (λ ls. Ok (v, ls)) (λ ls. Ok (v, ls))
+pub done_looks : {Y : Type 0} {end : ℕ} {May : List Token → Type 0} (v : Y) → Looks end May (λ ls. Ok (v, ls))
+    (λ ls. Ok (v, ls))
 done_looks v =
     record { at = λ ls. returns (record { before = []; whole = refl; again = λ other near. refl }) }
 
@@ -147,9 +151,11 @@ abbrev pub Meets : {X Y : Type 0} → (MayFirst May : List Token → Type 0) →
 Meets {X} {Y} MayFirst May one =
     (x : X) (ts rest : List Lexeme) (y : Y) → one x ts ≡ Ok (y, rest) → May (kinds rest) → MayFirst (kinds ts)
 
-module _ {X Y : Type 0} {MayFirst May : List Token → Type 0} (first : List Lexeme → Read X) (one : X → List Lexeme → Read Y)
+module _ {X Y : Type 0} {MayFirst May : List Token → Type 0} (first : List Lexeme → Read X)
+    (one : X → List Lexeme → Read Y)
     (meets : Meets MayFirst May one) where
-  pub bind_fills : (f : Fills MayFirst first) → Fills May (one f.value) → Fills May (λ ls. and_then (first ls) (λ x. one x.0 x.1))
+  pub bind_fills : (f : Fills MayFirst first) → Fills May (one f.value) → Fills May
+      (λ ls. and_then (first ls) (λ x. one x.0 x.1))
   bind_fills f n = record {
     fill = f.fill ++ n.fill;
     value = n.value;
@@ -259,13 +265,15 @@ module _ {Y : Type 0} {end : ℕ} {May : List Token → Type 0} (picks : List Le
   by_pick ls false e = looks_as (λ more may. may) (λ ts h. rw (looking ls ts h ∙ e) refl)
       (λ ts rest y read may. rw (missed ls ts rest y e read may) refl) (second.at ls)
 
-  pub pick_looks : Looks end May (λ ls. cond (picks ls) (one ls) (other ls)) (λ ls. cond (picks ls) (call ls) (call_other ls))
+  pub pick_looks : Looks end May (λ ls. cond (picks ls) (one ls) (other ls))
+      (λ ls. cond (picks ls) (call ls) (call_other ls))
   pick_looks = record { at = λ ls. by_pick ls (picks ls) refl }
 
 -- ---- by the first token
 
 -- what is read behind the first token, or that token is refused
-abbrev pub Starts : {Y : Type 0} → (end : ℕ) → (ok : Type 0) → (May : List Token → Type 0) → ℕ → (from deeper : List Lexeme → Read Y) → Type 0
+abbrev pub Starts : {Y : Type 0} → (end : ℕ) → (ok : Type 0) → (May : List Token → Type 0) → ℕ →
+    (from deeper : List Lexeme → Read Y) → Type 0
 Starts {Y} end ok May start from deeper =
     (ok → Looks end May from deeper)
     ⊎ ((ls : List Lexeme) → (from ls ≡ Err (fault.Grammar start)) × (deeper ls ≡ Err (fault.Grammar start)))
@@ -337,9 +345,11 @@ module _ {Y : Type 0} (s : Scope) (deeper : Lexeme → List Lexeme → Read Y) w
     unfolding next and_then
     started from ok so l ls (inl looks) = passed l (λ ts. refl) ((looks so).at ls)
     started from ok so l ls (inr fails) =
-        subst (λ (r : Read Y). Look s.end May (by_first s deeper) (l ∷ ls) r) (sym (fails ls).0) (refused l ls (λ ts. (fails ts).1))
+        subst (λ (r : Read Y). Look s.end May (by_first s deeper) (l ∷ ls) r) (sym (fails ls).0)
+        (refused l ls (λ ts. (fails ts).1))
 
-    pub first_reads : (from : Lexeme → List Lexeme → Read Y) (ok : Type 0) → ok → ((l : Lexeme) → Starts s.end ok May l.start (from l) (deeper l))
+    pub first_reads : (from : Lexeme → List Lexeme → Read Y) (ok : Type 0) → ok →
+        ((l : Lexeme) → Starts s.end ok May l.start (from l) (deeper l))
         → Looks s.end May (by_first (lower s) from) (by_first s deeper)
     unfolding next and_then
     first_reads from ok so starts = record { at = at } where
@@ -354,12 +364,14 @@ module _ {Y : Type 0} (s : Scope) (deeper : Lexeme → List Lexeme → Read Y) w
       })
       at (l ∷ ls) = started from ok so l ls (starts l)
 
-pub starts_on : {X Y : Type 0} {end start : ℕ} {ok : Type 0} {MayFirst May : List Token → Type 0} {first call : List Lexeme → Read X}
+pub starts_on : {X Y : Type 0} {end start : ℕ} {ok : Type 0} {MayFirst May : List Token → Type 0}
+    {first call : List Lexeme → Read X}
     {one deeper : X → List Lexeme → Read Y} → Meets MayFirst May deeper
     → ((before : List Lexeme) → Fills MayFirst (λ ts. call (before ++ ts))
     → Fills May (λ ts. and_then (call (before ++ ts)) (λ x. deeper x.0 x.1)))
     → Starts end ok MayFirst start first call → (ok → (x : X) → Looks end May (one x) (deeper x))
-    → Starts end ok May start (λ ls. and_then (first ls) (λ x. one x.0 x.1)) (λ ls. and_then (call ls) (λ x. deeper x.0 x.1))
+    → Starts end ok May start (λ ls. and_then (first ls) (λ x. one x.0 x.1))
+    (λ ls. and_then (call ls) (λ x. deeper x.0 x.1))
 unfolding and_then
 starts_on meets finish (inl looks) tail = inl (λ so. bind_looks meets finish (looks so) (tail so))
 starts_on meets finish (inr fails) tail = inr (λ ls. (rw (fails ls).0 refl, rw (fails ls).1 refl))
@@ -402,7 +414,8 @@ module _ {A : Type 0} (goes : Token → Bool) (one : ℕ → List Lexeme → Rea
       (same_turn i n (λ ts. m) ls (λ ts less. enough (i + 1) n m ts (omega (arith, a, less)) (omega (arith, b, less)))
       (one i ls) refl)
 
-  pub each_is : (i : ℕ) (ls : List Lexeme) → each goes one i ls ≡ cond (first_is goes ls) (turn goes one i ls) (Ok ([], ls))
+  pub each_is : (i : ℕ) (ls : List Lexeme) → each goes one i ls ≡ cond (first_is goes ls) (turn goes one i ls)
+      (Ok ([], ls))
   unfolding many
   each_is i [] = refl
   each_is i (l ∷ ls) =
@@ -418,7 +431,8 @@ done_meets May f x ts rest y e may =
     subst (λ (us : List Lexeme). May (kinds us)) (sym (ap (λ p. p.1) (same_rest (f x, ts) (y, rest) e))) may
 
 -- the other reader may have a level more
-module _ {A : Type 0} {end : ℕ} {MayOne Stops : List Token → Type 0} (goes : Token → Bool) (one deeper : ℕ → List Lexeme → Read A)
+module _ {A : Type 0} {end : ℕ} {MayOne Stops : List Token → Type 0} (goes : Token → Bool)
+    (one deeper : ℕ → List Lexeme → Read A)
     (shorter : (i : ℕ) (ls : List Lexeme) (x : A) (rest : List Lexeme) → one i ls ≡ Ok (x, rest)
     → length rest < length ls)
     (shorter_too : (i : ℕ) (ls : List Lexeme) (x : A) (rest : List Lexeme) → deeper i ls ≡ Ok (x, rest)
@@ -438,7 +452,8 @@ module _ {A : Type 0} {end : ℕ} {MayOne Stops : List Token → Type 0} (goes :
   finish_rest : (i : ℕ) (x : A) (before : List Lexeme) → Fills Stops (λ ts. each goes deeper i (before ++ ts))
       → Fills Stops (λ ts. with_others (each goes deeper i) x (before ++ ts))
   finish_rest i x before f =
-      bind_fills (λ ts. each goes deeper i (before ++ ts)) (λ xs ts. Ok (x ∷ xs, ts)) (done_meets Stops (λ xs. x ∷ xs)) f
+      bind_fills (λ ts. each goes deeper i (before ++ ts)) (λ xs ts. Ok (x ∷ xs, ts))
+      (done_meets Stops (λ xs. x ∷ xs)) f
       (done_fills (x ∷ f.value))
 
   finish_turn : (i : ℕ) (before : List Lexeme) → Fills MayOne (λ ts. deeper i (before ++ ts))
@@ -461,7 +476,8 @@ module _ {A : Type 0} {end : ℕ} {MayOne Stops : List Token → Type 0} (goes :
       (in_turn (deeper i) (with_others (each goes deeper (i + 1))) (meets (i + 1)) (finish_turn i)
       (with_others (each goes one (i + 1))) (one i ls) ((looks i).at ls)
       (λ x mid read. in_turn (each goes deeper (i + 1)) (λ xs ts. Ok (x ∷ xs, ts)) (done_meets Stops (λ xs. x ∷ xs))
-      (finish_rest (i + 1) x) (λ xs ts. Ok (x ∷ xs, ts)) (each goes one (i + 1) mid) (below mid (shorter i ls x mid read))
+      (finish_rest (i + 1) x) (λ xs ts. Ok (x ∷ xs, ts)) (each goes one (i + 1) mid)
+      (below mid (shorter i ls x mid read))
       (λ xs rest _. (done_looks (x ∷ xs)).at rest)))
 
   each_in : (n i : ℕ) (ls : List Lexeme) → length ls ≤ n → Look end Stops (each goes deeper i) ls (each goes one i ls)

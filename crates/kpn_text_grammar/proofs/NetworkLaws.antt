@@ -106,7 +106,8 @@ item_ones s = record {
   last = λ more ends. tt;
 }
 
-items_reads : (s : Scope) → Reads s (spell_all spell_item) Free (Unless stands_in_block) (λ s. all_of stands_in_block (item s))
+items_reads : (s : Scope) → Reads s (spell_all spell_item) Free (Unless stands_in_block)
+    (λ s. all_of stands_in_block (item s))
 unfolding all_of
 items_reads s =
     reads (each_of (item_ones s) 0) (λ xs more within. (tt, refl)) (λ xs more within. (xs, refl, all_free xs))
@@ -134,7 +135,8 @@ setting_reads {A} k spelled one s row =
       parts None more within = (inr tt, refl, tt)
       parts (Some x) more within = (inl (x, tt), refl, (tt, tt))
 
-word_reads : {A : Type 0} (meant : NameBytes → Option A) (spelled : A → NameBytes) → Spells meant spelled → A → (s : Scope)
+word_reads : {A : Type 0} (meant : NameBytes → Option A) (spelled : A → NameBytes) → Spells meant spelled → A →
+    (s : Scope)
     → Reads s (λ x more. token.Name (spelled x) ∷ more) Free Anything (read_as (token_word meant))
 word_reads {A} meant spelled table x s =
     a_token s (token_word meant) (λ x. token.Name (spelled x)) means (λ x within. table.found x) x tt where
@@ -144,17 +146,20 @@ word_reads {A} meant spelled table x s =
       means (token.Mark m) x h = absurd cc
       means (token.Keyword k) x h = absurd cc
 
-limit_reads : (s : Scope) → Reads s spell_limit Free (Unless (is_keyword keyword_.Limit)) (setting keyword_.Limit number)
+limit_reads : (s : Scope) → Reads s spell_limit Free (Unless (is_keyword keyword_.Limit))
+    (setting keyword_.Limit number)
 limit_reads s = setting_reads keyword_.Limit token.Number number s (a_number s)
 
 policy_reads : (s : Scope)
-    → Reads s spell_policy Free (Unless (is_keyword keyword_.Policy)) (setting keyword_.Policy (read_as (token_word policy_spelled)))
+    → Reads s spell_policy Free (Unless (is_keyword keyword_.Policy))
+    (setting keyword_.Policy (read_as (token_word policy_spelled)))
 policy_reads s =
     setting_reads keyword_.Policy (λ q. token.Name (policy_word q)) (read_as (token_word policy_spelled)) s
     (word_reads policy_spelled policy_word policies_spelled policy.All s)
 
 growth_reads : (s : Scope)
-    → Reads s spell_growth Free (Unless (is_keyword keyword_.Grow)) (setting keyword_.Grow (read_as (token_word growth_spelled)))
+    → Reads s spell_growth Free (Unless (is_keyword keyword_.Grow))
+    (setting keyword_.Grow (read_as (token_word growth_spelled)))
 growth_reads s =
     setting_reads keyword_.Grow (λ g. token.Name (growth_word g)) (read_as (token_word growth_spelled)) s
     (word_reads growth_spelled growth_word growths_spelled growth.One s)

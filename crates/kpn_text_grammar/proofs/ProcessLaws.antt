@@ -70,7 +70,8 @@ process_longer s p tokens more is =
     )
 
 pub process_ones : (s : Scope) → Elements {Z = ProcessNode × List Token} s.end (HasRoom s) (is_keyword keyword_.Process)
-    (λ z. z.0) (λ z more. z.1) (λ z more. ProcessOf s z.0 z.1 more) Anything (numbered_process (lower s)) (numbered_process s)
+    (λ z. z.0) (λ z more. z.1) (λ z more. ProcessOf s z.0 z.1 more) Anything (numbered_process (lower s))
+    (numbered_process s)
 unfolding numbered_process
 process_ones s = record {
   laws = λ i. process_reads (record { end = s.end; process = i; language = s.language; levels = s.levels });
@@ -81,12 +82,14 @@ process_ones s = record {
 }
 
 pub processes_reads : (s : Scope) → 0 < s.levels → ReadsBy s (λ ps tokens more.
-    SpellsAll (SpellsProcess s.levels s.language) ps tokens more × AllByRecursion (ProcessIsWithin s.levels s.levels) ps)
+    SpellsAll (SpellsProcess s.levels s.language) ps tokens more × AllByRecursion
+    (ProcessIsWithin s.levels s.levels) ps)
     (Unless (is_keyword keyword_.Process)) processes
 unfolding processes
 processes_reads s some =
     subst (λ d. ReadsBy s (λ ps tokens more.
     SpellsAll (SpellsProcess s.levels s.language) ps tokens more × AllByRecursion (ProcessIsWithin s.levels d) ps)
-    (Unless (is_keyword keyword_.Process)) (λ s ls. many (is_keyword keyword_.Process) (numbered_process s) 0 (length ls) ls))
+    (Unless (is_keyword keyword_.Process))
+    (λ s ls. many (is_keyword keyword_.Process) (numbered_process s) 0 (length ls) ls))
     (omega (arith, some))
     (each_by (SpellsProcess s.levels s.language) (ProcessNests s) (process_ones s) 0)

@@ -154,7 +154,8 @@ module _ {Z Y : Type 0} {end : ℕ} {ok : Type 0} {make : Z → Y} {spell : Z �
     sample = λ so. fills_as (λ more may. may) (λ ts rest y e may. same ts) (row.sample so);
   }
 
-  pub recast : {W : Type 0} {other : W → Y} {spell_other : W → List Token → List Token} {Other : W → List Token → Type 0}
+  pub recast : {W : Type 0} {other : W → Y} {spell_other : W → List Token → List Token}
+      {Other : W → List Token → Type 0}
       → ((z : Z) (more : List Token) → Within z more → As make spell other spell_other Other z more)
       → ((w : W) (more : List Token) → Other w more → As other spell_other make spell Within w more)
       → Row end ok other spell_other Other May low one
@@ -199,15 +200,18 @@ module _ {Z Y : Type 0} {end : ℕ} {ok : Type 0} {make : Z → Y} {spell : Z �
 
 -- a step that reads a value, and the others behind it
 module _ {A X Z Y : Type 0} {end : ℕ} {ok : Type 0} {make_first : A → X} {spell_first : A → List Token → List Token}
-    {First : A → List Token → Type 0} {MayFirst : List Token → Type 0} {low_first first : List Lexeme → Read X} {make : X → Z → Y}
+    {First : A → List Token → Type 0} {MayFirst : List Token → Type 0} {low_first first : List Lexeme → Read X}
+    {make : X → Z → Y}
     {spell : Z → List Token → List Token} {Within : X → Z → List Token → Type 0} {May : List Token → Type 0}
     {low one : X → List Lexeme → Read Y} (head : Row end ok make_first spell_first First MayFirst low_first first) where
   -- by what leads on from where the first one refuses
   pub bind_by : ((x : X) → Seen end ok (make x) spell (Within x) May (low x) (one x))
       → ((x : X) (z : Z) (more : List Token) → Within x z more → May more → MayFirst (spell z more))
       → (Meets MayFirst May one → ok → (before : List Lexeme) → Fills MayFirst (λ ts. first (before ++ ts))
-      → Fills May (λ ts. and_then (first (before ++ ts)) (λ x. one x.0 x.1))) → Row {Z = A × Z} end ok (λ z. make (make_first z.0) z.1)
-      (λ z more. spell_first z.0 (spell z.1 more)) (λ z more. First z.0 (spell z.1 more) × Within (make_first z.0) z.1 more) May
+      → Fills May (λ ts. and_then (first (before ++ ts)) (λ x. one x.0 x.1))) → Row {Z = A × Z} end ok
+      (λ z. make (make_first z.0) z.1)
+      (λ z more. spell_first z.0 (spell z.1 more))
+      (λ z more. First z.0 (spell z.1 more) × Within (make_first z.0) z.1 more) May
       (λ ls. and_then (low_first ls) (λ x. low x.0 x.1)) (λ ls. and_then (first ls) (λ x. one x.0 x.1))
   bind_by then follows leads = record {
     laws = record {
@@ -242,8 +246,10 @@ module _ {A X Z Y : Type 0} {end : ℕ} {ok : Type 0} {make_first : A → X} {sp
 
   -- by tokens that the others read
   pub bind : ((x : X) → Row end ok (make x) spell (Within x) May (low x) (one x))
-      → ((x : X) (z : Z) (more : List Token) → Within x z more → May more → MayFirst (spell z more)) → Row {Z = A × Z} end ok (λ z. make (make_first z.0) z.1)
-      (λ z more. spell_first z.0 (spell z.1 more)) (λ z more. First z.0 (spell z.1 more) × Within (make_first z.0) z.1 more) May
+      → ((x : X) (z : Z) (more : List Token) → Within x z more → May more → MayFirst (spell z more)) → Row
+      {Z = A × Z} end ok (λ z. make (make_first z.0) z.1)
+      (λ z more. spell_first z.0 (spell z.1 more))
+      (λ z more. First z.0 (spell z.1 more) × Within (make_first z.0) z.1 more) May
       (λ ls. and_then (low_first ls) (λ x. low x.0 x.1)) (λ ls. and_then (first ls) (λ x. one x.0 x.1))
   bind then follows =
       bind_by (λ x. as_seen (then x)) follows
@@ -262,8 +268,10 @@ pub value : {A X Z Y : Type 0} {end : ℕ} {ok : Type 0} {make_first : A → X} 
 value head then = bind head then (λ x z more within may. tt)
 
 -- what is made of the value of one reader
-pub mapped : {Z X Y : Type 0} {end : ℕ} {ok : Type 0} {make : Z → X} {spell : Z → List Token → List Token} {Within : Z → List Token → Type 0}
-    {MayFirst May : List Token → Type 0} {low one : List Lexeme → Read X} (to : X → Y) → Row end ok make spell Within MayFirst low one
+pub mapped : {Z X Y : Type 0} {end : ℕ} {ok : Type 0} {make : Z → X} {spell : Z → List Token → List Token}
+    {Within : Z → List Token → Type 0}
+    {MayFirst May : List Token → Type 0} {low one : List Lexeme → Read X} (to : X → Y)
+    → Row end ok make spell Within MayFirst low one
     → ((more : List Token) → May more → MayFirst more)
     → Row end ok (λ z. to (make z)) spell Within May (λ ls. and_then (low ls) (λ x. Ok (to x.0, x.1)))
     (λ ls. and_then (one ls) (λ x. Ok (to x.0, x.1)))
@@ -279,7 +287,8 @@ token_looks end start (Some x) = inl (λ so. done_looks x)
 token_looks end start None = inr (λ ls. (refl, refl))
 
 -- a token that stands for something, as for this
-pub a_token : {A : Type 0} {Within : A → Type 0} {ok : Type 0} (s : Scope) (what : Token → Option A) (spelled : A → Token)
+pub a_token : {A : Type 0} {Within : A → Type 0} {ok : Type 0} (s : Scope) (what : Token → Option A)
+    (spelled : A → Token)
     → ((t : Token) (x : A) → what t ≡ Some x → (t ≡ spelled x) × Within x)
     → ((x : A) → Within x → what (spelled x) ≡ Some x) → (x : A) → Within x
     → Reader s.end ok (λ x more. spelled x ∷ more) Within Anything (read_as what (lower s)) (read_as what s)
@@ -330,7 +339,8 @@ stepped step ls = and_then (step ls) (λ rest. Ok (tt, rest))
 -- tokens that stand so in front of others, by their step and one with a level less
 pub record Step (end : ℕ) (ok : Type 0) (spell : List Token → List Token)
     (low step : List Lexeme → Result (List Lexeme) GrammarFault) : Type 0 where
-  pub row : Row {Z = Unit {0}} end ok (λ u. u) (λ u more. spell more) (λ u more. Unit {0}) Anything (stepped low) (stepped step)
+  pub row : Row {Z = Unit {0}} end ok (λ u. u) (λ u more. spell more) (λ u more. Unit {0}) Anything (stepped low)
+      (stepped step)
 
 pub behind_step : {Y : Type 0} (r : Result (List Lexeme) GrammarFault) (one : List Lexeme → Read Y)
     → and_then r one ≡ and_then (and_then {B = Unit {0} × List Lexeme} r (λ rest. Ok (tt, rest))) (λ x. one x.1)
@@ -343,7 +353,8 @@ pub behind : {Z Y : Type 0} {end : ℕ} {ok : Type 0} {make : Z → Y} {spell : 
     {Within : Z → List Token → Type 0} {May : List Token → Type 0} {before : List Token → List Token}
     {low_step step : List Lexeme → Result (List Lexeme) GrammarFault} {low one : List Lexeme → Read Y}
     → Step end ok before low_step step → Row end ok make spell Within May low one
-    → Row end ok make (λ z more. before (spell z more)) Within May (λ ls. and_then (low_step ls) low) (λ ls. and_then (step ls) one)
+    → Row end ok make (λ z more. before (spell z more)) Within May (λ ls. and_then (low_step ls) low)
+    (λ ls. and_then (step ls) one)
 behind {low_step = low_step} {step} {low} {one} first then =
     same_row (recast (value first.row (λ u. then)) (λ z more within. (z.1, refl, within.1, refl))
     (λ w more within. ((tt, w), refl, (tt, within), refl))) (λ ls. behind_step (low_step ls) low)
@@ -356,18 +367,24 @@ two_steps (Ok rest) next = refl
 two_steps (Err e) next = refl
 
 pub passes_on : {end : ℕ} {ok : Type 0} {spell_first spell_next : List Token → List Token}
-    {low_first low_next first next : List Lexeme → Result (List Lexeme) GrammarFault} → Step end ok spell_first low_first first
+    {low_first low_next first next : List Lexeme → Result (List Lexeme) GrammarFault}
+    → Step end ok spell_first low_first first
     → Step end ok spell_next low_next next
-    → Step end ok (λ more. spell_first (spell_next more)) (λ ls. and_then (low_first ls) low_next) (λ ls. and_then (first ls) next)
+    → Step end ok (λ more. spell_first (spell_next more)) (λ ls. and_then (low_first ls) low_next)
+    (λ ls. and_then (first ls) next)
 passes_on {low_first = low_first} {low_next} {first} {next} a b =
-    record { row = same_row (behind a b.row) (λ ls. two_steps (low_first ls) low_next) (λ ls. two_steps (first ls) next) }
+    record {
+      row = same_row (behind a b.row) (λ ls. two_steps (low_first ls) low_next)
+          (λ ls. two_steps (first ls) next);
+    }
 
 pub no_step : {end : ℕ} {ok : Type 0} → Step end ok (λ more. more) (λ ls. Ok ls) (λ ls. Ok ls)
 unfolding and_then
 no_step = record { row = same_row (done tt) (λ ls. refl) (λ ls. refl) }
 
 -- the step that passes one token
-passed_by : (goes : Token → Bool) (t : Token) → ((u : Token) → goes u ≡ true → u ≡ t) → (u : Token) (b : Bool) → goes u ≡ b
+passed_by : (goes : Token → Bool) (t : Token) → ((u : Token) → goes u ≡ true → u ≡ t) → (u : Token) (b : Bool) → goes u
+    ≡ b
     → (x : Unit {0}) → cond b (Some tt) None ≡ Some x → (u ≡ t) × Free x
 passed_by goes t only u true e x h = (only u e, tt)
 passed_by goes t only u false e x h = absurd cc
@@ -388,14 +405,17 @@ module _ (s : Scope) (goes : Token → Bool) where
   step_is [] = refl
   step_is (l ∷ ls) = by_goes (goes l.token) l.start ls
 
-passes : {ok : Type 0} (s : Scope) (goes : Token → Bool) (t : Token) → ((u : Token) → goes u ≡ true → u ≡ t) → goes t ≡ true
+passes : {ok : Type 0} (s : Scope) (goes : Token → Bool) (t : Token) → ((u : Token) → goes u ≡ true → u ≡ t) → goes t
+    ≡ true
     → Step s.end ok (λ more. t ∷ more) (step_by (lower s) goes) (step_by s goes)
 passes s goes t only here = record {
-  row = same_row (a_token s (λ u. cond (goes u) (Some tt) None) (λ x. t) (λ u x h. passed_by goes t only u (goes u) refl x h)
+  row = same_row (a_token s (λ u. cond (goes u) (Some tt) None) (λ x. t)
+      (λ u x h. passed_by goes t only u (goes u) refl x h)
       (λ x free. rw here refl) tt tt) (step_is (lower s) goes) (step_is s goes);
 }
 
-pub this_mark : {ok : Type 0} (s : Scope) (m : Mark) → Step s.end ok (λ more. token.Mark m ∷ more) (mark (lower s) m) (mark s m)
+pub this_mark : {ok : Type 0} (s : Scope) (m : Mark) → Step s.end ok (λ more. token.Mark m ∷ more) (mark (lower s) m)
+    (mark s m)
 unfolding mark
 this_mark s m = passes s (is_mark m) (token.Mark m) (is_mark_true m) (is_mark_same m)
 
@@ -453,7 +473,8 @@ pub choose : {Z W Y : Type 0} {end : ℕ} {ok : Type 0} (picks : List Lexeme →
     → Other w more → May more → picks ts ≡ false)
     → Seen end ok (either make_one make_other) (spell_either spell_one spell_other) (Either First Second) May
     (λ ls. cond (picks ls) (low_one ls) (low_other ls)) (λ ls. cond (picks ls) (one ls) (other ls))
-choose {Z} {W} {Y} {end} {ok} picks looking {make_one} {spell_one} {One} {low_one} {one} {make_other} {spell_other} {Other}
+choose {Z} {W} {Y} {end} {ok} picks looking {make_one} {spell_one} {One} {low_one} {one} {make_other} {spell_other}
+    {Other}
     {low_other} {other} {May} First Second first second picked passed pick pass as_one as_other picks_on passes_on = record {
       laws = record {
         takes = λ ls y rest h.
@@ -464,8 +485,10 @@ choose {Z} {W} {Y} {end} {ok} picks looking {make_one} {spell_one} {One} {low_on
         no_gap = λ z more within. gapless more z within;
       };
       looks = λ so. pick_looks picks looking (first.looks so) (second.looks so)
-          (λ ls ts rest y b e may. let t = first.laws.takes ts y rest e in picks_on ls ts t.0 (kinds rest) b t.3 t.2 may)
-          (λ ls ts rest y b e may. let t = second.laws.takes ts y rest e in passes_on ls ts t.0 (kinds rest) b t.3 t.2 may);
+          (λ ls ts rest y b e may. let t = first.laws.takes ts y rest e in picks_on ls ts t.0
+          (kinds rest) b t.3 t.2 may)
+          (λ ls ts rest y b e may. let t = second.laws.takes ts y rest e in passes_on ls ts t.0
+          (kinds rest) b t.3 t.2 may);
     } where
       chosen : (ls : List Lexeme) (more : List Token) → May more → (z : Z ⊎ W) → Either First Second z more
           → kinds ls ≡ spell_either spell_one spell_other z more → (rest : List Lexeme)
@@ -485,9 +508,11 @@ choose {Z} {W} {Y} {end} {ok} picks looking {make_one} {spell_one} {One} {low_on
       gapless more (inr w) within = second.laws.no_gap w more (as_other w more within)
 
 -- the same by the token at the front
-module _ {Z W Y : Type 0} {end : ℕ} {ok : Type 0} (goes : Token → Bool) {make_one : Z → Y} {spell_one : Z → List Token → List Token}
+module _ {Z W Y : Type 0} {end : ℕ} {ok : Type 0} (goes : Token → Bool) {make_one : Z → Y}
+    {spell_one : Z → List Token → List Token}
     {One : Z → List Token → Type 0} {low_one one : List Lexeme → Read Y} {make_other : W → Y}
-    {spell_other : W → List Token → List Token} {Other : W → List Token → Type 0} {low_other other : List Lexeme → Read Y}
+    {spell_other : W → List Token → List Token} {Other : W → List Token → Type 0}
+    {low_other other : List Lexeme → Read Y}
     {May : List Token → Type 0} (first : Seen end ok make_one spell_one One May low_one one)
     (second : Seen end ok make_other spell_other Other May low_other other)
     (at_one : (z : Z) (more : List Token) → One z more → May more → begins goes (spell_one z more) ≡ true)
@@ -514,9 +539,11 @@ module _ {Z W Y : Type 0} {end : ℕ} {ok : Type 0} (goes : Token → Bool) {mak
       let t = second.laws.takes ts y rest e in
       no_test (first_is goes ts) (one ts) (other ts) (other ts) (missed ts t.0 (kinds rest) t.3 t.2 may) refl) f
 
-pub choice : {Z W Y : Type 0} {end : ℕ} {ok : Type 0} (goes : Token → Bool) {make_one : Z → Y} {spell_one : Z → List Token → List Token}
+pub choice : {Z W Y : Type 0} {end : ℕ} {ok : Type 0} (goes : Token → Bool) {make_one : Z → Y}
+    {spell_one : Z → List Token → List Token}
     {One : Z → List Token → Type 0} {low_one one : List Lexeme → Read Y} {make_other : W → Y}
-    {spell_other : W → List Token → List Token} {Other : W → List Token → Type 0} {low_other other : List Lexeme → Read Y}
+    {spell_other : W → List Token → List Token} {Other : W → List Token → Type 0}
+    {low_other other : List Lexeme → Read Y}
     {May : List Token → Type 0}
     → Seen end ok make_one spell_one One May low_one one → Row end ok make_other spell_other Other May low_other other
     → ((z : Z) (more : List Token) → One z more → May more → begins goes (spell_one z more) ≡ true)
@@ -537,11 +564,14 @@ guarded_look p false true less looks =
     absurd cc
 
 -- a reader behind a test that must fail, and fails of the deeper one if it fails of the other
-pub guarded : {Z Y : Type 0} {end : ℕ} {ok : Type 0} (stops_low stops : Bool) (process : ℕ) → (ok → stops_low ≡ false → stops ≡ false)
-    → {make : Z → Y} {spell : Z → List Token → List Token} {Within : Z → List Token → Type 0} {May : List Token → Type 0}
+pub guarded : {Z Y : Type 0} {end : ℕ} {ok : Type 0} (stops_low stops : Bool) (process : ℕ) →
+    (ok → stops_low ≡ false → stops ≡ false)
+    → {make : Z → Y} {spell : Z → List Token → List Token} {Within : Z → List Token → Type 0}
+    {May : List Token → Type 0}
     {low one : List Lexeme → Read Y} → Row end ok make spell Within May low one
     → Seen end ok make spell (λ z more. (stops ≡ false) × Within z more) May
-    (λ ls. cond stops_low (Err (fault.TooDeep process)) (low ls)) (λ ls. cond stops (Err (fault.TooDeep process)) (one ls))
+    (λ ls. cond stops_low (Err (fault.TooDeep process)) (low ls))
+    (λ ls. cond stops (Err (fault.TooDeep process)) (one ls))
 guarded {Y = Y} stops_low stops process less {make} {one = one} row = record {
   laws = record {
     takes = λ ls y rest h.
@@ -556,21 +586,27 @@ guarded {Y = Y} stops_low stops process less {make} {one = one} row = record {
 }
 
 -- the same, or nothing, which makes this
-pub optional : {Z Y : Type 0} {end : ℕ} {ok : Type 0} (goes : Token → Bool) {make : Z → Y} {spell : Z → List Token → List Token}
-    {Within : Z → List Token → Type 0} {May : List Token → Type 0} {low one : List Lexeme → Read Y} {Then : List Token → Type 0}
-    → (v : Y) → Row end ok make spell Within May low one → ((more : List Token) → Then more → May more × Unless goes more)
+pub optional : {Z Y : Type 0} {end : ℕ} {ok : Type 0} (goes : Token → Bool) {make : Z → Y}
+    {spell : Z → List Token → List Token}
+    {Within : Z → List Token → Type 0} {May : List Token → Type 0} {low one : List Lexeme → Read Y}
+    {Then : List Token → Type 0}
+    → (v : Y) → Row end ok make spell Within May low one →
+    ((more : List Token) → Then more → May more × Unless goes more)
     → ((z : Z) (more : List Token) → Within z more → begins goes (spell z more) ≡ true)
-    → Row end ok (either make (λ (z : Unit {0}). v)) (spell_either spell (λ z more. more)) (Either Within (λ z more. Unit {0})) Then
+    → Row end ok (either make (λ (z : Unit {0}). v)) (spell_either spell (λ z more. more))
+    (Either Within (λ z more. Unit {0})) Then
     (λ ls. cond (first_is goes ls) (low ls) (Ok (v, ls))) (λ ls. cond (first_is goes ls) (one ls) (Ok (v, ls)))
 optional goes v row ends starts =
-    choice goes (as_seen (narrow row (λ more then. (ends more then).0))) (done v) (λ z more within then. starts z more within)
+    choice goes (as_seen (narrow row (λ more then. (ends more then).0))) (done v)
+    (λ z more within then. starts z more within)
     (λ z more within then. (ends more then).1)
 
 -- one or more, or nothing
 abbrev pub Some_of : {A : Type 0} → List A → Type 0
 Some_of xs = 0 < length xs
 
-pub maybe_some : {A Y : Type 0} {end : ℕ} {ok : Type 0} (goes : Token → Bool) {make : List A → Y} {spell : List A → List Token → List Token}
+pub maybe_some : {A Y : Type 0} {end : ℕ} {ok : Type 0} (goes : Token → Bool) {make : List A → Y}
+    {spell : List A → List Token → List Token}
     {May : List Token → Type 0} {low one : List Lexeme → Read Y} {Then : List Token → Type 0}
     (spell_any : List A → List Token → List Token) → Row end ok make spell (λ xs more. Some_of xs) May low one
     → ((more : List Token) → Then more → May more × Unless goes more)
@@ -600,7 +636,8 @@ maybe_some {A} {Y} {end} {ok} goes {make} {spell} {May} {low} {one} {Then} spell
 -- ---- by the first token
 
 -- What is read behind this token, which begins at any byte: the token and a row spell a thing.
-pub record Arm {A : Type 0} (end : ℕ) (ok : Type 0) (Spells : A → List Token → List Token → Type 0) (May : List Token → Type 0) (t : Token)
+pub record Arm {A : Type 0} (end : ℕ) (ok : Type 0) (Spells : A → List Token → List Token → Type 0)
+    (May : List Token → Type 0) (t : Token)
     (low from : ℕ → List Lexeme → Read A) : Type 1 where
   pub Value : Type 0
   pub make : Value → A
@@ -616,7 +653,8 @@ abbrev pub Arms : {A : Type 0} → Scope → (A → List Token → List Token �
     → (Scope → Token → ℕ → List Lexeme → Read A) → Type 1
 Arms s Spells May from = (t : Token) → Arm s.end (HasRoom s) Spells May t (from (lower s) t) (from s t)
 
-abbrev pub arm : {A Z : Type 0} {end : ℕ} {ok : Type 0} {Spells : A → List Token → List Token → Type 0} {May : List Token → Type 0}
+abbrev pub arm : {A Z : Type 0} {end : ℕ} {ok : Type 0} {Spells : A → List Token → List Token → Type 0}
+    {May : List Token → Type 0}
     {t : Token} {low from : ℕ → List Lexeme → Read A} {make : Z → A} {spell : Z → List Token → List Token}
     {Within : Z → List Token → Type 0} → ((start : ℕ) → Row end ok make spell Within May (low start) (from start))
     → ((z : Z) (more : List Token) → Within z more → Spells (make z) (t ∷ spell z more) more)
@@ -633,7 +671,8 @@ arm {A} {Z} {end} {ok} {Spells} {May} {t} {low} {from} {make} {spell} {Within} r
 }
 
 -- no thing begins with this token
-abbrev pub no_arm : {A : Type 0} {end : ℕ} {ok : Type 0} {Spells : A → List Token → List Token → Type 0} {May : List Token → Type 0} {t : Token}
+abbrev pub no_arm : {A : Type 0} {end : ℕ} {ok : Type 0} {Spells : A → List Token → List Token → Type 0}
+    {May : List Token → Type 0} {t : Token}
     → Arm {A = A} end ok Spells May t (λ start ls. Err (fault.Grammar start)) (λ start ls. Err (fault.Grammar start))
 no_arm {A} {end} {ok} {Spells} {May} {t} = record {
   Value = ⊥;
@@ -651,7 +690,8 @@ no_arm {A} {end} {ok} {Spells} {May} {t} = record {
 }
 
 -- the same by another spelling
-abbrev pub rearm : {A : Type 0} {end : ℕ} {ok : Type 0} {Of Spells : A → List Token → List Token → Type 0} {May : List Token → Type 0} {t : Token}
+abbrev pub rearm : {A : Type 0} {end : ℕ} {ok : Type 0} {Of Spells : A → List Token → List Token → Type 0}
+    {May : List Token → Type 0} {t : Token}
     {low from : ℕ → List Lexeme → Read A} → Arm end ok Of May t low from
     → ((x : A) (tokens more : List Token) → Of x tokens more → Spells x tokens more) → Arm end ok Spells May t low from
 rearm {t = t} a same = record {
@@ -665,7 +705,8 @@ rearm {t = t} a same = record {
   back = λ z more within. same (a.make z) (t ∷ a.spell z more) more (a.back z more within);
 }
 
-module _ {A : Type 0} {end : ℕ} {ok : Type 0} {Spells : A → List Token → List Token → Type 0} {May : List Token → Type 0}
+module _ {A : Type 0} {end : ℕ} {ok : Type 0} {Spells : A → List Token → List Token → Type 0}
+    {May : List Token → Type 0}
     {low from : Token → ℕ → List Lexeme → Read A} (arms : (t : Token) → Arm end ok Spells May t (low t) (from t)) where
   -- a thing by its first token and the values behind it
   abbrev pub Begun : A → List Token → List Token → Type 0
@@ -678,15 +719,18 @@ module _ {A : Type 0} {end : ℕ} {ok : Type 0} {Spells : A → List Token → L
       let p = parts x tokens more is in
       omega (arith, ap length p.3, ((arms p.0.0).laws 0).no_gap p.0.1 more p.2)
 
-module _ {A : Type 0} {Spells : A → List Token → List Token → Type 0} {May : List Token → Type 0} {ok : Type 0} (s : Scope)
-    {low from : Token → ℕ → List Lexeme → Read A} (arms : (t : Token) → Arm s.end ok Spells May t (low t) (from t)) where
+module _ {A : Type 0} {Spells : A → List Token → List Token → Type 0} {May : List Token → Type 0} {ok : Type 0}
+    (s : Scope)
+    {low from : Token → ℕ → List Lexeme → Read A}
+    (arms : (t : Token) → Arm s.end ok Spells May t (low t) (from t)) where
   module _ (first : Token) (can : CanStart ((arms first).looks 0)) where
     this : ok → Fills May (λ ls. and_then (next s ls) (λ l. from l.0.token l.0.start l.1))
     this so = start_fills s (λ l ls. from l.token l.start ls) (record { token = first; start = 0 })
         ((arms first).sample 0 can so)
 
     -- by the first token and the values behind it
-    pub first_token : Row {Z = (t : Token) × (arms t).Value} s.end ok (λ z. (arms z.0).make z.1) (λ z more. z.0 ∷ (arms z.0).spell z.1 more)
+    pub first_token : Row {Z = (t : Token) × (arms t).Value} s.end ok (λ z. (arms z.0).make z.1)
+        (λ z more. z.0 ∷ (arms z.0).spell z.1 more)
         (λ z more. (arms z.0).Within z.1 more) May
         (λ ls. and_then (next (lower s) ls) (λ l. low l.0.token l.0.start l.1))
         (λ ls. and_then (next s ls) (λ l. from l.0.token l.0.start l.1))
@@ -710,7 +754,8 @@ module _ {A : Type 0} {Spells : A → List Token → List Token → Type 0} {May
     } where
       again : (ls : List Lexeme) (z : (t : Token) × (arms t).Value) (more : List Token) → (arms z.0).Within z.1 more
           → May more → kinds ls ≡ z.0 ∷ (arms z.0).spell z.1 more → (rest : List Lexeme)
-          × (and_then (next s ls) (λ l. from l.0.token l.0.start l.1) ≡ Ok ((arms z.0).make z.1, rest)) × (kinds rest ≡ more)
+          × (and_then (next s ls) (λ l. from l.0.token l.0.start l.1) ≡ Ok ((arms z.0).make z.1, rest)) ×
+          (kinds rest ≡ more)
       again [] z more within may h = absurd cc
       again (l ∷ ls) z more within may h =
           let behind_it = (arms z.0).spell z.1 more in
@@ -718,7 +763,8 @@ module _ {A : Type 0} {Spells : A → List Token → List Token → Type 0} {May
             a.0,
             bound (next s (l ∷ ls)) (l, ls) (λ (k : Lexeme × List Lexeme). from k.0.token k.0.start k.1)
                 (Ok ((arms z.0).make z.1, a.0)) (next_again s l ls)
-                (subst (λ (k : Token). from k l.start ls ≡ Ok ((arms z.0).make z.1, a.0)) (sym (kind_of l ls z.0 behind_it h)) a.1),
+                (subst (λ (k : Token). from k l.start ls ≡ Ok ((arms z.0).make z.1, a.0))
+                (sym (kind_of l ls z.0 behind_it h)) a.1),
             a.2,
           )
 
@@ -731,8 +777,10 @@ module _ {A : Type 0} {Spells : A → List Token → List Token → Type 0} {May
 abbrev pub Exactly : {A : Type 0} → (A → List Token → List Token) → (A → Type 0) → A → List Token → List Token → Type 0
 Exactly spell Within x tokens more = Within x × (tokens ≡ spell x more)
 
-pub exactly : {A : Type 0} {end : ℕ} {ok : Type 0} {spell : A → List Token → List Token} {Within : A → Type 0} {May : List Token → Type 0}
-    {low one : List Lexeme → Read A} → ReaderBy end ok (Exactly spell Within) May low one → Reader end ok spell Within May low one
+pub exactly : {A : Type 0} {end : ℕ} {ok : Type 0} {spell : A → List Token → List Token} {Within : A → Type 0}
+    {May : List Token → Type 0}
+    {low one : List Lexeme → Read A} → ReaderBy end ok (Exactly spell Within) May low one
+    → Reader end ok spell Within May low one
 exactly {A} {end} {ok} {spell} {Within} row =
     recast row (λ z more within. (z.0, refl, within.0, sym within.1))
     (λ x more within. ((x, spell x more), refl, (within, refl), refl))
@@ -772,7 +820,8 @@ EachWithin spell Within [] more = Unit {0}
 EachWithin spell Within (z ∷ zs) more = Within z (spell_all spell zs more) × EachWithin spell Within zs more
 
 -- a reader of one by its number, whose spelling begins as this test says, and is longer than nothing
-pub record Elements {Z A : Type 0} (end : ℕ) (ok : Type 0) (goes : Token → Bool) (make : Z → A) (spell : Z → List Token → List Token)
+pub record Elements {Z A : Type 0} (end : ℕ) (ok : Type 0) (goes : Token → Bool) (make : Z → A)
+    (spell : Z → List Token → List Token)
     (Within : Z → List Token → Type 0) (May : List Token → Type 0) (low one : ℕ → List Lexeme → Read A) : Type 0 where
   pub laws : (i : ℕ) → Row end ok make spell Within May (low i) (one i)
   pub starts : (z : Z) (more : List Token) → Within z more → begins goes (spell z more) ≡ true
@@ -781,7 +830,8 @@ pub record Elements {Z A : Type 0} (end : ℕ) (ok : Type 0) (goes : Token → B
   pub next : (z : Z) (more : List Token) → Within z more → May (spell z more)
   pub last : (more : List Token) → Unless goes more → May more
 
-module _ {Z A : Type 0} {end : ℕ} {ok : Type 0} {goes : Token → Bool} {make : Z → A} {spell : Z → List Token → List Token}
+module _ {Z A : Type 0} {end : ℕ} {ok : Type 0} {goes : Token → Bool} {make : Z → A}
+    {spell : Z → List Token → List Token}
     {Within : Z → List Token → Type 0} {May : List Token → Type 0} {low one : ℕ → List Lexeme → Read A}
     (all : Elements end ok goes make spell Within May low one) where
   -- fewer tokens are left
@@ -859,12 +909,14 @@ module _ {Z A : Type 0} {end : ℕ} {ok : Type 0} {goes : Token → Bool} {make 
 
   meets : (i : ℕ) → Meets {X = A} {Y = List A} May (Unless goes) (with_others (look.each goes one i))
   meets i x ts rest y e ends =
-      let b = bind_ok (many goes one i (length ts) ts) (λ (xs : List A × List Lexeme). Ok (x ∷ xs.0, xs.1)) (y, rest) e in
+      let b = bind_ok (many goes one i (length ts) ts) (λ (xs : List A × List Lexeme). Ok (x ∷ xs.0, xs.1))
+      (y, rest) e in
       let t = all_taken i (length ts) ts b.0.0 b.0.1 b.1 in
       subst May (sym t.3) (may_follow t.0 (kinds b.0.1) t.2
       (done_meets (Unless goes) (λ (xs : List A). x ∷ xs) b.0.0 b.0.1 rest y b.2 ends))
 
-  pub each : (i : ℕ) → Row {Z = List Z} end ok (λ zs. map make zs) (spell_all spell) (EachWithin spell Within) (Unless goes)
+  pub each : (i : ℕ) → Row {Z = List Z} end ok (λ zs. map make zs) (spell_all spell) (EachWithin spell Within)
+      (Unless goes)
       (λ ls. many goes low i (length ls) ls) (λ ls. many goes one i (length ls) ls)
   each i = record {
     laws = record {
@@ -878,7 +930,12 @@ module _ {Z A : Type 0} {end : ℕ} {ok : Type 0} {goes : Token → Bool} {make 
         (λ k ts rest xs h.
         let b = bind_ok (one k ts) _ (xs, rest) h in starts_here k ts b.0.1 b.0.0 b.1)
         meets (λ k. (all.laws k).looks so) i;
-    sample = λ so. record { fill = []; value = []; reads = λ other ends. stop_at i (length other) other (first_begins goes other ∙ ends) };
+    sample = λ so. record {
+      fill = [];
+      value = [];
+      reads = λ other ends. stop_at i (length other) other
+          (first_begins goes other ∙ ends);
+    };
   }
 
 map_same : {A : Type 0} (xs : List A) → map (λ x. x) xs ≡ xs
@@ -895,9 +952,12 @@ module _ {A : Type 0} (spell : A → List Token → List Token) (Within : A → 
   of_all (x ∷ xs) more within = (within.0, of_all xs more within.1)
 
 -- things that have one spelling
-pub each_of : {A : Type 0} {end : ℕ} {ok : Type 0} {goes : Token → Bool} {spell : A → List Token → List Token} {Within : A → Type 0}
-    {May : List Token → Type 0} {low one : ℕ → List Lexeme → Read A} → Elements end ok goes (λ x. x) spell (λ x more. Within x) May low one
-    → (i : ℕ) → Reader end ok (spell_all spell) (AllByRecursion Within) (Unless goes) (λ ls. many goes low i (length ls) ls)
+pub each_of : {A : Type 0} {end : ℕ} {ok : Type 0} {goes : Token → Bool} {spell : A → List Token → List Token}
+    {Within : A → Type 0}
+    {May : List Token → Type 0} {low one : ℕ → List Lexeme → Read A} → Elements end ok goes (λ x. x) spell
+    (λ x more. Within x) May low one
+    → (i : ℕ) → Reader end ok (spell_all spell) (AllByRecursion Within) (Unless goes)
+    (λ ls. many goes low i (length ls) ls)
     (λ ls. many goes one i (length ls) ls)
 each_of {A} {end} {ok} {goes} {spell} {Within} {May} {low} {one} all i =
     reads (each all i)
@@ -938,9 +998,11 @@ module _ {A : Type 0} (Spells : A → List Token → List Token → Type 0) (Wit
         refl,
       )
 
-  pub each_by : {end : ℕ} {ok : Type 0} {goes : Token → Bool} {May : List Token → Type 0} {low one : ℕ → List Lexeme → Read A}
+  pub each_by : {end : ℕ} {ok : Type 0} {goes : Token → Bool} {May : List Token → Type 0}
+      {low one : ℕ → List Lexeme → Read A}
       → Elements {Z = A × List Token} end ok goes (λ z. z.0) tokens_of (λ z more. Both z.0 z.1 more) May low one
-      → (i : ℕ) → ReaderBy end ok All (Unless goes) (λ ls. many goes low i (length ls) ls) (λ ls. many goes one i (length ls) ls)
+      → (i : ℕ) → ReaderBy end ok All (Unless goes) (λ ls. many goes low i (length ls) ls)
+      (λ ls. many goes one i (length ls) ls)
   each_by all i = reads_by (each all i) all_by (λ xs tokens more is. by_all xs tokens more is.0 is.1)
 
 -- ---- one or more, with commas between them
@@ -948,7 +1010,8 @@ module _ {A : Type 0} (Spells : A → List Token → List Token → Type 0) (Wit
 abbrev pub is_comma : Token → Bool
 is_comma = is_mark mark_.Comma
 
-module _ {A : Type 0} {ok : Type 0} {spell : A → List Token → List Token} {Within : A → Type 0} {low one : List Lexeme → Read A}
+module _ {A : Type 0} {ok : Type 0} {spell : A → List Token → List Token} {Within : A → Type 0}
+    {low one : List Lexeme → Read A}
     (s : Scope) (row : Reader s.end ok spell Within Anything low one) where
   pub further_ones : Elements s.end ok is_comma (λ x. x) (spell_further spell) (λ x more. Within x) Anything
       (λ i. further (lower s) low) (λ i. further s one)
@@ -961,7 +1024,8 @@ module _ {A : Type 0} {ok : Type 0} {spell : A → List Token → List Token} {W
     last = λ more ends. tt;
   }
 
-  pub with_commas : Reader s.end ok (spell_list spell) (λ xs. (0 < length xs) × AllByRecursion Within xs) (Unless is_comma)
+  pub with_commas : Reader s.end ok (spell_list spell) (λ xs. (0 < length xs) × AllByRecursion Within xs)
+      (Unless is_comma)
       (separated (lower s) low) (separated s one)
   unfolding separated
   with_commas =
@@ -979,7 +1043,9 @@ pub all_free : {A : Type 0} (xs : List A) → AllByRecursion Free xs
 all_free [] = tt
 all_free (x ∷ xs) = (tt, all_free xs)
 
-pub some_of : {A : Type 0} {end : ℕ} {ok : Type 0} {spell : List A → List Token → List Token} {May : List Token → Type 0}
-    {low one : List Lexeme → Read (List A)} → Reader end ok spell (λ xs. (0 < length xs) × AllByRecursion Free xs) May low one
+pub some_of : {A : Type 0} {end : ℕ} {ok : Type 0} {spell : List A → List Token → List Token}
+    {May : List Token → Type 0}
+    {low one : List Lexeme → Read (List A)} → Reader end ok spell
+    (λ xs. (0 < length xs) × AllByRecursion Free xs) May low one
     → Reader end ok spell Some_of May low one
 some_of row = reads row (λ xs more within. (within.0, refl)) (λ xs more within. (xs, refl, (within, all_free xs)))

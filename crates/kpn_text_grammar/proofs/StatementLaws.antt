@@ -97,7 +97,8 @@ statement_no_else (as_while he hb) = refl
 brace_no_else : (more : List Token) → Unless stands_in_block more → NoElse more
 brace_no_else [] h = refl
 brace_no_else (t ∷ ts) h =
-    let is : t ≡ token.Mark mark_.RightBrace = is_mark_true mark_.RightBrace t (not_not (is_mark mark_.RightBrace t) h) in
+    let is : t ≡ token.Mark mark_.RightBrace = is_mark_true mark_.RightBrace t
+    (not_not (is_mark mark_.RightBrace t) h) in
     ap (λ (t : Token). begins_else (t ∷ ts)) is
 
 -- nor do they begin as arrays and tables do
@@ -190,7 +191,8 @@ module _ (s : Scope) (e d : ℕ) (low_inner low_second inner second : List Lexem
   an_expression : ReaderBy s.end Enough (Expression s) (Over s.language) (whole (lower s)) (whole s)
   an_expression = expression_of s (λ so. so.0)
 
-  else_row : Row s.end Enough else_block else_tokens (ElseOf s d) NoElse (else_behind (lower s) low_second) (else_behind s second)
+  else_row : Row s.end Enough else_block else_tokens (ElseOf s d) NoElse (else_behind (lower s) low_second)
+      (else_behind s second)
   unfolding else_behind
   else_row =
       sampled (choose (λ ls. is_second s.language && not (first_is (is_keyword keyword_.Else) ls))
@@ -220,7 +222,8 @@ module _ (s : Scope) (e d : ℕ) (low_inner low_second inner second : List Lexem
         is_else : (ls : List Lexeme) (z : Statements × List Token) (more : List Token)
             → kinds ls ≡ token.Keyword keyword_.Else ∷ z.1
             → (is_second s.language && not (first_is (is_keyword keyword_.Else) ls)) ≡ false
-        is_else ls z more h = and_false _ _ (ap not (first_kind (is_keyword keyword_.Else) ls (token.Keyword keyword_.Else) z.1 h))
+        is_else ls z more h = and_false _ _
+            (ap not (first_kind (is_keyword keyword_.Else) ls (token.Keyword keyword_.Else) z.1 h))
 
   -- behind `if`
   abbrev Choice : Type 0
@@ -246,7 +249,8 @@ module _ (s : Scope) (e d : ℕ) (low_inner low_second inner second : List Lexem
       Expression s z.0.0 z.0.1 (token.Mark mark_.LeftBrace ∷ z.1.0.1)
       × (BodyOf s d z.1.0.0 z.1.0.1 (else_tokens z.1.1 more) × ElseOf s d z.1.1 more)
 
-  choice_row : Row s.end Enough the_choice (λ z more. z.1) ChoiceOf NoElse (choice_behind (lower s) low_inner low_second)
+  choice_row : Row s.end Enough the_choice (λ z more. z.1) ChoiceOf NoElse
+      (choice_behind (lower s) low_inner low_second)
       (choice_behind s inner second)
   unfolding choice_behind
   choice_row =
@@ -280,7 +284,8 @@ module _ (s : Scope) (e d : ℕ) (low_inner low_second inner second : List Lexem
           refl,
         )
 
-        within_else : {b : Statements} {tokens more : List Token} → SpellsElse s.levels s.language b tokens more → BlockIsWithin s.levels d b
+        within_else : {b : Statements} {tokens more : List Token} → SpellsElse s.levels s.language b tokens more
+            → BlockIsWithin s.levels d b
             → (z : Unit {0} ⊎ (Statements × List Token)) × (else_block z ≡ b) × ElseOf s d z more
             × (else_tokens z more ≡ tokens)
         within_else (left_out two ends) within = (inl tt, refl, (two, ends), refl)
@@ -296,7 +301,8 @@ module _ (s : Scope) (e d : ℕ) (low_inner low_second inner second : List Lexem
                 (he, omega (arith, within.terms)),
                 (
                   (
-                    subst (λ (ts : List Token). SpellsStatements s.levels s.language a at_a (token.Mark mark_.RightBrace ∷ ts)) (sym z.3) ha,
+                    subst (λ (ts : List Token). SpellsStatements s.levels s.language a at_a
+                        (token.Mark mark_.RightBrace ∷ ts)) (sym z.3) ha,
                     record { blocks = omega (arith, within.blocks); terms = omega (arith, within.terms) },
                   ),
                   z.2,
@@ -337,7 +343,8 @@ module _ (s : Scope) (e d : ℕ) (low_inner low_second inner second : List Lexem
       (behind (this_mark s mark_.Assign) (bind an_expression
       (λ e. behind (this_mark s mark_.Semicolon) (done {May = NoElse} (store x i e)))
       (λ x z more is may. is_over s.language (token.Mark mark_.Semicolon) more (at_semicolon more)))))
-      (λ x z more is may. is_over s.language (token.Mark mark_.RightBracket) (token.Mark mark_.Assign ∷ z.0.1) (at_bracket (token.Mark mark_.Assign ∷ z.0.1))))))
+      (λ x z more is may. is_over s.language (token.Mark mark_.RightBracket) (token.Mark mark_.Assign ∷ z.0.1)
+      (at_bracket (token.Mark mark_.Assign ∷ z.0.1))))))
       (behind (this_mark s mark_.Assign) (bind an_expression
       (λ e. behind (this_mark s mark_.Semicolon) (done {May = NoElse} (assign x e)))
       (λ x z more is may. is_over s.language (token.Mark mark_.Semicolon) more (at_semicolon more))))
@@ -435,7 +442,8 @@ module _ (s : Scope) (e d : ℕ) (low_inner low_second inner second : List Lexem
   unfolding opened
   opened_reads = behind (this_mark s mark_.LeftBrace) body_reads
 
-  branch_row : Row s.end Enough (λ z. statement (the_choice z) no_statements) (λ z more. token.Keyword keyword_.If ∷ z.1) ChoiceOf
+  branch_row : Row s.end Enough (λ z. statement (the_choice z) no_statements)
+      (λ z more. token.Keyword keyword_.If ∷ z.1) ChoiceOf
       NoElse (branch (lower s) low_inner low_second) (branch s inner second)
   unfolding branch
   branch_row =
@@ -456,17 +464,20 @@ module _ (s : Scope) (e d : ℕ) (low_inner low_second inner second : List Lexem
       (λ ls z more h is may. (no_if ls z more h, is))
       (λ z more is. is.1) (λ z more is. is)
       (λ ls ts z more there h is may.
-      and_from _ _ (and_parts (is_second s.language) (first_is (is_keyword keyword_.If) ls) there).0 (is_if ts z more h))
+      and_from _ _ (and_parts (is_second s.language) (first_is (is_keyword keyword_.If) ls) there).0
+      (is_if ts z more h))
       (λ ls ts z more there h is may. no_if ts z more h))
       (λ so. fills_as (λ more may. tt) (λ ts rest y read may.
       let t = opened_reads.laws.takes ts y rest read in
-      rw (no_if ts t.0 (kinds rest) t.3) refl) (opened_reads.sample so))) there (λ b tokens more is. found is.0 is.1) where
+      rw (no_if ts t.0 (kinds rest) t.3) refl) (opened_reads.sample so))) there
+      (λ b tokens more is. found is.0 is.1) where
         is_if : (ls : List Lexeme) (z : Choice) (more : List Token) → kinds ls ≡ token.Keyword keyword_.If ∷ z.1
             → first_is (is_keyword keyword_.If) ls ≡ true
         is_if ls z more h =
             first_kind (is_keyword keyword_.If) ls (token.Keyword keyword_.If) z.1 h ∙ is_keyword_same keyword_.If
 
-        no_if : (ls : List Lexeme) (z : Statements × List Token) (more : List Token) → kinds ls ≡ token.Mark mark_.LeftBrace ∷ z.1
+        no_if : (ls : List Lexeme) (z : Statements × List Token) (more : List Token) → kinds ls
+            ≡ token.Mark mark_.LeftBrace ∷ z.1
             → is_branch s ls ≡ false
         no_if ls z more h = and_false _ _ (first_kind (is_keyword keyword_.If) ls (token.Mark mark_.LeftBrace) z.1 h)
 
@@ -540,7 +551,8 @@ module _ (s : Scope) (inner second : List Lexeme → Read Statements) where
   braces_fill : Fills Anything (opened s inner second)
   unfolding opened
   braces_fill =
-      fills_as (λ more may. may) (λ ts rest y e may. behind_step (mark s mark_.LeftBrace ts) (block_behind s inner second))
+      fills_as (λ more may. may) (λ ts rest y e may. behind_step (mark s mark_.LeftBrace ts)
+      (block_behind s inner second))
       (bind_fills (stepped (mark s mark_.LeftBrace)) (λ u. block_behind s inner second) (λ x ts rest y e may. tt)
       ((this_mark {ok = Unit {0}} s mark_.LeftBrace).row.sample tt) end_fill)
 
@@ -548,24 +560,28 @@ module _ (s : Scope) (inner second : List Lexeme → Read Statements) where
   braces_look : Looks s.end Anything (too_deep (lower s)) (opened s inner second)
   unfolding too_deep opened
   braces_look =
-      looks_same (λ more may. may) (λ ls. behind_step (mark (lower s) mark_.LeftBrace ls) (λ rest. Err (fault.TooDeep s.process)))
+      looks_same (λ more may. may) (λ ls. behind_step (mark (lower s) mark_.LeftBrace ls)
+      (λ rest. Err (fault.TooDeep s.process)))
       (λ ls. behind_step (mark s mark_.LeftBrace ls) (block_behind s inner second))
       (bind_looks (λ x ts rest y e may. tt)
       (λ before f. bind_fills (λ ts. stepped (mark s mark_.LeftBrace) (before ++ ts)) (λ u. block_behind s inner second)
       (λ x ts rest y e may. tt) f end_fill) ((this_mark {ok = Unit {0}} s mark_.LeftBrace).row.looks tt)
       (λ u. deep_looks (block_behind s inner second)))
 
-  is_no_branch : (ts rest : List Lexeme) (b : Statements) → opened s inner second ts ≡ Ok (b, rest) → is_branch s ts ≡ false
+  is_no_branch : (ts rest : List Lexeme) (b : Statements) → opened s inner second ts ≡ Ok (b, rest) → is_branch s ts
+      ≡ false
   unfolding opened
   is_no_branch ts rest b h =
       let m = bind_ok (mark s mark_.LeftBrace ts) (block_behind s inner second) (b, rest) h in
       and_false _ _ (first_kind (is_keyword keyword_.If) ts (token.Mark mark_.LeftBrace) (kinds m.0)
-      ((this_mark {ok = Unit {0}} s mark_.LeftBrace).row.laws.takes ts tt m.0 (bound (mark s mark_.LeftBrace ts) m.0 _ _ m.1 refl)).3)
+      ((this_mark {ok = Unit {0}} s mark_.LeftBrace).row.laws.takes ts tt m.0
+      (bound (mark s mark_.LeftBrace ts) m.0 _ _ m.1 refl)).3)
 
   second_fill : Fills NoElse (branch_or_braces s inner second)
   second_fill = fills_as (λ more may. tt) (λ ts rest b h may. rw (is_no_branch ts rest b h) refl) braces_fill
 
-  second_look : Looks s.end NoElse (λ ls. if is_branch s ls then Err (fault.TooDeep s.process) else too_deep (lower s) ls)
+  second_look : Looks s.end NoElse (λ ls. if is_branch s ls then Err (fault.TooDeep s.process) else too_deep
+      (lower s) ls)
       (branch_or_braces s inner second)
   second_look = record { at = λ ls. by ls (is_branch s ls) refl } where
     by : (ls : List Lexeme) (there : Bool) → is_branch s ls ≡ there
@@ -625,7 +641,8 @@ pub whole_body_reads : (s : Scope) → ReadsBy s (BodyOf s (suc (s.levels - 1)))
 whole_body_reads s =
     given (body_reads s (s.levels - 1 - 1) (s.levels - 1) (block (lower s) (s.levels - 1 - 1))
     (second_block (lower s) (s.levels - 1 - 1)) (block s (s.levels - 1)) (second_block s (s.levels - 1))
-    (block_reads s (s.levels - 1 - 1) (s.levels - 1)) (second_block_reads s (s.levels - 1 - 1) (s.levels - 1))) (λ so. (so, omega (arith, so)))
+    (block_reads s (s.levels - 1 - 1) (s.levels - 1)) (second_block_reads s (s.levels - 1 - 1) (s.levels - 1)))
+    (λ so. (so, omega (arith, so)))
 
 -- a statement takes a token or more
 pub statement_shortens : (s : Scope) (d : ℕ) (ls : List Lexeme) {st : StatementNode} {rest : List Lexeme}

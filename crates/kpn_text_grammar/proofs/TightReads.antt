@@ -193,7 +193,8 @@ Tight l depth levels n e tokens more = SpellsTight l depth n e tokens more × (t
 abbrev pub Looser : ℕ → List Token → Type 0
 Looser n more = first_tightness more < n
 
--- One reader of expressions has less room than another. In language 1 that one has a level for each sign and parenthesis,
+-- One reader of expressions has less room than another. In language 1 that one has a level for each sign and
+-- parenthesis,
 -- and reads operands.
 pub record HasMore (s : Scope) (low_depth low_levels depth levels n : ℕ) : Type 0 where
   pub deeper : low_depth < depth
@@ -219,7 +220,8 @@ abbrev Spelled : Type 0
 Spelled = ExpressionNode × List Token
 
 -- in language 1 an expression has no more levels than signs and parentheses may stand in each other
-few_levels : {depth n : ℕ} {e : ExpressionNode} {tokens more : List Token} → SpellsTight language.One depth n e tokens more
+few_levels : {depth n : ℕ} {e : ExpressionNode} {tokens more : List Token}
+    → SpellsTight language.One depth n e tokens more
     → OPERAND ≤ n → term_level e ≤ depth
 few_levels as_number tight_enough = omega arith
 few_levels as_name tight_enough = omega arith
@@ -262,7 +264,8 @@ module _ (s : Scope) (e k depth d : ℕ) (laws : ReadsTight s depth) where
   inside_laws : ReaderBy s.end Enough Part (Looser least) (tight (lower s) e k least) (tight s depth d least)
   inside_laws = part least (below_loosest s.language) is_operand
 
-  first_laws : ReaderBy s.end Enough (Tight s.language depth (suc d) least) (Looser least) (tight (lower s) e (suc k) least)
+  first_laws : ReaderBy s.end Enough (Tight s.language depth (suc d) least) (Looser least)
+      (tight (lower s) e (suc k) least)
       (tight s depth (suc d) least)
   first_laws = given (laws e (suc k) (suc d) least (below_loosest s.language)) (λ so. record {
     deeper = omega (arith, so.deeper);
@@ -271,7 +274,8 @@ module _ (s : Scope) (e k depth d : ℕ) (laws : ReadsTight s depth) where
     tight = is_operand;
   })
 
-  fits_too : (c : ExpressionNode) → Enough → nat_le (suc k) (term_level c) ≡ false → nat_le (suc d) (term_level c) ≡ false
+  fits_too : (c : ExpressionNode) → Enough → nat_le (suc k) (term_level c) ≡ false → nat_le (suc d) (term_level c)
+      ≡ false
   fits_too c so fits = lt-leb (suc d) (term_level c) (omega (arith, so.higher, leb-false (suc k) (term_level c) fits))
 
   closes : (t : Token) (more : List Token) → first_tightness (t ∷ more) ≡ 0 → Looser least (t ∷ more)
@@ -347,7 +351,8 @@ module _ (s : Scope) (e k depth d : ℕ) (laws : ReadsTight s depth) where
   )
 
   -- behind the first expression, if no `?` follows: the end in language 2, and in language 1 an operator
-  ends_row : (c : ExpressionNode) → Row {Z = Unit {0}} s.end Enough (λ u. c) (λ u more. token.Mark mark_.RightParen ∷ more)
+  ends_row : (c : ExpressionNode) → Row {Z = Unit {0}} s.end Enough (λ u. c)
+      (λ u more. token.Mark mark_.RightParen ∷ more)
       (λ u more. Unit {0}) Anything (λ ls. and_then (mark (lower s) mark_.RightParen ls) (λ rest. Ok (c, rest)))
       (λ ls. and_then (mark s mark_.RightParen ls) (λ rest. Ok (c, rest)))
   ends_row c = behind (this_mark s mark_.RightParen) (done {May = Anything} c)
@@ -361,7 +366,8 @@ module _ (s : Scope) (e k depth d : ℕ) (laws : ReadsTight s depth) where
       (λ b. behind (this_mark s mark_.RightParen) (done {May = Anything} (binary o c b)))
       (λ x z more is may. closes (token.Mark mark_.RightParen) more (at_close more)))
 
-  closed_row : (c : ExpressionNode) → Seen s.end Enough (either (λ (u : Unit {0}). c) (λ (z : Right). binary z.0 c z.1.0.0))
+  closed_row : (c : ExpressionNode) → Seen s.end Enough
+      (either (λ (u : Unit {0}). c) (λ (z : Right). binary z.0 c z.1.0.0))
       (spell_either (λ (u : Unit {0}) more. token.Mark mark_.RightParen ∷ more)
       (λ (z : Right) more. token.Mark (operator_mark z.0) ∷ z.1.0.1))
       (Either (λ (u : Unit {0}) more. s.language ≡ language.Two)
@@ -376,7 +382,8 @@ module _ (s : Scope) (e k depth d : ℕ) (laws : ReadsTight s depth) where
       (guarded (nat_le (suc k) (term_level c)) (nat_le (suc d) (term_level c)) s.process (fits_too c) (right_row c))
       (λ ls u more second h is. second_is_two s.language second) (λ ls z more first h is. (first_is_one s.language first, is))
       (λ ls u more h is may. (ap is_second is, tt)) (λ ls z more h is may. (ap is_second is.0, is.1))
-      (λ u more is. tt) (λ z more is. is.1) (λ ls ts u more second h is may. second) (λ ls ts z more first h is may. first)
+      (λ u more is. tt) (λ z more is. is.1) (λ ls ts u more second h is may. second)
+      (λ ls ts z more first h is may. first)
 
   closed_first : (z : Unit {0} ⊎ Right) (more : List Token)
       → begins (is_mark mark_.Question) (inside_tokens (inr z) more) ≡ false
@@ -410,7 +417,8 @@ module _ (s : Scope) (e k depth d : ℕ) (laws : ReadsTight s depth) where
       (closed_row c) (λ z more is may. refl) (λ z more is may. closed_first z more)
 
   -- what leads on behind the first expression, if a level is left in language 1
-  closed_fills : (c : ExpressionNode) → (s.language ≡ language.One → term_level c ≤ d) → Enough → (l : Language) → s.language ≡ l
+  closed_fills : (c : ExpressionNode) → (s.language ≡ language.One → term_level c ≤ d) → Enough → (l : Language)
+      → s.language ≡ l
       → Fills Anything (λ ls. cond (is_second s.language) (and_then (mark s mark_.RightParen ls) (λ rest. Ok (c, rest)))
       (unless_full s (suc d) c (binary_behind s (tight s depth d least) c ls)))
   closed_fills c fits so language.Two e =
@@ -439,7 +447,8 @@ module _ (s : Scope) (e k depth d : ℕ) (laws : ReadsTight s depth) where
       omega (arith, few_levels is (omega arith), so.first one, ap term_level t.1)
 
   operand_arms : (t : Token)
-      → Arm s.end Enough (OperandOf s.language (suc depth) (suc d)) Ends t (tight_operand (lower s) (tight (lower s) e) k t)
+      → Arm s.end Enough (OperandOf s.language (suc depth) (suc d)) Ends t
+      (tight_operand (lower s) (tight (lower s) e) k t)
       (tight_operand s (tight s depth) d t)
   unfolding tight_operand behind_name inside_behind
   operand_arms (token.Number k) =
@@ -461,7 +470,8 @@ module _ (s : Scope) (e k depth d : ℕ) (laws : ReadsTight s depth) where
   operand_arms (token.Mark mark_.LeftParen) =
       arm (λ start. narrow (bind_by first_laws inside_row (λ c z more is may. inside_looser c z more is)
       (λ meets so before f. bind_fills (λ ts. tight s depth (suc d) least (before ++ ts)) _ meets f
-      (inside_fills f.value (leaves_level so (before ++ (f.fill ++ [])) [] f.value (f.reads [] (some_loosest s.language))) so)))
+      (inside_fills f.value (leaves_level so (before ++ (f.fill ++ [])) [] f.value
+      (f.reads [] (some_loosest s.language))) so)))
       (λ more ends. tt))
       (λ z more is. inside_back z.0 z.1 more is.0 is.1)
   operand_arms _ = no_arm
@@ -471,7 +481,8 @@ module _ (s : Scope) (e k depth d : ℕ) (laws : ReadsTight s depth) where
 
   operand_row : Row {Z = (t : Token) × (operand_arms t).Value} s.end Enough (λ z. (operand_arms z.0).make z.1)
       (λ z more. z.0 ∷ (operand_arms z.0).spell z.1 more) (λ z more. (operand_arms z.0).Within z.1 more) Ends
-      (λ ls. and_then (next (lower s) ls) (λ l. tight_operand (lower s) (tight (lower s) e) k l.0.token l.0.start l.1)) an_operand
+      (λ ls. and_then (next (lower s) ls)
+      (λ l. tight_operand (lower s) (tight (lower s) e) k l.0.token l.0.start l.1)) an_operand
   unfolding operand_arms
   operand_row = first_token s operand_arms (token.Number 1) tt
 
@@ -638,15 +649,18 @@ unfolding operator read_as next and_then
 operator_at s l ls o h = rw h refl
 
 -- what operators and their right sides begin with binds no tighter than what stands before them
-sides_meet : (s : Scope) (side : ℕ → List Lexeme → Read ExpressionNode) (levels n steps bound : ℕ) (left : ExpressionNode)
-    (ts rest : List Lexeme) (y : ExpressionNode) → n ≤ bound → sides_behind s side levels n steps bound left ts ≡ Ok (y, rest)
+sides_meet : (s : Scope) (side : ℕ → List Lexeme → Read ExpressionNode) (levels n steps bound : ℕ)
+    (left : ExpressionNode)
+    (ts rest : List Lexeme) (y : ExpressionNode) → n ≤ bound → sides_behind s side levels n steps bound left ts ≡ Ok
+    (y, rest)
     → Looser n (kinds rest) → first_tightness (kinds ts) ≤ bound
 sides_meet s side levels n steps bound left ts rest y small h may = by (first_is (goes_further n bound) ts) refl where
   by : (b : Bool) → first_is (goes_further n bound) ts ≡ b → first_tightness (kinds ts) ≤ bound
   by true e =
       let sign = sign_of n bound ts e in
       let is : kinds ts ≡ token.Mark (operator_mark sign.op) ∷ kinds sign.rest =
-      ap kinds sign.whole ∙ ap (λ (t : Token). t ∷ kinds sign.rest) (token_operator_is sign.lexeme.token sign.op sign.found) in
+      ap kinds sign.whole ∙ ap (λ (t : Token). t ∷ kinds sign.rest)
+      (token_operator_is sign.lexeme.token sign.op sign.found) in
       omega (
         arith,
         ap first_tightness is,
@@ -659,7 +673,8 @@ sides_meet s side levels n steps bound left ts rest y small h may = by (first_is
       let less = subst (λ (p : ExpressionNode × List Lexeme). Looser n (kinds p.1)) (sym same) may in
       omega (arith, less, small)
 
-pub sides_fills : (s : Scope) (side : ℕ → List Lexeme → Read ExpressionNode) (levels n steps bound : ℕ) (left : ExpressionNode)
+pub sides_fills : (s : Scope) (side : ℕ → List Lexeme → Read ExpressionNode) (levels n steps bound : ℕ)
+    (left : ExpressionNode)
     → Fills (Looser n) (sides_behind s side levels n steps bound left)
 sides_fills s side levels n steps bound left = record {
   fill = [];
@@ -677,7 +692,8 @@ module _ (s : Scope) (low_side side : ℕ → List Lexeme → Read ExpressionNod
   all_sides = sides_behind s side levels n
 
   -- behind an operator
-  abbrev right_side_of : (t : Scope) (side : ℕ → List Lexeme → Read ExpressionNode) (levels steps : ℕ) → ExpressionNode → Op
+  abbrev right_side_of : (t : Scope) (side : ℕ → List Lexeme → Read ExpressionNode) (levels steps : ℕ) → ExpressionNode
+      → Op
       → List Lexeme → Read ExpressionNode
   right_side_of t side levels steps left o ls =
       and_then (side (right_side o) ls)
@@ -709,7 +725,8 @@ module _ (s : Scope) (low_side side : ℕ → List Lexeme → Read ExpressionNod
   Goes low_steps steps = (bound : ℕ) (left : ExpressionNode) → n ≤ bound → (ls : List Lexeme)
       → Look s.end (Looser n) (all_sides steps bound left) ls (low_sides low_steps bound left ls)
 
-  no_sign : (low_steps steps bound : ℕ) (left : ExpressionNode) (ls : List Lexeme) → first_is (goes_further n bound) ls ≡ false
+  no_sign : (low_steps steps bound : ℕ) (left : ExpressionNode) (ls : List Lexeme) → first_is (goes_further n bound) ls
+      ≡ false
       → Look s.end (Looser n) (all_sides steps bound left) ls (low_sides low_steps bound left ls)
   no_sign low_steps steps bound left ls e =
       subst (Look s.end (Looser n) (all_sides steps bound left) ls)
@@ -721,13 +738,16 @@ module _ (s : Scope) (low_side side : ℕ → List Lexeme → Read ExpressionNod
         kept other (inr may) = no_step s side levels n steps bound left other (stops_first n bound other may)
 
   right_look : (i j : ℕ) (left : ExpressionNode) (o : Op) → Goes i j → n ≤ tightness o → (ls : List Lexeme)
-      → Look s.end (Looser n) (right_side_of s side levels j left o) ls (right_side_of (lower s) low_side low_levels i left o ls)
+      → Look s.end (Looser n) (right_side_of s side levels j left o) ls
+      (right_side_of (lower s) low_side low_levels i left o ls)
   right_look i j left o goes small ls =
       look_in_turn (side (right_side o)) (λ b. all_sides j (tightness o) (binary o left b)) meets
-      (λ before f. bind_fills (λ ts. side (right_side o) (before ++ ts)) (λ b. all_sides j (tightness o) (binary o left b))
+      (λ before f. bind_fills (λ ts. side (right_side o) (before ++ ts))
+      (λ b. all_sides j (tightness o) (binary o left b))
       meets f (sides_fills s side levels n j (tightness o) (binary o left f.value)))
       (λ b. low_sides i (tightness o) (binary o left b)) (low_side (right_side o) ls)
-      ((looks (right_side o) (right_below o) (omega (arith, small, below_operand o))).at ls) (λ b mid read. goes (tightness o) (binary o left b) small mid) where
+      ((looks (right_side o) (right_below o) (omega (arith, small, below_operand o))).at ls)
+      (λ b mid read. goes (tightness o) (binary o left b) small mid) where
         meets : Meets (Looser (right_side o)) (Looser n) (λ b. all_sides j (tightness o) (binary o left b))
         meets b ts rest y h may =
             omega (
@@ -740,11 +760,13 @@ module _ (s : Scope) (low_side side : ℕ → List Lexeme → Read ExpressionNod
       → first_is (goes_further n under) ls ≡ true → (full : Bool) → nat_le low_levels (term_level left) ≡ full
       → Look s.end (Looser n) (all_sides (suc j) under left) ls (low_sides (suc i) under left ls)
   by_room i j under left below ls goes true e =
-      subst (Look s.end (Looser n) (all_sides (suc j) under left) ls) (sym (full_sign (suc i) under left ls goes e)) nests
+      subst (Look s.end (Looser n) (all_sides (suc j) under left) ls)
+      (sym (full_sign (suc i) under left ls goes e)) nests
   by_room i j under left below ls goes false e =
       let sign = sign_of n under ls goes in
       let room = lt-leb levels (term_level left) (omega (arith, higher, leb-false low_levels (term_level left) e)) in
-      subst (λ ts. Look s.end (Looser n) (all_sides (suc j) under left) ts (low_sides (suc i) under left ts)) (sym sign.whole)
+      subst (λ ts. Look s.end (Looser n) (all_sides (suc j) under left) ts (low_sides (suc i) under left ts))
+      (sym sign.whole)
       (subst (Look s.end (Looser n) (all_sides (suc j) under left) (sign.lexeme ∷ sign.rest))
       (sym (one_sign (lower s) low_side low_levels i under left sign.lexeme sign.rest sign.op sign.goes sign.found e))
       (passed sign.lexeme (λ ts. one_sign s side levels j under left sign.lexeme ts sign.op sign.goes sign.found room)
@@ -756,20 +778,23 @@ module _ (s : Scope) (low_side side : ℕ → List Lexeme → Read ExpressionNod
   by_sign i j under left below ls false e = no_sign (suc i) (suc j) under left ls e
   by_sign i j under left below ls true e = by_room i j under left below ls e (nat_le low_levels (term_level left)) refl
 
-  no_step_left : (steps under : ℕ) (left : ExpressionNode) (ls : List Lexeme) (b : Bool) → first_is (goes_further n under) ls ≡ b
+  no_step_left : (steps under : ℕ) (left : ExpressionNode) (ls : List Lexeme) (b : Bool) → first_is
+      (goes_further n under) ls ≡ b
       → Look s.end (Looser n) (all_sides steps under left) ls (low_sides 0 under left ls)
   no_step_left steps under left ls false e = no_sign 0 steps under left ls e
   no_step_left steps under left ls true e =
       subst (Look s.end (Looser n) (all_sides steps under left) ls) (sym (no_steps under left ls e)) nests
 
   pub sides_look : (low_steps steps : ℕ) → low_steps ≤ steps → Goes low_steps steps
-  sides_look zero steps more under left small ls = no_step_left steps under left ls (first_is (goes_further n under) ls) refl
+  sides_look zero steps more under left small ls = no_step_left steps under left ls
+      (first_is (goes_further n under) ls) refl
   sides_look (suc i) zero more under left small ls = absurd (omega (arith, more))
   sides_look (suc i) (suc j) more under left small ls =
       by_sign i j under left (sides_look i j (omega (arith, more))) ls (first_is (goes_further n under) ls) refl
 
 -- a token that no expression begins with
-no_operand : (s : Scope) (inner : ℕ → ℕ → List Lexeme → Read ExpressionNode) (levels : ℕ) (t : Token) (start : ℕ) (ls : List Lexeme)
+no_operand : (s : Scope) (inner : ℕ → ℕ → List Lexeme → Read ExpressionNode) (levels : ℕ) (t : Token) (start : ℕ)
+    (ls : List Lexeme)
     → begins_expression t ≡ false → tight_operand s inner levels t start ls ≡ Err (fault.Grammar start)
 unfolding tight_operand
 no_operand s inner levels (token.Number k) start ls h = absurd cc
@@ -830,7 +855,8 @@ module _ (s : Scope) (depth : ℕ) (laws : ReadsTight s depth) where
   over_fills d n = start_fills s (over d n) (record { token = token.Number 1; start = 0 }) (record {
     fill = [];
     value = numeral 1;
-    reads = λ other may. no_step s (tight s (suc depth) d) (suc d) n (suc d) OPERAND (numeral 1) other (stops_first n OPERAND other may);
+    reads = λ other may. no_step s (tight s (suc depth) d) (suc d) n (suc d) OPERAND (numeral 1) other
+        (stops_first n OPERAND other may);
   })
 
   -- no level is left for the other reader
@@ -846,17 +872,20 @@ module _ (s : Scope) (depth : ℕ) (laws : ReadsTight s depth) where
         by l false e = inr (λ ls. (rw e refl, rw (no_operand s (tight s depth) d l.token l.start ls e) refl))
 
   over_looks : (low_depth low_levels d n : ℕ) → n ≤ OPERAND → HasMore s low_depth low_levels (suc depth) (suc d) n
-      → ((k : ℕ) → k ≤ OPERAND → low_levels - 1 < d → n < OPERAND → Looks s.end (Looser k) (tight (lower s) low_depth (low_levels - 1) k) (tight s (suc depth) d k))
+      → ((k : ℕ) → k ≤ OPERAND → low_levels - 1 < d → n < OPERAND → Looks s.end (Looser k)
+      (tight (lower s) low_depth (low_levels - 1) k) (tight s (suc depth) d k))
       → Looks s.end (Looser n) (tight (lower s) low_depth low_levels n) (tight s (suc depth) (suc d) n)
   unfolding tight tight_over
   over_looks zero low_levels d n small so sides = base_looks d n
   over_looks (suc e) zero d n small so sides = base_looks d n
   over_looks (suc e) (suc k) d n small so sides =
-      first_reads s (over d n) (over_fills d n) (λ l ls. and_then (tight_operand (lower s) (tight (lower s) e) k l.token l.start ls)
+      first_reads s (over d n) (over_fills d n)
+      (λ l ls. and_then (tight_operand (lower s) (tight (lower s) e) k l.token l.start ls)
       (λ left. sides_behind (lower s) (tight (lower s) (suc e) k) (suc k) n (suc k) OPERAND left.0 left.1))
       (HasMore s (suc e) (suc k) (suc depth) (suc d) OPERAND)
       (record { deeper = so.deeper; higher = so.higher; first = so.first; tight = λ one. omega arith })
-      (λ l. starts_on meets (λ before f. bind_fills _ _ meets f (sides_fills s (tight s (suc depth) d) (suc d) n (suc d) OPERAND f.value))
+      (λ l. starts_on meets (λ before f. bind_fills _ _ meets f
+      (sides_fills s (tight s (suc depth) d) (suc d) n (suc d) OPERAND f.value))
       ((operand_arms s e k depth d laws l.token).looks l.start)
       (λ so left. record {
         at = sides_look s (tight (lower s) (suc e) k) (tight s (suc depth) d) (suc k) (suc d) n so.higher
@@ -865,12 +894,15 @@ module _ (s : Scope) (depth : ℕ) (laws : ReadsTight s depth) where
         less : suc k - 1 ≡ k
         less = omega arith
 
-        at_side : (i : ℕ) → i ≤ OPERAND → n < OPERAND → Looks s.end (Looser i) (tight (lower s) (suc e) k i) (tight s (suc depth) d i)
-        at_side i le loose = subst (λ j. Looks s.end (Looser i) (tight (lower s) (suc e) j i) (tight s (suc depth) d i)) less
+        at_side : (i : ℕ) → i ≤ OPERAND → n < OPERAND → Looks s.end (Looser i) (tight (lower s) (suc e) k i)
+            (tight s (suc depth) d i)
+        at_side i le loose = subst (λ j. Looks s.end (Looser i) (tight (lower s) (suc e) j i)
+            (tight s (suc depth) d i)) less
             (sides i le (omega (arith, so.higher)) loose)
 
         meets : Meets Ends (Looser n) (λ left. sides_behind s (tight s (suc depth) d) (suc d) n (suc d) OPERAND left)
-        meets left ts rest y h may = sides_meet s (tight s (suc depth) d) (suc d) n (suc d) OPERAND left ts rest y small h may
+        meets left ts rest y h may = sides_meet s (tight s (suc depth) d) (suc d) n
+            (suc d) OPERAND left ts rest y small h may
 
   over_reads : ReadsTight s (suc depth)
   unfolding tight tight_over

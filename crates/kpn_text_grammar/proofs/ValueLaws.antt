@@ -27,5 +27,6 @@ pub literal_reads : (s : Scope) → Reads s spell_literal Free Anything literal
 unfolding literal literal_arms
 literal_reads s = exactly (by_token s (literal_arms s) (token.Number 1) tt (literal_parts s))
 
-pub values_reads : (s : Scope) → Reads s (spell_list spell_literal) Some_of (Unless is_comma) (λ s. separated s (literal s))
+pub values_reads : (s : Scope) → Reads s (spell_list spell_literal) Some_of (Unless is_comma)
+    (λ s. separated s (literal s))
 values_reads s = some_of (with_commas s (literal_reads s))

@@ -29,7 +29,8 @@ pub expression_of : {ok : Type 0} (s : Scope) → (ok → HasRoom s)
     → ReaderBy s.end ok (Expression s) (Over s.language) (whole (lower s)) (whole s)
 unfolding whole
 expression_of s has =
-    given (tight_reads s s.levels (s.levels - 1) (s.levels - 1) s.levels (loosest s.language) (below_loosest s.language)) (λ so. record {
+    given (tight_reads s s.levels (s.levels - 1) (s.levels - 1) s.levels (loosest s.language)
+    (below_loosest s.language)) (λ so. record {
       deeper = omega (arith, has so);
       higher = omega (arith, has so);
       first = λ one. omega arith;

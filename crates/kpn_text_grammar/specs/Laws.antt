@@ -30,9 +30,9 @@ abbrev pub fault_place : ℕ → List Lexeme → ℕ
 fault_place end [] = end
 fault_place end (l ∷ ls) = l.start
 
--- A fault stands in front of the rest of the tokens, at the first one that may not be there. However deep a description
--- nests, none begins with those before it and the one there, and if there is none, they are none. Those before it begin
--- a description, which nests one level more than it may at most.
+-- A fault stands in front of the rest of the tokens, at the first one that may not be there. Those before it begin a
+-- description, which has one level more than it may have at most. With the one there they begin none, however deep it
+-- nests. If none is there, they are none.
 pub record IsFaultAt (l : Language) (end : ℕ) (ls : List Lexeme) (at : ℕ) : Type 0 where
   pub before : List Lexeme
   pub rest : List Lexeme

@@ -155,7 +155,8 @@ begins_else [] = false
 begins_else (t ∷ ts) = is_keyword keyword.Else t
 
 mutual
-  -- The rules of statements: the tokens up to those that follow spell the statement in a language.
+  -- The rules of statements, whose expressions have at most so many levels: the tokens up to those that follow spell
+  -- the statement in a language.
   pub data SpellsStatement (levels : ℕ) (l : Language) : StatementNode → List Token → List Token → Type 0 where
     as_assignment : {x : NameBytes} {e : ExpressionNode} {tokens more : List Token}
         → SpellsTerm levels l e tokens (token.Mark mark.Semicolon ∷ more)

@@ -99,7 +99,7 @@ pub fn description<'a>(
     // It returns what the tokens spell within the limits, unless memory runs out.
     ensures only { (d : Document) → IsDescription language (kinds tokens.now) d
         → OkOr GrammarFault.NoMemory result (λ x. document x ≡ d) }
-    // Where the grammar refuses a token, no description goes on with it.
+    // Where the grammar refuses a token, it is the first that cannot stand there.
     ensures placed { (at : ℕ) → result ≡ Err (GrammarFault.Grammar at)
         → IsFaultAt language end tokens.now at }
     // Which fault it is.
