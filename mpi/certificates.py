@@ -50,7 +50,8 @@ WRONG = {
     'a ring that is none': ('chief.c', '      return JAMMED;', '      return ENDED;'),
     'a wait that is none': ('chief.c', '    found = CLOGGED;', '    found = found;'),
     'fed twice at a growth': ('part.c', "  if (it.first == 'f') {",
-                              "  if (it.first == 'f') {\n    kpn_feed(&of->session, it.channel, &it.value, 1, &count);"),
+                              "  if (it.first == 'f') {\n"
+                              "    kpn_feed(&of->session, it.channel, &it.value, 1, &count);"),
     'the trace of another rank': ('certify.c', '&of->chief->traces[rank]',
                                   '&of->chief->traces[(rank + 1) % of->cut->ranks]'),
     'the part of another rank': ('certify.c', '&of->chief->parts[rank]',
@@ -129,9 +130,9 @@ class Certificates:
             same('no folder', refused, self.call(start(), environment=nothing))
             few = ['bash', '-c', 'ulimit -f 0; exec "$0" "$@"', *start()]
             same('no room', refused, self.call(few))
-            closed = {'<&-': (0, REPORT, CERTIFIED), '>&-': (1, '', CERTIFIED + 'kpn: 27 Write\n'), '2>&-': (0, REPORT, ''),
-                      '>/dev/full': (1, '', CERTIFIED + 'kpn: 27 Write\n'), '2>/dev/full': (0, REPORT, ''),
-                      '<&- >&- 2>&-': (1, '', '')}
+            unwritten = 1, '', CERTIFIED + 'kpn: 27 Write\n'
+            closed = {'<&-': (0, REPORT, CERTIFIED), '>&-': unwritten, '>/dev/full': unwritten, '2>&-': (0, REPORT, ''),
+                      '2>/dev/full': (0, REPORT, ''), '<&- >&- 2>&-': (1, '', '')}
             for how, wanted in closed.items():
                 same(how, wanted, self.call(['bash', '-c', f'exec "$0" "$@" {how}', *start()]))
             few = ['bash', '-c', 'ulimit -n 6; exec "$0" "$@"', *start()]
@@ -204,8 +205,8 @@ class Certificates:
         text = (folder / 'mpi' / file).read_text()
         same(f'{name}: where it stands', 1, text.count(old))
         (folder / 'mpi' / file).write_text(text.replace(old, new))
-        subprocess.run(['make', '-s', '-C', folder / 'mpi', 'simulator', f'OUT={folder}', f'LIBRARY={self.tests.library}',
-                        'FLAGS=-std=c11 -O1 -w -DKPN_JUDGE=\'"kpn"\''], check=True)
+        subprocess.run(['make', '-s', '-C', folder / 'mpi', 'simulator', f'OUT={folder}',
+                        f'LIBRARY={self.tests.library}', 'FLAGS=-std=c11 -O1 -w -DKPN_JUDGE=\'"kpn"\''], check=True)
         return folder / 'kpn-mpi-simulator'
 
     def outcome(self, name, number, program):
