@@ -136,7 +136,8 @@ impl<'t> FaultFrame<'t> {
         self.rows.push(CellRow {
             name: table.name.bytes,
             cells,
-        })
+        })?;
+        Ok(())
     }
 
     /// Makes the statements of a block, up to what stops the process.
@@ -201,8 +202,10 @@ impl<'t> FaultFrame<'t> {
                 return Ok(());
             }
         }
-        self.variables.push(Variable { name, value })?;
-        Ok(())
+        match self.variables.push(Variable { name, value }) {
+            Ok(()) => Ok(()),
+            Err(_) => Err(Halt::Lost),
+        }
     }
 
     fn store(
@@ -354,9 +357,14 @@ impl<'t> FaultFrame<'t> {
 }
 
 // The value of an operator between two values.
+#[tactic(auto, unfolding(kpn_lang::specs::Syntax::names_below, kpn_lang::specs::Syntax::term_of))]
 fn applied(alloc: Global, operator: Op, left: i64, right: i64) -> Result<i64, Halt> {
-    let left = Box::new(alloc, Expr::Num(left))?;
-    let right = Box::new(alloc, Expr::Num(right))?;
+    let Ok(left) = Box::new(alloc, Expr::Num(left)) else {
+        return Err(Halt::Lost);
+    };
+    let Ok(right) = Box::new(alloc, Expr::Num(right)) else {
+        return Err(Halt::Lost);
+    };
     match eval(&Expr::Bin(operator, left, right), &[]) {
         Ok(value) => Ok(value),
         Err(_) => Err(Halt::Faulted),

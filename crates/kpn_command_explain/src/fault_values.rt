@@ -14,10 +14,24 @@ pub(crate) fn push_expression(
     match tree {
         Expression::Number(number) => push_decimal(out, number.value()),
         Expression::Name(name) => out.extend_from_slice(name.bytes),
-        Expression::Element(name, index) => push_cell(out, name, index),
-        Expression::Negative(inner) => push_signed(out, b'-', inner),
-        Expression::Not(inner) => push_signed(out, b'!', inner),
-        Expression::BitNot(inner) => push_signed(out, b'~', inner),
+        Expression::Element(name, index) => {
+            out.extend_from_slice(name.bytes)?;
+            out.push(b'[')?;
+            push_expression(out, index, false)?;
+            push_if(out, true, b']')
+        }
+        Expression::Negative(inner) => {
+            out.push(b'-')?;
+            push_expression(out, inner, true)
+        }
+        Expression::Not(inner) => {
+            out.push(b'!')?;
+            push_expression(out, inner, true)
+        }
+        Expression::BitNot(inner) => {
+            out.push(b'~')?;
+            push_expression(out, inner, true)
+        }
         Expression::Binary(operator, left, right) => {
             push_if(out, is_inner, b'(')?;
             push_expression(out, left, true)?;
@@ -34,27 +48,9 @@ pub(crate) fn push_expression(
             push_expression(out, first, true)?;
             out.extend_from_slice(b" : ")?;
             push_expression(out, second, true)?;
-            out.push(b')')
+            push_if(out, true, b')')
         }
     }
-}
-
-// Adds `NAME[INDEX]`.
-fn push_cell(
-    out: &mut Vec<u8>,
-    name: &Identifier<'_>,
-    index: &Expression<'_>,
-) -> Result<(), AllocError> {
-    out.extend_from_slice(name.bytes)?;
-    out.push(b'[')?;
-    push_expression(out, index, false)?;
-    out.push(b']')
-}
-
-// Adds a sign and what stands behind it.
-fn push_signed(out: &mut Vec<u8>, sign: u8, inner: &Expression<'_>) -> Result<(), AllocError> {
-    out.push(sign)?;
-    push_expression(out, inner, true)
 }
 
 fn push_if(out: &mut Vec<u8>, holds: bool, byte: u8) -> Result<(), AllocError> {
@@ -77,19 +73,16 @@ pub(crate) fn start_of(tree: &Expression<'_>) -> Option<usize> {
         Expression::Negative(inner) | Expression::Not(inner) | Expression::BitNot(inner) => {
             start_of(inner)
         }
-        Expression::Binary(_, left, right) => first_of(start_of(left), right),
+        Expression::Binary(_, left, right) => earlier(start_of(left), start_of(right)),
         Expression::Choice(test, first, second) => {
-            first_of(first_of(start_of(test), first), second)
+            earlier(start_of(test), earlier(start_of(first), start_of(second)))
         }
     }
 }
 
-// A start, or the one of an expression behind it.
-fn first_of(start: Option<usize>, behind: &Expression<'_>) -> Option<usize> {
-    match start {
-        Some(start) => Some(start),
-        None => start_of(behind),
-    }
+// A start, or else one behind it.
+fn earlier(start: Option<usize>, behind: Option<usize>) -> Option<usize> {
+    if start.is_some() { start } else { behind }
 }
 
 /// An expression between backticks, and the values of the names and the cells in it. Of a cell that is not there they
@@ -121,8 +114,10 @@ pub(crate) fn missing(
     add_missing(alloc, &mut notes, frame, name, index)?;
     let mut out = Vec::new(alloc);
     out.push(b'`')?;
-    push_cell(&mut out, name, index)?;
-    out.push(b'`')?;
+    out.extend_from_slice(name.bytes)?;
+    out.push(b'[')?;
+    push_expression(&mut out, index, false)?;
+    out.extend_from_slice(b"]`")?;
     push_notes(&mut out, notes.as_slice())?;
     Ok(out)
 }

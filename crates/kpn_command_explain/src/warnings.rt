@@ -92,7 +92,8 @@ fn push_named(
 fn push_name(told: &mut Vec<u8>, name: &[u8]) -> Result<(), AllocError> {
     told.push(b'`')?;
     told.extend_from_slice(name)?;
-    told.push(b'`')
+    told.push(b'`')?;
+    Ok(())
 }
 
 // The instances of a network, each with its process.
@@ -186,16 +187,17 @@ fn push_ring(
 ) -> Result<(), AllocError> {
     let mut at = start;
     for turn in 0..members.len() {
-        let Some(member) = members.get(at) else {
+        let Some(member) = members.get(at).copied() else {
             break;
         };
+        let instance = member.instance;
         if turn == 0 {
-            push_named(told, source, &member.instance.name)?;
+            push_named(told, source, &instance.name)?;
         } else {
             told.extend_from_slice(b", ")?;
-            push_name(told, member.instance.name.bytes)?;
+            push_name(told, instance.name.bytes)?;
         }
-        if let Some(channel) = first_channel(*member) {
+        if let Some(channel) = first_channel(member) {
             told.extend_from_slice(b" first reads ")?;
             push_name(told, channel.bytes)?;
         }
