@@ -28,7 +28,7 @@ class KpnLexer(RegexLexer):
             (r'[A-Za-z_]\w{32,}', Error),
             (r'[A-Za-z_]\w*', Name),
             (r'\d{20,}', Error),
-            (r'\d+', Number.Integer),
+            (r"0x[0-9A-Fa-f_]+|0b[01_]+|\d+(?:_\d+)*|'(?:[ -&(-\[\]-~]|\\[n\\'0])'", Number.Integer),
             (r'<=|>=|==|!=|&&|\|\||<<|>>|[-+*/%<>!=~&|^?:]', Operator),
             (r'[(){}\[\];,]', Punctuation),
             (r'.', Error),

@@ -196,8 +196,9 @@ uint32_t kpn_move(kpn_session *session, const kpn_item *items, size_t count, uin
                   size_t place_count, kpn_amounts *amounts);
 uint32_t kpn_is_complete(kpn_session *session, size_t channel, bool *complete);
 
-/* 0 while a process is ready, or KPN_ENDED, KPN_CLOGGED or KPN_JAMMED. A session that only waits for items of open
-   sources has KPN_ENDED too, and goes on with the next item; `kpn_tell_processes` says who waits or has faulted. */
+/* KPN_ENDED, KPN_CLOGGED or KPN_JAMMED once each process has ended or waits, each source is closed, and each sink is
+   empty or left; 0 before. So of a session that only waits for items of open sources it is 0; `kpn_tell_processes` says
+   who waits or has faulted. */
 uint32_t kpn_verdict(kpn_session *session, uint32_t *verdict);
 
 typedef struct {

@@ -24,6 +24,10 @@ void kpn_free_chief(struct kpn_chief *of) {
   for (size_t c = 0; c < of->net->channel_count; c++) {
     kpn_free_words(&of->items[c]);
   }
+  for (int rank = 0; rank < of->cut->ranks; rank++) {
+    kpn_free_text(&of->traces[rank]);
+    kpn_free_text(&of->parts[rank]);
+  }
 }
 
 /* ---- reports */

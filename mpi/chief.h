@@ -37,7 +37,9 @@ struct kpn_chief {
   bool wants_enough, has_stopped;
   struct kpn_ends ends[MOST_CHANNELS];
   struct kpn_standing standings[MOST_INSTANCES];
-  struct kpn_words items[MOST_CHANNELS]; /* of the sinks, at the end */
+  struct kpn_words items[MOST_CHANNELS];                 /* of the sinks, at the end */
+  struct kpn_text traces[MOST_RANKS], parts[MOST_RANKS]; /* what the ranks hand over for a certificate */
+  int handed_count;
 };
 
 /* What the chief wants next. */

@@ -26,6 +26,7 @@ enum {
   STATUS_JAMMED = 4,
   STATUS_STOPPED = 5,
   STATUS_NO_MEMORY = 6,
+  STATUS_NOT_CERTIFIED = 9,
   STATUS_RANK_DIED = 10, /* another rank has died, or the run was ended from outside */
   STATUS_SILENT = 11,    /* nothing was heard of a rank for the time of --timeout */
   STATUS_WRONG = 70      /* a call of libkpn has returned a fault that it can't have here */

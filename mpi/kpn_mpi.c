@@ -36,34 +36,18 @@ static void rest(int *rounds) {
 
 /* ---- the texts, from rank 0 to the others */
 
-static void add_text(struct kpn_words *message, int64_t kind, const struct kpn_text *of) {
-  int64_t *at = kpn_add_frame(message, kind, (int64_t)of->length, (of->length + 7) / 8);
-  if (!of->length) {
-    return;
-  }
-  at[(of->length - 1) / 8] = 0; /* no byte is unset */
-  memcpy(at, of->at, of->length);
-}
-
 static void send_texts(struct kpn_transport *over, const struct kpn_plan *of, int ranks, bool is_refused) {
   for (int other = 1; other < ranks; other++) {
     struct kpn_words message = {0};
     if (is_refused) {
       kpn_add_frame(&message, FRAME_GO, 1, 0);
     } else {
-      add_text(&message, FRAME_TEXT, &of->description);
-      add_text(&message, FRAME_CUT, &of->cut_lines);
+      kpn_add_text(&message, FRAME_TEXT, &of->description);
+      kpn_add_text(&message, FRAME_CUT, &of->cut_lines);
     }
     over->send(over, other, &message);
     kpn_free_words(&message);
   }
-}
-
-static void read_text(struct kpn_text *into, const int64_t *frame) {
-  const size_t length = (size_t)frame[1];
-  into->at = kpn_memory(length + 1);
-  memcpy(into->at, frame + HEAD, length);
-  into->length = length;
 }
 
 /* Waits for the texts. Returns false if rank 0 has refused them. */
@@ -75,8 +59,9 @@ static bool hear_texts(struct kpn_transport *over, struct kpn_plan *into) {
   }
   const bool is_right = message.at[0] == FRAME_TEXT;
   if (is_right) {
-    read_text(&into->description, message.at);
-    read_text(&into->cut_lines, message.at + HEAD + message.at[2]);
+    const int64_t *cut = message.at + HEAD + message.at[2];
+    kpn_read_text(&into->description, message.at + HEAD, (size_t)message.at[1]);
+    kpn_read_text(&into->cut_lines, cut + HEAD, (size_t)cut[1]);
   }
   kpn_free_words(&message);
   return is_right;

@@ -10,13 +10,13 @@
 #define MOST_NUMBER 1000000000
 #define USAGE                                                                                                          \
   "mpirun -n RANKS kpn-mpi FILE [--source NAME=FILE].. [--sink NAME=OUT].. [--take K] [--max-commits N]\n"             \
-  "    [--cut FILE] [--room N] [--traces FOLDER] [--timeout S]\n"                                                      \
+  "    [--cut FILE] [--room N] [--traces FOLDER] [--certify] [--timeout S]\n"                                          \
   "kpn-mpi plan FILE --ranks N [--cut FILE] [--room N]\n"                                                              \
   "kpn-mpi-simulator FILE --ranks N --seed S [the options of a run]"
 
 enum { OF_RUNS = RUN | SIMULATION, OF_ALL = RUN | PLAN | SIMULATION };
 
-enum option { SOURCES, SINKS, TAKE, COMMITS, ROOM, RANKS, SEED, CUT, TRACES, TIMEOUT, OPTION_COUNT };
+enum option { SOURCES, SINKS, TAKE, COMMITS, ROOM, RANKS, SEED, CUT, TRACES, CERTIFY, TIMEOUT, OPTION_COUNT };
 
 /* The options, the commands that they go with, and what is said of a wrong value. */
 static const struct {
@@ -33,6 +33,7 @@ static const struct {
     [SEED] = {"--seed", SIMULATION, "--seed S, 0 to 1000000000"},
     [CUT] = {"--cut", OF_ALL, USAGE},
     [TRACES] = {"--traces", OF_RUNS, USAGE},
+    [CERTIFY] = {"--certify", OF_RUNS, USAGE},
     [TIMEOUT] = {"--timeout", OF_RUNS, "--timeout S, seconds above 0"},
 };
 
@@ -57,10 +58,15 @@ static enum option option_at(const struct reader *in) {
   return (enum option)found;
 }
 
-/* Goes past an option, and reads its value: after `=` in the word, or the next word. Only ends are named again. */
+/* Goes past an option, and reads its value: after `=` in the word, or the next word. Only ends are named again, and
+   only `--certify` has no value. */
 static void pass_option(struct reader *in, enum option which) {
   const char *equals = strchr(in->words[in->at++], '=');
-  in->value = equals ? equals + 1 : in->at < in->count ? in->words[in->at++] : NULL;
+  if (which == CERTIFY) {
+    in->value = equals ? NULL : "";
+  } else {
+    in->value = equals ? equals + 1 : in->at < in->count ? in->words[in->at++] : NULL;
+  }
   if (!in->value || (which == TRACES && !*in->value) || (in->is_given[which] && which != SOURCES && which != SINKS)) {
     in->wrong = USAGE;
   }
@@ -125,6 +131,9 @@ static void read_value(struct reader *in, enum option which, struct kpn_options 
     break;
   case TRACES:
     into->traces = in->value;
+    break;
+  case CERTIFY:
+    into->certifies = true;
     break;
   default:
     given->timeout = seconds(in);

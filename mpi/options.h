@@ -15,6 +15,7 @@ enum kpn_command { RUN = 1, PLAN = 2, SIMULATION = 4 };
 
 struct kpn_options {
   const char *file, *cut, *traces;
+  bool certifies;
   struct kpn_named_file *sources, *sinks;
   size_t source_count, sink_count;
   size_t room;

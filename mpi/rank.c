@@ -192,6 +192,17 @@ static void hear_of_run(struct kpn_rank *of, int from, int64_t kind, int64_t num
   case FRAME_SINK:
     hear_of_sink(of, (size_t)number, at, count);
     break;
+  case FRAME_TRACE:
+    kpn_read_text(&of->chief->traces[from], at, (size_t)number);
+    break;
+  case FRAME_PART:
+    kpn_read_text(&of->chief->parts[from], at, (size_t)number);
+    of->chief->handed_count++;
+    break;
+  case FRAME_VERDICT:
+    of->has_verdict = true;
+    of->verdict = (int)number;
+    break;
   case FRAME_END:
     of->has_ended[from] = true;
     if (number > of->worst_status) {
@@ -603,10 +614,10 @@ size_t kpn_wanted_of(const struct kpn_rank *of, const struct kpn_own_sink *sink)
   return given->has_take && sink->items.count > given->take ? (size_t)given->take : sink->items.count;
 }
 
-void kpn_send_results(struct kpn_rank *of, int status) {
+/* Sends the items of the sinks to the chief. */
+static void send_sinks(struct kpn_rank *of) {
   enum { MOST_AT_ONCE = 65536 };
-  const bool are_wanted = of->outcome == ENDED || of->outcome == ENOUGH;
-  for (size_t k = 0; are_wanted && k < of->sink_count; k++) {
+  for (size_t k = 0; k < of->sink_count; k++) {
     const struct kpn_own_sink *sink = &of->sinks[k];
     const size_t wanted = kpn_wanted_of(of, sink);
     for (size_t sent = 0; sent < wanted;) {
@@ -618,6 +629,37 @@ void kpn_send_results(struct kpn_rank *of, int status) {
         flush(of);
       }
     }
+  }
+}
+
+void kpn_hand_over(struct kpn_rank *of) {
+  struct kpn_text made = {0};
+  send_sinks(of);
+  kpn_print_trace(&of->part, &made);
+  if (of->chief) { /* its own trace need not be sent */
+    of->chief->traces[of->number] = made;
+    made = (struct kpn_text){0};
+  } else {
+    kpn_add_text(&of->to[0], FRAME_TRACE, &made);
+    kpn_free_text(&made);
+  }
+  kpn_print_part(&of->part, &made);
+  kpn_add_text(&of->to[0], FRAME_PART, &made);
+  kpn_free_text(&made);
+  of->has_handed = true;
+}
+
+void kpn_say_verdict(struct kpn_rank *of, int status) {
+  for (int other = 1; other < of->cut->ranks; other++) {
+    kpn_add_frame(&of->to[other], FRAME_VERDICT, status, 0);
+  }
+  of->has_verdict = true;
+  of->verdict = status;
+}
+
+void kpn_send_results(struct kpn_rank *of, int status) {
+  if (!of->has_handed && (of->outcome == ENDED || of->outcome == ENOUGH)) {
+    send_sinks(of);
   }
   for (int other = 0; other < of->cut->ranks; other++) {
     kpn_add_frame(&of->to[other], FRAME_END, status, 0);

@@ -71,6 +71,8 @@ struct kpn_rank {
   struct kpn_refused_option refused;
   bool has_ended[MOST_RANKS], has_results;
   int worst_status;                /* of all ranks that have ended */
+  bool has_handed, has_verdict;    /* of a certificate */
+  int verdict;                     /* of the chief: 0, or the status with which the run fails */
   struct kpn_words to[MOST_RANKS]; /* what goes out at the end of the round */
   struct kpn_words message, self, scratch;
 };
@@ -91,8 +93,13 @@ void kpn_beat(struct kpn_rank *of);
 /* Makes a round, and returns whether it has done anything. */
 bool kpn_make_round(struct kpn_rank *of);
 
-/* In phase ENDING: sends the items of the sinks if they are wanted, and the status of what was stored. Then rounds are
-   made until it is over. */
+/* In phase ENDING, if the run is to be certified: hands the items of the sinks, the trace and the part to rank 0, once.
+   Rank 0 says to all what came of it. */
+void kpn_hand_over(struct kpn_rank *of);
+void kpn_say_verdict(struct kpn_rank *of, int status);
+
+/* In phase ENDING: sends the items of the sinks if they are wanted and were not handed over, and the status of what was
+   stored. Then rounds are made until it is over. */
 void kpn_send_results(struct kpn_rank *of, int status);
 bool kpn_is_over(const struct kpn_rank *of);
 

@@ -8,6 +8,8 @@
 #include <string.h>
 #include <unistd.h>
 
+#include "certify.h"
+
 static const struct kpn_refusal CLASH = {NO_OUTPUT, false, 0}, SHARED = {SHARED_INPUT, false, 0},
                                 CANT_WRITE = {27, false, 0};
 
@@ -213,7 +215,7 @@ static void open_files(struct kpn_site *of, struct kpn_refused_option *first) {
 }
 
 void kpn_open_site(struct kpn_site *made, const struct kpn_plan *of, int number, struct kpn_transport *over) {
-  const bool keeps = of->options->traces || kpn_may_grow_over_ranks(&of->net, &of->cut);
+  const bool keeps = of->options->traces || of->options->certifies || kpn_may_grow_over_ranks(&of->net, &of->cut);
   struct kpn_refused_option first = {SIZE_MAX, {0}};
   made->plan = of;
   kpn_open_rank(&made->rank, &of->net, &of->cut, number, &of->options->settings, over, keeps);
@@ -291,6 +293,22 @@ static void store_site(struct kpn_site *of) {
   kpn_send_results(&of->rank, refused.number ? STATUS_REFUSED : 0);
 }
 
+/* Ends the run here. One that is to be certified stores and sends nothing before the verdict, and nothing at all if
+   that is no. */
+static void end_site(struct kpn_site *of) {
+  struct kpn_rank *at = &of->rank;
+  const bool is_free = !of->plan->options->certifies;
+  if (!is_free && !at->has_handed) {
+    kpn_hand_over(at);
+  } else if (at->chief && !at->has_verdict && at->chief->handed_count == of->plan->cut.ranks) {
+    kpn_say_verdict(at, kpn_certify(at, &of->plan->description));
+  } else if (at->has_verdict && at->verdict) {
+    kpn_send_results(at, at->verdict);
+  } else if (is_free || at->has_verdict) {
+    store_site(of);
+  }
+}
+
 /* Removes the traces of an earlier run. The cut of that may be the one that this run has read. */
 static void remove_traces(struct kpn_site *of) {
   for (int k = 0; k < of->kept_count; k++) {
@@ -308,7 +326,7 @@ bool kpn_make_round_at(struct kpn_site *of) {
     remove_traces(of);
   }
   if (now == ENDING && !of->rank.has_results) {
-    store_site(of);
+    end_site(of);
   }
   return did;
 }
@@ -366,6 +384,9 @@ int kpn_report_run(struct kpn_site *of) {
   bool works = true;
   if (at->phase == REFUSED) {
     return kpn_tell_refusal(at->refused.why);
+  }
+  if (at->worst_status == STATUS_NOT_CERTIFIED) {
+    return at->worst_status;
   }
   if (at->worst_status) {
     return kpn_tell_refusal(CANT_WRITE);

@@ -2,17 +2,18 @@
 """Compares networks over ranks with `kpn run`: report, status and the items of all sinks. The traces of the parts are
 audited and joined.
 
-usage: mpi/test.py [simulator] [ranks] [examples] [faults] [--networks N] [--seed S] [--programs FOLDER]
-                   [--mpirun WORDS]
+usage: mpi/test.py [simulator] [ranks] [examples] [faults] [certificates] [--networks N] [--seed S]
+                   [--programs FOLDER] [--library FOLDER] [--mpirun WORDS]
 
 - `simulator`: N random networks (1,000) with random cuts in one process, over wires that hold messages back. This needs
   no MPI.
 - `ranks`: N random networks (300) by mpirun on 2 and on 4 ranks, some with the cut that kpn-mpi chooses.
 - `examples`: the descriptions of examples/ on 1, 2 and 4 ranks.
 - `faults`: what is refused before a run, a rank that dies, and a rank that stands still.
+- `certificates`: what --certify refuses, also of N random networks (60) by each of some wrong bodies of kpn-mpi.
 
-Without a word it does all. It takes kpn-mpi and kpn-mpi-simulator from FOLDER, by default out/mpi (`make -C
-mpi`), and `kpn` from KPN_PROGRAM or the repository. Where a run of `kpn` is stopped by `--max-commits` there is nothing
+Without a word it does all. Half of the runs have --certify. It takes kpn-mpi and kpn-mpi-simulator from FOLDER, by
+default out/mpi (`make -C mpi`), libkpn from out/c, and `kpn` from KPN_PROGRAM or the repository. Where a run of `kpn` is stopped by `--max-commits` there is nothing
 to compare on several ranks, since each counts its own commits. On one rank the trace is that of `kpn run`.
 """
 import argparse
@@ -32,6 +33,7 @@ import time
 TOP = pathlib.Path(__file__).resolve().parent.parent
 sys.path += [str(TOP / 'bench/stress'), str(TOP / 'python'), str(TOP / 'python/tests')]
 
+import certificates  # noqa: E402
 import joins  # noqa: E402
 import random_cells  # noqa: E402
 import random_networks  # noqa: E402
@@ -40,11 +42,12 @@ from kpn.errors import KpnError  # noqa: E402
 from kpn.ranks import SETTINGS  # noqa: E402
 
 COMMITS, SOON = 100_000, 5_000
-PARTS = ('simulator', 'ranks', 'examples', 'faults')
+PARTS = ('simulator', 'ranks', 'examples', 'faults', 'certificates')
 # Open MPI asks for two of these if the user is root.
 ENVIRONMENT = {**os.environ, **SETTINGS, 'OMPI_MCA_mpi_yield_when_idle': '1',
                'OMPI_ALLOW_RUN_AS_ROOT': '1', 'OMPI_ALLOW_RUN_AS_ROOT_CONFIRM': '1'}
 CAPACITY = re.compile(r'^\s*(?:channel|sink) (\w+) cap (\d+)', re.M)
+CERTIFIED = re.compile(r'^kpn: certified: legal, (not )?exact\n', re.M)
 # What Open MPI notes of its own work.
 NOTES = re.compile(r'^\[[\w.-]+:\d+\] .*\n', re.M)
 COPIES = '''process copy(in i; out o) {
@@ -92,14 +95,15 @@ def same(what, wanted, found):
 class Tests:
     """The programs, and a folder for what they read and write."""
 
-    def __init__(self, room, mpirun, programs):
-        self.room, self.mpirun = room, mpirun
+    def __init__(self, room, mpirun, programs, library):
+        self.room, self.mpirun, self.library = room, mpirun, library
         self.kpn, self.counts, self.notes = program.find_program(), collections.Counter(), ''
         self.mpi, self.simulator = programs / 'kpn-mpi', programs / 'kpn-mpi-simulator'
+        self.environment = {**ENVIRONMENT, 'KPN_PROGRAM': str(self.kpn)}
 
     def call(self, *words, **more):
-        done = subprocess.run([*map(str, words)], cwd=self.room, capture_output=True, text=True, env=ENVIRONMENT,
-                              **more)
+        done = subprocess.run([*map(str, words)], cwd=self.room, capture_output=True, text=True,
+                              env=self.environment, **more)
         return done.returncode, done.stdout, done.stderr
 
     def over_ranks(self, ranks, *words):
@@ -137,7 +141,8 @@ class Tests:
             text = re.sub(rf'(channel\s+{name}\s+cap\s+)\d+', rf'\g<1>{capacity}', text)
         (self.room / 'raised.kpn').write_text(text)
 
-    def compare(self, text, items, ranks, cut, room, start, take=None, audited=True):
+    def compare(self, text, items, ranks, cut, room, start, take=None, audited=True,
+                certified=False):
         """Whether a network over ranks does what it does by `kpn run`, if that comes to an outcome."""
         sources, cut_words = self.put(text, items, cut)
         more = [*sources, *(['--take', take] if take else [])]
@@ -151,17 +156,27 @@ class Tests:
         wanted = (*wanted, self.outputs(sinks))
         shutil.rmtree(self.room / 'traces', ignore_errors=True)
         # Without traces a rank may forget what has happened.
-        kept = ['--traces', 'traces'] if audited else []
+        kept = ['--traces', 'traces'] * audited + ['--certify'] * certified
         most = ['--max-commits', COMMITS] if ranks == 1 else []
         found = start('net.kpn', *more, *stored, *cut_words, '--room', room, *most, *kept)
         found = (*found, self.outputs(sinks))
         said = f'{text}\nitems {items}\nranks {ranks}, cut {cut}, room {room}, take {take}\n{self.notes}'
+        if certified and not wanted[2]:
+            found = self.without_certificate(said, found)
         same(said, wanted, found)
         self.counts[wanted[1].split()[-1] if not wanted[2] else 'refused'] += 1
         if audited and not wanted[2]:
             self.audit(said)
             if ranks == 1:
                 same(said, (self.room / 'trace').read_bytes(), (self.room / 'traces/rank-0.trace').read_bytes())
+
+    def without_certificate(self, said, found):
+        """What a run gives but for the line that it is certified, which has to be right."""
+        told, outcome = CERTIFIED.match(found[2]), found[1].split()[-1:]
+        is_right = told and (not told[1] if outcome == ['ended'] else told[1] or outcome in (['enough'], ['stopped']))
+        same(f'{said}\n{found}', True, bool(is_right))
+        self.counts['certified'] += 1
+        return found[0], found[1], CERTIFIED.sub('', found[2], 1), found[3]
 
     def outputs(self, sinks):
         """What is stored of the sinks. It is removed."""
@@ -216,7 +231,7 @@ class Tests:
             ranks = chance.randrange(1, 6)
             text, items, cut, room, take = self.random_case(chance, ranks)
             self.compare(text, items, ranks, cut, room, lambda *words: self.simulated(ranks, number, *words), take,
-                         number % 4 > 0)
+                         number % 4 > 0, number % 2 > 0)
         self.told(f'simulator, {networks} random networks')
 
     def over_mpi(self, networks, seed):
@@ -225,7 +240,7 @@ class Tests:
             for ranks in (2, 4):
                 text, items, cut, room, take = self.random_case(chance, ranks)
                 self.compare(text, items, ranks, cut, room, lambda *words: self.over_ranks(ranks, *words), take,
-                             number % 4 > 0)
+                             number % 4 > 0, number % 2 > 0)
         self.told(f'mpirun, {networks} random networks on 2 and 4 ranks')
 
     def over_examples(self):
@@ -452,11 +467,13 @@ def main():
     parser.add_argument('--networks', type=int, metavar='N')
     parser.add_argument('--seed', type=int, default=1, metavar='S')
     parser.add_argument('--programs', type=pathlib.Path, default=TOP / 'out/mpi', metavar='FOLDER')
+    parser.add_argument('--library', type=pathlib.Path, default=TOP / 'out/c', metavar='FOLDER')
     parser.add_argument('--mpirun', default='mpirun', metavar='WORDS', help='how MPI is started')
     asked = parser.parse_args()
     parts = asked.parts or PARTS
     with tempfile.TemporaryDirectory(prefix='kpn-mpi-') as room:
-        tests = Tests(pathlib.Path(room).resolve(), asked.mpirun, asked.programs.resolve())
+        tests = Tests(pathlib.Path(room).resolve(), asked.mpirun, asked.programs.resolve(),
+                      asked.library.resolve())
         if 'simulator' in parts:
             tests.over_simulator(asked.networks or 1000, asked.seed)
         if 'ranks' in parts:
@@ -465,6 +482,8 @@ def main():
             tests.over_examples()
         if 'faults' in parts:
             tests.over_faults()
+        if 'certificates' in parts:
+            certificates.try_all(tests, asked.networks or 60)
 
 
 if __name__ == '__main__':

@@ -7,7 +7,7 @@ Of README.md and of docs/GUIDE.md and docs/COMPILED.md it runs each block that b
 in their order. Under a `$` the lines below have to come out. Of python/README.md it runs the block that sets up the
 package, and all Python there and in python/SDF.md but the lines of matplotlib. It also makes the plant as C++, and
 installs all below a prefix. Left out are lines that call `rt`, `tools/check.py` or `./kpn --unproved`, since they only
-prove or build again, those about a NET, and those with `dot` if it is not there.
+prove or build again, those about a NET, and those with `dot` and of MPI if it is not there.
 
 It needs git, the kit, `cc` and `c++`, `pkg-config`, and Python with `venv` and `pip`; no network. It is run by hand,
 and no part of the gate. The program is proved first, and then the library for C, which takes as long as README says.
@@ -19,6 +19,7 @@ from __future__ import annotations
 
 import argparse
 import filecmp
+import os
 import pathlib
 import re
 import shutil
@@ -32,9 +33,13 @@ import clib
 import prover
 
 TOP = pathlib.Path(__file__).resolve().parent.parent
-COMMAND = re.compile(r'(?:\$ )?(?:\./|tools/|cc |c\+\+ |pip |python3 |export |printf )')
+COMMAND = re.compile(r'(?:\$ )?(?:\./|tools/|cc |c\+\+ |pip |python3 |export |printf |make |mpirun )')
 LEFT_OUT = re.compile(r'\brt |tools/check\.py|--unproved|\bNET\b|libplant')
-OF_LIBRARY = re.compile(r'clib\.py|libkpn|/plant|pkg-config|PKG_CONFIG|kpn install|installed')
+OF_LIBRARY = re.compile(r'clib\.py|libkpn|/plant|\bmpi\b|pkg-config|PKG_CONFIG|kpn install|installed')
+OF_MPI = re.compile(r'\bmpi\b')
+# Open MPI asks for these if the user is root, and else takes no more ranks than there are processors.
+ENVIRONMENT = {**os.environ, **dict.fromkeys(('OMPI_ALLOW_RUN_AS_ROOT', 'OMPI_ALLOW_RUN_AS_ROOT_CONFIRM',
+                                              'OMPI_MCA_rmaps_base_oversubscribe'), '1')}
 DOCUMENTS = ('README.md', 'docs/GUIDE.md', 'docs/COMPILED.md')
 # What README says in words only.
 SAID = [
@@ -119,7 +124,8 @@ class Clone:
             shutil.copy(TOP / 'out/unproved' / name, self.tree / place)
 
     def call(self, command: str, wanted: list[str]) -> None:
-        if not self.has_library and OF_LIBRARY.search(command):
+        has_all = self.has_library or not OF_LIBRARY.search(command)
+        if not has_all or (OF_MPI.search(command) and not shutil.which('mpirun')):
             return
         if command.startswith('export '):
             self.exports.append(command)
@@ -127,8 +133,11 @@ class Clone:
         began = time.monotonic()
         script = self.start + ''.join(f'{it}; ' for it in self.exports) + command
         done = subprocess.run(['bash', '-c', script], stdin=subprocess.DEVNULL, stdout=subprocess.PIPE,
-                              stderr=subprocess.STDOUT, text=True)
+                              stderr=subprocess.STDOUT, text=True, env=ENVIRONMENT)
         told = done.stdout.splitlines()
+        if command.startswith('mpirun '):
+            # It passes on what ranks write on two streams, one before the other or not.
+            told, wanted = sorted(told), sorted(wanted)
         is_right = told == wanted if wanted else done.returncode == 0
         self.wrong += not is_right
         print(f'{"ok" if is_right else "WRONG"}  {time.monotonic() - began:7.1f} s  {command}', flush=True)

@@ -10,13 +10,15 @@ import pathlib
 import re
 import typing
 
-TOKEN = re.compile(r'\s+|#[^\n]*|([A-Za-z_]\w*|\d+|<=|>=|==|!=|&&|\|\||<<|>>|[-(){}\[\];,=+*/%<>!?:~&|^])')
+TOKEN = re.compile(r'\s+|#[^\n]*|([A-Za-z_]\w*|\d\w*|\'(?:[^\\]|\\.)\''
+                   r'|<=|>=|==|!=|&&|\|\||<<|>>|[-(){}\[\];,=+*/%<>!?:~&|^])')
 SMALLEST, LARGEST = -2**63, 2**63 - 1
 LARGEST_CAPACITY = 1_048_576
 # How tightly each operator binds, from the loosest on. Those of one row go from the left.
 ROWS = (('||',), ('&&',), ('<', '<=', '>', '>=', '==', '!='), ('|',), ('^',), ('&',), ('<<', '>>'), ('+', '-'),
         ('*', '/', '%'))
 TIGHTNESS = {mark: number for number, row in enumerate(ROWS, 1) for mark in row}
+DIGITS, ESCAPED = frozenset("0123456789'"), {'n': 10, '\\': 92, "'": 39, '0': 0}
 COMPARING, SHIFTING, OPERAND = TIGHTNESS['<'], TIGHTNESS['<<'], len(ROWS) + 1
 
 
@@ -92,7 +94,7 @@ class Parser:
 
     def number(self):
         sign = -1 if self.took('-') else 1
-        return sign * int(self.next())
+        return sign * number(self.next())
 
     def description(self):
         if self.took('language'):
@@ -205,8 +207,8 @@ class Parser:
                 found = '?', found, first, self.expression()
             self.next(')')
             return found
-        if token.isdigit():
-            return int(token)
+        if token[0] in DIGITS:
+            return number(token)
         return ('[]', token, self.index()) if self.took('[') else token
 
     def network(self):
@@ -217,7 +219,7 @@ class Parser:
             word = self.next()
             if word in ('channel', 'sink', 'source'):
                 name = self.next()
-                channels[name] = word, int(self.next()) if self.took('cap') else None
+                channels[name] = word, number(self.next()) if self.took('cap') else None
             else:
                 self.next('=')
                 instances[word] = self.instance()
@@ -227,7 +229,7 @@ class Parser:
     def growing(self):
         limit = LARGEST_CAPACITY
         if self.took('limit'):
-            limit = int(self.next())
+            limit = number(self.next())
             self.next(';')
         return Growing(self.choice('policy', 'cycles', 'all'), self.choice('grow', 'one', 'double'), limit)
 
@@ -249,6 +251,14 @@ class Parser:
         values = self.listed(self.number) if self.took(';') else []
         self.next(')')
         return program, ins, outs, values
+
+
+def number(token):
+    """The value of a number: of base 10, of base 16 or 2 behind `0x` or `0b`, or a byte in quotes."""
+    if token[0] == "'":
+        return ESCAPED[token[2]] if token[1] == '\\' else ord(token[1])
+    base = {'0x': 16, '0b': 2}.get(token[:2], 10)
+    return int(token.replace('_', ''), base)
 
 
 def sides(mark):

@@ -13,7 +13,7 @@ prints the network. The networks of `--kind faults` fuse, and have faults and lo
 Most of the time goes to the compiler. `--runtime` names another one for the runtime, so that tcc makes the rest of
 each program in some milliseconds:
 
-    CC=tcc CFLAGS='-w -include bench/stress/overflow.h' bench/stress/native.py 1000 --runtime 'gcc -O2'
+    CC=tcc CFLAGS="-w -include $PWD/bench/stress/overflow.h" bench/stress/native.py 1000 --runtime 'gcc -O2'
 """
 import argparse
 import collections

@@ -65,11 +65,23 @@ static bool take(kpn_session *session, struct end *sink) {
   return taken > 0;
 }
 
+/* Closes the sources that nobody reads on, behind fewer items. Tells whether there were any. */
+static bool close_rest(kpn_session *session, struct end *ends, size_t count) {
+  bool any = false;
+  for (size_t k = 0; k < count; k++) {
+    if (ends[k].name[0] == '+' && !ends[k].is_closed) {
+      check(kpn_close_source(session, ends[k].channel), "close");
+      ends[k].is_closed = any = true;
+    }
+  }
+  return any;
+}
+
 static uint32_t run(kpn_session *session, struct end *ends, size_t count) {
   uint32_t verdict = 0;
   uint64_t commits = 0;
   bool has_moved = true;
-  while (has_moved || verdict == 0) {
+  while (has_moved || close_rest(session, ends, count)) {
     has_moved = false;
     for (size_t k = 0; k < count; k++) {
       has_moved = (ends[k].name[0] == '+' ? feed : take)(session, &ends[k]) || has_moved;

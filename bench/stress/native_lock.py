@@ -66,7 +66,7 @@ def main():
     parser.add_argument('networks', nargs='?', type=int, default=100)
     parser.add_argument('seed', nargs='?', type=int, default=1)
     parser.add_argument('--fixed', action='store_true', help='static memory')
-    parser.add_argument('--prefix', type=command.prefix_of, default='', help='what the calls of the first begin with')
+    parser.add_argument('--prefix', type=command.prefix_of, help='what the calls of the first begin with')
     parser.add_argument('--library', type=os.path.abspath, help='a library with the sessions of kpn.h')
     given = parser.parse_args()
     counts = collections.Counter()
@@ -75,7 +75,7 @@ def main():
         text, _ = native_networks.network(chosen, chosen.choice(('', 'faults', 'small')))
         text = with_limit(text) if given.fixed else text
         try:
-            counts[try_network(text, chosen, ITEMS if given.fixed else 0, given.library, given.prefix)] += 1
+            counts[try_network(text, chosen, ITEMS if given.fixed else 0, given.library, given.prefix or '')] += 1
         except (Difference, subprocess.TimeoutExpired) as found:
             print(f'network {seed}: {found}\n{text}')
             return 1

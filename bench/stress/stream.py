@@ -5,7 +5,8 @@ Of two streams of one network, one reads plain files, and the other gets one sou
 random lengths. If that is the only source, both have to write the same trace; of several, that one is read whose
 answer comes first. Each trace has to be legal for the auditor and for tools/histories.py, and each sink's file has to
 have what the trace takes there. What two streams, or a stream and a run, put on a sink has to be the same where both
-are complete, and else one begins the other. It is no part of the gate. Words: for how many networks, by default 3,000;
+are complete, and else one begins the other. A stream that came to a verdict is made again without a trace and a limit,
+from files and by standard input in pieces, and has to write and tell the same. It is no part of the gate. Words: for how many networks, by default 3,000;
 where the random numbers begin, else by chance; and the program, if another one than that of `kpn`.
 """
 import collections
@@ -27,6 +28,8 @@ import random_networks  # noqa: E402
 
 # seconds that a run may take, commits of a run, and steps of an audit between two events
 MOST, COMMITS, STEPS = 60, 500, 10_000
+# those of a stream that has ended, with a fault or a ring or without
+STATUSES = 0, 3, 4, 5, 8, 9
 
 
 def pieces(chance, text):
@@ -89,12 +92,25 @@ class Streams:
         outs = [word for name in sinks for word in ('--sink', f'{name}={name}.out')]
         self.call('run', 'net', *limit, *named, '--trace', 'run.trace')
         status, _, told = self.call('stream', 'net', *limit, *named, *outs, '--trace', 'one.trace')
-        self.must(status in (0, 3, 4, 5, 8), status, told)
+        self.must(status in STATUSES, status, told)
         self.legal(network, 'one.trace')
         self.compare(self.trace('one.trace'), self.trace('run.trace'), told)
+        if 'stopped' not in told:
+            self.in_any_order(files, sinks, outs, (status, '', told))
         if files:
             self.again(network, files, [*limit, *outs], (status, '', told))
         self.counts['status', status] += 1
+
+    def in_any_order(self, files, sinks, outs, was):
+        """The same stream where nobody sees the order, from files and with one source by standard input."""
+        wrote = [(self.folder / f'{name}.out').read_bytes() for name in sinks]
+        for piped in [None, *self.chance.sample(list(files), min(1, len(files)))]:
+            named = [word for name in files for word in ('--source', f'{name}={"-" if name == piped else name}')]
+            words = ['stream', 'net', *outs, *named]
+            found = self.in_pieces(words, files[piped]) if piped else self.call(*words)
+            self.must(found == was, 'in any order', was, found)
+            self.must(wrote == [(self.folder / f'{name}.out').read_bytes() for name in sinks], 'other items')
+            self.counts['in any order', 'piped' if piped else 'from files'] += 1
 
     def again(self, network, files, words, was):
         """The same stream once more, with one source by standard input."""
@@ -104,7 +120,7 @@ class Streams:
         is_same = (self.folder / 'two.trace').read_bytes() == (self.folder / 'one.trace').read_bytes()
         self.must(found == was if is_same else len(files) > 1, 'another trace', was, found)
         if not is_same:
-            self.must(found[0] in (0, 3, 4, 5, 8) and not found[1], found)
+            self.must(found[0] in STATUSES and not found[1], found)
             self.legal(network, 'two.trace')
             self.compare(self.trace('two.trace'), self.trace('run.trace'), found[2])
             self.compare_items(self.trace('one.trace'), self.trace('two.trace'))

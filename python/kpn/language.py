@@ -22,6 +22,9 @@ RESERVED = frozenset('process in out par read write if else while network limit 
 RESERVED_IN_TWO = frozenset('language array table'.split())
 MOST_LEVELS = 32
 NUMBER = re.compile(r'[0-9]{1,19}')
+# In language 2 besides: with a base, `_` behind digits, and a byte in quotes.
+BASED = re.compile(r'(0x)[0-9A-Fa-f][0-9A-Fa-f_]*|(0b)[01][01_]*|[0-9][0-9_]*')
+ESCAPED = {'\\n': '\n', '\\\\': '\\', "\\'": "'", '\\0': '\0'}
 NAME = re.compile(r'[A-Za-z_][A-Za-z0-9_]*')
 SIGNS = {1: frozenset('-!'), 2: frozenset('-!~')}
 # How tightly each operator of language 2 binds. Those of one row go from the left, but a comparison stands alone.
@@ -35,7 +38,10 @@ INDEX = '[]'
 # What the canonical form leaves out where it can.
 LEFT_OUT = frozenset('( ) { } else -'.split())
 SPACE = re.compile(r'(?:[ \t\r\n]|#[^\n]*)*')
-TOKEN = re.compile(r'[A-Za-z_][A-Za-z0-9_]*|[0-9]+|<=|>=|==|!=|&&|\|\||<<|>>|[-(){}\[\];,=+*/%<>!~&|^?:]')
+MARKS = r'<=|>=|==|!=|&&|\|\||<<|>>|[-(){}\[\];,=+*/%<>!~&|^?:]'
+QUOTED = r"'[ -&(-\[\]-~]'|'\\[n\\'0]'"
+TOKEN = {1: re.compile(rf'{NAME.pattern}|[0-9]+|{MARKS}'),
+         2: re.compile(rf'{NAME.pattern}|[0-9][A-Za-z0-9_]*|{QUOTED}|{MARKS}')}
 
 
 class Token(NamedTuple):
@@ -154,12 +160,12 @@ class Description(NamedTuple):
     tables: Tuple[Table, ...] = ()
 
 
-def tokens_of(text: str) -> List[Token]:
+def tokens_of(text: str, language: int = 1) -> List[Token]:
     """The tokens of a text. The last one is `''` at its end, or a character that begins no token."""
     found, place = [], 0
     while True:
         place = SPACE.match(text, place).end()  # type: ignore[union-attr]
-        match = TOKEN.match(text, place)
+        match = TOKEN[language].match(text, place)
         found.append(Token(match[0] if match else text[place:place + 1], place))
         if match is None:
             return found
@@ -178,9 +184,20 @@ def is_name(word: str, language: int = 1) -> bool:
     return NAME.fullmatch(word) is not None and not is_reserved and len(word) <= LONGEST_NAME
 
 
-def is_number(word: str) -> bool:
-    """Whether the language takes a word as a number."""
-    return NUMBER.fullmatch(word) is not None and int(word) <= LARGEST
+def number_of(word: str, language: int = 1) -> Optional[int]:
+    """The value of a word that a language takes as a number, or nothing."""
+    if language == 1:
+        return int(word) if NUMBER.fullmatch(word) and int(word) <= LARGEST else None
+    if word[:1] == "'" and len(word) > 2:
+        return ord(ESCAPED.get(word[1:-1], word[1]))
+    found = BASED.fullmatch(word)
+    if found is None:
+        return None
+    digits = word.replace('_', '')
+    if not (found[1] or found[2]):
+        return number_of(digits.lstrip('0') or '0')
+    value = int(digits, 16 if found[1] else 2)
+    return value if value <= LARGEST else None
 
 
 def text_of(tree: Expression, language: int, least: int = 1) -> str:
@@ -238,8 +255,10 @@ class Reader:
         self.text, self.what = text, what
         self.tokens = tokens_of(text)
         opening = [it.text for it in self.tokens[:3]]
-        is_two = opening[::2] == ['language', ';'] and is_number(opening[1]) and int(opening[1]) == 2
+        is_two = opening[::2] == ['language', ';'] and number_of(opening[1]) == 2
         self.language, self.place = (language, 0) if language else (2, 3) if is_two else (1, 0)
+        if self.language == 2:
+            self.tokens = tokens_of(text, 2)
 
     def peek(self) -> str:
         """The next token; `''` at the end of the text."""
@@ -265,10 +284,11 @@ class Reader:
 
     def number(self) -> int:
         """Goes past a number."""
-        if not is_number(self.peek()):
+        value = number_of(self.peek(), self.language)
+        if value is None:
             self.fail()
         self.place += 1
-        return int(self.tokens[self.place - 1].text)
+        return value
 
     def names(self) -> Tuple[str, ...]:
         """One or more names with commas between."""
@@ -344,7 +364,7 @@ class Reader:
         self.need('array')
         name = self.name()
         self.need('[')
-        if is_number(self.peek()) and int(self.peek()) == 0:
+        if number_of(self.peek(), self.language) == 0:
             self.fail()
         size = self.number()
         self.need(']')
@@ -453,7 +473,7 @@ class Reader:
             self.place += 1
             tree, levels = self.operand(around + 1)
             return (token, tree), levels + 1
-        if is_number(token):
+        if number_of(token, self.language) is not None:
             return self.number(), 1
         if token != '(':
             return self.element(around)

@@ -44,7 +44,7 @@ class Names:
 
 
 class Layout(NamedTuple):
-    """The text of a network, the names in it and its policy. `begins` has where its processes begin, `writers` and
+    """The text of a network, the names in it, its policy and its limit. `begins` has where its processes begin, `writers` and
     `readers` the instance at each end of a channel, and `processes` the process of each instance."""
 
     text: str
@@ -57,6 +57,7 @@ class Layout(NamedTuple):
     readers: Dict[str, str]
     processes: Dict[str, Process]
     policy: str
+    limit: int
 
     def error(self, program: Program = None, timeout: Optional[float] = None) -> Optional[KpnError]:
         """What `kpn explain` says of the text, with places and advice in terms of what the user wrote."""
@@ -359,7 +360,7 @@ class Network:
                       of_kind['source'], of_kind['sink'],
                       {names[it]: names[it.writer] for it in self._channels if it.writer},
                       {names[it]: names[it.reader] for it in self._channels if it.reader},
-                      {names[it]: it.process for it in self._instances}, self.policy)
+                      {names[it]: it.process for it in self._instances}, self.policy, self.limit)
 
     def _lines(self, names: Mapping[Union[Instance, Stream], str], called: Mapping[Process, str]) -> Iterator[str]:
         """The lines of the network itself, behind its processes."""

@@ -39,7 +39,8 @@ def rates_of(result: Result) -> List[Rate]:
 
 
 def growing_of(result: Result) -> List[str]:
-    """The channels on which the unread items pile up through the whole run, of those that may grow.
+    """The channels on which the unread items pile up through the whole run, of those that may grow and begin below the
+    limit.
 
     At the end nearly as many are unread as ever, and in the first half of the gets and puts there were far fewer. The
     items of a delay and those of a block, which come and go, are none of these.
@@ -49,7 +50,7 @@ def growing_of(result: Result) -> List[str]:
     ended = {row['process'] for row in stats.processes if row['end'] in ENDS}
     left = {str(row['channel']): int(row['left']) for row in stats.channels
             if int(row['left']) >= LEAST_LEFT and 4 * int(row['left']) >= 3 * int(row['most'])
-            and row['channel'] in able and layout.readers[str(row['channel'])] not in ended}
+            and row['channel'] in able and int(row['cap_first']) < layout.limit and layout.readers[str(row['channel'])] not in ended}
     if not left:
         return []
     moves = sum(int(row['gets']) + int(row['puts']) for row in stats.processes)

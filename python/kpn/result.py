@@ -114,7 +114,8 @@ class Result(collections.abc.Mapping):  # type: ignore[type-arg]
     under `enough` and `stopped`. `check()` raises an error if an item may lack. What is made of the trace needs a run
     with `trace=True`, and raises KpnError without one. A sink that is not there raises KeyError. A copy or a pickle has
     all of it, the trace too.
-    `certified` is what `kpn audit` has found of a compiled run, such as `legal, exact`, and None if it was not asked.
+    `certified` is what `kpn` has found of a compiled run or of one over ranks, such as `legal, exact`, and None if it
+    was not asked.
     """
 
     def __init__(self, layout: Layout, report: Report, sinks: Dict[str, Any], program: Program = None,

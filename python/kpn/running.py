@@ -51,6 +51,7 @@ class Options:
     timeout: Optional[float] = None
     program: Program = None
     ranks: Optional[int] = None
+    certify: bool = False
     scale: Union[None, int, Mapping[str, int]] = None
     runner: Optional[Tuple[str, List[str]]] = None
 
@@ -60,6 +61,8 @@ class Options:
         if self.ranks is not None and (self.workers is not None or self.trace is True):
             raise KpnError('a run over ranks has no workers, and its `trace` names a folder, where each rank stores '
                            'one')
+        if self.certify and self.ranks is None:
+            raise KpnError('`certify` is for a run over ranks, and for one of `net.compile()`: `kpn run` is proved')
 
     @property
     def most(self) -> Optional[int]:
@@ -78,11 +81,12 @@ class Options:
         words = words_of(take=self.take, workers=self.workers, max_commits=self.most)
         if self.ranks is not None and self.trace and self.trace is not True:
             words += ['--traces', os.path.abspath(self.trace)]
-        return words
+        return words + ['--certify'] * self.certify
 
     def call(self, words: List[str], folder: str) -> subprocess.CompletedProcess[str]:
         """Calls the program that runs the network with these words besides."""
-        runner = runner_of(self.ranks, TEXT) if self.ranks is not None else self.runner
+        judge = find_program(self.program) if self.certify else None
+        runner = runner_of(self.ranks, TEXT, judge) if self.ranks is not None else self.runner
         called, first = runner or (self.program, ['run', TEXT])
         return call([*first, *self.words(), *words], called, folder, seconds(self.timeout), not runner)
 
@@ -108,8 +112,9 @@ def run(net: Network, inputs: Inputs = None, **options: Any) -> Result:
     killed. `program=` is the path of `kpn`.
 
     `ranks=` runs the network over as many ranks of MPI, by the program `kpn-mpi`. Then each rank makes `max_commits` by
-    itself, and `trace` names a folder, with what `python -m kpn.mpi audit` reads; the result has no trace. `runner=` is
-    a program with its first words, in place of `kpn run` and the description.
+    itself, and `trace` names a folder, with what `python -m kpn.mpi audit` reads; the result has no trace. With
+    `certify=True` the proved `kpn join` judges such a run. `result.certified` says what it found, and KpnError why it
+    refused the run. `runner=` is a program with its first words, in place of `kpn run` and the description.
 
     Raises KpnError if the network or an input is not right, or the program does not come to an outcome in time,
     TypeError for items and numbers that are not whole, unless they are scaled, and OSError for a WAV file that can't be

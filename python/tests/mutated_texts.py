@@ -19,7 +19,8 @@ TEXTS = [file.read_text() for folder in (TOP / 'examples', TOP / 'examples/langu
          for file in sorted(folder.glob('*.kpn'))]
 TOKENS = ('(', ')', '{', '}', ';', ',', '=', '-', '0', '1', '007', '1048577', '9223372036854775808', 'x', 'cap',
           'limit', 'policy', 'grow', 'all', 'double', 'source', 'sink', 'channel', 'read', 'in', 'out', '_' * 33, '&',
-          '~', '?', ':', '<<', '+', '==', 'language', 'table', 'array', '[', ']', 'if', 'else')
+          '~', '?', ':', '<<', '+', '==', 'language', 'table', 'array', '[', ']', 'if', 'else', '0xfF', '0b1_0', '1_',
+          '12ab', "'A'", "'\\n'", "'")
 CHARACTERS = ('', *'(){}[];,=-1x#\n\r\t\x00\x0b&', '\u00b2', '\ufeff', '\udc80', '# \u00e9 \ud800\n', '\r\n')
 PARTS = re.compile(r'(\w+ = \w+\()([^;)]*);([^;)]*)(;[^;)]*)?\);')
 
@@ -33,7 +34,7 @@ def by_characters(numbers, text):
 
 def by_tokens(numbers, text):
     """A token is left out, doubled, moved or another one."""
-    tokens = [it.text for it in tokens_of(text)][:-1] or ['x']
+    tokens = [it.text for it in tokens_of(text, 1 + text.startswith('language 2;'))][:-1] or ['x']
     place, other = numbers.randrange(len(tokens)), numbers.randrange(len(tokens))
     kind = numbers.randrange(5)
     if kind == 0:

@@ -181,6 +181,16 @@ class Rates(unittest.TestCase):
                 warnings.simplefilter('error')
                 result.check()
 
+    def test_a_channel_at_its_limit_can_not_grow(self):
+        for limit, warns in ((300, False), (301, True)):
+            net = kpn.Network(limit, 'all', cap=300)
+            net.sink('y', parts.add(parts.scale(net.source('x'), 1), net.source('v')))
+            result = net.run({'x': range(3000), 'v': range(3)}, trace=True)
+            with warnings.catch_warnings(record=True) as told:
+                warnings.simplefilter('always')
+                result.check()
+            self.assertEqual(bool(told), warns)
+
     def test_which_channels_may_grow(self):
         """Those on a cycle, whichever way its channels lead; a channel between two cycles is none."""
         net = unequal()

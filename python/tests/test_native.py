@@ -684,7 +684,29 @@ class Sessions(WithFolder):
         self.assertEqual(self.told('tell_processes', states, number(3)), 3)
         wanted = [(4, 0), (1, b), (1, self.channel('c'))]
         self.assertEqual([(it.state, it.channel) for it in states], wanted)
+        for channel in (a, b):
+            self.assertEqual(self.told('verdict', kind=ctypes.c_uint32), 0)
+            self.assertEqual(self.ask('close_source', number(channel)), 0)
+        self.take(self.channel('p'), 9)
         self.assertEqual(self.told('verdict', kind=ctypes.c_uint32), 1)
+
+    def test_an_idle_session_has_no_verdict(self):
+        """As of libkpn: it has one once all sources are closed, and all sinks are empty or left."""
+        a, b, o, p = (self.channel(name) for name in 'abop')
+        items = (ctypes.c_int64 * 1)(5)
+        found = []
+        for calls in ((), ((a, 'feed'),), ((b, 'feed'),), ((a, 'close_source'), (b, 'close_source')), ((o, 'take'),),
+                      ((p, 'leave_sink'),)):
+            for channel, name in calls:
+                if name == 'feed':
+                    self.told('feed', ctypes.c_size_t(channel), items, ctypes.c_size_t(1))
+                elif name == 'take':
+                    self.assertEqual(self.take(channel, 9), [5])
+                else:
+                    self.assertEqual(self.ask(name, ctypes.c_size_t(channel)), 0)
+            self.told('step', ctypes.c_uint64(10**6), kind=ctypes.c_uint64)
+            found.append(self.told('verdict', kind=ctypes.c_uint32))
+        self.assertEqual(found, [0, 0, 0, 0, 0, 1])
 
 
 class State(ctypes.Structure):

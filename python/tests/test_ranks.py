@@ -18,6 +18,17 @@ ROW = COPY + 'network {\n  source x;\n  channel c cap 1;\n  sink y cap 1;\n  a =
 # In place of `mpirun`: what comes behind the number of ranks and the program is for `kpn run`.
 STARTER = '#!/bin/sh\n[ "$1 $2" = "-n 3" ] || exit 9\nshift 3\nexec "{program}" run "$@"\n'
 
+# The same of a run that is certified, by the program that the environment names.
+CERTIFIER = """#!/bin/sh
+shift 3
+for word do
+    shift
+    [ "$word" = --certify ] && echo "kpn: certified: by $KPN_PROGRAM" >&2 || set -- "$@" "$word"
+done
+exec "{program}" run "$@"
+"""
+REFUSER = '#!/bin/sh\necho "kpn: not certified: no cut" >&2\nexit 9\n'
+
 
 class Ranks(unittest.TestCase):
     def setUp(self):
@@ -98,10 +109,10 @@ class Ranks(unittest.TestCase):
         (self.folder / 'ranks').unlink()
         self.assertEqual(self.audit_again()[0], 1)
 
-    def start(self, **options):
+    def start(self, script=STARTER, **options):
         """A run over three ranks by a program in the place of `mpirun`."""
         starter = self.folder / 'mpirun'
-        starter.write_text(STARTER.format(program=PROGRAM))
+        starter.write_text(script.format(program=PROGRAM))
         starter.chmod(0o755)
         found = {'PATH': f'{self.folder}:{os.environ["PATH"]}', 'KPN_MPI': PROGRAM}
         with mock.patch.dict(os.environ, found):
@@ -111,6 +122,14 @@ class Ranks(unittest.TestCase):
         result = self.start(take=2)
         self.assertEqual((result.outcome, result['y']), ('enough', [1, 2]))
         self.assertEqual(self.start().waits, [kpn.Wait('a', 'x', False), kpn.Wait('b', 'c', False)])
+
+    def test_a_run_over_ranks_is_certified(self):
+        self.assertIsNone(self.start(CERTIFIER).certified)
+        self.assertEqual(self.start(CERTIFIER, certify=True).certified, f'by {os.path.abspath(PROGRAM)}')
+        with self.assertRaisesRegex(kpn.KpnError, 'not certified: no cut'):
+            self.start(REFUSER, certify=True)
+        with self.assertRaisesRegex(kpn.KpnError, '`certify` is for a run over ranks'):
+            kpn.Network.from_text(ROW).run([1], certify=True)
 
     def test_what_a_run_over_ranks_does_not_have_is_refused(self):
         for options in ({'workers': 2}, {'trace': True}):

@@ -68,7 +68,7 @@ def by_tokens(text):
         token = found[1]
         if token is None:
             what = 'comment' if found[0][0] == '#' else ''
-        elif token.isdigit():
+        elif re.match(r"[\d']", token):
             what = 'number'
         elif token in reserved:
             what = 'word'

@@ -234,6 +234,14 @@ MEANINGS = [
     ('write o a[0] && a[3]; write o a[0] == 0 || a[3];', [0, 1], 'done'),
     ('write o a[a[a[2]]]; write o -t[1]; write o ~t[0]; write o !a[1];', [0, 6, -6, 1], 'done'),
     ('x = 3; while x { x = x - 1; a[x] = x * x; } write o a[0] + a[1] * 10 + a[2] * 100;', [410], 'done'),
+    # what a later line sets is 0 before it
+    ('while n < 3 { write o n + k; n = n + 1; k = 7; } write o a[m] + m; m = 1;', [0, 8, 9, 0], 'done'),
+    ('if x { y = 1; } else { write o y; z = 5; } write o x + y + z; x = 1;', [0, 5], 'done'),
+    # numbers
+    ("write o 0xfF + 0b1_01_; write o 1_000_000; write o 'A'; write o ' ' - '~'; write o a[0x2];",
+     [260, 1_000_000, 65, 32 - 126, 0], 'done'),
+    (r"write o '\n'; write o '\\'; write o '\''; write o '\0'; write o 0x7fff_ffff_ffff_ffff;",
+     [10, 92, 39, 0, 2 ** 63 - 1], 'done'),
 ]
 PRINTED = '''language 2;
 table t = 5, -6;

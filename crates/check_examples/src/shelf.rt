@@ -81,6 +81,8 @@ impl<S: Ports> Ports for Troubled<S> {
 
     ghost are_two_inputs = { λ troubled name other. S.are_two_inputs troubled.files name other };
 
+    ghost may_share = { λ troubled name other. S.may_share troubled.files name other };
+
     fn open_input(&self, name: &str) -> Result<S::Input, ItemFault> {
         self.files.open_input(name)
     }

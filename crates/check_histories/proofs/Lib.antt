@@ -7,3 +7,4 @@ pub mod CompleteTests
 pub mod Joining
 pub mod TwoParts
 pub mod RingLeast
+pub mod FinalTests

@@ -21,6 +21,18 @@ left_sink_run =
     Put 0 1 (pos 1) ∷ Get 0 0 (pos 2) ∷ WaitFull 0 1 ∷
     Leave 1 ∷ Put 0 1 (pos 2) ∷ WaitEmpty 0 0 ∷ Close 0 ∷ []
 
+-- the caller takes one item of the sink and leaves it
+unfoldable pub left_after_one_run : List Event
+left_after_one_run =
+    Feed 0 (pos 1) ∷ Feed 0 (pos 2) ∷ Feed 0 (pos 3) ∷
+    Close 0 ∷ Get 0 0 (pos 1) ∷ Put 0 1 (pos 1) ∷
+    Take 1 (pos 1) ∷ Leave 1 ∷ Get 0 0 (pos 2) ∷ Put 0 1 (pos 2) ∷
+    Get 0 0 (pos 3) ∷ Put 0 1 (pos 3) ∷ WaitEmpty 0 0 ∷ []
+
+-- the source is closed before its list was fed
+unfoldable pub early_close_run : List Event
+early_close_run = Close 0 ∷ WaitEmpty 0 0 ∷ []
+
 unfoldable pub two_run : List Event
 two_run =
     Put 0 0 (pos 1) ∷ WaitEmpty 1 1 ∷ WaitFull 0 0 ∷

@@ -4,6 +4,7 @@
 #![tactic(auto)]
 
 pub mod completed;
+pub mod ends;
 pub mod parts;
 pub mod seen;
 pub mod worked;

@@ -65,7 +65,7 @@ const IN_ONE: [(&[u8], &str); 13] = [
 ];
 
 /// The same in language 2.
-const IN_TWO: [(&[u8], &str); 3] = [
+const IN_TWO: [(&[u8], &str); 5] = [
     (
         b"[ ] ? : ~ & | ^ << >>",
         "0 LeftBracket;2 RightBracket;4 Question;6 Colon;8 BitNot;10 BitAnd;12 BitOr;14 BitXor;\
@@ -76,6 +76,16 @@ const IN_TWO: [(&[u8], &str); 3] = [
         b"<<=<=<<>>=>>>&&&|||",
         "0 ShiftLeft;2 Assign;3 LessOrEqual;5 ShiftLeft;7 ShiftRight;9 Assign;10 ShiftRight;\
         12 Greater;13 And;15 BitAnd;16 Or;18 BitOr;",
+    ),
+    (
+        b"0 007 1_000_ 0xFf 0xf__f 0b1010 00000000000000000000001 0x7fffffffffffffff",
+        "0 number 0;2 number 7;6 number 1000;13 number 255;18 number 255;25 number 10;\
+        32 number 1;56 number 9223372036854775807;",
+    ),
+    (
+        b"'A' ' ' '~' '\\n''\\\\' '\\'' '\\0'a 1'2'",
+        "0 number 65;4 number 32;8 number 126;12 number 10;16 number 92;21 number 39;\
+        26 number 0;30 name a;32 number 1;33 number 50;",
     ),
 ];
 

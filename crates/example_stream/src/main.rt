@@ -51,6 +51,11 @@ impl Sources for Sensor {
         true
     }
 
+    // Each reading is made when it is asked for.
+    fn next_at_hand(&mut self, _source: usize) -> Option<i64> {
+        None
+    }
+
     fn look(&mut self, _source: usize) -> Readiness {
         Readiness::AtHand
     }

@@ -134,7 +134,7 @@ module _ {A : Type 0} (t : Tables) (network : IsNetwork t) (H : List Event) (leg
 
 module _ (t : Tables) (network : IsNetwork t) (lists : List (List ℤ)) where
   -- the run is fed from its lists
-  fed_from : (limits : Limits) (report : Report) → IsReport t lists limits report
+  pub fed_from : (limits : Limits) (report : Report) → IsReport t lists limits report
       → AreSupplied t lists (events_of report) → IsFedFrom t (events_of report) (given_by t lists)
   fed_from limits report is supplied =
       record {

@@ -27,6 +27,7 @@ pub mod Plain
 pub mod Happening
 pub mod Parts
 pub mod Agreement
+pub mod FinalReports
 pub mod Ends
 pub mod Held
 pub mod Supplying

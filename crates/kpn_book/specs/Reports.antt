@@ -83,3 +83,14 @@ pub record IsReport (t : Tables) (lists : List (List ℤ)) (limits : Limits) (re
   pub taken : report.taken ≡ read_of_sinks t (events_of report)
   pub committed : process_events (events_of report) ≤ report.commits
   pub outcome : IsOutcome t (events_of report) report.commits limits (Some report.outcome)
+
+-- ---- two reports
+
+-- two reports agree: the outcome, the journals, the capacities, the states of the processes and their counts are the
+-- same
+pub record ReportsAgree (report other : Report) : Type 0 where
+  pub outcome : report.outcome ≡ other.outcome
+  pub journals : report.view.journals ≡ other.view.journals
+  pub caps : report.view.caps ≡ other.view.caps
+  pub states : report.view.states ≡ other.view.states
+  pub counts : report.view.counts ≡ other.view.counts

@@ -134,8 +134,8 @@ pub data RunsProgram {S I F O G E : Type 0} (may_give : S → Loads) (may_alias 
       shelf kept input read out written err told status
   -- they ask for a stream, which reads and writes while it goes on
   streams : (stream : StreamRequest) → IsAsked asked (Stream stream) →
-      Streams may_give may_alias names (known_of remaining left_in contents holds_in) stream
-      shelf kept input read out written status →
+      Streams may_give may_alias names (known_of remaining left_in contents holds_in) holds stream
+      shelf kept input read out written err told status →
       RunsProgram may_give may_alias names remaining left_in contents holds_in holds asked
       shelf kept input read out written err told status
   -- they ask for a timeline, which goes out while it is made

@@ -41,7 +41,8 @@ pub fn command<
     err: &mut E,
     unsaid: &mut Vec<u8>,
 ) -> u8
-    ensures { RunsProgram S.may_give S.may_alias (names_of S.are_two_inputs S.comes_from S.goes_to)
+    ensures { RunsProgram S.may_give S.may_alias
+        (names_of S.are_two_inputs S.may_share S.comes_from S.goes_to)
         I.remaining S.Input.remaining O.contents S.Output.contents E.contents
         (map string_bytes words.now) shelf.old shelf.new input.old input.new out.old out.new
         err.old err.new result }

@@ -47,4 +47,5 @@ pub use sources::{EndKind, FileOption, NamedEnd, ends_of, file_for, options_of};
 pub use stream_request::StreamRequest;
 pub use table::{TableRow, TextTable};
 pub use tables::StatsTables;
+pub use telling::{put, put_more};
 pub use trace_bytes::{store_trace, trace_of};

@@ -8,7 +8,7 @@ use itoa::Buffer;
 use std::io::{ErrorKind, Write};
 
 /// Writes bytes, as many of them as are taken. It returns whether all are.
-pub(crate) fn put<E: Write>(err: &mut E, bytes: &[u8]) -> bool
+pub fn put<E: Write>(err: &mut E, bytes: &[u8]) -> bool
     ensures { AreWritten (E.contents err.old) (E.contents err.new) bytes.now result }
 {
     let mut rest = bytes;
@@ -33,7 +33,7 @@ pub(crate) fn put<E: Write>(err: &mut E, bytes: &[u8]) -> bool
 }
 
 /// Goes on with these bytes, if all before were written.
-pub(crate) fn put_more<E: Write>(whole: bool, err: &mut E, bytes: &[u8]) -> bool
+pub fn put_more<E: Write>(whole: bool, err: &mut E, bytes: &[u8]) -> bool
     ensures { Continues (E.contents err.old) (E.contents err.new) bytes.now whole result }
 {
     whole && put(err, bytes)

@@ -12,7 +12,7 @@ use kpn_lang::ProgramFault;
 use kpn_limits::MAX_TEXT_BYTES;
 use kpn_net::NetFault;
 use kpn_text::TextFault;
-use kpn_text_tokens::Lexeme;
+use kpn_text_tokens::{Language, Lexeme, language_of};
 use std::alloc::{AllocError, Global};
 
 /// The kind of a fault of a text with these tokens and these places.
@@ -26,8 +26,7 @@ pub(crate) fn case_of<'a>(
     match fault {
         TextFault::TooLong(_) if text.len() > MAX_TEXT_BYTES => Ok(Case::LongText),
         TextFault::TooLong(_) => Ok(Case::LongName),
-        TextFault::Token(at) if name_at(text, at).is_empty() => Ok(Case::NoToken),
-        TextFault::Token(_) => Ok(Case::BadNumber),
+        TextFault::Token(at) => Ok(token_case(text, at)),
         TextFault::Grammar(at) => grammar_case(alloc, text, at),
         TextFault::UnknownName(at) => Ok(unknown_case(text, tokens, at, places.second)),
         TextFault::DoubleName(at) => Ok(double_case(text, tokens, at)),
@@ -43,6 +42,15 @@ pub(crate) fn case_of<'a>(
         TextFault::Program(..) => Ok(Case::BrokenProgram),
         TextFault::Net(broken) => net_case(alloc, tokens, name_at(text, places.first), broken),
         TextFault::NoMemory => Ok(Case::NoMemory),
+    }
+}
+
+fn token_case(text: &[u8], at: usize) -> Case {
+    let begins_number = !name_at(text, at).is_empty();
+    match language_of(text) {
+        Language::One if begins_number => Case::BadNumber,
+        Language::Two if begins_number || back(text, at).starts_with(b"'") => Case::BadNumeral,
+        _ => Case::NoToken,
     }
 }
 

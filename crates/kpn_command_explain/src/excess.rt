@@ -61,12 +61,13 @@ fn sizes_of<'a>(
     tokens: &'a [Lexeme<'a>],
     process: usize,
 ) -> Result<Sizes, AllocError> {
-    let tree = match description(alloc, language_of(text), tokens, text.len()) {
+    let language = language_of(text);
+    let tree = match description(alloc, language, tokens, text.len()) {
         Ok(tree) => tree,
         Err(GrammarFault::NoMemory) => return Err(AllocError),
         Err(_) => return Ok(NO_SIZES),
     };
-    let named = match resolve(alloc, &tree) {
+    let named = match resolve(alloc, language, &tree) {
         Ok(named) => named,
         Err(NameFault::NoMemory) => return Err(AllocError),
         Err(_) => return Ok(NO_SIZES),

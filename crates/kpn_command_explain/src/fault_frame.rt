@@ -13,21 +13,21 @@ const MOST_STATEMENTS: u32 = 1_000_000;
 
 /// Why an expression has no value, or a statement is not made.
 #[derive(Clone, Copy, PartialEq)]
-pub(crate) enum Halt {
+pub(crate) enum Stuck {
     /// It has a fault.
     Faulted,
     /// It is not known: no item is left, there was no memory, or it would take too long.
     Lost,
 }
 
-impl From<AllocError> for Halt {
+impl From<AllocError> for Stuck {
     ghost use Rattle.std.specs.Prelude.{◌≡◌};
-    ghost use Rattle.kpn_command_explain.specs.declared.fault_frame.Halt.TheVariants.{Lost};
+    ghost use Rattle.kpn_command_explain.specs.declared.fault_frame.Stuck.TheVariants.{Lost};
 
-    ghost from_gives = { λ _ halt. halt ≡ Lost };
+    ghost from_gives = { λ _ stuck. stuck ≡ Lost };
 
-    fn from(_error: AllocError) -> Halt {
-        Halt::Lost
+    fn from(_error: AllocError) -> Stuck {
+        Stuck::Lost
     }
 }
 
@@ -142,7 +142,7 @@ impl<'t> FaultFrame<'t> {
 
     /// Makes the statements of a block, up to what stops the process.
     #[cycle(statements)]
-    pub(crate) fn make_block(&mut self, statements: &[StatementNode<'t>]) -> Result<(), Halt> {
+    pub(crate) fn make_block(&mut self, statements: &[StatementNode<'t>]) -> Result<(), Stuck> {
         for statement in statements {
             self.make(statement)?;
         }
@@ -150,7 +150,7 @@ impl<'t> FaultFrame<'t> {
     }
 
     #[cycle(statements)]
-    fn make(&mut self, statement: &StatementNode<'t>) -> Result<(), Halt> {
+    fn make(&mut self, statement: &StatementNode<'t>) -> Result<(), Stuck> {
         self.spend()?;
         match statement {
             StatementNode::Assign(name, value) => {
@@ -181,21 +181,21 @@ impl<'t> FaultFrame<'t> {
                     self.make_block(body)?;
                     self.spend()?;
                 }
-                Err(Halt::Lost)
+                Err(Stuck::Lost)
             }
         }
     }
 
     // One statement more is made, if that does not take too long.
-    fn spend(&mut self) -> Result<(), Halt> {
+    fn spend(&mut self) -> Result<(), Stuck> {
         if self.left == 0 {
-            return Err(Halt::Lost);
+            return Err(Stuck::Lost);
         }
         self.left -= 1;
         Ok(())
     }
 
-    fn set(&mut self, name: &'t [u8], value: i64) -> Result<(), Halt> {
+    fn set(&mut self, name: &'t [u8], value: i64) -> Result<(), Stuck> {
         for variable in self.variables.as_mut_slice() {
             if variable.name == name {
                 variable.value = value;
@@ -204,7 +204,7 @@ impl<'t> FaultFrame<'t> {
         }
         match self.variables.push(Variable { name, value }) {
             Ok(()) => Ok(()),
-            Err(_) => Err(Halt::Lost),
+            Err(_) => Err(Stuck::Lost),
         }
     }
 
@@ -213,12 +213,12 @@ impl<'t> FaultFrame<'t> {
         name: &Identifier<'t>,
         index: &Expression<'t>,
         value: &Expression<'t>,
-    ) -> Result<(), Halt> {
+    ) -> Result<(), Stuck> {
         let number = self.worth(index)?;
         if self.cell(name.bytes, number).is_none() {
             self.said = missing(self.alloc, self, name, index)?;
             self.at = Some(name.start);
-            return Err(Halt::Faulted);
+            return Err(Stuck::Faulted);
         }
         let value = self.worth(value)?;
         for row in self.rows.as_mut_slice() {
@@ -231,39 +231,41 @@ impl<'t> FaultFrame<'t> {
         Ok(())
     }
 
-    fn next_item(&mut self, name: &[u8]) -> Result<i64, Halt> {
+    fn next_item(&mut self, name: &[u8]) -> Result<i64, Stuck> {
         for port in self.ports.as_mut_slice() {
             if port.name == name {
-                let item = port.items.get(port.read).copied().ok_or(Halt::Lost)?;
+                let item = port.items.get(port.read).copied().ok_or(Stuck::Lost)?;
                 port.read = port.read.saturating_add(1);
                 return Ok(item);
             }
         }
-        Err(Halt::Lost)
+        Err(Stuck::Lost)
     }
 
     // The value of an expression of a statement. Of its fault it keeps the words.
-    fn worth(&mut self, tree: &Expression<'t>) -> Result<i64, Halt> {
+    fn worth(&mut self, tree: &Expression<'t>) -> Result<i64, Stuck> {
         match self.value(tree) {
             Ok(value) => Ok(value),
-            Err(Halt::Lost) => Err(Halt::Lost),
-            Err(Halt::Faulted) => {
+            Err(Stuck::Lost) => Err(Stuck::Lost),
+            Err(Stuck::Faulted) => {
                 self.tell(tree)?;
-                Err(Halt::Faulted)
+                Err(Stuck::Faulted)
             }
         }
     }
 
     /// The value of an expression.
-    pub(crate) fn value(&self, tree: &Expression<'_>) -> Result<i64, Halt> {
+    pub(crate) fn value(&self, tree: &Expression<'_>) -> Result<i64, Stuck> {
         match tree {
             Expression::Number(number) => Ok(number.value()),
             Expression::Name(name) => Ok(self.variable(name.bytes)),
             Expression::Element(name, index) => {
                 let number = self.value(index)?;
-                self.cell(name.bytes, number).ok_or(Halt::Faulted)
+                self.cell(name.bytes, number).ok_or(Stuck::Faulted)
             }
-            Expression::Negative(inner) => { self.value(inner)?.checked_neg().ok_or(Halt::Faulted) }
+            Expression::Negative(inner) => {
+                self.value(inner)?.checked_neg().ok_or(Stuck::Faulted)
+            }
             Expression::Not(inner) => Ok(i64::from(self.value(inner)? == 0)),
             Expression::BitNot(inner) => Ok(!self.value(inner)?),
             Expression::Binary(operator, left, right) => {
@@ -358,15 +360,15 @@ impl<'t> FaultFrame<'t> {
 
 // The value of an operator between two values.
 #[tactic(auto, unfolding(kpn_lang::specs::Syntax::names_below, kpn_lang::specs::Syntax::term_of))]
-fn applied(alloc: Global, operator: Op, left: i64, right: i64) -> Result<i64, Halt> {
+fn applied(alloc: Global, operator: Op, left: i64, right: i64) -> Result<i64, Stuck> {
     let Ok(left) = Box::new(alloc, Expr::Num(left)) else {
-        return Err(Halt::Lost);
+        return Err(Stuck::Lost);
     };
     let Ok(right) = Box::new(alloc, Expr::Num(right)) else {
-        return Err(Halt::Lost);
+        return Err(Stuck::Lost);
     };
     match eval(&Expr::Bin(operator, left, right), &[]) {
         Ok(value) => Ok(value),
-        Err(_) => Err(Halt::Faulted),
+        Err(_) => Err(Stuck::Faulted),
     }
 }

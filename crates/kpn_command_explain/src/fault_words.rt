@@ -2,7 +2,7 @@
 ghost use Rattle.std.specs.Prelude.{◌<◌, length};
 
 use crate::excerpt::{push_excerpt, push_where};
-use crate::fault_frame::{FaultFrame, Halt};
+use crate::fault_frame::{FaultFrame, Stuck};
 use kpn_history::Event;
 use kpn_text::Document;
 use kpn_text_grammar::description;
@@ -79,7 +79,7 @@ pub fn fault_text(
         return Ok(out);
     };
     let mut frame = FaultFrame::start(alloc, &tree, process, network.pars(p), got.items)?;
-    if frame.make_block(&process.body) != Err(Halt::Faulted) {
+    if frame.make_block(&process.body) != Err(Stuck::Faulted) {
         return Ok(out);
     }
     let at = frame.at.unwrap_or(process.name.start);

@@ -76,8 +76,6 @@ pub(crate) enum Habit {
     NoCapacity,
     /// A number with a point.
     Fraction,
-    /// `0x` or `0b` before digits, in language 2.
-    Digits,
     /// `'` before a letter.
     Letter,
     /// `(` behind a name in an expression.

@@ -4,7 +4,7 @@ use std::alloc::{AllocError, Global};
 
 /// A channel: the numbers of its writer and its reader, and the items that each moves there in a turn, at least 1.
 #[derive(Clone, Copy)]
-pub(crate) struct Link {
+pub(crate) struct RatedChannel {
     pub writer: usize,
     pub reader: usize,
     pub put: u64,
@@ -13,7 +13,7 @@ pub(crate) struct Link {
 
 // How many turns of a process there are, as a fraction.
 #[derive(Clone, Copy, PartialEq)]
-struct Turns {
+struct Ratio {
     over: u64,
     under: u64,
 }
@@ -21,13 +21,13 @@ struct Turns {
 /// The first of these channels that the others contradict, if one does. Nothing is said where numbers become too large.
 pub(crate) fn first_unbalanced(
     alloc: Global,
-    links: &[Link],
+    links: &[RatedChannel],
     processes: usize,
 ) -> Result<Option<usize>, AllocError> {
-    let mut turns: Vec<Option<Turns>> = vec![in alloc; None; processes]?;
+    let mut turns: Vec<Option<Ratio>> = vec![in alloc; None; processes]?;
     for p in 0..processes {
         if turns[p].is_none() {
-            turns[p] = Some(Turns { over: 1, under: 1 });
+            turns[p] = Some(Ratio { over: 1, under: 1 });
             for _round in 0..processes {
                 spread(links, &mut turns);
             }
@@ -37,7 +37,7 @@ pub(crate) fn first_unbalanced(
 }
 
 // What is known of one end of a channel, for the other.
-fn spread(links: &[Link], turns: &mut [Option<Turns>]) {
+fn spread(links: &[RatedChannel], turns: &mut [Option<Ratio>]) {
     for link in links {
         let (writer, reader) = (known(turns, link.writer), known(turns, link.reader));
         match (writer, reader) {
@@ -48,18 +48,18 @@ fn spread(links: &[Link], turns: &mut [Option<Turns>]) {
     }
 }
 
-fn known(turns: &[Option<Turns>], p: usize) -> Option<Turns> {
+fn known(turns: &[Option<Ratio>], p: usize) -> Option<Ratio> {
     turns.get(p).copied().unwrap_or(None)
 }
 
-fn learn(turns: &mut [Option<Turns>], p: usize, found: Option<Turns>) {
+fn learn(turns: &mut [Option<Ratio>], p: usize, found: Option<Ratio>) {
     if p < turns.len() {
         turns[p] = found;
     }
 }
 
 // Whether both ends of a channel are known, and do not fit.
-fn is_contradicted(link: Link, turns: &[Option<Turns>]) -> bool {
+fn is_contradicted(link: RatedChannel, turns: &[Option<Ratio>]) -> bool {
     match (known(turns, link.writer), known(turns, link.reader)) {
         (Some(writer), Some(reader)) => match scaled(writer, link.put, link.got) {
             Some(wanted) => wanted != reader,
@@ -70,11 +70,11 @@ fn is_contradicted(link: Link, turns: &[Option<Turns>]) -> bool {
 }
 
 // So many turns times a fraction, in lowest terms.
-fn scaled(turns: Turns, over: u64, under: u64) -> Option<Turns> {
+fn scaled(turns: Ratio, over: u64, under: u64) -> Option<Ratio> {
     let over = turns.over.checked_mul(over)?;
     let under = turns.under.checked_mul(under)?;
     let common = common_divisor(over, under);
-    Some(Turns {
+    Some(Ratio {
         over: over.checked_div(common)?,
         under: under.checked_div(common)?,
     })

@@ -139,7 +139,6 @@ fn usual(habit: Habit) -> &'static [u8] {
         Habit::Ports => b"Write `in`, `out` and `par` once each, as in `in a, b; out c, d; par k`.",
         Habit::NoCapacity => b"Write a capacity behind the name, as in `channel a cap 1;`.",
         Habit::Fraction => b"Numbers are whole: scale them first, or divide, as in `(x / 2)`.",
-        Habit::Digits => b"Numbers have decimal digits alone: write `31` in place of `0x1F`.",
         Habit::Letter => b"Write the number of a letter, as 65 for `A`.",
         Habit::Calls => CALLS,
         Habit::Constant => CONSTANT,

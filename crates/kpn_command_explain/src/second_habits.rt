@@ -67,8 +67,6 @@ fn side_habit_of_two(
         Ok(Some(Habit::Index))
     } else if calls(last, here) {
         Ok(Some(Habit::Calls))
-    } else if begins_digits(last) {
-        Ok(Some(Habit::Digits))
     } else if assigns(here) {
         Ok(Some(Habit::Compares))
     } else {
@@ -112,8 +110,6 @@ fn declaring_habit(
     let is_size = last.starts_with(b"[") && may_stand(alloc, front, b"1")?;
     let habit = if begins_comment(here) {
         Habit::Comment
-    } else if begins_digits(last) || (is_size && begins_digits(here)) {
-        Habit::Digits
     } else if is_size {
         Habit::Size
     } else if last.starts_with(b"]") && here.starts_with(b"=") {
@@ -130,14 +126,7 @@ fn elsewhere_habit_of_two(last: &[u8], here: &[u8]) -> Option<Habit> {
         Some(Habit::LateTable)
     } else if is_word(here, b"array") {
         Some(Habit::Outside)
-    } else if begins_digits(last) {
-        Some(Habit::Digits)
     } else {
         habit_at(Stand::Elsewhere, last, here)
     }
-}
-
-// `0x` or `0b`, behind which other languages have digits.
-fn begins_digits(text: &[u8]) -> bool {
-    begins_any(text, &[b"0x", b"0X", b"0b", b"0B"])
 }

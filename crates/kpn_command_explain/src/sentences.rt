@@ -32,6 +32,8 @@ pub(crate) enum Case {
     LongName,
     /// A number is out of range.
     BadNumber,
+    /// What begins like a number of language 2 is none, or out of range.
+    BadNumeral,
     /// No token begins at a byte.
     NoToken,
     /// A word of the language stands where a name is meant.
@@ -113,7 +115,7 @@ pub(crate) const READ_CELL: &[u8] =
 /// Whether the sentence begins with the name at the place.
 pub(crate) fn is_named(case: Case) -> bool {
     match case {
-        Case::LongText | Case::LongName | Case::BadNumber => false,
+        Case::LongText | Case::LongName | Case::BadNumber | Case::BadNumeral => false,
         Case::NoToken | Case::Misplaced | Case::EarlyEnd => false,
         Case::LargeNetwork(_) | Case::BadLimit | Case::NoMemory => false,
         _ => true,
@@ -126,6 +128,7 @@ pub(crate) fn said(case: Case) -> &'static [u8] {
         Case::LongText => b"the text has more than 1048576 bytes",
         Case::LongName => b"this name has more than 32 bytes",
         Case::BadNumber => b"this number has more than 19 digits or is above 9223372036854775807",
+        Case::BadNumeral => b"this is no number, or one above 9223372036854775807",
         Case::NoToken => b"no name, number or mark begins with this byte",
         Case::Reserved => b" is a word of the language, and no name",
         Case::Misplaced => b"this may not stand here",
@@ -171,6 +174,7 @@ pub(crate) fn advice(case: Case) -> &'static [u8] {
         Case::LongName => b"Choose a shorter name.",
         Case::BadNumber =>
             b"Write a smaller number. The least value is that of `(-9223372036854775807 - 1)`.",
+        Case::BadNumeral => b"Numbers are written as `255`, `1_000`, `0xFF`, `0b1010` or `'A'`.",
         Case::NoToken =>
             b"Names have letters, digits and `_`. A comment goes from `#` to the end of its line.",
         Case::Reserved => b"Choose another name, or write the name that is missing just before it.",
@@ -179,7 +183,8 @@ pub(crate) fn advice(case: Case) -> &'static [u8] {
         Case::EarlyEnd => b"Close each `{` by a `}`. Behind all processes has to come a network.",
         Case::UnknownVariable =>
             b"Assign to it first, or make it a parameter. An item comes by `read PORT VARIABLE;`.",
-        Case::LateVariable => b"Give it a value before this place, or make it a parameter.",
+        Case::LateVariable =>
+            b"Give it a value before this place, or begin the text with `language 2;`.",
         Case::PortAsVariable =>
             b"Write a variable in its place. An item of an in port comes by `read PORT VARIABLE;`.",
         Case::NoArray => b"Declare an array at the front of the process: `array x[9];`.",

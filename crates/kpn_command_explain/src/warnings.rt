@@ -3,7 +3,7 @@
 
 use crate::excerpt::push_where;
 use crate::first_moves::{FirstMove, first_move, moved_each_turn, names_port};
-use crate::ratios::{Link, first_unbalanced};
+use crate::ratios::{RatedChannel, first_unbalanced};
 use kpn_text_grammar::{
     Description, GrammarFault, Identifier, InstanceNode, Item, ProcessNode, description,
 };
@@ -12,7 +12,7 @@ use std::alloc::{AllocError, Global};
 
 // The text of a file, to which lines are added.
 #[derive(Clone, Copy)]
-struct Source<'s> {
+struct Described<'s> {
     file: &'s str,
     text: &'s [u8],
 }
@@ -38,7 +38,7 @@ pub fn warnings_text(alloc: Global, file: &str, text: &[u8]) -> Result<Vec<u8>, 
         Err(GrammarFault::NoMemory) => return Err(AllocError),
         Err(_) => return Ok(told),
     };
-    let source = Source { file, text };
+    let source = Described { file, text };
     for process in &tree.processes {
         push_unnamed(
             &mut told,
@@ -64,7 +64,7 @@ pub fn warnings_text(alloc: Global, file: &str, text: &[u8]) -> Result<Vec<u8>, 
 // Adds which of these ports the body of a process does not name.
 fn push_unnamed(
     told: &mut Vec<u8>,
-    source: Source<'_>,
+    source: Described<'_>,
     process: &ProcessNode<'_>,
     ports: &[Identifier<'_>],
     said: &[u8],
@@ -82,7 +82,7 @@ fn push_unnamed(
 // Adds the place of a name, and the name between backticks.
 fn push_named(
     told: &mut Vec<u8>,
-    source: Source<'_>,
+    source: Described<'_>,
     name: &Identifier<'_>,
 ) -> Result<(), AllocError> {
     push_where(told, source.file.as_bytes(), source.text, name.start)?;
@@ -147,7 +147,7 @@ fn first_channel<'d, 'a>(member: Member<'d, 'a>) -> Option<&'d Identifier<'a>> {
 fn push_rings(
     alloc: Global,
     told: &mut Vec<u8>,
-    source: Source<'_>,
+    source: Described<'_>,
     members: &[Member<'_, '_>],
 ) -> Result<(), AllocError> {
     let mut next = Vec::new(alloc);
@@ -180,7 +180,7 @@ fn begins_ring(next: &[Option<usize>], start: usize) -> bool {
 
 fn push_ring(
     told: &mut Vec<u8>,
-    source: Source<'_>,
+    source: Described<'_>,
     members: &[Member<'_, '_>],
     next: &[Option<usize>],
     start: usize,
@@ -213,7 +213,7 @@ fn push_ring(
 fn push_unbalanced(
     alloc: Global,
     told: &mut Vec<u8>,
-    source: Source<'_>,
+    source: Described<'_>,
     tree: &Description<'_>,
     members: &[Member<'_, '_>],
 ) -> Result<(), AllocError> {
@@ -241,7 +241,7 @@ const UNBALANCED: &[u8] =
     b" can't balance: by the other channels its writer puts more or fewer items there than its reader gets.\n";
 
 // The ends of a channel, and how many items each moves there in a turn of its loop, if that is known and not 0.
-fn link_of(members: &[Member<'_, '_>], channel: &[u8]) -> Option<Link> {
+fn link_of(members: &[Member<'_, '_>], channel: &[u8]) -> Option<RatedChannel> {
     let writer = writer_of(members, channel)?;
     let reader = members.iter().position(|member| member
         .instance
@@ -256,7 +256,7 @@ fn link_of(members: &[Member<'_, '_>], channel: &[u8]) -> Option<Link> {
     if put == 0 || got == 0 {
         return None;
     }
-    Some(Link {
+    Some(RatedChannel {
         writer,
         reader,
         put,

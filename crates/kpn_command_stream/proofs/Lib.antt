@@ -4,3 +4,4 @@ pub mod Ringed
 pub mod Counted
 pub mod Worded
 pub mod Refusing
+pub mod Ended

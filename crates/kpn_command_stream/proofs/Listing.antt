@@ -1,11 +1,9 @@
 -- Lists of places and of sinks, one more at a time.
-use Rattle.std.proofs.Common.{◌≡◌, ℕ, zero, suc, ◌+◌, ◌<◌, ◌≤◌, Bool, true, false, cond, not, Bor, List, [], ◌∷◌, ◌++◌, map, take, length, get_or, slice_set, All, length-append, append-nil, take_all, le_refl, refl, Some, Result, Ok, Err, sym, ap, ◌∙◌, subst, arith, inl, inr, Option, None}
+use Rattle.std.proofs.Common.{◌≡◌, ℕ, zero, suc, ◌+◌, ◌<◌, ◌≤◌, Bool, true, false, cond, not, Bor, List, [], ◌∷◌, ◌++◌, map, take, length, get_or, slice_set, All, append-nil, take_all, le_refl, refl, Some, Result, Ok, Err, sym, ap, ◌∙◌, subst, arith, Option, None}
 use Rattle.std.specs.List.{AllPairs, AllZip, filter}
-use Rattle.std.proofs.lemmas.Bool.{cases_lt}
-use Rattle.std.proofs.lemmas.List.{map-append, take_more, take_more_set, get_or_append_left}
+use Rattle.std.proofs.lemmas.List.{map-append, take_more, take_more_set}
 use Rattle.std.proofs.lemmas.List.Elements.{All-push, All-same, filter_more}
 use Rattle.std.proofs.lemmas.List.Quantifiers.{all_pairs_push}
-use Rattle.std.proofs.Math.Seq.{get_or-append_seam}
 use Rattle.kpn_text.specs.Document.{Document}
 use Rattle.kpn_command_base.specs.declared.sources.EndKind.{EndKind}
 use Rattle.kpn_command_base.specs.declared.sources.NamedEnd.{NamedEnd}
@@ -22,31 +20,7 @@ use Rattle.kpn_command_stream.specs.declared.running.Lost.{Lost}
 use Rattle.kpn_stream_devices.specs.declared.outputs.SinkOutput.{SinkOutput}
 use Rattle.kpn_command_stream.specs.Command.{HandedOn, IsOutputFor, IsOutputOf, KeepsName, one_more, losses}
 use Rattle.kpn_command_stream.specs.Words.{names_standard, stream_words_of}
-use Rattle.kpn_command_stream.specs.EndPlaces.{name_for, HasFormat, ArePlaced, AllPlaced, ArePlacesOfEnds}
-
--- one place more
-pub placed_more : (d : Document) (named : List NamedEnd) (words : List (List ℕ)) (ends : List ℕ) (number : ℕ)
-    (places : List EndPlace) (place : EndPlace) → ArePlaced d named words ends number places → number < length ends
-    → place.channel ≡ get_or ends number place.channel → name_for named number (length ends) ≡ Some place.name.now
-    → HasFormat d words place → ArePlaced d named words ends (number + 1) (places ++ place ∷ [])
-placed_more d named words ends number places place placed below at name format = record {
-  channels =
-      map-append (λ (p : EndPlace). p.channel) places (place ∷ [])
-      ∙ ap (λ cs. cs ++ place.channel ∷ []) placed.channels
-      ∙ ap (λ (c : ℕ). take number ends ++ c ∷ []) at ∙ sym (take_more ends number place.channel below);
-  count = omega (arith, length-append places (place ∷ []), placed.count);
-  each = λ k other inside. elim (cases_lt k (length places)) [
-    | inl before ↦ placed.each k other before
-        ∙ ap (λ (p : EndPlace). Some p.name.now) (sym (get_or_append_left places (place ∷ []) other k before))
-    | inr past ↦
-        let last : k ≡ length places = omega (arith, length-append places (place ∷ []), inside, past) in
-        let same : k ≡ number = omega (arith, last, placed.count) in
-        ap (λ (n : ℕ). name_for named n (length ends)) same ∙ name
-        ∙ ap (λ (p : EndPlace). Some p.name.now)
-        (sym (ap (λ (n : ℕ). get_or (places ++ place ∷ []) n other) last ∙ get_or-append_seam places place [] other))
-  ];
-  formats = All-push (HasFormat d words) places place placed.formats format;
-}
+use Rattle.kpn_command_stream.specs.EndPlaces.{name_for, AllPlaced, ArePlacesOfEnds}
 
 -- all places go by what the options name
 pub all_placed : (ends : EndKind) (d : Document) (names files words : List (List ℕ)) (named : List NamedEnd)
@@ -72,15 +46,6 @@ zipped_more R xs ys i x y so_far below at is =
     subst (λ zs. AllZip R zs (ys ++ y ∷ []))
     (ap (λ z. take i xs ++ z ∷ []) at ∙ sym (take_more xs i x below))
     (AllZip-push R (take i xs) ys x y so_far is)
-
--- places go by the names and the files of options
-pub placed_by : (ends : EndKind) (d : Document) (names others files others_files words others_words : List (List ℕ))
-    (places : List EndPlace) → names ≡ others → files ≡ others_files → words ≡ others_words
-    → ArePlacesOfEnds ends d names files words places → ArePlacesOfEnds ends d others others_files others_words places
-placed_by ends d names others files others_files words others_words places same same_files same_words are =
-    subst (λ ns. ArePlacesOfEnds ends d ns others_files others_words places) same
-    (subst (λ fs. ArePlacesOfEnds ends d names fs others_words places) same_files
-    (subst (λ ws. ArePlacesOfEnds ends d names files ws places) same_words are))
 
 -- what holds of the first places holds of one more
 pub all_next : (P : EndPlace → Type 0) (places : List EndPlace) (i : ℕ) (d : EndPlace) → i < length places

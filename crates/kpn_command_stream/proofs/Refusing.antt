@@ -1,5 +1,5 @@
 -- What the parts of the code refuse, as why a stream is not begun.
-use Rattle.std.proofs.Common.{◌≡◌, ◌⊎◌, ℕ, List, map, length, inl, inr, Ok, sym, subst}
+use Rattle.std.proofs.Common.{◌≡◌, ℕ, List, All, map, length, inl, inr, Ok, refl, sym, subst}
 use Rattle.kpn_text.specs.Document.{Document}
 use Rattle.kpn_shelf.specs.Shelf.{Aliases}
 use Rattle.kpn_command_base.specs.declared.refusal.Refusal.{Refusal}
@@ -7,13 +7,17 @@ use Rattle.kpn_command_base.specs.declared.refusal.Refusal.TheVariants as refusa
 use Rattle.kpn_command_base.specs.declared.sources.EndKind.{EndKind}
 use Rattle.kpn_command_base.specs.declared.sources.NamedEnd.{NamedEnd}
 use Rattle.kpn_command_base.specs.Outputs.{FileWords, IsRefusalOfOutputs}
-use Rattle.kpn_command_base.specs.Sources.{ends_named, is_end}
+use Rattle.kpn_command_base.specs.Sources.{ends_named, file_in, is_end, name_in}
 use Rattle.kpn_command_base.specs.StreamRequest.{StreamRequest}
 use Rattle.kpn_stream.specs.Ending.{end_numbers}
 use Rattle.kpn_command_stream.specs.declared.refusal.StreamRefusal.{StreamRefusal}
 use Rattle.kpn_command_stream.specs.declared.refusal.StreamRefusal.TheVariants.{Common, Unnamed, SharedInput, FormatWord}
 use Rattle.kpn_command_stream.specs.Words.{stream_words_of}
-use Rattle.kpn_command_stream.specs.Causes.{AreWordsRefused, IsUnplaced, IsUnplacedBy}
+use Rattle.kpn_command_stream.specs.Causes.{AreWordsRefused, EndWords, IsDeviceRefusal, IsUnplaced, IsUnplacedBy, IsUnstreamed, OfCommon, end_words_of}
+use Rattle.kpn_command_stream.specs.Command.{end_words_in}
+use Rattle.kpn_command_stream.specs.declared.command.Words.{Words}
+use Rattle.kpn_command_base.specs.declared.sources.EndKind.TheVariants.{Sources, Sinks}
+use Rattle.kpn_command_stream.specs.Formats.{SaysFormat}
 
 module _ (may_alias : Aliases) (request : StreamRequest) where
   -- an output may be written over an input or into another output
@@ -27,12 +31,58 @@ module _ (may_alias : Aliases) (request : StreamRequest) where
       made (inr (inr none)) = subst (AreWordsRefused may_alias request) (sym none) tt
 
 -- by the ends that options name
-pub unplaced : (ends : EndKind) (d : Document) (names : List (List ℕ)) (named : List NamedEnd)
+pub unplaced : (ends : EndKind) (d : Document) (names formats : List (List ℕ)) (named : List NamedEnd)
     → ends_named ends d names ≡ Ok (map (λ end. end.number) named) → (r : StreamRefusal)
-    → IsUnplacedBy ends named (length (end_numbers (is_end ends) d.tables)) r → IsUnplaced ends d names r
-unplaced ends d names named numbers (Common refusal.NoMemory) cause = tt
-unplaced ends d names named numbers (Common other) cause = absurd cause
-unplaced ends d names named numbers (Unnamed these name) cause =
+    → IsUnplacedBy ends named (length (end_numbers (is_end ends) d.tables)) formats r
+    → IsUnplaced ends d names formats r
+unplaced ends d names formats named numbers (Common refusal.NoMemory) cause = tt
+unplaced ends d names formats named numbers (Common other) cause = absurd cause
+unplaced ends d names formats named numbers (Unnamed these name) cause =
     (cause.0, record { named = named; numbers = numbers; number = cause.1; none = cause.2 })
-unplaced ends d names named numbers FormatWord cause = tt
-unplaced ends d names named numbers SharedInput cause = absurd cause
+unplaced ends d names formats named numbers FormatWord cause = cause
+unplaced ends d names formats named numbers SharedInput cause = absurd cause
+
+apart : Sources ≡ Sinks → ⊥
+apart same = cc
+
+-- the options that were taken apart are those of the request
+pub are_taken : (words : Words) (request : StreamRequest)
+    → map (λ o. o.name.now) words.sources.items ≡ map name_in request.sources
+    → map (λ o. o.file.now) words.sources.items ≡ map file_in request.sources
+    → map (λ o. o.name.now) words.sinks.items ≡ map name_in request.sinks
+    → map (λ o. o.file.now) words.sinks.items ≡ map file_in request.sinks
+    → end_words_in words request.formats ≡ end_words_of request
+are_taken words request sources inputs sinks outputs = rw (sources, inputs, sinks, outputs) refl
+
+-- so a network is not streamed
+module _ (may_alias may_share : Aliases) (d : Document) (words : EndWords) (formats : List (List ℕ))
+    (same : formats ≡ words.formats) where
+  pub no_sources : (r : StreamRefusal) → IsUnplaced Sources d words.sources formats r
+      → IsUnstreamed may_alias may_share d words r
+  no_sources (Common (refusal.Names fault)) cause = inl cause
+  no_sources (Common refusal.NoMemory) cause = tt
+  no_sources (Common other) cause = absurd cause
+  no_sources (Unnamed Sources name) cause = cause.1
+  no_sources (Unnamed Sinks name) cause = absurd (apart (sym cause.0))
+  no_sources FormatWord cause = λ are. cause (subst (All SaysFormat) (sym same) are.0)
+  no_sources SharedInput cause = absurd cause
+
+  pub no_sinks : (r : StreamRefusal) → IsUnplaced Sinks d words.sinks formats r
+      → IsUnstreamed may_alias may_share d words r
+  no_sinks (Common (refusal.Names fault)) cause = inr cause
+  no_sinks (Common refusal.NoMemory) cause = tt
+  no_sinks (Common other) cause = absurd cause
+  no_sinks (Unnamed Sources name) cause = absurd (apart cause.0)
+  no_sinks (Unnamed Sinks name) cause = cause.1
+  no_sinks FormatWord cause = λ are. cause (subst (All SaysFormat) (sym same) are.0)
+  no_sinks SharedInput cause = absurd cause
+
+-- a device is not ready
+pub no_device : (may_alias may_share : Aliases) (d : Document) (words : EndWords) (r : StreamRefusal)
+    → OfCommon IsDeviceRefusal r → IsUnstreamed may_alias may_share d words r
+no_device may_alias may_share d words (Common (refusal.Names fault)) cause = absurd cause
+no_device may_alias may_share d words (Common refusal.SinkWord) cause = absurd cause
+no_device may_alias may_share d words (Common other) cause = cause
+no_device may_alias may_share d words (Unnamed ends name) cause = absurd cause
+no_device may_alias may_share d words FormatWord cause = absurd cause
+no_device may_alias may_share d words SharedInput cause = absurd cause

@@ -1,15 +1,22 @@
 -- The words behind `--format`, one more at a time, and as the request has them.
-use Rattle.std.proofs.Common.{◌≡◌, ◌≢◌, ◌<◌, ◌+◌, ℕ, List, Bor, All, [], ◌∷◌, ◌++◌, map, length, length-append, get_or, take, sym, subst, ap, ◌∙◌, Some, inl, inr, arith}
+use Rattle.std.proofs.Common.{◌≡◌, ◌≢◌, ◌<◌, ◌+◌, ℕ, suc, List, Bor, All, [], ◌∷◌, ◌++◌, map, length, length-append, length-take, get_or, take, refl, sym, subst, ap, ◌∙◌, Option, Some, None, inl, inr, arith}
+use Rattle.std.specs.Prelude.{Bool, true, false, ◌&&◌, if◌then◌else◌, IfSome, codes, unwrap_or}
+use Rattle.std.specs.Option.{option_or}
+use Rattle.std.specs.Str.{bytes_eq}
 use Rattle.std.proofs.lemmas.Bool.{cases_lt}
 use Rattle.std.specs.List.{AllPairs}
-use Rattle.std.proofs.lemmas.List.{get_or-map, get_or_append_left, get_or_at, length-map, map-append, take_more}
+use Rattle.std.proofs.lemmas.List.{get_or-map, get_or-take, get_or_append_left, get_or_at, get_or_default, length-map, map-append, take_more}
 use Rattle.std.proofs.lemmas.List.Elements.{All-map, All-push}
 use Rattle.std.proofs.lemmas.List.Quantifiers.{all_pairs_push}
 use Rattle.kpn_text.specs.Document.{Document}
 use Rattle.kpn_command_base.specs.declared.sources.NamedEnd.{NamedEnd}
 use Rattle.kpn_command_stream.specs.declared.places.EndPlace.{EndPlace}
 use Rattle.kpn_command_stream.specs.EndPlaces.{ArePlaced, HasFormat, name_for}
-use Rattle.kpn_command_stream.specs.Formats.{AreForEnds, IsForEnd, format_end}
+use Rattle.kpn_command_base.specs.Sources.{name_in, file_in}
+use Rattle.kpn_stream_devices.specs.Formats.{IsNoFormat, NamesFormat}
+use Rattle.kpn_stream_devices.specs.declared.formats.ItemFormat.{ItemFormat}
+use Rattle.kpn_stream_devices.specs.declared.formats.ItemFormat.TheVariants.{Lines}
+use Rattle.kpn_command_stream.specs.Formats.{AreForEnds, IsForEnd, SaysFormat, common_format, first_that, format_end, format_word, has_equals, named_format}
 
 -- one more word is for other ends than those before it
 pub pair_more : (R : Bor (List ℕ) → Bor (List ℕ) → Type 0) (words : List (Bor (List ℕ))) (i : ℕ) (word : Bor (List ℕ))
@@ -29,6 +36,21 @@ pairs_map R f (x ∷ xs) apart i j d first within =
     subst (λ y. R y (get_or (map f (x ∷ xs)) j d)) (sym (get_or-map f (x ∷ xs) i x d earlier))
     (subst (λ y. R (f (get_or (x ∷ xs) i x)) y) (sym (get_or-map f (x ∷ xs) j x d below)) (apart i j x first below))
 
+pub pairs_unmap : {X Y : Type 0} (R : Y → Y → Type 0) (f : X → Y) (xs : List X) → AllPairs R (map f xs)
+    → AllPairs (λ x later. R (f x) (f later)) xs
+pairs_unmap R f xs apart i j d first within =
+    subst (λ y. R y (f (get_or xs j d))) (get_or-map f xs i d (f d) (omega (arith, first, within)))
+    (subst (λ y. R (get_or (map f xs) i (f d)) y) (get_or-map f xs j d (f d) within)
+    (apart i j (f d) first (omega (arith, within, length-map xs f))))
+
+-- what holds of each two holds of one and of all before it
+pub pairs_first : {X : Type 0} (R : X → X → Type 0) (xs : List X) (i : ℕ) (x : X) → i < length xs → AllPairs R xs
+    → All (λ before. R before (get_or xs i x)) (take i xs)
+pairs_first R xs i x below apart k d within =
+    let first : k < i = omega (arith, within, length-take i xs) in
+    subst (λ y. R y (get_or xs i x))
+    (get_or_default xs k x d (omega (arith, first, below)) ∙ sym (get_or-take i xs k d first)) (apart k i x first below)
+
 -- what holds of the bytes of all words holds of the words
 pub All-unmap : {X Y : Type 0} (P : Y → Type 0) (f : X → Y) (xs : List X) → All P (map f xs) → All (λ x. P (f x)) xs
 All-unmap P f xs all k d below =
@@ -42,6 +64,52 @@ for_ends d words ends apart = record {
   ends = All-map (IsForEnd d) (λ word. word.now) words ends;
   apart = pairs_map (λ word later. format_end word ≢ format_end later) (λ word. word.now) words apart;
 }
+
+-- ---- if all words say formats, so does the word for each end
+
+abbrev Named : List ℕ → Type 0
+Named word = (format : ItemFormat) × NamesFormat word format
+
+first_says : (says : List ℕ → Option (List ℕ)) → ((word : List ℕ) → SaysFormat word → IfSome (says word) Named)
+    → (words : List (List ℕ)) → All SaysFormat words → IfSome (first_that says words) Named
+first_says says each [] all = tt
+first_says says each (word ∷ words) all =
+    step (says word) (each word (all 0 [] (omega arith)))
+    (first_says says each words (λ k d within. all (suc k) d (omega (arith, within))))
+  where
+    step : (said : Option (List ℕ)) → IfSome said Named → IfSome (first_that says words) Named
+        → IfSome (option_or said (first_that says words)) Named
+    step None first rest = rest
+    step (Some format) first rest = first
+
+named_by : (has is : Bool) (file word : List ℕ) → Named (if has then file else word)
+    → IfSome (if has && is then Some file else None) Named
+named_by true true file word says = says
+named_by true false file word says = tt
+named_by false is file word says = tt
+
+common_by : (has : Bool) (file word : List ℕ) → Named (if has then file else word)
+    → IfSome (if has then None else Some word) Named
+common_by true file word says = tt
+common_by false file word says = says
+
+or_else : (said : Option (List ℕ)) (usual : List ℕ) → IfSome said Named → Named usual → Named (unwrap_or said usual)
+or_else None usual says other = other
+or_else (Some format) usual says other = says
+
+says_word : (words : List (List ℕ)) (name : List ℕ) → All SaysFormat words
+    → (format : ItemFormat) × NamesFormat (format_word words name) format
+says_word words name all =
+    or_else (first_that (λ word. named_format word name) words)
+    (unwrap_or (first_that common_format words) (codes "lines"))
+    (first_says (λ word. named_format word name)
+    (λ word says. named_by (has_equals word) (bytes_eq (name_in word) name) (file_in word) word says) words all)
+    (or_else (first_that common_format words) (codes "lines")
+    (first_says common_format (λ word says. common_by (has_equals word) (file_in word) word says) words all)
+    (Lines, inl refl))
+
+pub says_none : (words : List (List ℕ)) (name : List ℕ) → IsNoFormat (format_word words name) → ¬ All SaysFormat words
+says_none words name none all = let said = says_word words name all in none said.0 said.1
 
 -- one more end has its place
 pub placed_more : (d : Document) (named : List NamedEnd) (words : List (List ℕ)) (ends : List ℕ) (number : ℕ)

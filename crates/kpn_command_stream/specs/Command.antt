@@ -1,21 +1,23 @@
 -- What `kpn stream` does.
-use Rattle.std.specs.Prelude.{◌≡◌, ◌≢◌, ℕ, ◌-◌, ◌≤◌, ◌^◌, Bool, List, [], ◌∷◌, ◌++◌, map, All, Option, Some, None}
-use Rattle.std.specs.Prelude.{⊤, unwrap_or, IfSome, Result, Ok, Err}
+use Rattle.std.specs.Prelude.{◌≡◌, ◌≢◌, ℕ, ◌-◌, ◌≤◌, ◌^◌, Bool, true, false, List, [], ◌∷◌, ◌++◌, map, All, Option, Some, None}
+use Rattle.std.specs.Prelude.{⊤, unwrap_or, IfOk, IfSome, Result, Ok, Err}
 use Rattle.std.specs.List.{AllZip}
+use Rattle.std.specs.Global.{Vec}
 use Rattle.kpn_net.specs.Tables.{Tables}
 use Rattle.kpn_text.specs.Document.{Document}
 use Rattle.kpn_trace.specs.TraceText.{trace_text}
 use Rattle.kpn_history.specs.declared.stored.Version.TheVariants as version
 use Rattle.kpn_book.specs.Book.{Book}
 use Rattle.kpn_book.specs.Kept.{IsBook}
+use Rattle.kpn_book.specs.Remembering.{Remembers}
+use Rattle.kpn_history.specs.declared.keeping.Keeping.{Keeping}
+use Rattle.kpn_history.specs.declared.keeping.Keeping.TheVariants as keeping
 use Rattle.kpn_book.specs.declared.outcome.Limits.{Limits}
 use Rattle.kpn_command_base.specs.StreamRequest.{StreamRequest}
 use Rattle.kpn_command_base.specs.declared.refusal.Refusal.{Refusal}
 use Rattle.kpn_command_base.specs.Stored.{Stores}
 use Rattle.kpn_shelf.specs.Shelf.{Loads, Aliases}
-use Rattle.kpn_command_base.specs.declared.sources.EndKind.TheVariants.{Sources, Sinks}
 use Rattle.kpn_command_base.specs.Description.{IsDescribed}
-use Rattle.kpn_command_base.specs.Sources.{name_in, file_in}
 use Rattle.kpn_stream.specs.declared.faults.SinkFault.{SinkFault}
 use Rattle.kpn_stream.specs.declared.faults.SinkFault.TheVariants.{Gone}
 use Rattle.kpn_stream.specs.declared.ending.StreamEnding.{StreamEnding}
@@ -36,20 +38,22 @@ use Rattle.kpn_command_stream.specs.declared.command.Words.{Words}
 use Rattle.kpn_command_stream.specs.declared.ending.Over.{Over}
 use Rattle.kpn_command_stream.specs.declared.running.Lost.{Lost}
 use Rattle.kpn_command_stream.specs.declared.refusal.StreamRefusal.{StreamRefusal}
-use Rattle.kpn_command_stream.specs.Refusal.{refusal_status, ending_fault, lost_fault, trace_fault}
+use Rattle.kpn_command_base.specs.Told.{IsLineTold}
+use Rattle.kpn_command_stream.specs.Refusal.{refusal_status, refusal_text, ending_fault, lost_fault, trace_fault}
 use Rattle.kpn_command_stream.specs.Refusal.{summary_fault, first_status}
-use Rattle.kpn_command_stream.specs.Formats.{AreForEnds, SaysFormat}
-use Rattle.kpn_command_stream.specs.EndPlaces.{standard, ArePlacesOfEnds, HaveOwnInputs}
-use Rattle.kpn_command_stream.specs.Words.{AreStreamOutputsApart}
-use Rattle.kpn_command_stream.specs.Causes.{IsUnbegun}
-use Rattle.kpn_command_stream.specs.Summary.{stream_status}
+use Rattle.kpn_command_stream.specs.Formats.{AreForEnds}
+use Rattle.kpn_command_stream.specs.EndPlaces.{standard, HaveOwnInputs}
+use Rattle.kpn_command_stream.specs.Causes.{AreSinkPlaces, AreSourcePlaces, AreWordsRight, EndWords, IsUnbegun, end_words_of}
+use Rattle.kpn_command_stream.specs.declared.summary.SinkEnd.{SinkEnd}
+use Rattle.kpn_command_stream.specs.Summary.{stream_status, stream_summary_text}
 use Rattle.kpn_command_stream.specs.Ending.{IsOver}
 
 -- ---- what is known of devices
 
--- which two names are those of two inputs, and by which names files were opened
+-- which two names are those of two inputs, which may be those of one, and by which names files were opened
 pub record DeviceNames (S F G : Type 0) : Type 1 where
   pub are_two_inputs : S → List ℕ → List ℕ → Type 0
+  pub may_share : S → Aliases
   pub comes_from : F → List ℕ
   pub goes_to : G → List ℕ
 
@@ -60,10 +64,10 @@ pub record KnownOfDevices (I F O G : Type 0) : Type 0 where
   pub holds : O → Option (List ℕ)
   pub holds_in : G → Option (List ℕ)
 
-abbrev pub names_of : {S F G : Type 0} → (S → List ℕ → List ℕ → Type 0) → (F → List ℕ) → (G → List ℕ)
-    → DeviceNames S F G
-names_of are_two_inputs comes_from goes_to =
-    record { are_two_inputs = are_two_inputs; comes_from = comes_from; goes_to = goes_to }
+abbrev pub names_of : {S F G : Type 0} → (S → List ℕ → List ℕ → Type 0) → (S → Aliases) → (F → List ℕ)
+    → (G → List ℕ) → DeviceNames S F G
+names_of are_two_inputs may_share comes_from goes_to =
+    record { are_two_inputs = are_two_inputs; may_share = may_share; comes_from = comes_from; goes_to = goes_to }
 
 abbrev pub known_of : {I F O G : Type 0} → (I → Option (List ℕ)) → (F → Option (List ℕ)) → (O → Option (List ℕ))
     → (G → Option (List ℕ)) → KnownOfDevices I F O G
@@ -125,6 +129,11 @@ stream_limits_of request = record {
   take = request.take;
   quota = 1000;
 }
+
+-- only a trace reads what has happened
+abbrev pub keeping_for : (trace : Option (List ℕ)) → Keeping
+keeping_for (Some name) = keeping.All
+keeping_for None = keeping.Nothing
 
 -- what is lost if the output of sink c answers so at the end: nothing if nobody reads it
 abbrev pub losses : (c : ℕ) → Result (Unit {0}) SinkFault → List Lost
@@ -218,42 +227,59 @@ IsTraceKept may_give (Some name) t over shelf kept stored =
 -- The status at the end: that of the first fault that is told. They are told in this order: what has ended the stream,
 -- what outputs have lost, the trace that could not be stored, the summary if there was no memory for it. Without a
 -- fault it is that of the stream.
+abbrev pub end_fault : StreamEnding → List Lost → (stored : Result (Unit {0}) Refusal) → (is_told : Bool) → Option ℕ
+end_fault ending lost stored is_told =
+    first_status (first_status (ending_fault ending) (lost_fault lost))
+    (first_status (trace_fault stored) (summary_fault is_told))
+
 abbrev pub end_status : StreamEnding → List Lost → (stored : Result (Unit {0}) Refusal) → (is_told : Bool) → Over → ℕ
 end_status ending lost stored is_told over =
-    unwrap_or
-    (first_status (first_status (ending_fault ending) (lost_fault lost))
-    (first_status (trace_fault stored) (summary_fault is_told)))
+    unwrap_or (end_fault ending lost stored is_told)
     (stream_status over.sinks.items over.states over.rings over.outcome)
+
+-- the summary of what a stream has come to, with what is told of its sinks
+abbrev pub summary_with : Document → Over → List SinkEnd → List ℕ
+summary_with d over sinks = stream_summary_text d sinks over.states over.rings over.outcome
+
+-- the place for faults gets the summary, as far as it takes it; or nothing of a stream that is to be quiet
+abbrev pub IsSummaryTold : {E : Type 0} → (tells : E → Option (List ℕ)) (quiet : Bool) (summary : List ℕ)
+    → (err told : E) → Type 0
+IsSummaryTold tells true summary err told = told ≡ err
+IsSummaryTold tells false summary err told = IsLineTold (tells err) (tells told) summary
+
+-- the same if no fault is told, and no tables
+abbrev pub IsEndTold : {E : Type 0} → (tells : E → Option (List ℕ)) → StreamRequest → (fault : Option ℕ)
+    (summary : List ℕ) (err told : E) → Type 0
+IsEndTold tells request fault summary err told =
+    fault ≡ None → request.stats ≡ false → IsSummaryTold tells request.quiet summary err told
 
 -- A stream that has ended: what is told of it, its trace, and the status; or there was no memory for what is told, and
 -- no trace is stored.
-pub data IsStreamConcluded {S : Type 0} (may_give : S → Loads) (request : StreamRequest) (t : Tables)
-    (ending : StreamEnding)
-    (b : Book) (lost : List Lost) (shelf kept : S) (status : ℕ) : Type 0 where
-  told : (over : Over) → IsOver (stream_limits_of request) request.stats ending b over →
+pub data IsStreamConcluded {S E : Type 0} (may_give : S → Loads) (tells : E → Option (List ℕ))
+    (request : StreamRequest) (d : Document) (ending : StreamEnding) (b : Book) (lost : List Lost) (shelf kept : S)
+    (err told : E) (status : ℕ) : Type 0 where
+  with_end : (over : Over) → IsOver (stream_limits_of request) request.stats ending b over →
       (stored : Result (Unit {0}) Refusal) →
-      IsTraceKept may_give request.trace t over shelf kept stored → (is_told : Bool) →
+      IsTraceKept may_give request.trace d.tables over shelf kept stored → (is_told : Bool) →
+      IsEndTold tells request (end_fault ending lost stored is_told) (summary_with d over over.sinks.items) err told →
       status ≡ end_status ending lost stored is_told over →
-      IsStreamConcluded may_give request t ending b lost shelf kept status
-  untold : kept ≡ shelf → status ≡ unwrap_or (first_status (ending_fault ending) (lost_fault lost)) 6 →
-      IsStreamConcluded may_give request t ending b lost shelf kept status
+      IsStreamConcluded may_give tells request d ending b lost shelf kept err told status
+  without_end : kept ≡ shelf → status ≡ unwrap_or (first_status (ending_fault ending) (lost_fault lost)) 6 →
+      IsStreamConcluded may_give tells request d ending b lost shelf kept err told status
 
 -- ---- the whole
 
 -- each source has the input that is asked for, and each sink the output, and their items are written so
 pub record AreAskedFor (request : StreamRequest) (d : Document) (places : EndPlaces) : Type 0 where
-  pub sources : ArePlacesOfEnds Sources d (map name_in request.sources) (map file_in request.sources) request.formats
-      places.sources.items
-  pub sinks : ArePlacesOfEnds Sinks d (map name_in request.sinks) (map file_in request.sinks) request.formats
-      places.sinks.items
+  pub sources : AreSourcePlaces d (end_words_of request) places.sources.items
+  pub sinks : AreSinkPlaces d (end_words_of request) places.sinks.items
   pub formats : AreForEnds d request.formats
 
--- A stream of this network. Given are the shelf, standard input and standard output, each as it was and as it is
--- afterwards.
-pub record IsStreamedOf {S I F O G : Type 0} (may_give : S → Loads) (names : DeviceNames S F G)
-    (known : KnownOfDevices I F O G)
-    (request : StreamRequest)
-    (d : Document) (shelf kept : S) (input read : I) (out written : O) (status : ℕ) : Type 0 where
+-- A stream of this network. Given are the shelf, standard input and output, and the place for faults, each as it was and
+-- as it is afterwards.
+pub record IsStreamedOf {S I F O G E : Type 0} (may_give : S → Loads) (names : DeviceNames S F G)
+    (known : KnownOfDevices I F O G) (tells : E → Option (List ℕ)) (request : StreamRequest) (d : Document)
+    (shelf kept : S) (input read : I) (out written : O) (err told : E) (status : ℕ) : Type 0 where
   pub places : EndPlaces
   pub asked_for : AreAskedFor request d places
   pub own_inputs : HaveOwnInputs (names.are_two_inputs shelf) places.sources.items
@@ -261,19 +287,18 @@ pub record IsStreamedOf {S I F O G : Type 0} (may_give : S → Loads) (names : D
   pub book : Book
   pub lost : List Lost
   pub ran : RanAt (may_give shelf) names known request d.tables places input read out written ending book lost
-  pub concluded : IsStreamConcluded may_give request d.tables ending book lost shelf kept status
+  pub remembers : Remembers (keeping_for request.trace) book
+  pub concluded : IsStreamConcluded may_give tells request d ending book lost shelf kept err told status
 
 -- A stream of what is asked for.
-pub record IsStreamed {S I F O G : Type 0} (may_give : S → Loads) (names : DeviceNames S F G)
-    (known : KnownOfDevices I F O G)
-    (request : StreamRequest)
-    (shelf kept : S) (input read : I) (out written : O) (status : ℕ) : Type 0 where
+pub record IsStreamed {S I F O G E : Type 0} (may_give : S → Loads) (names : DeviceNames S F G)
+    (known : KnownOfDevices I F O G) (tells : E → Option (List ℕ)) (request : StreamRequest) (shelf kept : S)
+    (input read : I) (out written : O) (err told : E) (status : ℕ) : Type 0 where
   pub document : Document
   pub described : IsDescribed (may_give shelf) request.file document
-  pub apart : AreStreamOutputsApart request
-  pub trace : IfSome request.trace (λ name. name ≢ standard)
-  pub formats : All SaysFormat request.formats
-  pub streamed : IsStreamedOf may_give names known request document shelf kept input read out written status
+  pub words : AreWordsRight request
+  pub streamed : IsStreamedOf may_give names known tells request document shelf kept input read out written err told
+      status
 
 -- nothing was begun: the shelf, standard input and standard output are as they were
 pub record NothingBegun {S I O : Type 0} (shelf kept : S) (input read : I) (out written : O) : Type 0 where
@@ -281,19 +306,39 @@ pub record NothingBegun {S I O : Type 0} (shelf kept : S) (input read : I) (out 
   pub same_input : read ≡ input
   pub same_output : written ≡ out
 
--- A stream; or nothing is begun for a cause that holds, and the refusal gives the status.
-pub data Streams {S I F O G : Type 0} (may_give : S → Loads) (may_alias : S → Aliases) (names : DeviceNames S F G)
-    (known : KnownOfDevices I F O G) (request : StreamRequest) (shelf kept : S) (input read : I) (out written : O)
-    (status : ℕ)
-    : Type 0 where
-  streamed : IsStreamed may_give names known request shelf kept input read out written status →
-      Streams may_give may_alias names known request shelf kept input read out written status
-  refused : (refusal : StreamRefusal) → IsUnbegun (may_give shelf) (may_alias shelf) request refusal →
+-- A stream; or nothing is begun for a cause that holds, the place for faults gets the line of the refusal, and this
+-- gives the status.
+pub data Streams {S I F O G E : Type 0} (may_give : S → Loads) (may_alias : S → Aliases) (names : DeviceNames S F G)
+    (known : KnownOfDevices I F O G) (tells : E → Option (List ℕ)) (request : StreamRequest) (shelf kept : S)
+    (input read : I) (out written : O) (err told : E) (status : ℕ) : Type 0 where
+  streamed : IsStreamed may_give names known tells request shelf kept input read out written err told status →
+      Streams may_give may_alias names known tells request shelf kept input read out written err told status
+  refused : (refusal : StreamRefusal) →
+      IsUnbegun (may_give shelf) (may_alias shelf) (names.may_share shelf) request refusal →
       NothingBegun shelf kept input read out written →
+      IsLineTold (tells err) (tells told) (refusal_text refusal ++ 10 ∷ []) →
       status ≡ refusal_status refusal →
-      Streams may_give may_alias names known request shelf kept input read out written status
+      Streams may_give may_alias names known tells request shelf kept input read out written err told status
 
 -- ---- scaffolding
+
+-- the same by what is told of the sinks, if there was memory for that
+abbrev pub IsSummaryMade : {E X : Type 0} → (tells : E → Option (List ℕ)) (quiet : Bool)
+    → Result (Vec SinkEnd) X → (summary : List SinkEnd → List ℕ) (err told : E) → Type 0
+IsSummaryMade tells true ends summary err told = told ≡ err
+IsSummaryMade tells false (Ok ends) summary err told = IsLineTold (tells err) (tells told) (summary ends.items)
+IsSummaryMade tells false (Err none) summary err told = ⊥
+
+-- the summary with these ends, if there was memory for both
+abbrev pub IsSummaryOf : {T X : Type 0} → (bytes : T → List ℕ) (summary : List SinkEnd → List ℕ) → Result (Vec SinkEnd) X
+    → Result T X → Type 0
+IsSummaryOf bytes summary (Ok ends) made = IfOk made (λ text. bytes text ≡ summary ends.items)
+IsSummaryOf bytes summary (Err none) made = IfOk made (λ text. ⊥)
+
+-- a text is told, if there was memory for it
+abbrev pub IsTextTold : {T X : Type 0} → (bytes : T → List ℕ) → Result T X → (before after : Option (List ℕ)) → Type 0
+IsTextTold bytes (Ok text) before after = IsLineTold before after (bytes text)
+IsTextTold bytes (Err none) before after = ⊥
 
 -- a file stays the one of its name
 abbrev pub KeepsName : {G : Type 0} → (goes_to : G → List ℕ) → (before after : Option G) → Type 0
@@ -301,10 +346,17 @@ KeepsName goes_to None None = ⊤
 KeepsName goes_to (Some file) (Some after) = goes_to after ≡ goes_to file
 KeepsName goes_to before after = ⊥
 
+-- the same options by the words taken apart
+abbrev pub end_words_in : Words → (formats : List (List ℕ)) → EndWords
+end_words_in words formats = record {
+  sources = map (λ o. o.name.now) words.sources.items;
+  inputs = map (λ o. o.file.now) words.sources.items;
+  sinks = map (λ o. o.name.now) words.sinks.items;
+  outputs = map (λ o. o.file.now) words.sinks.items;
+  formats = formats;
+}
+
 -- these are the words of the request, taken apart
 pub record AreWordsOf (request : StreamRequest) (words : Words) : Type 0 where
-  pub source_names : map (λ o. o.name.now) words.sources.items ≡ map name_in request.sources
-  pub source_files : map (λ o. o.file.now) words.sources.items ≡ map file_in request.sources
-  pub sink_names : map (λ o. o.name.now) words.sinks.items ≡ map name_in request.sinks
-  pub sink_files : map (λ o. o.file.now) words.sinks.items ≡ map file_in request.sinks
+  pub ends : end_words_in words request.formats ≡ end_words_of request
   pub trace : IfSome request.trace (λ name. name ≢ standard)

@@ -45,6 +45,10 @@ abbrev pub HaveOwnInputs : (are_two_inputs : List ℕ → List ℕ → Type 0) �
 HaveOwnInputs are_two_inputs places =
     AllPairs (λ (earlier later : EndPlace). are_two_inputs earlier.name.now later.name.now) places
 
+-- of some two of these places, the inputs may be one
+abbrev pub ShareAnInput : (may_share : List ℕ → List ℕ → Type 0) → List EndPlace → Type 0
+ShareAnInput may_share places = ¬ HaveOwnInputs (λ name other. ¬ may_share name other) places
+
 -- ---- scaffolding
 
 -- the places of the first ends, as many as this number says

@@ -1,7 +1,10 @@
 -- The status of the program if a stream is not begun, or if something has failed at its end.
-use Rattle.std.specs.Prelude.{ℕ, Bool, true, false, List, [], ◌∷◌, Option, Some, None, Result, Ok, Err}
+use Rattle.std.specs.Prelude.{ℕ, Bool, true, false, List, [], ◌∷◌, ◌++◌, codes, Option, Some, None, Result, Ok, Err}
+use Rattle.std.specs.String.{string_bytes}
 use Rattle.kpn_command_base.specs.declared.refusal.Refusal.{Refusal}
-use Rattle.kpn_command_base.specs.Refusal.{status_of}
+use Rattle.kpn_command_base.specs.Refusal.{refusal_line, status_of}
+use Rattle.kpn_command_base.specs.declared.sources.EndKind.{EndKind}
+use Rattle.kpn_command_base.specs.declared.sources.EndKind.TheVariants.{Sources, Sinks}
 use Rattle.kpn_stream.specs.declared.ending.StreamEnding.{StreamEnding}
 use Rattle.kpn_stream.specs.declared.ending.StreamEnding.TheVariants as ending
 use Rattle.kpn_stream.specs.declared.faults.SourceFault.{SourceFault}
@@ -18,6 +21,27 @@ refusal_status (Common refusal) = status_of refusal
 refusal_status (Unnamed ends name) = 2
 refusal_status SharedInput = 2
 refusal_status FormatWord = 2
+
+-- which option is missing: what stands before and after the name of the end
+abbrev pub option_start : EndKind → List ℕ
+option_start Sources = codes "kpn: usage: --source "
+option_start Sinks = codes "kpn: usage: --sink "
+
+abbrev pub option_end : EndKind → List ℕ
+option_end Sources = codes "=IN"
+option_end Sinks = codes "=OUT"
+
+abbrev pub unnamed_text : EndKind → (name : List ℕ) → List ℕ
+unnamed_text ends name = (option_start ends ++ name) ++ option_end ends
+
+-- the line that reports a refusal, without its line feed
+abbrev pub refusal_text : StreamRefusal → List ℕ
+refusal_text (Common refusal) = refusal_line refusal
+refusal_text (Unnamed ends name) = unnamed_text ends (string_bytes name)
+refusal_text SharedInput = codes "kpn: usage: --source NAME=IN, a plain file if two sources have it"
+refusal_text FormatWord =
+    codes "kpn: usage: --format FORMAT and --format NAME=FORMAT, once for each source and sink: "
+    ++ codes "lines, u8, s8, s16le, s24le, s32le, s64le, f32le, f32le:POWER, wav, wav16 or wav24"
 
 -- 6 for want of memory, else 1
 abbrev pub source_status : SourceFault → ℕ

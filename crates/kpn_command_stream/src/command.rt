@@ -1,14 +1,13 @@
 //! The command: it opens the inputs and the outputs, runs the network over them, and concludes.
 ghost use Rattle.std.specs.Prelude.{◌≡◌, ◌≢◌, true, false, not, map, option_map, Some, IfOk, IfErr, IfSome, OnErr, OnOk};
 ghost use Rattle.std.specs.List.{filter};
-ghost use Rattle.kpn_command_base.specs.declared.sources.EndKind.TheVariants as ends;
 ghost use Rattle.kpn_command_base.specs.Sources.{name_in, file_in};
 ghost use Rattle.kpn_command_base.specs.SourceRefusals.{IsRefusalOfWords};
 ghost use Rattle.kpn_command_stream.specs.Formats.{AreForEnds};
-ghost use Rattle.kpn_command_stream.specs.EndPlaces.{ArePlacesOfEnds, HaveOwnInputs, standard};
+ghost use Rattle.kpn_command_stream.specs.EndPlaces.{HaveOwnInputs, standard};
 ghost use Rattle.kpn_command_stream.specs.Words.{AreStreamOutputsApart, names_standard};
-ghost use Rattle.kpn_command_stream.specs.Causes.{AreWordsRefused, IsDeviceRefusal, IsUnbegun, IsUnstreamed};
-ghost use Rattle.kpn_command_stream.specs.Command.{AreWordsOf, IsStreamed, IsStreamedOf, NothingBegun, Streams, known_of, names_of};
+ghost use Rattle.kpn_command_stream.specs.Causes.{AreSinkPlaces, AreSourcePlaces, AreWordsRefused, IsDeviceRefusal, IsUnbegun, IsUnstreamed, end_words_of};
+ghost use Rattle.kpn_command_stream.specs.Command.{AreWordsOf, IsStreamed, IsStreamedOf, NothingBegun, Streams, end_words_in, known_of, names_of};
 
 use crate::concluding::conclude;
 use crate::formats::{are_for_ends, are_formats};
@@ -35,9 +34,11 @@ pub fn stream_command<S: Shelf + Ports, I: NonblockingRead, O: Write, E: Write>(
     err: &mut E,
     unsaid: &mut Vec<u8>,
 ) -> u8
-    ensures { Streams S.may_give S.may_alias (names_of S.are_two_inputs S.comes_from S.goes_to)
-        (known_of I.remaining S.Input.remaining O.contents S.Output.contents) request.now
-        shelf.old shelf.new input.old input.new out.old out.new result }
+    ensures { Streams S.may_give S.may_alias
+        (names_of S.are_two_inputs S.may_share S.comes_from S.goes_to)
+        (known_of I.remaining S.Input.remaining O.contents S.Output.contents) E.contents
+        request.now shelf.old shelf.new input.old input.new out.old out.new
+        err.old err.new result }
 {
     match carry_out(alloc, request, shelf, input, out, err, unsaid) {
         Ok(status) => status,
@@ -55,13 +56,15 @@ fn carry_out<S: Shelf + Ports, I: NonblockingRead, O: Write, E: Write>(
     err: &mut E,
     unsaid: &mut Vec<u8>,
 ) -> Result<u8, StreamRefusal>
-    ensures streamed { IfOk result (IsStreamed S.may_give (names_of S.are_two_inputs S.comes_from S.goes_to)
-        (known_of I.remaining S.Input.remaining O.contents S.Output.contents) request.now
-        shelf.old shelf.new input.old input.new out.old out.new) }
+    ensures streamed { IfOk result (IsStreamed S.may_give
+        (names_of S.are_two_inputs S.may_share S.comes_from S.goes_to)
+        (known_of I.remaining S.Input.remaining O.contents S.Output.contents) E.contents
+        request.now shelf.old shelf.new input.old input.new out.old out.new err.old err.new) }
     ensures refused { OnErr result
         (NothingBegun shelf.old shelf.new input.old input.new out.old out.new) }
-    ensures cause { IfErr result
-        (IsUnbegun (S.may_give shelf.old) (S.may_alias shelf.old) request.now) }
+    ensures untold { OnErr result (err.new ≡ err.old) }
+    ensures cause { IfErr result (IsUnbegun (S.may_give shelf.old) (S.may_alias shelf.old)
+        (S.may_share shelf.old) request.now) }
 {
     if !are_formats(&request.formats) {
         return Err(StreamRefusal::FormatWord);
@@ -87,13 +90,16 @@ fn stream_document<S: Shelf + Ports, I: NonblockingRead, O: Write, E: Write>(
     unsaid: &mut Vec<u8>,
 ) -> Result<u8, StreamRefusal>
     requires { AreWordsOf request.now words.now }
-    ensures streamed { IfOk result (IsStreamedOf S.may_give (names_of S.are_two_inputs S.comes_from S.goes_to)
-        (known_of I.remaining S.Input.remaining O.contents S.Output.contents) request.now
-        document.now shelf.old shelf.new input.old input.new out.old out.new) }
+    ensures streamed { IfOk result (IsStreamedOf S.may_give
+        (names_of S.are_two_inputs S.may_share S.comes_from S.goes_to)
+        (known_of I.remaining S.Input.remaining O.contents S.Output.contents) E.contents
+        request.now document.now shelf.old shelf.new input.old input.new out.old out.new
+        err.old err.new) }
     ensures refused { OnErr result
         (NothingBegun shelf.old shelf.new input.old input.new out.old out.new) }
-    ensures cause { IfErr result (IsUnstreamed (S.may_alias shelf.old) document.now
-        (map name_in request.now.sources) (map name_in request.now.sinks)) }
+    ensures untold { OnErr result (err.new ≡ err.old) }
+    ensures cause { IfErr result (IsUnstreamed (S.may_alias shelf.old) (S.may_share shelf.old)
+        document.now (end_words_of request.now)) }
 {
     let places = places_for(alloc, document, request, words, shelf)?;
     make_ready(shelf, request.trace)?;
@@ -208,19 +214,15 @@ fn places_for<'a, S: Shelf + Ports>(
     words: &Words<'a>,
     shelf: &S,
 ) -> Result<EndPlaces<'a>, StreamRefusal>
-    ensures sources { IfOk result (λ places. ArePlacesOfEnds ends.Sources document.now
-        (map (λ o. o.name.now) words.now.sources.items)
-        (map (λ o. o.file.now) words.now.sources.items) request.now.formats
-        places.sources.items) }
-    ensures sinks { IfOk result (λ places. ArePlacesOfEnds ends.Sinks document.now
-        (map (λ o. o.name.now) words.now.sinks.items)
-        (map (λ o. o.file.now) words.now.sinks.items) request.now.formats places.sinks.items) }
+    ensures sources { IfOk result (λ places. AreSourcePlaces document.now
+        (end_words_in words.now request.now.formats) places.sources.items) }
+    ensures sinks { IfOk result (λ places. AreSinkPlaces document.now
+        (end_words_in words.now request.now.formats) places.sinks.items) }
     ensures own_inputs { IfOk result (λ places.
         HaveOwnInputs (S.are_two_inputs shelf.now) places.sources.items) }
     ensures formats { IfOk result (λ _. AreForEnds document.now request.now.formats) }
-    ensures cause { IfErr result (IsUnstreamed (S.may_alias shelf.now) document.now
-        (map (λ o. o.name.now) words.now.sources.items)
-        (map (λ o. o.name.now) words.now.sinks.items)) }
+    ensures cause { IfErr result (IsUnstreamed (S.may_alias shelf.now) (S.may_share shelf.now)
+        document.now (end_words_in words.now request.now.formats)) }
 {
     let formats = &request.formats;
     let sources = places_of(alloc, document, EndKind::Sources, &words.sources, formats)?;

@@ -1,7 +1,8 @@
 //! The end of a stream: what is told of it, its trace, and the status.
-ghost use Rattle.std.specs.Prelude.{◌≡◌, Bool, unwrap_or, Result as Answer};
+ghost use Rattle.std.specs.Prelude.{◌≡◌, Bool, true, false, [], None, IfOk, unwrap_or, Result as Answer};
+ghost use Rattle.std.specs.String.{string_bytes};
 ghost use Rattle.kpn_command_base.specs.declared.refusal.Refusal.{Refusal as Cause};
-ghost use Rattle.kpn_command_stream.specs.Command.{IsStreamConcluded, IsTraceKept, end_status};
+ghost use Rattle.kpn_command_stream.specs.Command.{IsEndTold, IsStreamConcluded, IsSummaryMade, IsSummaryOf, IsTextTold, IsTraceKept, end_fault, end_status, summary_with};
 ghost use Rattle.kpn_command_stream.specs.Summary.{stream_status};
 ghost use Rattle.kpn_command_stream.specs.Refusal.{ending_fault, first_status, lost_fault, summary_fault, trace_fault};
 
@@ -11,7 +12,7 @@ use crate::refusal::{report_memory, report_sink, report_source};
 use crate::running::{Lost, limits_of};
 use crate::stats::tables_of;
 use crate::summary::{SinkEnd, stream_status, summary_of};
-use kpn_command_base::{Refusal, StreamRequest, store_trace};
+use kpn_command_base::{Refusal, StreamRequest, put, store_trace};
 use kpn_net::Network;
 use kpn_shelf::Shelf;
 use kpn_stream::{StreamEnding, Streamed};
@@ -31,8 +32,9 @@ pub(crate) fn conclude<S: Shelf, E: Write>(
     err: &mut E,
     unsaid: &mut Vec<u8>,
 ) -> u8
-    ensures { IsStreamConcluded S.may_give request.now document.now.tables
-        streamed.entry.ending streamed.entry.book lost.now shelf.old shelf.new result }
+    ensures { IsStreamConcluded S.may_give E.contents request.now document.now
+        streamed.entry.ending streamed.entry.book lost.now shelf.old shelf.new
+        err.old err.new result }
 {
     let ending = streamed.ending;
     match over_of(alloc, streamed, &limits_of(request), request.stats) {
@@ -59,6 +61,8 @@ fn conclude_over<S: Shelf, E: Write>(
     ensures { let t = document.now.tables in
         (stored : Answer (Unit {0}) Cause) × (is_told : Bool)
         × IsTraceKept S.may_give request.now.trace t over.now shelf.old shelf.new stored
+        × IsEndTold E.contents request.now (end_fault ending lost.now stored is_told)
+        (summary_with document.now over.now over.now.sinks.items) err.old err.new
         × (result ≡ end_status ending lost.now stored is_told over.now) }
 {
     let ends = ends_told(alloc, over, ending, lost);
@@ -118,29 +122,45 @@ fn ends_told(
     over: &Over,
     ending: StreamEnding,
     lost: &[Lost],
-) -> Result<Vec<SinkEnd>, AllocError> {
+) -> Result<Vec<SinkEnd>, AllocError>
+    ensures { ending_fault ending ≡ None → lost.now ≡ []
+        → IfOk result (λ ends. ends.items ≡ over.now.sinks.items) }
+{
     let mut ends = Vec::new(alloc);
     for end in &over.sinks {
-        let has_failed = has_failed(ending, end.channel)
-            || lost.iter().any(|one| one.sink == end.channel);
-        ends.push(SinkEnd {
-            is_complete: end.is_complete && !has_failed,
-            ..*end
-        })?;
+        let has_failed = has_failed(ending, end.channel) || has_lost(lost, end.channel);
+        ends.push(end_told(*end, has_failed))?;
     }
     Ok(ends)
 }
 
+fn end_told(end: SinkEnd, has_failed: bool) -> SinkEnd
+    ensures { has_failed ≡ false → result ≡ end }
+{
+    SinkEnd {
+        is_complete: end.is_complete && !has_failed,
+        ..end
+    }
+}
+
+/// Whether the output of a sink has lost something at the end.
+fn has_lost(lost: &[Lost], sink: usize) -> bool
+    ensures { lost.now ≡ [] → result ≡ false }
+{
+    lost.iter().any(|one| one.sink == sink)
+}
+
 /// Whether the output of a sink has ended the stream.
-fn has_failed(ending: StreamEnding, sink: usize) -> bool {
+fn has_failed(ending: StreamEnding, sink: usize) -> bool
+    ensures { ending_fault ending ≡ None → result ≡ false }
+{
     match ending {
         StreamEnding::SinkFailed(c, _) => c == sink,
         _ => false,
     }
 }
 
-/// Tells how the stream has ended, and the tables, if they are asked for. If it can't, memory ran out. If the stream is
-/// to be quiet, how it has ended is only kept.
+/// Tells how the stream has ended, and the tables, if they are asked for. If it can't, memory ran out.
 fn tell<E: Write>(
     alloc: Global,
     request: &StreamRequest<'_>,
@@ -149,32 +169,69 @@ fn tell<E: Write>(
     ends: Result<Vec<SinkEnd>, AllocError>,
     err: &mut E,
     unsaid: &mut Vec<u8>,
-) -> bool {
+) -> bool
+    ensures { result ≡ true → request.now.stats ≡ false → IsSummaryMade E.contents
+        request.now.quiet ends (summary_with document.now over.now) err.old err.new }
+{
+    let is_told = tell_summary(alloc, request, document, over, ends, err, unsaid);
+    if !request.stats {
+        return is_told;
+    }
     let states = over.states.as_slice();
-    let rings = over.rings.as_slice();
-    let summary = match ends {
-        Ok(ends) => summary_of(alloc, document, &ends, states, rings, over.outcome),
-        Err(error) => Err(error),
-    };
-    let is_told = if request.quiet {
-        keep_text(summary, unsaid);
-        true
-    } else {
-        write_text(summary, err)
-    };
-    let has_tables = !request.stats
-        || write_text(
-            tables_of(alloc, document, &over.channels, states, request.quiet),
-            err,
-        );
-    is_told && has_tables
+    let tables = tables_of(alloc, document, &over.channels, states, request.quiet);
+    write_text(tables, err) && is_told
 }
 
-/// Writes a text, if there was memory for it.
-fn write_text<E: Write>(text: Result<String, AllocError>, err: &mut E) -> bool {
+/// Tells how the stream has ended. If the stream is to be quiet, that is only kept.
+fn tell_summary<E: Write>(
+    alloc: Global,
+    request: &StreamRequest<'_>,
+    document: &Document,
+    over: &Over,
+    ends: Result<Vec<SinkEnd>, AllocError>,
+    err: &mut E,
+    unsaid: &mut Vec<u8>,
+) -> bool
+    ensures { result ≡ true → IsSummaryMade E.contents request.now.quiet ends
+        (summary_with document.now over.now) err.old err.new }
+{
+    let summary = summary_with(alloc, document, over, ends);
+    if request.quiet {
+        keep_text(summary, unsaid);
+        return true;
+    }
+    write_text(summary, err)
+}
+
+/// The summary, with what is told of the sinks.
+fn summary_with(
+    alloc: Global,
+    document: &Document,
+    over: &Over,
+    ends: Result<Vec<SinkEnd>, AllocError>,
+) -> Result<String, AllocError>
+    ensures { IsSummaryOf string_bytes (summary_with document.now over.now) ends result }
+{
+    let ends = ends?;
+    let states = over.states.as_slice();
+    summary_of(
+        alloc,
+        document,
+        &ends,
+        states,
+        over.rings.as_slice(),
+        over.outcome,
+    )
+}
+
+/// Writes a text, as much of it as is taken, if there was memory for it.
+fn write_text<E: Write>(text: Result<String, AllocError>, err: &mut E) -> bool
+    ensures { result ≡ true
+        → IsTextTold string_bytes text (E.contents err.old) (E.contents err.new) }
+{
     match text {
         Ok(text) => {
-            let _ = err.write_all(text.as_bytes());
+            let _whole = put(err, text.as_bytes());
             true
         }
         Err(_) => false,
@@ -209,7 +266,8 @@ fn report_failed<E: Write>(
     places: &EndPlaces<'_>,
     err: &mut E,
 ) -> Option<u8>
-    ensures { result ≡ first_status (ending_fault ending) (lost_fault lost.now) }
+    ensures fault { result ≡ first_status (ending_fault ending) (lost_fault lost.now) }
+    ensures silent { result ≡ None → err.new ≡ err.old }
 {
     let first = report_ending(ending, document, places, err);
     let second = report_lost(document, lost, places, err);
@@ -223,7 +281,8 @@ fn report_ending<E: Write>(
     places: &EndPlaces<'_>,
     err: &mut E,
 ) -> Option<u8>
-    ensures { result ≡ ending_fault ending }
+    ensures fault { result ≡ ending_fault ending }
+    ensures silent { result ≡ None → err.new ≡ err.old }
 {
     match ending {
         StreamEnding::SourceFailed(c, fault) => {
@@ -246,7 +305,8 @@ fn report_lost<E: Write>(
     places: &EndPlaces<'_>,
     err: &mut E,
 ) -> Option<u8>
-    ensures { result ≡ lost_fault lost.now }
+    ensures fault { result ≡ lost_fault lost.now }
+    ensures silent { result ≡ None → err.new ≡ err.old }
 {
     let mut status = None;
     for one in lost {
@@ -259,7 +319,8 @@ fn report_lost<E: Write>(
 
 /// Reports that the trace could not be stored.
 fn report_trace<E: Write>(stored: &Result<(), Refusal>, err: &mut E) -> Option<u8>
-    ensures { result ≡ trace_fault stored.now }
+    ensures fault { result ≡ trace_fault stored.now }
+    ensures silent { result ≡ None → err.new ≡ err.old }
 {
     match stored {
         Ok(()) => None,
@@ -269,7 +330,8 @@ fn report_trace<E: Write>(stored: &Result<(), Refusal>, err: &mut E) -> Option<u
 
 /// Reports that there was no memory for the summary or the tables.
 fn report_summary<E: Write>(is_told: bool, err: &mut E) -> Option<u8>
-    ensures { result ≡ summary_fault is_told }
+    ensures fault { result ≡ summary_fault is_told }
+    ensures silent { result ≡ None → err.new ≡ err.old }
 {
     if is_told {
         return None;

@@ -105,7 +105,6 @@ fn output_for<S: Ports>(
             },
             file,
             bytes,
-            wanted: request.take,
         }),
         Err(fault) => Err(Refusal::Output(fault)),
     }

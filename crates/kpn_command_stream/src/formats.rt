@@ -1,8 +1,8 @@
 //! The words behind `--format`: each is a format for all ends, or `NAME=FORMAT` for one.
-ghost use Rattle.std.specs.Prelude.{◌≡◌, ◌≢◌, false, All, IsTrue, map, option_map, MatchOption};
+ghost use Rattle.std.specs.Prelude.{◌≡◌, ◌≢◌, false, true, All, IsTrue, map, option_map, MatchOption};
 ghost use Rattle.std.specs.List.{AllPairs};
 ghost use Rattle.kpn_stream_devices.specs.Formats.{IsNoFormat, NamesFormat};
-ghost use Rattle.kpn_command_stream.specs.Formats.{common_format, format_end, first_that, format_in, format_word, is_end_at, IsForEnd, named_format, SaysFormat};
+ghost use Rattle.kpn_command_stream.specs.Formats.{common_format, format_end, first_that, format_in, format_word, is_end_at, AreForEnds, IsForEnd, named_format, SaysFormat};
 ghost use Rattle.kpn_text_names.specs.Names.{number_of};
 
 use kpn_stream_devices::ItemFormat;
@@ -47,6 +47,7 @@ pub(crate) fn are_for_ends(words: &[&str], document: &Document) -> bool
     ensures ends { IsTrue result → All (λ word. IsForEnd document.now word.now) words.now }
     ensures apart { IsTrue result
         → AllPairs (λ word later. format_end word.now ≢ format_end later.now) words.now }
+    ensures none { result ≡ false → ¬ AreForEnds document.now (map (λ word. word.now) words.now) }
 {
     for i in 0..words.len() {
         if !is_for_end(words[i], document) {
@@ -61,7 +62,8 @@ pub(crate) fn are_for_ends(words: &[&str], document: &Document) -> bool
 
 /// Whether a word is for all ends or for one that the network has.
 fn is_for_end(word: &str, document: &Document) -> bool
-    ensures { IsTrue result → IsForEnd document.now word.now }
+    ensures is { IsTrue result → IsForEnd document.now word.now }
+    ensures none { result ≡ false → ¬ IsForEnd document.now word.now }
 {
     match word.split_once('=') {
         Some((name, _)) => is_end(document, name),
@@ -84,8 +86,10 @@ fn is_end(document: &Document, name: &str) -> bool
 
 /// Whether one of these words is for the same ends.
 fn is_said(words: &[&str], word: &str) -> bool
-    ensures { result ≡ false
+    ensures other { result ≡ false
         → All (λ before. format_end before.now ≢ format_end word.now) words.now }
+    ensures said { result ≡ true
+        → ¬ All (λ before. format_end before.now ≢ format_end word.now) words.now }
 {
     for before in words {
         if are_for_same(before, word) {
@@ -97,7 +101,8 @@ fn is_said(words: &[&str], word: &str) -> bool
 
 /// Whether two words are for the same ends.
 fn are_for_same(word: &str, other: &str) -> bool
-    ensures { result ≡ false → format_end word.now ≢ format_end other.now }
+    ensures others { result ≡ false → format_end word.now ≢ format_end other.now }
+    ensures same { result ≡ true → format_end word.now ≡ format_end other.now }
 {
     end_in(word) == end_in(other)
 }
@@ -110,11 +115,6 @@ fn end_in(word: &str) -> &str
         Some((name, _)) => name,
         None => "",
     }
-}
-
-/// Whether the items of the end of this name are lines.
-pub fn has_lines(words: &[&str], name: &str) -> bool {
-    matches!(format_for(words, name), Some(ItemFormat::Lines))
 }
 
 /// The format of the end of this name.

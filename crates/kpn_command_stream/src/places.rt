@@ -1,9 +1,10 @@
 //! Which input and which output each end of a network gets.
 ghost use Rattle.std.specs.Prelude.{◌≡◌, ◌↔◌, false, true, length, map, option_map, All, IfOk, IfErr, IsTrue};
+ghost use Rattle.std.specs.List.{Any};
 ghost use Rattle.kpn_command_base.specs.Sources.{is_end};
 ghost use Rattle.kpn_stream.specs.Ending.{end_numbers};
-ghost use Rattle.kpn_command_stream.specs.Causes.{IsUnnamed, IsUnplaced, IsUnplacedBy, MayWriteInto};
-ghost use Rattle.kpn_command_stream.specs.EndPlaces.{AllPlaced, ArePlacesOfEnds, HaveOwnInputs, name_for, standard};
+ghost use Rattle.kpn_command_stream.specs.Causes.{IsUnnamed, IsUnplaced, IsUnplacedBy, MayBeInput, MayWriteInto};
+ghost use Rattle.kpn_command_stream.specs.EndPlaces.{AllPlaced, ArePlacesOfEnds, HaveOwnInputs, ShareAnInput, name_for, standard};
 
 use crate::formats::format_for;
 use crate::refusal::StreamRefusal;
@@ -49,8 +50,8 @@ pub(crate) fn places_of<'a>(
     ensures placed { IfOk result (λ places. ArePlacesOfEnds ends document.now
         (map (λ o. o.name.now) options.now) (map (λ o. o.file.now) options.now)
         (map (λ word. word.now) formats.now) places.items) }
-    ensures cause { IfErr result
-        (IsUnplaced ends document.now (map (λ o. o.name.now) options.now)) }
+    ensures cause { IfErr result (IsUnplaced ends document.now
+        (map (λ o. o.name.now) options.now) (map (λ word. word.now) formats.now)) }
 {
     let named = ends_of(alloc, document, ends, options)?;
     places_by(alloc, document, ends, &named, formats)
@@ -68,7 +69,8 @@ fn places_by<'a>(
         (map (λ word. word.now) formats.now)
         (end_numbers (is_end ends) document.now.tables) places.items) }
     ensures cause { IfErr result (IsUnplacedBy ends named.now
-        (length (end_numbers (is_end ends) document.now.tables))) }
+        (length (end_numbers (is_end ends) document.now.tables))
+        (map (λ word. word.now) formats.now)) }
 {
     let numbers = end_numbers_of(alloc, document.network())?;
     match ends {
@@ -88,7 +90,8 @@ fn place_each<'a>(
 ) -> Result<Vec<EndPlace<'a>>, StreamRefusal>
     ensures placed { IfOk result (λ places. AllPlaced document.now named.now
         (map (λ word. word.now) formats.now) channels.now places.items) }
-    ensures cause { IfErr result (IsUnplacedBy ends named.now (length channels.now)) }
+    ensures cause { IfErr result (IsUnplacedBy ends named.now (length channels.now)
+        (map (λ word. word.now) formats.now)) }
 {
     let mut places = Vec::new(alloc);
     for number in 0..channels.len() {
@@ -154,7 +157,8 @@ pub(crate) fn writes_an_input<S: Shelf>(
     file: &str,
     places: &EndPlaces<'_>,
 ) -> Result<bool, AllocError>
-    ensures { IfOk result (λ writes. writes ≡ true → MayWriteInto (S.may_alias shelf.now)) }
+    ensures { IfOk result (λ writes. writes ≡ true
+        → MayWriteInto (S.may_alias shelf.now) places.now.sinks.items) }
 {
     if !has_standard(&places.sinks) {
         return Ok(false);
@@ -167,8 +171,15 @@ pub(crate) fn writes_an_input<S: Shelf>(
     is_written(shelf, file)
 }
 
-fn has_standard(places: &[EndPlace<'_>]) -> bool {
-    places.iter().any(|place| place.name == STANDARD)
+fn has_standard(places: &[EndPlace<'_>]) -> bool
+    ensures { result ≡ true → Any (λ place. place.name.now ≡ standard) places.now }
+{
+    for place in places {
+        if is_dash(place.name) {
+            return true;
+        }
+    }
+    false
 }
 
 fn path_of(name: &str) -> &str {
@@ -177,14 +188,15 @@ fn path_of(name: &str) -> &str {
 
 /// Whether standard output is the plain file of this path.
 fn is_written<S: Shelf>(shelf: &S, path: &str) -> Result<bool, AllocError>
-    ensures { IfOk result (λ is. is ≡ true → MayWriteInto (S.may_alias shelf.now)) }
+    ensures { IfOk result (λ is. is ≡ true → MayBeInput (S.may_alias shelf.now)) }
 {
     shelf.is_same_file(OUTPUT_PATH, path)
 }
 
 /// Whether two sources have one input that is no plain file.
 pub(crate) fn share_an_input<S: Ports>(shelf: &S, places: &[EndPlace<'_>]) -> bool
-    ensures { result ≡ false → HaveOwnInputs (S.are_two_inputs shelf.now) places.now }
+    ensures own { result ≡ false → HaveOwnInputs (S.are_two_inputs shelf.now) places.now }
+    ensures shared { result ≡ true → ShareAnInput (S.may_share shelf.now) places.now }
 {
     for i in 0..places.len() {
         if has_input(shelf, &places[..i], places[i].name) {
@@ -196,8 +208,10 @@ pub(crate) fn share_an_input<S: Ports>(shelf: &S, places: &[EndPlace<'_>]) -> bo
 
 /// Whether one of these has the input of this name, and that is no plain file.
 fn has_input<S: Ports>(shelf: &S, places: &[EndPlace<'_>], name: &str) -> bool
-    ensures { result ≡ false
+    ensures own { result ≡ false
         → All (λ place. S.are_two_inputs shelf.now place.name.now name.now) places.now }
+    ensures shared { result ≡ true
+        → ¬ All (λ place. ¬ S.may_share shelf.now place.name.now name.now) places.now }
 {
     for place in places {
         if shelf.is_one_input(place.name, name) {

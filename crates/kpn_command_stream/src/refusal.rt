@@ -1,15 +1,20 @@
 //! Why a stream is not begun or has failed, and how each cause is reported.
-ghost use Rattle.std.specs.Prelude.{◌≡◌};
-ghost use Rattle.kpn_command_stream.specs.Refusal.{source_status, sink_status};
+ghost use Rattle.std.specs.Prelude.{◌≡◌, ◌++◌, ℕ, List, [], ◌∷◌, Option};
+ghost use Rattle.kpn_command_base.specs.Told.{AreWritten, IsLineTold};
+ghost use Rattle.kpn_command_stream.specs.Refusal.{option_end, option_start, source_status, sink_status, unnamed_text};
 
 use crate::places::EndPlace;
-use kpn_command_base::{EndKind, Refusal};
+use kpn_command_base::{EndKind, Refusal, put, put_more};
 use kpn_stream::{SinkFault, SourceFault};
 use kpn_text::Document;
 use kpn_text_items::{ItemFault, WriteFault};
 use std::alloc::{AllocError, AllocFailed};
-use std::io;
 use std::io::Write;
+
+const SHARED: &str = "kpn: usage: --source NAME=IN, a plain file if two sources have it";
+
+const WRONG_FORMAT: &str =
+    "kpn: usage: --format FORMAT and --format NAME=FORMAT, once for each source and sink: ";
 
 /// The formats of `--format`.
 const FORMATS: &str =
@@ -64,49 +69,70 @@ impl<T: Drop> From<AllocFailed<T>> for StreamRefusal {
 }
 
 impl StreamRefusal {
-    ghost use Rattle.kpn_command_stream.specs.Refusal.{refusal_status};
+    ghost use Rattle.kpn_command_stream.specs.Refusal.{refusal_status, refusal_text};
 
     /// Reports the cause on one line, and returns the status.
     pub(crate) fn report<E: Write>(&self, err: &mut E) -> u8
-        ensures { result ≡ refusal_status self.now }
+        ensures status { result ≡ refusal_status self.now }
+        ensures told { IsLineTold (E.contents err.old) (E.contents err.new)
+            (refusal_text self.now ++ 10 ∷ []) }
     {
         match self {
             StreamRefusal::Common(refusal) => refusal.report(err),
             StreamRefusal::Unnamed(ends, name) => {
-                let _ = tell_unnamed(*ends, name, err);
-                2
+                let whole = tell_unnamed(*ends, name, err);
+                end_line(whole, err)
             }
             StreamRefusal::SharedInput => {
-                let _ = tell_shared(err);
-                2
+                let whole = put(err, SHARED.as_bytes());
+                end_line(whole, err)
             }
             StreamRefusal::FormatWord => {
-                let _ = tell_formats(err);
-                2
+                let whole = put(err, WRONG_FORMAT.as_bytes());
+                let whole = put_more(whole, err, FORMATS.as_bytes());
+                end_line(whole, err)
             }
         }
     }
 }
 
-fn tell_unnamed<E: Write>(ends: EndKind, name: &str, err: &mut E) -> io::Result<()> {
+/// Writes which option is missing. It returns whether all is taken.
+fn tell_unnamed<E: Write>(ends: EndKind, name: &str, err: &mut E) -> bool
+    ensures { AreWritten (E.contents err.old) (E.contents err.new) (unnamed_text ends name.now)
+        result }
+{
+    let whole = put(err, option_start(ends).as_bytes());
+    let whole = put_more(whole, err, name.as_bytes());
+    put_more(whole, err, option_end(ends).as_bytes())
+}
+
+fn option_start(ends: EndKind) -> &'static str
+    ensures { result.now ≡ option_start ends }
+{
     match ends {
-        EndKind::Sources => writeln!(err, "kpn: usage: --source {name}=IN"),
-        EndKind::Sinks => writeln!(err, "kpn: usage: --sink {name}=OUT"),
+        EndKind::Sources => "kpn: usage: --source ",
+        EndKind::Sinks => "kpn: usage: --sink ",
     }
 }
 
-fn tell_shared<E: Write>(err: &mut E) -> io::Result<()> {
-    writeln!(
-        err,
-        "kpn: usage: --source NAME=IN, a plain file if two sources have it"
-    )
+fn option_end(ends: EndKind) -> &'static str
+    ensures { result.now ≡ option_end ends }
+{
+    match ends {
+        EndKind::Sources => "=IN",
+        EndKind::Sinks => "=OUT",
+    }
 }
 
-fn tell_formats<E: Write>(err: &mut E) -> io::Result<()> {
-    writeln!(
-        err,
-        "kpn: usage: --format FORMAT and --format NAME=FORMAT, once for each source and sink: {FORMATS}"
-    )
+/// Ends the line of a usage that was written until now, whole or not, and returns the status.
+fn end_line<E: Write>(whole: bool, err: &mut E) -> u8
+    ensures status { result ≡ 2 }
+    ensures told { (before : Option (List ℕ)) (line : List ℕ)
+        → AreWritten before (E.contents err.old) line whole
+        → IsLineTold before (E.contents err.new) (line ++ 10 ∷ []) }
+{
+    let _whole = put_more(whole, err, b"\n");
+    2
 }
 
 /// Reports that the input of a source has failed, and returns the status.

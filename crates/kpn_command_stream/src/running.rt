@@ -1,7 +1,8 @@
 //! The run of a stream between its inputs and outputs.
 ghost use Rattle.std.specs.Prelude.{◌≡◌, ◌≤◌, ◌<◌, ◌++◌, [], length, vec_capacity, IfOk, IfErr, OnErr};
+ghost use Rattle.kpn_book.specs.Remembering.{Remembers};
 ghost use Rattle.kpn_command_stream.specs.Causes.{IsDeviceRefusal};
-ghost use Rattle.kpn_command_stream.specs.Command.{HandedOn, RanOverFiles, RanAt, RanOver, flushes_of, known_of, stream_limits_of, losses, names_of, sinks_of};
+ghost use Rattle.kpn_command_stream.specs.Command.{HandedOn, RanOverFiles, RanAt, RanOver, flushes_of, keeping_for, known_of, stream_limits_of, losses, names_of, sinks_of};
 
 use crate::devices::{empty_outputs, open_inputs, open_outputs};
 use crate::places::EndPlaces;
@@ -26,7 +27,9 @@ pub(crate) fn limits_of(request: &StreamRequest<'_>) -> Limits
 }
 
 /// What is kept of a stream: only a trace reads what has happened.
-fn keeping_of(request: &StreamRequest<'_>) -> Keeping {
+fn keeping_of(request: &StreamRequest<'_>) -> Keeping
+    ensures { result ≡ keeping_for request.now.trace }
+{
     match request.trace {
         Some(_) => Keeping::All,
         None => Keeping::Nothing,
@@ -54,10 +57,12 @@ pub(crate) fn run<'n, S: Shelf + Ports, I: NonblockingRead, O: Write>(
     requires none { lost.old.items ≡ [] }
     requires room { length places.now.sinks.items ≤ vec_capacity lost.old }
     ensures ran { IfOk result (λ streamed. RanAt (S.may_give shelf.now)
-        (names_of S.are_two_inputs S.comes_from S.goes_to)
+        (names_of S.are_two_inputs S.may_share S.comes_from S.goes_to)
         (known_of I.remaining S.Input.remaining O.contents S.Output.contents) request.now
         document.now.tables places.now input.old input.new out.old out.new
         streamed.ending streamed.book lost.new.items) }
+    ensures kept { IfOk result (λ streamed.
+        Remembers (keeping_for request.now.trace) streamed.book) }
     ensures input { OnErr result (input.new ≡ input.old) }
     ensures output { OnErr result (out.new ≡ out.old) }
     ensures cause { IfErr result IsDeviceRefusal }
@@ -97,6 +102,8 @@ fn run_between<'n, I: NonblockingRead, F: NonblockingRead + Drop, O: Write, G: W
         document.now.tables (sinks_of places.now)
         inputs.old.items outputs.old.items input.old input.new out.old out.new
         streamed.ending streamed.book lost.new.items) }
+    ensures kept { IfOk result (λ streamed.
+        Remembers (keeping_for request.now.trace) streamed.book) }
     ensures input { OnErr result (input.new ≡ input.old) }
     ensures output { OnErr result (out.new ≡ out.old) }
     ensures cause { IfErr result IsDeviceRefusal }
@@ -142,6 +149,7 @@ fn run_over<'n, I: NonblockingRead, F: NonblockingRead + Drop, O: Write, G: Writ
         (sinks_of places.now)
         sources.old sources.new sinks.old sinks.new
         streamed.ending streamed.book lost.new.items) }
+    ensures kept { IfOk result (λ streamed. Remembers keeping streamed.book) }
     ensures no_source { OnErr result (sources.new ≡ sources.old) }
     ensures no_sink { OnErr result (sinks.new ≡ sinks.old) }
 {

@@ -1,7 +1,7 @@
 -- The journal of a complete channel is the least solution there. Each iterate on complete channels is a prefix of the
 -- journals, by induction over the rounds: a finished process says on it at most what it said, since it has ended or
 -- starves where it waits.
-use Rattle.std.proofs.Common.{◌≡◌, ℕ, zero, suc, ◌<◌, ◌≤◌, max, true, false, ℤ, cond, eqb, eq-eqb, List, [], length, refl, sym, ap, ◌∙◌, subst, inl, inr, arith}
+use Rattle.std.proofs.Common.{◌≡◌, ℕ, zero, suc, ◌<◌, max, true, ℤ, cond, eqb, eq-eqb, List, [], length, refl, sym, ap, subst, inl, inr, arith}
 use Rattle.std.proofs.lemmas.Bool.{cases_Bool, cases_eq, ne_eqb}
 use Rattle.kpn_lang.specs.Prefix.{IsPrefix}
 use Rattle.kpn_lang.specs.Alone.{put_at}
@@ -19,25 +19,25 @@ use Rattle.kpn_history.specs.declared.event.Event.{Event}
 use Rattle.kpn_history.specs.Talks.{talk_of, last_event}
 use Rattle.kpn_history.specs.Channels.{written_on, read_on, fed, is_closed}
 use Rattle.kpn_history.specs.Legal.{Legal}
-use Rattle.kpn_history.specs.Complete.{PutsNoMore, IsFinished, IsComplete, WaitsOnComplete, IsFedFrom}
+use Rattle.kpn_history.specs.Complete.{PutsNoMore, IsFinished, IsComplete, IsFedFrom}
 use Rattle.kpn_history.proofs.Journals.{written_on-put, reads_begin_writes}
-use Rattle.kpn_history.proofs.Below.{IsBelowIterate, round-source, fed-source}
+use Rattle.kpn_history.proofs.Below.{round-source, fed-source}
 use Rattle.kpn_history.proofs.Above.{HasSaidAll-ended, IsStarved-last, empty_wait, all_read}
 use Rattle.kpn_history.proofs.Kahn.{below_one_iterate, below_least}
 use Rattle.kpn_history.proofs.Finished.{finished_cases, complete-process}
 
 -- a family with another list at one channel
-abbrev with_list : (c : ℕ) (xs : List ℤ) (X : Family) (d : ℕ) → List ℤ
+abbrev pub with_list : (c : ℕ) (xs : List ℤ) (X : Family) (d : ℕ) → List ℤ
 with_list c xs X d = cond (eqb d c) xs (X d)
 
-with_list-here : (c : ℕ) (xs : List ℤ) (X : Family) → with_list c xs X c ≡ xs
+pub with_list-here : (c : ℕ) (xs : List ℤ) (X : Family) → with_list c xs X c ≡ xs
 with_list-here c xs X = ap (λ b. cond b xs (X c)) (eq-eqb c c refl)
 
 with_list-other : (c : ℕ) (xs : List ℤ) (X : Family) (d : ℕ) → (d ≡ c → ⊥) → with_list c xs X d ≡ X d
 with_list-other c xs X d differ = ap (λ b. cond b xs (X d)) (ne_eqb d c differ)
 
 -- a family is below another one with this list at one channel, if it is so there and elsewhere
-below_with_list : (c : ℕ) (xs : List ℤ) (X Y : Family) → IsPrefix (X c) xs → IsFamilyPrefix X Y
+pub below_with_list : (c : ℕ) (xs : List ℤ) (X Y : Family) → IsPrefix (X c) xs → IsFamilyPrefix X Y
     → IsFamilyPrefix X (with_list c xs Y)
 below_with_list c xs X Y here below d =
     elim (cases_eq d c) [

@@ -59,11 +59,11 @@ wait_stays t network B e legal p w other waits some =
 
 -- the same waits of these processes
 module _ (t : Tables) (waits before : List Wait) where
-  abbrev KeepsWaits : List ℕ → Type 0
+  abbrev pub KeepsWaits : List ℕ → Type 0
   KeepsWaits members =
       (q r : ℕ) → Contains members q → awaited t (wait_at waits q) ≡ Some r → wait_at before q ≡ wait_at waits q
 
-  turn_kept : (p : ℕ) (others : List ℕ) (z : ℕ) → KeepsWaits (p ∷ others) → WaitInTurn t waits p others z
+  pub turn_kept : (p : ℕ) (others : List ℕ) (z : ℕ) → KeepsWaits (p ∷ others) → WaitInTurn t waits p others z
       → WaitInTurn t before p others z
   turn_kept p [] z keeps turn =
       record { awaited = ap (awaited t) (keeps p z (Contains-first p []) turn.awaited) ∙ turn.awaited }
@@ -72,7 +72,7 @@ module _ (t : Tables) (waits before : List Wait) where
     turn_kept r others z (λ q s h. keeps q s (Contains-later p (r ∷ others) q h)) turn.1,
   )
 
-  full_kept : (p : ℕ) (others : List ℕ) (z : ℕ) → KeepsWaits (p ∷ others) → WaitInTurn t waits p others z
+  pub full_kept : (p : ℕ) (others : List ℕ) (z : ℕ) → KeepsWaits (p ∷ others) → WaitInTurn t waits p others z
       → full_channels before (p ∷ others) ≡ full_channels waits (p ∷ others)
   full_kept p [] z keeps turn =
       ap (λ w. cons_option (full_channel w) []) (keeps p z (Contains-first p []) turn.awaited)

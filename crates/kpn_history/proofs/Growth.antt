@@ -46,14 +46,29 @@ if_empty : (empty : Bool) (d c : ℕ) → cond empty (Empty d) Nobody ≡ Full c
 if_empty true d c e = cc
 if_empty false d c e = cc
 
+-- what a wait on a full channel is
+pub record FullWait (t : Tables) (H : List Event) (last : Option Event) (c : ℕ) : Type 0 where
+  pub process : ℕ
+  pub is : last ≡ Some (WaitFull process c)
+  pub full : is_full t H c ≡ true
+
+pub full_wait : (t : Tables) (H : List Event) (last : Option Event) (c : ℕ) → wait_of_last t H last ≡ Full c
+    → FullWait t H last c
+full_wait t H None c e = absurd cc
+full_wait t H (Some (WaitEmpty q d)) c e = absurd (if_empty (is_empty H d) d c e)
+full_wait t H (Some (WaitFull q d)) c e =
+    let r = if_full (is_full t H d) d c e in
+    record {
+      process = q;
+      is = ap (λ x. Some (WaitFull q x)) r.0;
+      full = subst (λ x. is_full t H x ≡ true) r.0 r.1;
+    }
+full_wait t H (Some event) c e = absurd cc
+
 -- a channel on which a process is blocked as full is full
 pub full_where_waited : (t : Tables) (H : List Event) (last : Option Event) (c : ℕ) → wait_of_last t H last ≡ Full c
     → is_full t H c ≡ true
-full_where_waited t H None c e = absurd cc
-full_where_waited t H (Some (WaitEmpty q d)) c e = absurd (if_empty (is_empty H d) d c e)
-full_where_waited t H (Some (WaitFull q d)) c e =
-    let r = if_full (is_full t H d) d c e in subst (λ x. is_full t H x ≡ true) r.0 r.1
-full_where_waited t H (Some event) c e = absurd cc
+full_where_waited t H last c e = (full_wait t H last c e).full
 
 -- ---- the growth that is owed
 
@@ -273,7 +288,12 @@ are_waiters t network =
     by_events t (AreWaiters t) (λ g. absurd (no_cycle_at_first t g))
     (λ B e legal waiters g. by_waiter t network B e legal waiters g (waiter e) refl)
 
--- if no growth is owed, no cycle can grow
+-- if no growth is owed for a cycle, no cycle can grow
+pub no_cycle_can_grow : (t : Tables) → IsNetwork t → (H : List Event) → Legal t H → OwesNoCycleGrowth t H
+    → ¬ CanGrow t H
+no_cycle_can_grow t network H legal none g =
+    let owed = grows_of t H g (are_waiters t network H legal g) in none owed.process owed.channel owed.owed
+
 pub nothing_can_grow : (t : Tables) → IsNetwork t → (H : List Event) → Legal t H → OwesNothing t H → ¬ CanGrow t H
-nothing_can_grow t network H legal nothing g =
-    let owed = grows_of t H g (are_waiters t network H legal g) in nothing owed.process owed.channel (inl owed.owed)
+nothing_can_grow t network H legal nothing =
+    no_cycle_can_grow t network H legal (λ p d owed. nothing p d (inl owed))

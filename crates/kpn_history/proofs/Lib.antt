@@ -26,3 +26,9 @@ pub mod CompleteWalks
 pub mod Searching
 pub mod Checking
 pub mod EndTests
+pub mod Rests
+pub mod Standing
+pub mod OwedSets
+pub mod OneEnd
+pub mod SameEnds
+pub mod SameViews

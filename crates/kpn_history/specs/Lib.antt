@@ -12,3 +12,4 @@ pub mod Ends
 pub mod Views
 pub mod Stops
 pub mod Complete
+pub mod OneEnd

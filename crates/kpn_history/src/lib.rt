@@ -3,6 +3,7 @@
 #![tactic(auto)]
 
 pub mod complete_laws;
+pub mod end_laws;
 mod event;
 pub mod event_laws;
 pub mod growth_laws;

@@ -32,6 +32,8 @@ impl<'a, R: System + Clock + AllocGlobal + Threads> Ports for FileShelf<'a, R> {
 
     ghost are_two_inputs = { λ _ _ _. ⊤ };
 
+    ghost may_share = { λ _ _ _. ⊤ };
+
     fn open_input(&self, name: &str) -> Result<FileInput<'a, R>, ItemFault> {
         match FileInput::open(self.rt, name) {
             Ok(input) => Ok(input),

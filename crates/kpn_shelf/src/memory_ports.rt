@@ -1,9 +1,10 @@
 //! The inputs of a shelf in memory. It has no outputs that are written piece by piece.
-ghost use Rattle.std.specs.Prelude.{Some, [], ⊤};
+ghost use Rattle.std.specs.Prelude.{◌≡◌, ◌≢◌, Some, [], codes};
 ghost use Rattle.std.specs.Io.Cursor.{cursor_remaining};
 ghost use Rattle.std.specs.String.{string_bytes};
 
 use crate::Shelf;
+use crate::file_ports::STANDARD;
 use crate::look::NonblockingRead;
 use crate::memory::MemoryShelf;
 use crate::ports::Ports;
@@ -45,7 +46,9 @@ impl Ports for MemoryShelf {
 
     ghost goes_to = { λ _. [] };
 
-    ghost are_two_inputs = { λ _ _ _. ⊤ };
+    ghost are_two_inputs = { λ _ name other. name ≡ codes "-" → other ≢ codes "-" };
+
+    ghost may_share = { λ _ name other. (name ≡ codes "-") × (other ≡ codes "-") };
 
     fn open_input(&self, name: &str) -> Result<MemoryInput, ItemFault> {
         let bytes = self.load(self.alloc, name)?;
@@ -67,7 +70,8 @@ impl Ports for MemoryShelf {
         Ok(())
     }
 
-    fn is_one_input(&self, _name: &str, _other: &str) -> bool {
-        false
+    /// A file is read by each one whole. Standard input, which is none of its files, has one reader.
+    fn is_one_input(&self, name: &str, other: &str) -> bool {
+        name == STANDARD && other == STANDARD
     }
 }

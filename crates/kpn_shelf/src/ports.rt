@@ -1,5 +1,5 @@
 //! Inputs and outputs that are read and written piece by piece.
-ghost use Rattle.std.specs.Prelude.{◌≡◌, false, ℕ, List, [], IfOk, IfSome, OnOk, Ok};
+ghost use Rattle.std.specs.Prelude.{◌≡◌, false, true, ℕ, List, [], IfOk, IfSome, OnOk, Ok};
 
 use crate::Shelf;
 use crate::look::NonblockingRead;
@@ -21,6 +21,9 @@ pub trait Ports: Shelf {
     /// Two inputs of these names each have all that is there: no byte goes to one of them alone.
     ghost are_two_inputs: { Self → List ℕ → List ℕ → Type 0 };
 
+    /// Two inputs of these names may be one device, whose bytes go to one reader only.
+    ghost may_share: { Self → List ℕ → List ℕ → Type 0 };
+
     /// Opens an input, and waits for nobody: an input that waits for somebody who writes does so at its first read. It
     /// fails as `Read` or `NoMemory`.
     fn open_input(&self, name: &str) -> Result<Self::Input, ItemFault>
@@ -41,5 +44,6 @@ pub trait Ports: Shelf {
     /// Whether the inputs of two names are one device, whose bytes go to one reader only: a pipe, a FIFO, a terminal or
     /// another device. All who open a plain file read all of it. `-` is standard input, which has one reader.
     fn is_one_input(&self, name: &str, other: &str) -> bool
-        ensures { result ≡ false → are_two_inputs self.now name.now other.now };
+        ensures two { result ≡ false → are_two_inputs self.now name.now other.now }
+        ensures one { result ≡ true → may_share self.now name.now other.now };
 }

@@ -16,7 +16,7 @@ use Rattle.kpn_stream.specs.Closing.{AreClosedBelow, is_no_close}
 use Rattle.kpn_stream.proofs.Going.{besides-refl, besides-trans, happens_besides}
 
 -- a closed source stays closed
-closed_on : (es H : List Event) (c : ℕ) → is_closed H c ≡ true → is_closed (H ++ es) c ≡ true
+pub closed_on : (es H : List Event) (c : ℕ) → is_closed H c ≡ true → is_closed (H ++ es) c ≡ true
 closed_on [] H c was = ap (λ X. is_closed X c) (append-nil H) ∙ was
 closed_on (e ∷ es) H c was =
     ap (λ X. is_closed X c) (sym (append_assoc H (e ∷ []) es))

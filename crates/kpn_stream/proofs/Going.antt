@@ -16,6 +16,8 @@ use Rattle.kpn_book.specs.Appending.{IsGrowthOwed, Happens}
 use Rattle.kpn_book.specs.Commits.{HasToWait, IsAnswer}
 use Rattle.kpn_book.specs.Stepping.{StepsNext}
 use Rattle.kpn_book.specs.InARow.{StepsInRow, no_step, one_step_more, ends_row, RunsInRow, RunsInVain}
+use Rattle.kpn_book.specs.GoingOn.{TurnsInAnyOrder, no_turn, another_order, steps_on, one_turn_more, RunsInAnyOrder, AnyOrderInVain}
+use Rattle.kpn_book.specs.Schedule.{Schedule}
 use Rattle.kpn_book.specs.declared.outcome.Limits.{Limits}
 use Rattle.kpn_book.proofs.Happening.{happens_tables, happens_history}
 use Rattle.kpn_book.proofs.Remembered.{much-trans, happens_much, steps_much}
@@ -26,7 +28,7 @@ use Rattle.kpn_stream.specs.declared.ending.StreamEnding.{StreamEnding}
 use Rattle.kpn_stream.specs.declared.ending.StreamEnding.TheVariants.{SourceFailed, SinkFailed}
 use Rattle.kpn_stream.specs.Ending.{end_numbers, AreTaken, failed_sink}
 use Rattle.kpn_stream.specs.Devices.{is_of_outside, is_elsewhere, is_no_growth, NoneIs, is_of_source, is_of_sink, Fed, by_others, by_look, ServedSince, none_yet, meanwhile, took, took_not, took_in_vain, flushed, flushed_not, left, left_not, had_enough, had_enough_not, IsFlushed, AreFlushed, AreFlushedLast, EndsFlushed, AreLookedAt, not_yet, once_more, Called, by_process, by_sinks, looked, read_at_once, waited_for}
-use Rattle.kpn_stream.specs.Streaming.{HappensBesides, MayEnd, MayEndWell, StepsWithinLimits, Serves, MayFail, ReadsSource, ReadsAtHand, not_read, is_read, StreamGoesOn}
+use Rattle.kpn_stream.specs.Streaming.{HappensBesides, MayEnd, MayEndWell, StepsWithinLimits, Serves, MayFail, ReadsSource, ReadsInTurn, none_yet_read, once_more_read, ReadsAtHand, not_read, is_read, StreamGoesOn}
 
 -- ---- events of other kinds
 
@@ -381,6 +383,18 @@ stepped limits quota most sink before after fits is = record {
   commits = λ below. let room = fits below in let within = is.within in omega arith;
 }
 
+-- the frame of a process has moved
+moved : (first : Book) (p : ℕ) (frame : Frame) (b : Book) → HappensBesides is_of_outside first b
+    → HappensBesides is_of_outside first (standing_at p frame b)
+moved first p frame b so_far = record {
+  tables = so_far.tables;
+  events = so_far.events;
+  history = so_far.history;
+  none = so_far.none;
+  remembers = λ keeping is.
+      let kept = so_far.remembers keeping is in record { events = kept.events; items = kept.items };
+}
+
 in_vain : (limits : Limits) (quota most : ℕ) (before after : Book)
     → (before.commits ≤ limits.commits → before.commits + most ≤ limits.commits) → RunsInVain quota most before after
     → StepsWithinLimits limits before after
@@ -389,14 +403,22 @@ in_vain limits quota most before after fits is = record {
     | inl last ↦ subst (HappensBesides is_of_outside before) (sym last) (row_besides quota before is.row)
     | inr steps ↦
         subst (HappensBesides is_of_outside before) (sym steps.there)
-        (moved steps.process steps.advance.to is.last (row_besides quota before is.row))
+        (moved before steps.process steps.advance.to is.last (row_besides quota before is.row))
   ];
   commits = λ below. let room = fits below in let made = is.commits in let fewer = is.fewer in omega arith;
 }
+
+-- turns in any order, of which the last may be without its commit
+any_order_besides : (quota : ℕ) (first : Book) {sink : Option ℕ} {b : Book} → TurnsInAnyOrder quota first sink b
+    → HappensBesides is_of_outside first b
+any_order_besides quota first no_turn = besides-refl is_of_outside first
+any_order_besides quota first (another_order before after turns order) =
+    subst (HappensBesides is_of_outside first) (sym order.same)
+    (still before (record before.schedule { queue = after.schedule.queue }) (any_order_besides quota first turns))
   where
-    moved : (p : ℕ) (frame : Frame) (b : Book) → HappensBesides is_of_outside before b
-        → HappensBesides is_of_outside before (standing_at p frame b)
-    moved p frame b so_far = record {
+    still : (b : Book) (schedule : Schedule) → HappensBesides is_of_outside first b
+        → HappensBesides is_of_outside first (record b { schedule = schedule })
+    still b schedule so_far = record {
       tables = so_far.tables;
       events = so_far.events;
       history = so_far.history;
@@ -404,6 +426,25 @@ in_vain limits quota most before after fits is = record {
       remembers = λ keeping is.
           let kept = so_far.remembers keeping is in record { events = kept.events; items = kept.items };
     }
+any_order_besides quota first (steps_on before after turns steps) =
+    subst (HappensBesides is_of_outside first) (sym steps.there)
+    (moved first steps.process steps.advance.to before (any_order_besides quota first turns))
+any_order_besides quota first (one_turn_more before after turns step) =
+    besides-trans is_of_outside first before after (any_order_besides quota first turns)
+    (step_besides quota step.answer before after step.steps)
+
+pub stepped_in_any_order : {E : Type 0} (limits : Limits) (quota most : ℕ) (result : Result (Option ℕ) E)
+    (before after : Book) → (before.commits ≤ limits.commits → before.commits + most ≤ limits.commits)
+    → IfOk result (λ sink. RunsInAnyOrder quota most sink before after)
+    → OnErr result (AnyOrderInVain quota most before after) → StepsWithinLimits limits before after
+stepped_in_any_order limits quota most (Ok sink) before after fits runs vain = record {
+  besides = any_order_besides quota before runs.turns;
+  commits = λ below. let room = fits below in let within = runs.within in omega arith;
+}
+stepped_in_any_order limits quota most (Err error) before after fits runs vain = record {
+  besides = any_order_besides quota before vain.turns;
+  commits = λ below. let room = fits below in let fewer = vain.fewer in omega arith;
+}
 
 -- steps in a row, also if memory runs out behind them
 pub stepped_row : {E : Type 0} (limits : Limits) (quota most : ℕ) (result : Result (Option ℕ) E) (before after : Book)
@@ -610,6 +651,15 @@ module _ {S K : Type 0} (gives : S → ℕ → Result (Option ℤ) SourceFault �
     ending = may_end limits c ended b is.ends is.taken;
     flushed = unflushed takes flushes limits.take a.history k b.tables c ended b.history k is.ends;
   }
+
+  -- a source is read some times
+  pub reads_in_turn : (c : ℕ) (a : Book) (r : S) (k : K) {ended : Option StreamEnding} {b : Book} {s : S}
+      → ReadsInTurn gives looks at_hand c a r ended b s
+      → StreamGoesOn gives looks at_hand takes flushes limits ended a b r s k k
+  reads_in_turn c a r k none_yet_read = goes_on-refl a r k
+  reads_in_turn c a r k (once_more_read ended before after between s so_far hand is) =
+      goes_on-trans ended a before after r between s k k k (reads_in_turn c a r k so_far)
+      (reads_at_once c ended before after between s k hand is)
 
   -- a source is read if its item is at hand
   pub reads_at_hand : (c : ℕ) (ended : Option StreamEnding) (a b : Book) (r s : S) (k : K)

@@ -29,8 +29,8 @@ use Rattle.kpn_stream.specs.declared.faults.SinkFault.{SinkFault}
 use Rattle.kpn_stream.specs.declared.faults.SinkFault.TheVariants.{Gone, NoSample, Write, NoMemory}
 use Rattle.kpn_stream.specs.declared.ending.StreamEnding.{StreamEnding}
 use Rattle.kpn_stream.specs.declared.ending.StreamEnding.TheVariants.{SourceFailed, SinkFailed}
-use Rattle.kpn_stream.specs.Devices.{is_elsewhere, is_no_growth, is_of_sink, HasGiven, MayRead, Fed, by_item, by_end, by_fault, by_no_memory, ServedSince, none_yet, took, took_not, took_in_vain, flushed, flushed_not, left, left_not, had_enough, had_enough_not, IsFlushed, AreFlushed, EndsFlushed, answered}
-use Rattle.kpn_stream.specs.Ending.{end_numbers, AreLeft, IsSinkTaken}
+use Rattle.kpn_stream.specs.Devices.{is_elsewhere, is_no_growth, is_of_sink, HasGiven, MayRead, MayReadItem, MayTell, Fed, by_item, by_end, by_fault, by_no_memory, ServedSince, none_yet, took, took_not, took_in_vain, flushed, flushed_not, left, left_not, had_enough, had_enough_not, IsFlushed, AreFlushed, EndsFlushed, answered}
+use Rattle.kpn_stream.specs.Ending.{end_numbers, AreLeft, IsSinkTaken, AreTaken}
 use Rattle.kpn_stream.specs.Streaming.{MayEndWell, IsHandled, IsLeaving, leaves, stays, Serves, IsUnfed, ReadsSource}
 use Rattle.kpn_stream.proofs.Going.{besides-refl, happens_besides, growth_none, fed_happens, served_happens, ends_flushed}
 use Rattle.kpn_stream.proofs.Moments.{happens_taken, left_then}
@@ -354,7 +354,7 @@ feed_elsewhere t c d v source sink =
     (λ same. no_sink_too (channel_at t d) (subst (λ x. is_source (channel_at t x) ≡ true) same source) sink)
 
 module _ {S : Type 0} (gives : S → ℕ → Result (Option ℤ) SourceFault → S → Type 0) (looks : S → ℕ → S → Type 0)
-    (c : ℕ) (before : Book) (s now : S) (may : MayRead before.tables before.history c) where
+    (c : ℕ) (before : Book) (s now : S) (taken : AreTaken before.tables before.history) where
   -- an event of the source follows its answer
   reads_event : (e : Event) (answer : Result (Option ℤ) SourceFault) (after : Book) → answered c answer ≡ e ∷ []
       → gives s c answer now → is_of_sink e ≡ false
@@ -370,7 +370,7 @@ module _ {S : Type 0} (gives : S → ℕ → Result (Option ℤ) SourceFault →
     taken = λ d sink.
         let here : is_sink (channel_at before.tables d) ≡ true =
         subst (λ t. is_sink (channel_at t d) ≡ true) (happens_tables e before after is) sink in
-        happens_taken e d (writes_none d here) before after is (may.taken d here);
+        happens_taken e d (writes_none d here) before after is (taken d here);
     answer = answer;
     answers = gave;
     events = e ∷ [];
@@ -389,7 +389,7 @@ module _ {S : Type 0} (gives : S → ℕ → Result (Option ℤ) SourceFault →
     commits = refl;
     sources_go_on = fails;
     ends = inr (fault, refl);
-    taken = may.taken;
+    taken = taken;
     answer = answer;
     answers = gave;
     events = [];
@@ -399,33 +399,36 @@ module _ {S : Type 0} (gives : S → ℕ → Result (Option ℤ) SourceFault →
     then = sym (append-nil (before.history ++ []) ∙ append-nil before.history);
   }
 
-  pub reads_fault : (fault : SourceFault) → gives s c (Err fault) now
+  pub reads_fault : MayRead before.tables before.history c → (fault : SourceFault) → gives s c (Err fault) now
       → ReadsSource gives looks c (Some (SourceFailed c fault)) before before s now
-  reads_fault fault answer =
+  reads_fault may fault answer =
       reads_over fault (Err fault) answer
       (λ first fed. by_fault before.history c fault s now fed may answer)
 
-  unfed : (given : Option ℤ) (ending : StreamEnding) (after : Book) → gives s c (Ok given) now
-      → IsUnfed c before after ending → ReadsSource gives looks c (Some ending) before after s now
-  unfed given ending after answer is =
+  unfed : (given : Option ℤ) → MayTell before.tables before.history c given → (ending : StreamEnding) (after : Book)
+      → gives s c (Ok given) now → IsUnfed c before after ending
+      → ReadsSource gives looks c (Some ending) before after s now
+  unfed given may ending after answer is =
       subst (λ e. ReadsSource gives looks c (Some e) before after s now) (sym is.0)
       (subst (λ b. ReadsSource gives looks c (Some (SourceFailed c source_fault.NoMemory)) before b s now) (sym is.1)
       (reads_over source_fault.NoMemory (Ok given) answer
       (λ first fed. by_no_memory before.history c given s now fed may answer)))
 
-  pub reads_item : (v : ℤ) (ended : Option StreamEnding) (after : Book) → gives s c (Ok (Some v)) now
+  pub reads_item : MayReadItem before.tables before.history c → is_source (channel_at before.tables c) ≡ true
+      → (v : ℤ) (ended : Option StreamEnding) (after : Book) → gives s c (Ok (Some v)) now
       → IfNone ended (Happens (event.Feed c v) before after) → IfSome ended (IsUnfed c before after)
       → ReadsSource gives looks c ended before after s now
-  reads_item v None after answer fed refused =
+  reads_item may source v None after answer fed refused =
       reads_event (event.Feed c v) (Ok (Some v)) after refl answer refl
-      (λ d. feed_elsewhere before.tables c d v may.may_feed.source) fed
+      (λ d. feed_elsewhere before.tables c d v source) fed
       (λ first so_far. by_item before.history c v s now so_far may answer)
-  reads_item v (Some ending) after answer fed refused = unfed (Some v) ending after answer refused
+  reads_item may source v (Some ending) after answer fed refused = unfed (Some v) may ending after answer refused
 
-  pub reads_end : (ended : Option StreamEnding) (after : Book) → gives s c (Ok None) now
+  pub reads_end : MayRead before.tables before.history c → (ended : Option StreamEnding) (after : Book)
+      → gives s c (Ok None) now
       → IfNone ended (Happens (event.Close c) before after) → IfSome ended (IsUnfed c before after)
       → ReadsSource gives looks c ended before after s now
-  reads_end None after answer closed refused =
+  reads_end may None after answer closed refused =
       reads_event (event.Close c) (Ok None) after refl answer refl (λ d _. refl) closed
       (λ first so_far. by_end before.history c s now so_far may answer)
-  reads_end (Some ending) after answer closed refused = unfed None ending after answer refused
+  reads_end may (Some ending) after answer closed refused = unfed None may ending after answer refused

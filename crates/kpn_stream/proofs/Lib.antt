@@ -1,3 +1,4 @@
+pub mod Batches
 pub mod Closes
 pub mod Going
 pub mod Handling

@@ -3,7 +3,7 @@ use Rattle.std.proofs.Common.{◌≡◌, ◌≢◌, ℕ, ◌≤◌, Bool, true, 
 use Rattle.std.proofs.lemmas.List.{same_from_push}
 use Rattle.std.proofs.lemmas.Bool.{cases_eq, eq-eqb, ne_eqb, eqb-true, both_ways, false≢true, or_right}
 use Rattle.kpn_lang.specs.Prefix.{IsPrefix}
-use Rattle.kpn_lang.proofs.Prefixes.{IsPrefix-trans, IsPrefix-from_rest, IsPrefix-same, same_from_prefix, prefix_of_push}
+use Rattle.kpn_lang.proofs.Prefixes.{IsPrefix-refl, IsPrefix-trans, IsPrefix-from_rest, IsPrefix-same, same_from_prefix, prefix_of_push}
 use Rattle.kpn_net.specs.Tables.{Tables, channel_at, is_source, is_sink}
 use Rattle.kpn_net.specs.Faults.{IsNetwork}
 use Rattle.kpn_net.specs.Process.{Family}
@@ -12,7 +12,7 @@ use Rattle.kpn_net.proofs.Networks.{sink_there}
 use Rattle.kpn_history.specs.declared.event.Event.{Event}
 use Rattle.kpn_history.specs.declared.event.Event.TheVariants as event
 use Rattle.kpn_history.specs.Channels.{written_in, written_on, read_in, read_on, unread_on, is_closed, is_close_of, is_left}
-use Rattle.kpn_history.specs.Legal.{Legal}
+use Rattle.kpn_history.specs.Legal.{Legal, MayFeed}
 use Rattle.kpn_history.specs.Complete.{IsComplete, IsFedFrom}
 use Rattle.kpn_history.proofs.AfterEvent.{is_closed-next}
 use Rattle.kpn_history.proofs.Events.{written_on-push, written_on-same, read_on-push, read_on-same}
@@ -27,7 +27,7 @@ use Rattle.kpn_stream.specs.declared.faults.SourceFault.{SourceFault}
 use Rattle.kpn_stream.specs.declared.faults.SourceFault.TheVariants as source_fault
 use Rattle.kpn_stream.specs.declared.faults.SinkFault.{SinkFault}
 use Rattle.kpn_stream.specs.declared.faults.SinkFault.TheVariants as sink_fault
-use Rattle.kpn_stream.specs.Devices.{is_of_source, is_of_sink, MayRead, Fed, at_first, by_others, by_look, by_item, by_end, by_fault, by_no_memory, HasGiven, Served, none_yet, meanwhile, took, took_not, took_in_vain, flushed, flushed_not, left, left_not, had_enough, had_enough_not}
+use Rattle.kpn_stream.specs.Devices.{is_of_source, is_of_sink, MayRead, MayReadItem, Fed, at_first, by_others, by_look, by_item, by_end, by_fault, by_no_memory, HasGiven, Served, none_yet, meanwhile, took, took_not, took_in_vain, flushed, flushed_not, left, left_not, had_enough, had_enough_not}
 use Rattle.kpn_stream.specs.Ending.{IsSinkTaken}
 use Rattle.kpn_stream.specs.Lists.{Gave, nothing_given, gave, told_end, gave_not, any_looked, another_gave, WasGiven, GivesList, GiveInTurn, Took, nothing_taken, took_item, took_none, another_took, any_flushed, WasTaken}
 use Rattle.kpn_stream.proofs.Going.{closed_same}
@@ -83,13 +83,13 @@ module _ {S : Type 0} (gives : S → ℕ → Result (Option ℤ) SourceFault →
   or_nothing false = refl
 
   -- a source that may be read is open
-  at_open : (H : List Event) (c d : ℕ) (before : S) → MayRead t H c → is_source (channel_at t d) ≡ true → d ≡ c
+  at_open : (H : List Event) (c d : ℕ) (before : S) → MayFeed t H c → is_source (channel_at t d) ≡ true → d ≡ c
       → GaveAll H before → Gave gives looks first c (written_on H c) false before
   at_open H c d before may source same all =
-      subst (λ b. Gave gives looks first c (written_on H c) b before) may.may_feed.not_closed
+      subst (λ b. Gave gives looks first c (written_on H c) b before) may.not_closed
       (subst (λ x. Gave gives looks first x (written_on H x) (is_closed H x) before) same (all d source))
 
-  feeds : (H : List Event) (c : ℕ) (v : ℤ) (before now : S) → MayRead t H c → gives before c (Ok (Some v)) now
+  feeds : (H : List Event) (c : ℕ) (v : ℤ) (before now : S) → MayFeed t H c → gives before c (Ok (Some v)) now
       → GaveAll H before → GaveAll (H ++ event.Feed c v ∷ []) now
   feeds H c v before now may answer all d source =
       let closed = is_closed-next H (event.Feed c v) d ∙ or_nothing (is_closed H d) in
@@ -99,7 +99,7 @@ module _ {S : Type 0} (gives : S → ℕ → Result (Option ℤ) SourceFault →
             (is_closed (H ++ event.Feed c v ∷ []) d)
             (ap (written_on (H ++ event.Feed c v ∷ [])) same ∙ written_on-push H (event.Feed c v) c
             ∙ ap (λ xs. written_on H c ++ xs) (item_here c v))
-            (closed ∙ ap (is_closed H) same ∙ may.may_feed.not_closed)
+            (closed ∙ ap (is_closed H) same ∙ may.not_closed)
             (subst (λ x. Gave gives looks first x (written_on H c ++ v ∷ []) false now) (sym same)
             (gave (written_on H c) v before now (at_open H c d before may source same all) answer))
         | inr other ↦
@@ -110,7 +110,7 @@ module _ {S : Type 0} (gives : S → ℕ → Result (Option ℤ) SourceFault →
             (another_gave (written_on H d) (is_closed H d) c (Ok (Some v)) before now (all d source) away answer)
       ]
 
-  closes : (H : List Event) (c : ℕ) (before now : S) → MayRead t H c → gives before c (Ok None) now
+  closes : (H : List Event) (c : ℕ) (before now : S) → MayFeed t H c → gives before c (Ok None) now
       → GaveAll H before → GaveAll (H ++ event.Close c ∷ []) now
   closes H c before now may answer all d source =
       let written = written_on-same H (event.Close c) d refl in
@@ -153,10 +153,10 @@ module _ {S : Type 0} (gives : S → ℕ → Result (Option ℤ) SourceFault →
   gave_so_far network (by_look H d before now so_far look) legal well = λ c source.
       any_looked (written_on H c) (is_closed H c) d before now (gave_so_far network so_far legal refl c source) look
   gave_so_far network (by_item H c v before now so_far may answer) legal well =
-      feeds H c v before now may answer
+      feeds H c v before now (legal.follows H (event.Feed c v) (IsPrefix-refl (H ++ event.Feed c v ∷ []))).due answer
       (gave_so_far network so_far (Legal-before t H (event.Feed c v) legal) refl)
   gave_so_far network (by_end H c before now so_far may answer) legal well =
-      closes H c before now may answer (gave_so_far network so_far (Legal-before t H (event.Close c) legal) refl)
+      closes H c before now may.may_feed answer (gave_so_far network so_far (Legal-before t H (event.Close c) legal) refl)
   gave_so_far network (by_fault H c fault before now so_far may answer) legal well = absurd cc
   gave_so_far network (by_no_memory H c given before now so_far may answer) legal well = absurd cc
 
@@ -284,7 +284,7 @@ module _ {S : Type 0} (gives : S → ℕ → Result (Option ℤ) SourceFault →
 
 -- what an event of a source needs
 abbrev pub DueNow : Tables → List Event → Event → Type 0
-DueNow t B (event.Feed c v) = MayRead t B c
+DueNow t B (event.Feed c v) = MayReadItem t B c
 DueNow t B (event.Close c) = MayRead t B c
 DueNow t B e = Unit {0}
 
@@ -325,7 +325,7 @@ module _ {S : Type 0} (gives : S → ℕ → Result (Option ℤ) SourceFault →
 
   pub fed_when_due : {H : List Event} {failed : Option (ℕ × SourceFault)} {now : S}
       → Fed t gives looks first H failed now
-      → (B : List Event) (c : ℕ) (v : ℤ) → IsPrefix (B ++ event.Feed c v ∷ []) H → MayRead t B c
+      → (B : List Event) (c : ℕ) (v : ℤ) → IsPrefix (B ++ event.Feed c v ∷ []) H → MayReadItem t B c
   fed_when_due so_far B c v begins = was_due so_far B (event.Feed c v) begins
 
   pub closed_when_due : {H : List Event} {failed : Option (ℕ × SourceFault)} {now : S}

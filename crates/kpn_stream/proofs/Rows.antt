@@ -1,16 +1,19 @@
 -- Worked rows: what the definitions say of a source whose device is a list in memory, and of a process that copies it.
 use Rattle.std.proofs.Common.{◌≡◌, ◌≢◌, ℕ, false, cond, eqb, ℤ, pos, List, [], ◌∷◌, Option, Some, None, Result, Ok, Err, refl, sym, ap, ◌∙◌, subst, inl, inr, arith}
+use Rattle.std.specs.Prelude.{map, ◌++◌, ◌⊎◌}
 use Rattle.std.proofs.lemmas.Bool.{ne_eqb}
 use Rattle.kpn_net.specs.declared.tables.ChannelSpec.TheVariants as channel
 use Rattle.kpn_net.specs.declared.tables.Policy.TheVariants.{Cycles, All}
 use Rattle.kpn_net.specs.declared.tables.Growth.TheVariants.{One}
 use Rattle.kpn_net.specs.declared.wait.Wait.TheVariants.{Nobody, Empty}
 use Rattle.kpn_net.specs.Tables.{Tables}
+use Rattle.kpn_history.specs.declared.event.Event.{Event}
 use Rattle.kpn_history.specs.declared.event.Event.TheVariants.{WaitEmpty, Feed, Close}
 use Rattle.kpn_stream.specs.declared.faults.SourceFault.{SourceFault}
 use Rattle.kpn_stream.specs.declared.faults.SinkFault.{SinkFault}
-use Rattle.kpn_stream.specs.Devices.{MayRead, Fed, at_first, by_others, by_item, by_end, Called}
+use Rattle.kpn_stream.specs.Devices.{MayRead, IsAwaited, IsStuckUnderAll, Fed, at_first, by_others, by_item, by_end, Called}
 use Rattle.kpn_stream.specs.Lists.{GivesList, GiveInTurn}
+use Rattle.kpn_stream.proofs.Batches.{item_due}
 use Rattle.kpn_stream.proofs.Listing.{fed_when_due, gives_ahead}
 use Rattle.kpn_stream.proofs.Order.{was_at_rest}
 
@@ -47,7 +50,19 @@ may_read = record {
 read_when_awaited : Fed copies Pops Stays (pos 7 ∷ []) (WaitEmpty 0 0 ∷ Feed 0 (pos 7) ∷ []) None []
 read_when_awaited =
     by_item (WaitEmpty 0 0 ∷ []) 0 (pos 7) (pos 7 ∷ []) []
-    (by_others [] (WaitEmpty 0 0) None (pos 7 ∷ []) at_first refl) may_read (refl, refl, refl)
+    (by_others [] (WaitEmpty 0 0) None (pos 7 ∷ []) at_first refl)
+    (item_due copies (WaitEmpty 0 0 ∷ []) 0 may_read) (refl, refl, refl)
+
+-- so is the next one at once
+read_on_at_once : Fed copies Pops Stays (pos 7 ∷ pos 8 ∷ [])
+    (WaitEmpty 0 0 ∷ Feed 0 (pos 7) ∷ Feed 0 (pos 8) ∷ []) None []
+read_on_at_once =
+    by_item (WaitEmpty 0 0 ∷ Feed 0 (pos 7) ∷ []) 0 (pos 8) (pos 8 ∷ []) []
+    (by_item (WaitEmpty 0 0 ∷ []) 0 (pos 7) (pos 7 ∷ pos 8 ∷ []) (pos 8 ∷ [])
+    (by_others [] (WaitEmpty 0 0) None (pos 7 ∷ pos 8 ∷ []) at_first refl)
+    (item_due copies (WaitEmpty 0 0 ∷ []) 0 may_read) (refl, refl, refl))
+    (record { before = WaitEmpty 0 0 ∷ []; due = may_read; items = pos 7 ∷ []; since = refl; few = omega arith })
+    (refl, refl, refl)
 
 -- a process waits, and the end is told
 closed_when_awaited : Fed copies Pops Stays [] (WaitEmpty 0 0 ∷ Close 0 ∷ []) None []
@@ -58,10 +73,15 @@ closed_when_awaited =
 not_read_ahead : Fed copies Pops Stays (pos 7 ∷ []) (Feed 0 (pos 7) ∷ []) None [] → ⊥
 not_read_ahead fed =
     let may = fed_when_due Pops Stays (pos 7 ∷ []) copies fed [] 0 (pos 7) (refl, tt) in
-    elim may.needed [
+    elim (subst (λ H. IsAwaited copies H 0 ⊎ IsStuckUnderAll copies H) (at_start may.before may.items may.since)
+    may.due.needed) [
       | inl awaited ↦ let clash : Nobody ≡ Empty 0 = awaited.waits in cc
       | inr stuck ↦ let clash : Cycles ≡ All = stuck.policy in cc
     ]
+  where
+    at_start : (before : List Event) (items : List ℤ) → [] ≡ before ++ map (Feed 0) items → before ≡ []
+    at_start [] items since = refl
+    at_start (e ∷ before) items since = absurd cc
 
 -- the device gives its list
 on_source : List ℤ → ℕ → List ℤ

@@ -1,7 +1,7 @@
 -- What the devices of a network have to do with its history. Each item that a source is fed is one that its device
 -- gave, and each item that is taken from a sink is one that its device took. The device of a source is asked only if an
 -- item is needed, and waited for only if nothing else can go on.
-use Rattle.std.specs.Prelude.{◌≡◌, ℕ, ◌<◌, ◌⊎◌, ◌||◌, Bool, true, false, ℤ, List, [], ◌∷◌, ◌++◌, length, Option, Some, None, Result, Ok, Err}
+use Rattle.std.specs.Prelude.{◌≡◌, ℕ, ◌<◌, ◌⊎◌, ◌||◌, map, Bool, true, false, ℤ, List, [], ◌∷◌, ◌++◌, length, Option, Some, None, Result, Ok, Err}
 use Rattle.kpn_net.specs.declared.tables.Policy.TheVariants.{All}
 use Rattle.kpn_net.specs.declared.wait.Wait.TheVariants.{Empty}
 use Rattle.kpn_net.specs.Tables.{Tables, is_sink}
@@ -17,6 +17,7 @@ use Rattle.kpn_stream.specs.declared.faults.SinkFault.{SinkFault}
 use Rattle.kpn_stream.specs.declared.faults.SinkFault.TheVariants as sink_fault
 use Rattle.kpn_stream.specs.declared.ending.StreamEnding.{StreamEnding}
 use Rattle.kpn_stream.specs.declared.ending.StreamEnding.TheVariants.{SourceFailed, SinkFailed}
+use Rattle.kpn_stream.specs.declared.reading.TheConstants.{MOST_AT_ONCE}
 use Rattle.kpn_stream.specs.Ending.{end_numbers, AreTaken}
 
 -- ---- the events of the outside
@@ -74,6 +75,20 @@ pub record MayRead (t : Tables) (H : List Event) (c : ℕ) : Type 0 where
   pub needed : IsAwaited t H c ⊎ IsStuckUnderAll t H
   pub taken : AreTaken t H
 
+-- its item may be read: the device might be asked some moments ago, and since then the source was only fed, but not yet
+-- with as many items as are read at once
+pub record MayReadItem (t : Tables) (H : List Event) (c : ℕ) : Type 0 where
+  pub before : List Event
+  pub due : MayRead t before c
+  pub items : List ℤ
+  pub since : H ≡ before ++ map (Feed c) items
+  pub few : length items < MOST_AT_ONCE
+
+-- what may be told of it: an item, or else the end or a fault, which wait until the device may be asked
+abbrev pub MayTell : Tables → List Event → (c : ℕ) → (given : Option ℤ) → Type 0
+MayTell t H c (Some v) = MayReadItem t H c
+MayTell t H c None = MayRead t H c
+
 -- ---- the sources
 
 -- The history goes with what the devices of the sources answered, one call after the other, from the first devices to
@@ -88,14 +103,14 @@ pub data Fed {S : Type 0} (t : Tables) (gives : S → ℕ → Result (Option ℤ
   by_look : (H : List Event) (c : ℕ) (before now : S) → Fed t gives looks first H None before → looks before c now →
       Fed t gives looks first H None now
   by_item : (H : List Event) (c : ℕ) (v : ℤ) (before now : S) → Fed t gives looks first H None before →
-      MayRead t H c → gives before c (Ok (Some v)) now → Fed t gives looks first (H ++ Feed c v ∷ []) None now
+      MayReadItem t H c → gives before c (Ok (Some v)) now → Fed t gives looks first (H ++ Feed c v ∷ []) None now
   by_end : (H : List Event) (c : ℕ) (before now : S) → Fed t gives looks first H None before → MayRead t H c →
       gives before c (Ok None) now → Fed t gives looks first (H ++ Close c ∷ []) None now
   by_fault : (H : List Event) (c : ℕ) (fault : SourceFault) (before now : S) →
       Fed t gives looks first H None before → MayRead t H c → gives before c (Err fault) now →
       Fed t gives looks first H (Some (c, fault)) now
   by_no_memory : (H : List Event) (c : ℕ) (given : Option ℤ) (before now : S) →
-      Fed t gives looks first H None before → MayRead t H c → gives before c (Ok given) now →
+      Fed t gives looks first H None before → MayTell t H c given → gives before c (Ok given) now →
       Fed t gives looks first H (Some (c, source_fault.NoMemory)) now
 
 -- ---- the sinks

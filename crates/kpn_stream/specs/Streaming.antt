@@ -1,8 +1,8 @@
 -- Scaffolding: what the parts of a stream do to its book. Only contracts of private functions use it.
-use Rattle.std.specs.Prelude.{◌≡◌, ◌⊎◌, ℕ, ◌≤◌, Bool, true, ℤ, List, ◌++◌, is_some, Option, Some, None, Result}
+use Rattle.std.specs.Prelude.{◌≡◌, ◌⊎◌, ℕ, ◌≤◌, Bool, true, ℤ, List, ◌++◌, map, length, is_some, Option, Some, None, Result}
 use Rattle.kpn_net.specs.Tables.{Tables}
 use Rattle.kpn_history.specs.declared.event.Event.{Event}
-use Rattle.kpn_history.specs.declared.event.Event.TheVariants.{Leave}
+use Rattle.kpn_history.specs.declared.event.Event.TheVariants.{Leave, Feed}
 use Rattle.kpn_book.specs.Book.{Book}
 use Rattle.kpn_book.specs.Appending.{Happens}
 use Rattle.kpn_book.specs.Remembering.{RemembersAsMuch}
@@ -13,7 +13,7 @@ use Rattle.kpn_stream.specs.declared.faults.SinkFault.TheVariants as sink_fault
 use Rattle.kpn_stream.specs.declared.ending.StreamEnding.{StreamEnding}
 use Rattle.kpn_stream.specs.declared.ending.StreamEnding.TheVariants.{SourceFailed, SinkFailed}
 use Rattle.kpn_book.specs.declared.outcome.Limits.{Limits}
-use Rattle.kpn_stream.specs.Devices.{is_of_sink, is_of_outside, is_elsewhere, is_no_growth, NoneIs, Fed, ServedSince, EndsFlushed, AreLookedAt, IsAnswered, Called}
+use Rattle.kpn_stream.specs.Devices.{is_of_sink, is_of_outside, is_elsewhere, is_no_growth, NoneIs, MayRead, Fed, ServedSince, EndsFlushed, AreLookedAt, IsAnswered, Called}
 use Rattle.kpn_stream.specs.Ending.{AreLeft, IsSinkTaken, AreTaken, LeavesNothing, IsEnding, failed_source, failed_sink}
 
 -- events happened, but none of this kind
@@ -89,6 +89,26 @@ pub record ReadsSource {S : Type 0} (gives : S → ℕ → Result (Option ℤ) S
     pub growth : List Event
     pub grown : NoneIs is_no_growth growth
     pub then : after.history ≡ (before.history ++ events) ++ growth
+
+-- source c was read so many times since its device might be asked, and gave items
+pub record WasRead (c n : ℕ) (b : Book) : Type 0 where
+  pub before : List Event
+  pub due : MayRead b.tables before c
+  pub items : List ℤ
+  pub since : b.history ≡ before ++ map (Feed c) items
+  pub times : length items ≡ n
+  pub taken : AreTaken b.tables b.history
+
+-- Source c is read some times, one after the other, each time since its answer is at hand. Only the last may end the
+-- stream.
+pub data ReadsInTurn {S : Type 0} (gives : S → ℕ → Result (Option ℤ) SourceFault → S → Type 0)
+    (looks : S → ℕ → S → Type 0) (at_hand : S → ℕ → Type 0) (c : ℕ) (first : Book) (sources : S)
+    : (ended : Option StreamEnding) → Book → S → Type 0 where
+  none_yet_read : ReadsInTurn gives looks at_hand c first sources None first sources
+  once_more_read : (ended : Option StreamEnding) (before after : Book) (s read : S) →
+      ReadsInTurn gives looks at_hand c first sources None before s → at_hand s c →
+      ReadsSource gives looks c ended before after s read →
+      ReadsInTurn gives looks at_hand c first sources ended after read
 
 -- Source c is not read, or it is read since its answer is at hand.
 pub data ReadsAtHand {S : Type 0} (gives : S → ℕ → Result (Option ℤ) SourceFault → S → Type 0)

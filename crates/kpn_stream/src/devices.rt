@@ -1,5 +1,5 @@
 //! What stands at the sources and at the sinks of a network while it runs.
-ghost use Rattle.std.specs.Prelude.{◌≡◌, ℕ, ℤ, IsTrue, Option as Maybe, Result as Answer};
+ghost use Rattle.std.specs.Prelude.{◌≡◌, ℕ, ℤ, IsTrue, IfSome, IfNone, Some, Ok, Option as Maybe, Result as Answer};
 ghost use Rattle.kpn_stream.specs.declared.devices.Readiness.TheVariants as look;
 ghost use Rattle.kpn_stream.specs.declared.faults.SourceFault.{SourceFault as Refusal};
 ghost use Rattle.kpn_stream.specs.declared.faults.SinkFault.{SinkFault as Failure};
@@ -37,6 +37,13 @@ pub trait Sources {
     /// Whether `next` would answer for this source without waiting for its device, by what was taken in already.
     fn is_at_hand(&self, source: usize) -> bool
         ensures { IsTrue result → at_hand self.now source };
+
+    /// The next item of a source, if it is at hand and no fault. It never waits, and leaves the end of the input and faults
+    /// to `next`.
+    fn next_at_hand(&mut self, source: usize) -> Option<i64>
+        ensures item { IfSome result (λ item. gives self.old source (Ok (Some item)) self.new) }
+        ensures at_hand { IfSome result (λ item. at_hand self.old source) }
+        ensures as_before { IfNone result (self.new ≡ self.old) };
 
     /// Takes in what has come for a source, and shows whether its answer is at hand now. It never waits.
     fn look(&mut self, source: usize) -> Readiness

@@ -16,7 +16,7 @@ ghost use Rattle.kpn_book.specs.declared.outcome.Outcome.TheVariants.{Enough};
 ghost use Rattle.kpn_book.specs.Outcomes.{IsOutcome};
 ghost use Rattle.kpn_stream.specs.declared.faults.SourceFault.{SourceFault};
 ghost use Rattle.kpn_stream.specs.declared.faults.SinkFault.{SinkFault};
-ghost use Rattle.kpn_stream.specs.Devices.{MayRead, Fed, Served};
+ghost use Rattle.kpn_stream.specs.Devices.{MayRead, MayReadItem, Fed, Served};
 ghost use Rattle.kpn_stream.specs.Ending.{IsSinkTaken};
 ghost use Rattle.kpn_stream.specs.Lists.{WasGiven, GivesList, GiveInTurn, WasTaken};
 
@@ -24,11 +24,13 @@ use crate::devices::{Sinks, Sources};
 
 // ---- the sources
 
-/// Nobody reads ahead of need: whenever a source was fed or closed, its device might be asked.
+/// Nobody reads ahead of need: whenever a source was fed, its device might be asked, or might be asked fewer than 64
+/// items before, and nothing else has happened since. Whenever a source was closed, its device might be asked.
 pub fn no_read_ahead<S: Sources>()
     ensures fed { (t : Tables) (H : List Event) (first now : S)
         (failed : Option (ℕ × SourceFault)) → Fed t S.gives S.looks first H failed now
-        → (B : List Event) (c : ℕ) (v : ℤ) → IsPrefix (B ++ event.Feed c v ∷ []) H → MayRead t B c }
+        → (B : List Event) (c : ℕ) (v : ℤ) → IsPrefix (B ++ event.Feed c v ∷ []) H
+        → MayReadItem t B c }
     ensures closed { (t : Tables) (H : List Event) (first now : S)
         (failed : Option (ℕ × SourceFault)) → Fed t S.gives S.looks first H failed now
         → (B : List Event) (c : ℕ) → IsPrefix (B ++ event.Close c ∷ []) H → MayRead t B c }

@@ -1,5 +1,5 @@
 //! A source is read.
-ghost use Rattle.std.specs.Prelude.{◌≡◌, ◌<◌, ℕ, true, false, length, IfSome, IfNone, IsTrue};
+ghost use Rattle.std.specs.Prelude.{◌≡◌, ◌<◌, ℕ, true, false, [], ◌∷◌, ◌++◌, length, IfSome, IfNone, IsTrue};
 ghost use Rattle.kpn_net.specs.Tables.{channel_at, is_source, is_sink};
 ghost use Rattle.kpn_history.specs.declared.event.Event.TheVariants as event;
 ghost use Rattle.kpn_history.specs.Channels.{is_closed};
@@ -7,7 +7,7 @@ ghost use Rattle.kpn_history.specs.Legal.{MayFeed};
 ghost use Rattle.kpn_book.specs.Appending.{Happens};
 ghost use Rattle.kpn_stream.specs.Devices.{IsAwaited, IsStuckUnderAll, MayRead};
 ghost use Rattle.kpn_stream.specs.Ending.{end_numbers, IsUnwanted, AreTaken};
-ghost use Rattle.kpn_stream.specs.Streaming.{StreamGoesOn, IsUnfed, MayEndWell, ReadsSource, Serves};
+ghost use Rattle.kpn_stream.specs.Streaming.{StreamGoesOn, IsUnfed, MayEndWell, ReadsSource, ReadsInTurn, WasRead, Serves};
 
 use crate::devices::{Sinks, Sources};
 use crate::ending::StreamEnding;
@@ -15,10 +15,13 @@ use crate::ends::EndNumbers;
 use crate::faults::SourceFault;
 use crate::looking::first_to_come;
 use crate::running::ending_of;
-use crate::stepping::is_idle;
+use crate::stepping::{is_idle, is_order_seen};
 use crate::taking::flush_all;
 use kpn_book::{Book, Limits};
 use kpn_net::Policy;
+
+/// How many items of a source are read at once at most.
+const MOST_AT_ONCE: u64 = 64;
 
 /// Reads one item of a source that is due, and feeds it, or closes the source at the end of its input. No process is
 /// ready. Before it waits for the device of a source, those of the sinks hand on all that they kept.
@@ -40,7 +43,7 @@ pub(crate) fn read_one<S: Sources, K: Sinks>(
         return rest(book, ends, sinks, limits);
     };
     if sources.is_at_hand(c) {
-        return read(book, sources, c);
+        return read_in_turn(book, sources, c, limits);
     }
     wait_for_one(book, ends, sources, sinks, limits)
 }
@@ -113,6 +116,45 @@ fn ending_at_rest(book: &Book<'_>, ends: &EndNumbers, limits: &Limits) -> Option
     }
 }
 
+/// Reads source `c`, whose answer is at hand. If nobody sees when, it reads on while items are at hand.
+fn read_in_turn<S: Sources>(
+    book: &mut Book<'_>,
+    sources: &mut S,
+    c: usize,
+    limits: &Limits,
+) -> Option<StreamEnding>
+    requires due { MayRead book.old.tables book.old.history c }
+    requires at_hand { S.at_hand sources.old c }
+    ensures { ReadsInTurn S.gives S.looks S.at_hand c book.old sources.old result book.new sources.new }
+{
+    let ended = read(book, sources, c);
+    if ended.is_some() || book.is_closed(c) || is_order_seen(book, limits) {
+        return ended;
+    }
+    read_on(book, sources, c)
+}
+
+/// Reads source `c` on while its items are at hand, if it was read.
+fn read_on<S: Sources>(
+    book: &mut Book<'_>,
+    sources: &mut S,
+    c: usize,
+) -> Option<StreamEnding>
+    requires { WasRead c 1 book.old }
+    ensures { ReadsInTurn S.gives S.looks S.at_hand c book.old sources.old result book.new sources.new }
+{
+    'items: for _item in 1..MOST_AT_ONCE {
+        let Some(item) = sources.next_at_hand(c) else {
+            return None;
+        };
+        let ended = feed(book, c, item);
+        if ended.is_some() {
+            return ended;
+        }
+    }
+    None
+}
+
 /// Reads source `c`.
 pub(crate) fn read<S: Sources>(
     book: &mut Book<'_>,
@@ -120,7 +162,8 @@ pub(crate) fn read<S: Sources>(
     c: usize,
 ) -> Option<StreamEnding>
     requires { MayRead book.old.tables book.old.history c }
-    ensures { ReadsSource S.gives S.looks c result book.old book.new sources.old sources.new }
+    ensures reads { ReadsSource S.gives S.looks c result book.old book.new sources.old sources.new }
+    ensures fed { IfNone result (is_closed book.new.history c ≡ false → WasRead c 1 book.new) }
 {
     match sources.next(c) {
         Ok(Some(item)) => feed(book, c, item),
@@ -131,6 +174,7 @@ pub(crate) fn read<S: Sources>(
 
 fn feed(book: &mut Book<'_>, c: usize, item: i64) -> Option<StreamEnding>
     ensures fed { IfNone result (Happens (event.Feed c item) book.old book.new) }
+    ensures alone { IfNone result (book.new.history ≡ book.old.history ++ event.Feed c item ∷ []) }
     ensures refused { IfSome result (IsUnfed c book.old book.new) }
 {
     match book.feed(c, item, usize::MAX) {

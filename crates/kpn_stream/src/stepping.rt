@@ -27,26 +27,34 @@ pub(crate) fn step_stretch(
     step_until(book, limits, goal)
 }
 
-/// Steps the processes in turn until none is ready, or the commits have reached the goal or their limit. The error is
-/// that memory ran out.
+/// Steps the processes until none is ready, or the commits have reached the goal or their limit. If nobody sees the
+/// order, an item on a sink ends it too. The error is that memory ran out.
 fn step_until(book: &mut Book<'_>, limits: &Limits, goal: u64) -> Result<(), AllocError>
     ensures { StepsWithinLimits limits.now book.old book.new }
 {
     'rows: for _row in 0..u64::MAX {
-        if step_row(book, limits, goal)?.is_none() {
+        if step_row(book, limits, goal)?.is_none() || !is_order_seen(book, limits) {
             return Ok(());
         }
     }
     Ok(())
 }
 
-/// Steps the processes in turn until one has put an item on a sink, which is returned, or none is ready, or the commits
-/// have reached the goal or their limit.
+/// Steps the processes until one has put an item on a sink, which is returned, or none is ready, or the commits have
+/// reached the goal or their limit.
 fn step_row(book: &mut Book<'_>, limits: &Limits, goal: u64) -> Result<Option<usize>, AllocError>
     ensures { StepsWithinLimits limits.now book.old book.new }
 {
     let most = commits_left(book, limits, goal);
-    book.run_on(limits.quota.max(1), most)
+    if is_order_seen(book, limits) {
+        return book.run_on(limits.quota.max(1), most);
+    }
+    book.go_on(limits.quota.max(1), most)
+}
+
+/// Whether somebody sees in which order the processes make steps: the book keeps its events, or the commits are limited.
+pub(crate) fn is_order_seen(book: &Book<'_>, limits: &Limits) -> bool {
+    limits.commits < u64::MAX || book.history().is_kept()
 }
 
 /// How many commits are left up to the goal and to the limit, and at most as many as can be counted.

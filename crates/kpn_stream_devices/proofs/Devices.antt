@@ -1,5 +1,10 @@
 -- What reads and writes do to inputs and outputs.
-use Rattle.std.proofs.Common.{◌≡◌, ℕ, ◌≤◌, false, List, [], ◌++◌, length, take, length-take, Option, Some, None, Result, Ok, Err, refl, sym, ap, ◌∙◌, subst, arith, append_assoc, inl, inr}
+use Rattle.std.specs.Vec.{with_item}
+use Rattle.std.specs.Global.{Vec}
+use Rattle.std.specs.Prelude.{slice_set}
+use Rattle.std.proofs.Math.Nat.{ℕ_set}
+use Rattle.std.proofs.lemmas.List.{set-get_or}
+use Rattle.std.proofs.Common.{◌≡◌, ℕ, ◌≤◌, false, List, [], ◌++◌, length, take, length-take, Option, Some, None, Result, Ok, Err, refl, sym, ap, ◌∙◌, subst, arith, append_assoc, inl, inr, IfSome, get_or}
 use Rattle.std.specs.Prelude.{ℤ}
 use Rattle.std.specs.Io.KnownBytes.{Keeps, Consumes, Appends, prepend_known, append_known}
 use Rattle.std.proofs.KnownBytes.{Keeps-trans, Keeps-refl, Appends-kept, append_known-grown}
@@ -18,11 +23,12 @@ use Rattle.kpn_stream_devices.specs.declared.head.Wav.{Wav as Left}
 use Rattle.kpn_stream_devices.specs.declared.head.Head.{Head}
 use Rattle.kpn_stream_devices.specs.declared.head.Head.TheVariants.{Open, Bad, Whole}
 use Rattle.kpn_stream_devices.specs.Head.{head_at}
+use Rattle.kpn_stream_devices.specs.declared.inputs.SourceInputs.{SourceInputs}
 use Rattle.kpn_stream_devices.specs.declared.inputs.SourceInput.{SourceInput}
 use Rattle.kpn_stream_devices.specs.SourceInputs.{device_left, most_read, HasReadOn, InputGives, IsInputAsked, IsSparing, HaveMoved, FailsToRead, ReadsOnly, WaitsForDevice, kept_fault}
 use Rattle.kpn_stream_devices.specs.declared.inputs.Failed.{Failed}
 use Rattle.kpn_stream_devices.specs.declared.inputs.Failed.TheVariants as look_fault
-use Rattle.kpn_stream_devices.specs.SinkOutputs.{HandsOn, TakesItem}
+use Rattle.kpn_stream_devices.specs.SinkOutputs.{HandsOn, KeepsFew, TakesItem}
 
 -- ---- inputs
 
@@ -340,6 +346,14 @@ module _ {I F : Type 0} (left : I → Option (List ℕ)) (left_in : F → Option
               told = λ failed is. inl (ap (λ (f : SourceFault). Err f) (last.told failed (so_far.moved.failed ∙ is)));
             }
 
+  -- the bytes at hand tell an item
+  pub told_at_hand : (standard : I) (input : SourceInput F) (item : Option ℤ) (w : Window)
+      → IfSome item (λ v. WindowTells input.format input.window (Ok (Some v)) w) → w.is_over ≡ input.window.is_over
+      → IfSome item (λ v. InputGives left left_in standard input (Ok (Some v)) standard (record input { window = w }))
+  told_at_hand standard input None w tells same = tt
+  told_at_hand standard input (Some v) w tells same =
+      told_after standard input standard input (at_start standard input) (Ok (Some v)) w tells same
+
 -- and so may memory
 pub memory_fails : (format : ItemFormat) (first w after : Window) (device between read : Option (List ℕ))
     (bytes : List ℕ) → Keeps (left_of first device) (left_of w between) → Consumes between read bytes
@@ -351,6 +365,24 @@ memory_fails format first w after device between read bytes kept took =
 -- a read that gave nothing has come to the end
 pub none_taken : (count : ℕ) (chunk : List ℕ) → count ≤ length chunk → take count chunk ≡ [] → count ≡ 0
 none_taken count chunk within none = omega (arith, length-take count chunk, ap length none)
+
+-- a vector whose elements are as they were
+as_it_was : {X : Type 0} (v : Vec X) (xs : List X) → v.items ≡ xs → (long : v.len ≡ length xs)
+    → record v { items = xs; ok = (long, v.ok.1) } ≡ v
+as_it_was v xs same =
+    subst (λ ys. (long : v.len ≡ length ys) → record v { items = ys; ok = (long, v.ok.1) } ≡ v) same
+    (λ long. ap (λ is. record v { items = v.items; ok = (is, v.ok.1) }) (ℕ_set v.len (length v.items) long v.ok.0))
+
+-- an input is put back as it was
+pub unchanged : {I F : Type 0} (inputs : SourceInputs I F) (i : ℕ) (input other : SourceInput F)
+    → input ≡ get_or inputs.each.now.items i other
+    → record inputs { each = record inputs.each { now = with_item inputs.each.now i input } } ≡ inputs
+unchanged inputs i input other same =
+    ap (λ x. record inputs { each = record inputs.each { now = with_item inputs.each.now i x } }) same
+    ∙ ap (λ v. record inputs { each = record inputs.each { now = v } })
+    (as_it_was inputs.each.now (slice_set inputs.each.now.items i (get_or inputs.each.now.items i other))
+    (sym (set-get_or inputs.each.now.items i other))
+    (with_item inputs.each.now i (get_or inputs.each.now.items i other)).ok.0)
 
 -- ---- outputs
 
@@ -368,6 +400,11 @@ handed format item written before kept after (Err Gone) bytes has is put on = tt
 handed format item written before kept after (Err Write) bytes has is put on = tt
 handed format item written before kept after (Err sink_fault.NoMemory) bytes has is put on = absurd on.1
 handed format item written before kept after (Err (NoSample other)) bytes has is put on = absurd on.1
+
+pub few_handed : (before after : Option (List ℕ)) (answer : Result (Unit {0}) SinkFault) (bytes : List ℕ)
+    → HandsOn answer bytes before after → KeepsFew answer bytes
+few_handed before after (Ok done) bytes on = omega (arith, ap length on.0)
+few_handed before after (Err fault) bytes on = tt
 
 -- bytes that are kept were put
 pub kept_more : (device : Option (List ℕ)) (old new bytes : List ℕ) → new ≡ old ++ bytes

@@ -9,3 +9,4 @@ pub mod Flushing
 pub mod Heads
 pub mod Wavs
 pub mod ReadBack
+pub mod Samples

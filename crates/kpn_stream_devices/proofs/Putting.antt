@@ -179,7 +179,7 @@ module _ {O G : Type 0} (holds : O → Option (List ℕ)) (holds_in : G → Opti
         (subst
         (λ (x : SinkOutput G).
         Appends (was_put holds holds_in before.standard.now r.0) (was_put holds holds_in now.standard.now x)
-        (text_of r.0.format v)) (sym r.3) r.4.1)) in (
+        (text_of r.0.format v)) (sym r.3) r.4.0.1)) in (
           (kept.0, kept.1 ∙ put.0.1),
           subst (λ xs. Appends (put_then first) (put_then now) xs)
               (sym

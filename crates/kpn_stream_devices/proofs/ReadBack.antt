@@ -1,16 +1,16 @@
 -- A float that was written for an item that fits is read again.
 use Rattle.std.proofs.Common.{◌≡◌, ℕ, suc, ◌+◌, ◌*◌, ◌/◌, ◌%◌, ◌-◌, ◌^◌, ◌<◌, ◌≤◌, false, true, nat_eq, nat_lt, nat_le, refl, sym, ap, ◌∙◌, subst, inl, inr, arith, max, min}
-use Rattle.std.specs.Prelude.{Bool, Option, Some, None, ℤ, pos, negsuc, neg_ℤ, int_lt, IsSome, if◌then◌else◌}
+use Rattle.std.specs.Prelude.{unsigned_abs, Bool, Option, Some, None, ℤ, pos, negsuc, neg_ℤ, int_lt, IsSome, if◌then◌else◌}
 use Rattle.std.specs.Int.Count.{count_leading_zeros}
 use Rattle.std.proofs.Math.Dec.{leb→le}
 use Rattle.std.proofs.lemmas.Bool.{cases_lt, cases_eq, lt-ltb, eq-eqb}
 use Rattle.std.proofs.lemmas.Nat.{pow-add, le-div, pow_pos}
-use Rattle.std.proofs.Math.Nat.{pow-le-pow_right, mul-le-mul, div-le_self}
+use Rattle.std.proofs.Math.Nat.{pow-le-pow_right, mul-le-mul, mul_assoc, div-le_self}
 use Rattle.kpn_stream_devices.specs.Floats.{rounded, significand_of, size_of, with_sign, float_item, size_bits, float_bits}
 use Rattle.kpn_stream_devices.specs.Formats.{FormatHolds}
 use Rattle.kpn_stream_devices.specs.declared.formats.SampleFormat.TheVariants.{F32}
 use Rattle.kpn_stream_devices.specs.declared.formats.ItemFormat.TheVariants.{Samples}
-use Rattle.kpn_stream_devices.proofs.Rounding.{small_is, adds_few, adds_none, scaled, scaled_up, scaled_down, size_is, highest_is, significand_fits}
+use Rattle.kpn_stream_devices.proofs.Rounding.{whole_units, small_is, adds_few, adds_none, scaled, scaled_up, scaled_down, size_is, highest_is, significand_fits}
 
 not_equal : (a b : ℕ) → (a ≡ b → ⊥) → nat_eq a b ≡ false
 not_equal a b differ = grind arith
@@ -69,32 +69,68 @@ read_of size highest = scaled (rounded (size * 2 ^ 23) (2 ^ highest)) (highest +
 record Fits (size value : ℕ) : Type 0 where
   most : value ≤ 2 ^ 63
   less : size ≤ 2 ^ 63 - 2 ^ 38 - 1 → value < 2 ^ 63
+  exact : size < 2 ^ 24 → value ≡ size
 
-top_fits : (size : ℕ) → size < 2 ^ 62 * 2 → Fits size (read_of size 62)
-top_fits size below =
+top_fits : (size : ℕ) → 2 ^ 62 ≤ size → size < 2 ^ 62 * 2 → Fits size (read_of size 62)
+top_fits size some below =
     let is = scaled_up (rounded (size * 2 ^ 23) (2 ^ 62)) 189 (omega arith) in
     record {
       most = omega (arith, is, significand_fits size 62 below);
       less = λ small. omega (arith, is, below_top size small);
+      exact = λ few. absurd (omega (arith, few, some));
     }
+
+-- a number of 24 places or fewer is not rounded
+exact_at : (size highest : ℕ) → highest < 24 → read_of size highest ≡ size
+exact_at size highest few =
+    let sum : 23 ≡ 23 - highest + highest = omega (arith, few) in
+    let power : 2 ^ 23 ≡ 2 ^ (23 - highest) * 2 ^ highest =
+    ap (λ (n : ℕ). 2 ^ n) sum ∙ pow-add 2 (23 - highest) highest in
+    let whole : size * 2 ^ 23 ≡ size * 2 ^ (23 - highest) * 2 ^ highest =
+    ap (λ (n : ℕ). size * n) power ∙ sym (mul_assoc size (2 ^ (23 - highest)) (2 ^ highest)) in
+    let significand : rounded (size * 2 ^ 23) (2 ^ highest) ≡ size * 2 ^ (23 - highest) =
+    ap (λ (n : ℕ). rounded n (2 ^ highest)) whole ∙ whole_units (size * 2 ^ (23 - highest)) highest in
+    let places : 23 - highest + (highest + 127) ≡ 150 = omega (arith, few) in
+    let all : 2 ^ (23 - highest) * 2 ^ (highest + 127) ≡ 2 ^ 150 =
+    sym (pow-add 2 (23 - highest) (highest + 127)) ∙ ap (λ (n : ℕ). 2 ^ n) places in
+    let scale : size * 2 ^ (23 - highest) * 2 ^ (highest + 127) ≡ size * 2 ^ 150 =
+    mul_assoc size (2 ^ (23 - highest)) (2 ^ (highest + 127)) ∙ ap (λ (n : ℕ). size * n) all in
+    ap (λ (n : ℕ). scaled n (highest + 127)) significand ∙ ap (λ (n : ℕ). rounded n (2 ^ 150)) scale
+    ∙ whole_units size 150
+
+few_places : (size highest : ℕ) → 2 ^ highest ≤ size → size < 2 ^ 24 → highest < 24
+few_places size highest some few = elim (cases_lt highest 24) [
+  | inl low ↦ low
+  | inr high ↦
+      let power : 2 ^ 24 ≤ 2 ^ highest = pow-le-pow_right {n = 2} (omega arith) {i = 24} {j = highest} high in
+      absurd (omega (arith, power, some, few))
+]
 
 fits_at : (size highest : ℕ) → 2 ^ highest ≤ size → size < 2 ^ highest * 2 → highest < 64 → size ≤ 2 ^ 63
     → Fits size (read_of size highest)
 fits_at size highest some below within all = elim (cases_lt highest 62) [
   | inl low ↦
       let less = low_fits (rounded (size * 2 ^ 23) (2 ^ highest)) highest (significand_fits size highest below) low in
-      record { most = omega (arith, less); less = λ small. less }
+      record {
+        most = omega (arith, less);
+        less = λ small. less;
+        exact = λ few. exact_at size highest (few_places size highest some few);
+      }
   | inr high ↦ elim (cases_eq highest 62) [
     | inl top ↦
         subst (λ (h : ℕ). Fits size (read_of size h)) (sym top)
-        (top_fits size (subst (λ (h : ℕ). size < 2 ^ h * 2) top below))
+        (top_fits size (subst (λ (h : ℕ). 2 ^ h ≤ size) top some) (subst (λ (h : ℕ). size < 2 ^ h * 2) top below))
     | inr other ↦
         let last : highest ≡ 63 = omega (arith, high, other, within) in
         let least : 2 ^ 63 ≤ size = subst (λ (h : ℕ). 2 ^ h ≤ size) last some in
         let whole : size ≡ 2 ^ 63 = omega (arith, least, all) in
         let value : read_of size highest ≡ 2 ^ 63 =
         ap (λ (h : ℕ). read_of size h) last ∙ ap (λ (n : ℕ). read_of n 63) whole in
-        record { most = omega (arith, value); less = λ small. absurd (omega (arith, small, whole)) }
+        record {
+          most = omega (arith, value);
+          less = λ small. absurd (omega (arith, small, whole));
+          exact = λ few. absurd (omega (arith, few, whole));
+        }
   ]
 ]
 
@@ -174,7 +210,7 @@ read_none power low =
     record {
       short = omega arith;
       number = refl;
-      fits = record { most = omega (arith, none); less = λ small. omega (arith, none) };
+      fits = record { most = omega (arith, none); less = λ small. omega (arith, none); exact = λ few. sym none };
     }
 
 read_some : (power size : ℕ) → power ≤ 62 → (size ≡ 0 → ⊥) → size ≤ 2 ^ 63 → IsRead power size
@@ -223,21 +259,29 @@ has_negative size most =
 below_sign : (b : ℕ) → b < 2 ^ 31 → ((2 ^ 31 + b) / 2 ^ 23 % 2 ^ 8 ≡ b / 2 ^ 23 % 2 ^ 8) × ((2 ^ 31 + b) % 2 ^ 23 ≡ b % 2 ^ 23)
 below_sign b short = (omega (arith, short), omega (arith, short))
 
-reads_positive : (power size : ℕ) → size ≤ 2 ^ 63 - 2 ^ 38 - 1
-    → IsSome (float_item power (size_bits (min power 62) size))
-reads_positive power size small =
+-- what is read of the bits of a size, by its sign
+record IsSigned (size : ℕ) (negative : Bool) (item : Option ℤ) : Type 0 where
+  value : ℕ
+  is : item ≡ with_sign negative value
+  fits : Fits size value
+
+positive_read : (power size : ℕ) → size ≤ 2 ^ 63 → IsSigned size false (float_item power (size_bits (min power 62) size))
+positive_read power size all =
     let p : ℕ = min power 62 in
-    let read = is_read p size (omega arith) (omega (arith, small)) in
+    let read = is_read p size (omega arith) all in
     let b : ℕ = size_bits p size in
-    subst (λ (x : Option ℤ). IsSome x) (sym (item_of power b false read.number (le_false (2 ^ 31) b read.short)))
-    (has_positive (size_of p (b / 2 ^ 23 % 2 ^ 8) (b % 2 ^ 23)) (read.fits.less small))
+    record {
+      value = size_of p (b / 2 ^ 23 % 2 ^ 8) (b % 2 ^ 23);
+      is = item_of power b false read.number (le_false (2 ^ 31) b read.short);
+      fits = read.fits;
+    }
   where
     le_false : (a b : ℕ) → b < a → nat_le a b ≡ false
     le_false a b less = grind arith
 
-reads_negative : (power size : ℕ) → size ≤ 2 ^ 63
-    → IsSome (float_item power (2 ^ 31 + size_bits (min power 62) size))
-reads_negative power size all =
+negative_read : (power size : ℕ) → size ≤ 2 ^ 63
+    → IsSigned size true (float_item power (2 ^ 31 + size_bits (min power 62) size))
+negative_read power size all =
     let p : ℕ = min power 62 in
     let read = is_read p size (omega arith) all in
     let b : ℕ = size_bits p size in
@@ -245,17 +289,22 @@ reads_negative power size all =
     let number : nat_eq ((2 ^ 31 + b) / 2 ^ 23 % 2 ^ 8) 255 ≡ false = ap (λ (n : ℕ). nat_eq n 255) same.0 ∙ read.number in
     let value : size_of p ((2 ^ 31 + b) / 2 ^ 23 % 2 ^ 8) ((2 ^ 31 + b) % 2 ^ 23) ≡ size_of p (b / 2 ^ 23 % 2 ^ 8) (b % 2 ^ 23) =
     ap (λ (n : ℕ). size_of p n ((2 ^ 31 + b) % 2 ^ 23)) same.0 ∙ ap (size_of p (b / 2 ^ 23 % 2 ^ 8)) same.1 in
-    subst (λ (x : Option ℤ). IsSome x) (sym (item_of power (2 ^ 31 + b) true number (le_true (2 ^ 31) (2 ^ 31 + b) (omega arith))))
-    (has_negative (size_of p ((2 ^ 31 + b) / 2 ^ 23 % 2 ^ 8) ((2 ^ 31 + b) % 2 ^ 23)) (omega (arith, value, read.fits.most)))
+    record {
+      value = size_of p (b / 2 ^ 23 % 2 ^ 8) (b % 2 ^ 23);
+      is =
+          item_of power (2 ^ 31 + b) true number (le_true (2 ^ 31) (2 ^ 31 + b) (omega arith))
+          ∙ ap (with_sign true) value;
+      fits = read.fits;
+    }
   where
     le_true : (a b : ℕ) → a ≤ b → nat_le a b ≡ true
     le_true a b less = grind arith
 
-pub float_reads : (power : ℕ) (item : ℤ) → FormatHolds (Samples (F32 power)) item
-    → IsSome (float_item power (float_bits power item))
-float_reads power (pos n) has =
-    subst (λ (b : ℕ). IsSome (float_item power b)) (sym (positive n))
-    (reads_positive power n (leb→le n (2 ^ 63 - 2 ^ 38 - 1) has.1.le))
+-- the bits of an item
+bits_positive : (power n : ℕ) → float_bits power (pos n) ≡ size_bits (min power 62) n
+bits_positive power n =
+    ap (λ b. (if b then 2 ^ 31 else 0) + size_bits (min power 62) n) (not_negative n)
+    ∙ plain (size_bits (min power 62) n)
   where
     not_negative : (n : ℕ) → int_lt (pos n) (pos 0) ≡ false
     not_negative n = grind arith
@@ -263,8 +312,37 @@ float_reads power (pos n) has =
     plain : (m : ℕ) → 0 + m ≡ m
     plain m = omega arith
 
-    positive : (n : ℕ) → float_bits power (pos n) ≡ size_bits (min power 62) n
-    positive n =
-        ap (λ b. (if b then 2 ^ 31 else 0) + size_bits (min power 62) n) (not_negative n)
-        ∙ plain (size_bits (min power 62) n)
-float_reads power (negsuc n) has = reads_negative power (suc n) (omega (arith, leb→le n (2 ^ 63 - 1) has.0.le))
+pub float_reads : (power : ℕ) (item : ℤ) → FormatHolds (Samples (F32 power)) item
+    → IsSome (float_item power (float_bits power item))
+float_reads power (pos n) has =
+    let small : n ≤ 2 ^ 63 - 2 ^ 38 - 1 = leb→le n (2 ^ 63 - 2 ^ 38 - 1) has.1.le in
+    let read = positive_read power n (omega (arith, small)) in
+    subst (λ (b : ℕ). IsSome (float_item power b)) (sym (bits_positive power n))
+    (subst (λ (x : Option ℤ). IsSome x) (sym read.is) (has_positive read.value (read.fits.less small)))
+float_reads power (negsuc n) has =
+    let read = negative_read power (suc n) (omega (arith, leb→le n (2 ^ 63 - 1) has.0.le)) in
+    subst (λ (x : Option ℤ). IsSome x) (sym read.is) (has_negative read.value read.fits.most)
+
+-- and as the same item if its size has 24 places or fewer
+pub float_exact : (power : ℕ) (item : ℤ) → unsigned_abs item < 2 ^ 24
+    → float_item power (float_bits power item) ≡ Some item
+float_exact power (pos n) few =
+    let read = positive_read power n (omega (arith, few)) in
+    ap (float_item power) (bits_positive power n) ∙ read.is ∙ ap (with_sign false) (read.fits.exact few)
+    ∙ ap (λ b. if b then Some (pos n) else None) (lt-ltb n (2 ^ 63) (omega (arith, few)))
+float_exact power (negsuc n) few =
+    let read = negative_read power (suc n) (omega (arith, few)) in
+    read.is ∙ ap (with_sign true) (read.fits.exact few)
+    ∙ ap (λ b. if b then Some (negsuc n) else None) (le_true (suc n) (2 ^ 63) (omega (arith, few)))
+  where
+    le_true : (a b : ℕ) → a ≤ b → nat_le a b ≡ true
+    le_true a b less = grind arith
+
+-- the bits are 32
+pub float_short : (power : ℕ) (item : ℤ) → unsigned_abs item < 2 ^ 24 → float_bits power item < 2 ^ 32
+float_short power (pos n) few =
+    let read = is_read (min power 62) n (omega arith) (omega (arith, few)) in
+    subst (λ (b : ℕ). b < 2 ^ 32) (sym (bits_positive power n)) (omega (arith, read.short))
+float_short power (negsuc n) few =
+    let read = is_read (min power 62) (suc n) (omega arith) (omega (arith, few)) in
+    omega (arith, read.short)

@@ -112,6 +112,12 @@ by_one a =
     let none : adds 1 (a % 1) (a / 1) ≡ 0 = adds_none 1 (a % 1) (a / 1) (omega arith) in
     omega (arith, none)
 
+-- a number of whole units is not rounded
+pub whole_units : (a power : ℕ) → rounded (a * 2 ^ power) (2 ^ power) ≡ a
+whole_units a power =
+    let one : 2 ^ power ≡ 1 * 2 ^ power = omega arith in
+    ap (rounded (a * 2 ^ power)) one ∙ rounded_same a 1 (2 ^ power) (omega arith) (pow_pos power) ∙ by_one a
+
 some_exponent : (exponent : ℕ) → (exponent ≡ 0 → ⊥) → nat_eq exponent 0 ≡ false
 some_exponent exponent some = grind arith
 

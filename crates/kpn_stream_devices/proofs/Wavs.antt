@@ -2,9 +2,9 @@
 use Rattle.std.proofs.Common.{◌≡◌, ℕ, ◌+◌, ◌-◌, ◌<◌, ◌≤◌, ◌⊎◌, true, List, [], ◌++◌, length, take, drop, length-append, length-take, Option, Some, None, Result, Ok, Err, refl, sym, ap, ◌∙◌, subst, inl, inr, arith}
 use Rattle.std.specs.Prelude.{ℤ, IfSome, min, nat_eq, ◌||◌, Bool, false, if◌then◌else◌}
 use Rattle.std.proofs.lemmas.Bool.{cases_lt, lt-ltb}
-use Rattle.std.proofs.lemmas.List.{append-nil, drop-append-le, drop-drop, drop-take, take-append-drop, take-append-le, take_all}
+use Rattle.std.proofs.lemmas.List.{append-nil, length-drop, drop-append-le, drop-drop, drop-take, take-append-drop, take-append-le, take_all}
 use Rattle.kpn_stream.specs.declared.faults.SourceFault.{SourceFault}
-use Rattle.kpn_stream.specs.declared.faults.SourceFault.TheVariants.{BadItem, BadHead, CutSample}
+use Rattle.kpn_stream.specs.declared.faults.SourceFault.TheVariants.{BadHead, CutSample}
 use Rattle.kpn_stream_devices.specs.declared.formats.SampleFormat.{SampleFormat}
 use Rattle.kpn_stream_devices.specs.declared.formats.SampleFormat.TheVariants.{U8, S8, S16, S24, S32, S64, F32}
 use Rattle.kpn_stream_devices.specs.declared.formats.WavFormat.{WavFormat}
@@ -15,13 +15,11 @@ use Rattle.kpn_stream_devices.specs.declared.head.Head.{Head}
 use Rattle.kpn_stream_devices.specs.declared.head.Head.TheVariants.{Open, Bad, Whole}
 use Rattle.kpn_stream_devices.specs.Formats.{sample_width, sample_value}
 use Rattle.kpn_stream_devices.specs.Head.{head_at, least_unknown}
-use Rattle.kpn_stream_devices.specs.Window.{Window, one_after, with_one, left_of, IfKnown, IsEndKnown, SampleGives, SamplesGoOn, DataGives, WavGives, WavTells, WindowTells, data_of, end_told, fills_up, ends_samples}
+use Rattle.kpn_stream_devices.specs.Window.{Window, one_after, with_one, left_of, IfKnown, IsEndKnown, SampleGives, SamplesGoOn, DataGives, WavGives, answer_of, IsRightOf, IsRightOfWav, data_of, end_told, fills_up, ends_samples}
+use Rattle.kpn_stream_devices.specs.declared.window.Told.{Told}
+use Rattle.kpn_stream_devices.specs.declared.window.Told.TheVariants.{One, Other}
 use Rattle.kpn_stream_devices.proofs.Heads.{head_at_again}
 use Rattle.kpn_stream_devices.proofs.Telling.{value_again, counts, sample_gives}
-
--- the window once a sample was used: what is left of the file is this
-abbrev pub used_wav : (count : ℕ) → Wav → Window → Window
-used_wav count wav w = record (with_one (drop count w.unused) w) { wav = Some wav }
 
 abbrev pub shorter : Wav → (width : ℕ) → Wav
 shorter wav width = record wav { left = wav.left - width }
@@ -50,7 +48,7 @@ few_wide (F32 power) = omega arith
 -- ---- a head that is not there
 
 -- a wrong head is wrong whatever follows
-pub bad_tells : (w : Window) (at : ℕ) → head_at w.wav w.unused ≡ Bad at → WavTells w (Err (BadHead at)) w
+pub bad_tells : (w : Window) (at : ℕ) → head_at w.wav w.unused ≡ Bad at → IsRightOfWav w (Other (Err (BadHead at)))
 bad_tells w at is written = record { counted = refl; given = told }
   where
     told : (device : Option (List ℕ)) → IsEndKnown w device → IfKnown (left_of w device) (left_of w device)
@@ -65,7 +63,7 @@ bad_tells w at is written = record { counted = refl; given = told }
 
 -- one within which the input ends is wrong there
 pub open_tells : (w : Window) → w.is_over ≡ true → head_at w.wav w.unused ≡ Open
-    → WavTells w (Err (BadHead (length w.unused))) w
+    → IsRightOfWav w (Other (Err (BadHead (length w.unused))))
 open_tells w over is written = record { counted = refl; given = told }
   where
     told : (device : Option (List ℕ)) → IsEndKnown w device → IfKnown (left_of w device) (left_of w device)
@@ -127,63 +125,52 @@ module _ (w : Window) (count : ℕ) (wav : Wav) (head : head_at w.wav w.unused �
       ∙ sym (drop-take width (wav.left - width) (us ++ ds))
       ∙ ap (λ (n : ℕ). drop width (take n (us ++ ds))) (sym whole)
 
-  goes_on : (wide : ℕ) (item : Option ℤ) (number : ℕ) (answer : Result (Option ℤ) SourceFault)
-      → IfSome item (λ v. answer ≡ Ok (Some v)) → (item ≡ None → answer ≡ Err (BadItem number))
-      → SamplesGoOn wav.sample answer (Some (shorter wav wide))
-  goes_on wide (Some v) number answer given none =
-      subst (λ a. SamplesGoOn wav.sample a (Some (shorter wav wide))) (sym given) refl
-  goes_on wide None number answer given none =
-      subst (λ a. SamplesGoOn wav.sample a (Some (shorter wav wide))) (sym (none refl)) tt
+  goes_on : (wide number : ℕ) (item : Option ℤ) → SamplesGoOn wav.sample (answer_of item number) (Some (shorter wav wide))
+  goes_on wide number (Some v) = refl
+  goes_on wide number None = tt
 
-  data_gives : (before after : List ℕ) (item : Option ℤ) (number : ℕ) (answer : Result (Option ℤ) SourceFault)
-      → IfSome item (λ v. answer ≡ Ok (Some v)) → (item ≡ None → answer ≡ Err (BadItem number))
-      → SampleGives wav.sample before after answer → DataGives wav before after answer
-  data_gives before after (Some v) number answer given none gives =
-      subst (λ a. DataGives wav before after a) (sym given)
-      (subst (λ a. SampleGives wav.sample before after a) given gives)
-  data_gives before after None number answer given none gives =
-      subst (λ a. DataGives wav before after a) (sym (none refl))
-      (subst (λ a. SampleGives wav.sample before after a) (none refl) gives)
+  data_gives : (before after : List ℕ) (item : Option ℤ) (number : ℕ)
+      → SampleGives wav.sample before after (answer_of item number) → DataGives wav before after (answer_of item number)
+  data_gives before after (Some v) number gives = gives
+  data_gives before after None number gives = gives
 
   -- a sample whose bytes were read
-  sample_told : (answer : Result (Option ℤ) SourceFault) → sample_width wav.sample ≤ length us
-      → sample_width wav.sample ≤ wav.left → IfSome (sample_value wav.sample us) (λ v. answer ≡ Ok (Some v))
-      → (sample_value wav.sample us ≡ None → answer ≡ Err (BadItem (one_after w.used)))
-      → WavTells w answer
-      (used_wav (count + sample_width wav.sample) (shorter wav (sample_width wav.sample)) w)
-  sample_told answer some enough given none written = record {
-    counted = counts w.used (sample_value wav.sample us) answer given none;
-    given = told;
-  }
+  sample_told : sample_width wav.sample ≤ length us → sample_width wav.sample ≤ wav.left
+      → IsRightOfWav w (One (sample_value wav.sample us) (count + sample_width wav.sample)
+      (Some (shorter wav (sample_width wav.sample))))
+  sample_told some enough written = (
+    omega (arith, within, some, length-drop count w.unused),
+    record {
+      counted = counts w.used (sample_value wav.sample us);
+      given = told;
+    },
+  )
     where
       told : (device : Option (List ℕ)) → IsEndKnown w device → IfKnown (left_of w device)
-          (left_of (used_wav (count + sample_width wav.sample) (shorter wav (sample_width wav.sample)) w) device)
-          (λ l r. WavGives (head_at w.wav l) l (Some (shorter wav (sample_width wav.sample))) r answer)
+          (left_of (with_one (count + sample_width wav.sample) (Some (shorter wav (sample_width wav.sample))) w) device)
+          (λ l r. WavGives (head_at w.wav l) l (Some (shorter wav (sample_width wav.sample))) r
+          (answer_of (sample_value wav.sample us) (one_after w.used)))
       told None known = tt
       told (Some ds) known =
           gives ds (Some (shorter wav (sample_width wav.sample))) (drop (count + sample_width wav.sample) w.unused ++ ds)
-          answer
+          (answer_of (sample_value wav.sample us) (one_after w.used))
           (data_gives (take wav.left (us ++ ds))
           (take (wav.left - sample_width wav.sample) (drop (count + sample_width wav.sample) w.unused ++ ds))
-          (sample_value wav.sample us) (one_after w.used) answer given none
+          (sample_value wav.sample us) (one_after w.used)
           (sample_gives wav.sample (take wav.left (us ++ ds))
           (take (wav.left - sample_width wav.sample) (drop (count + sample_width wav.sample) w.unused ++ ds))
-          (omega (arith, some, enough, length-take wav.left (us ++ ds), length-append us ds)) (one_after w.used)
-          (sample_value wav.sample us) answer (rest_is (sample_width wav.sample) ds some enough)
-          (first_is ds some enough) given none))
-          (goes_on (sample_width wav.sample) (sample_value wav.sample us) (one_after w.used) answer given none)
+          (sample_value wav.sample us) (one_after w.used)
+          (omega (arith, some, enough, length-take wav.left (us ++ ds), length-append us ds))
+          (rest_is (sample_width wav.sample) ds some enough) (first_is ds some enough)))
+          (goes_on (sample_width wav.sample) (one_after w.used) (sample_value wav.sample us))
 
-  pub wav_tells : (after : Window) (item : Option ℤ) (answer : Result (Option ℤ) SourceFault) (width number : ℕ)
-      → width ≡ sample_width wav.sample → after ≡ used_wav (count + width) (shorter wav width) w → width ≤ length us
-      → width ≤ wav.left → item ≡ sample_value wav.sample us → number ≡ one_after w.used
-      → IfSome item (λ v. answer ≡ Ok (Some v)) → (item ≡ None → answer ≡ Err (BadItem number))
-      → WavTells w answer after
-  wav_tells after item answer width number wide is some enough value counted given none =
-      subst (λ (x : Window). WavTells w answer x)
-      (sym (is ∙ ap (λ (n : ℕ). used_wav (count + n) (shorter wav n) w) wide))
-      (sample_told answer (omega (arith, wide, some)) (omega (arith, wide, enough))
-      (subst (λ (i : Option ℤ). IfSome i (λ v. answer ≡ Ok (Some v))) value given)
-      (λ is_none. none (value ∙ is_none) ∙ ap (λ (n : ℕ). Err (BadItem n)) counted))
+  pub wav_tells : (item : Option ℤ) (width : ℕ) → width ≡ sample_width wav.sample → width ≤ length us
+      → width ≤ wav.left → item ≡ sample_value wav.sample us
+      → IsRightOfWav w (One item (count + width) (Some (shorter wav width)))
+  wav_tells item width wide some enough value =
+      subst (λ (i : Option ℤ). IsRightOfWav w (One i (count + width) (Some (shorter wav width)))) (sym value)
+      (subst (λ (n : ℕ). IsRightOfWav w (One (sample_value wav.sample us) (count + n) (Some (shorter wav n)))) (sym wide)
+      (sample_told (omega (arith, wide, some)) (omega (arith, wide, enough))))
 
   -- no more samples come: the input is over, or all of them were read
   abbrev pub AllRead : Type 0
@@ -206,7 +193,7 @@ module _ (w : Window) (count : ℕ) (wav : Wav) (head : head_at w.wav w.unused �
 
   -- what is left behind the last sample is the end, or a part of one
   end_tells : AllRead → length (take wav.left us) < sample_width wav.sample → (at_end : Bool)
-      → ends_samples wav (take wav.left us) ≡ at_end → WavTells w (told_by at_end) w
+      → ends_samples wav (take wav.left us) ≡ at_end → IsRightOfWav w (Other (told_by at_end))
   end_tells all few true is written = record {
     counted = refl;
     given = few_tells (Ok None) all (λ rest. is) (λ after. tt);
@@ -230,14 +217,13 @@ module _ (w : Window) (count : ℕ) (wav : Wav) (head : head_at w.wav w.unused �
       ends bytes = nat_eq (length bytes) 0 || fills_up wav bytes
 
   -- so the answer is right where no more come
-  pub few_tell : AllRead → min wav.left (length us) < sample_width wav.sample → WavTells w (end_told wav us) w
+  pub few_tell : AllRead → min wav.left (length us) < sample_width wav.sample → IsRightOfWav w (Other (end_told wav us))
   few_tell all few =
       end_tells all (omega (arith, few, length-take wav.left us)) (ends_samples wav us) (same_end few)
 
--- the answer of any WAV file
-pub any_tells : (result : Option (Result (Option ℤ) SourceFault)) (format : ItemFormat) (written : WavFormat)
-    (before after : Window) → format ≡ item_format.Wav written → IfSome result (λ a. WavTells before a after)
-    → IfSome result (λ a. WindowTells format before a after)
-any_tells None format written before after is told = tt
-any_tells (Some answer) format written before after is told =
-    subst (λ (f : ItemFormat). WindowTells f before answer after) (sym is) (told written)
+-- what the bytes of any WAV file tell
+pub any_tells : (result : Option Told) (format : ItemFormat) (written : WavFormat) (w : Window)
+    → format ≡ item_format.Wav written → IfSome result (IsRightOfWav w) → IfSome result (IsRightOf format w)
+any_tells None format written w is told = tt
+any_tells (Some found) format written w is told =
+    subst (λ (f : ItemFormat). IsRightOf f w found) (sym is) (told written)

@@ -1,5 +1,5 @@
 -- How items are written in the inputs and outputs of a stream.
-use Rattle.std.specs.Prelude.{◌≡◌, ℕ, nat_eq, ◌^◌, ◌-◌, ℤ, pos, neg_ℤ, ◌≤ℤ◌, ◌≤◌, ◌++◌, ◌+◌, ◌*◌, ◌%◌, ◌⊎◌, List, [], take, drop, Option, Some, None, codes, if◌then◌else◌}
+use Rattle.std.specs.Prelude.{◌≡◌, ⊤, ◌<◌, unsigned_abs, ℕ, nat_eq, ◌^◌, ◌-◌, ℤ, pos, neg_ℤ, ◌≤ℤ◌, ◌≤◌, ◌++◌, ◌+◌, ◌*◌, ◌%◌, ◌⊎◌, List, [], take, drop, Option, Some, None, codes, if◌then◌else◌}
 use Rattle.std.specs.Int.{w16, w32, w64, int_min, int_max, to_le_bytes}
 use Rattle.byteorder.specs.Endian.{little_number, little_bytes, low_bytes, twos_complement}
 use Rattle.kpn_text_items.specs.ItemFile.{item_line}
@@ -103,6 +103,11 @@ item_bytes (Wav wav) item = sample_bytes (wav_sample wav) item
 -- the nearest item for which a format has a text
 abbrev pub nearest_item : ItemFormat → ℤ → ℤ
 nearest_item format item = int_max (least_item format) (int_min item (greatest_item format))
+
+-- a sample is not rounded: a float has 24 places
+abbrev pub IsExact : SampleFormat → ℤ → Type 0
+IsExact (F32 power) item = unsigned_abs item < 2 ^ 24
+IsExact sample item = ⊤
 
 -- ---- outputs
 

@@ -1,5 +1,5 @@
 -- The outputs of a stream, as the devices of its sinks.
-use Rattle.std.specs.Prelude.{◌≡◌, ℕ, nat_eq, ℤ, List, [], position, get_or, slice_set, Option, Some, None, Result, Ok, Err, ⊤}
+use Rattle.std.specs.Prelude.{◌≡◌, ℕ, ◌<◌, nat_eq, ℤ, List, [], length, position, get_or, slice_set, Option, Some, None, Result, Ok, Err, ⊤}
 use Rattle.std.specs.Io.KnownBytes.{append_known, Appends, Keeps}
 use Rattle.kpn_stream_devices.specs.declared.formats.OutputFormat.{OutputFormat}
 use Rattle.kpn_stream.specs.declared.faults.SinkFault.{SinkFault}
@@ -30,6 +30,11 @@ TakesItem format item (Err (NoSample other)) before after =
 TakesItem format item (Err NoMemory) before after = HasText format item × Keeps before after
 TakesItem format item (Err Gone) before after = ⊤
 TakesItem format item (Err Write) before after = ⊤
+
+-- an output that has taken an item keeps few bytes, so that it takes bounded memory
+abbrev pub KeepsFew : Result (Unit {0}) SinkFault → (kept : List ℕ) → Type 0
+KeepsFew (Ok done) kept = length kept < 8192
+KeepsFew (Err fault) kept = ⊤
 
 -- a fault of a device, and not of an item or of memory
 abbrev pub IsOfDevice : SinkFault → Type 0
@@ -79,7 +84,7 @@ module _ {O G : Type 0} (holds : O → Option (List ℕ)) (holds_in : G → Opti
   abbrev pub Takes : ℤ → Result (Unit {0}) SinkFault → OutputRel O G
   Takes item answer standard output written after =
       TakesItem output.format item answer (was_put holds holds_in standard output) (was_put holds holds_in written
-      after)
+      after) × KeepsFew answer after.bytes.items
 
   -- an output hands on what it kept
   abbrev pub Flushes : Result (Unit {0}) SinkFault → OutputRel O G

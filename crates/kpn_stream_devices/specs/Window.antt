@@ -8,6 +8,8 @@ use Rattle.kpn_stream_devices.specs.declared.formats.ItemFormat.{ItemFormat}
 use Rattle.kpn_stream_devices.specs.declared.formats.ItemFormat.TheVariants.{Lines, Samples}
 use Rattle.kpn_stream_devices.specs.declared.formats.ItemFormat.TheVariants as format
 use Rattle.kpn_stream_devices.specs.declared.formats.WavFormat.{WavFormat}
+use Rattle.kpn_stream_devices.specs.declared.window.Told.{Told}
+use Rattle.kpn_stream_devices.specs.declared.window.Told.TheVariants.{One, Other}
 use Rattle.kpn_stream_devices.specs.declared.head.Wav.{Wav}
 use Rattle.kpn_stream_devices.specs.declared.head.Head.{Head}
 use Rattle.kpn_stream_devices.specs.declared.head.Head.TheVariants.{Open, Bad, Whole}
@@ -37,9 +39,9 @@ abbrev pub used_after : ℕ → ℕ
 used_after zero = 0
 used_after (suc n) = one_after (used_after n)
 
--- a line or a sample was used, and these bytes are unused
-abbrev pub with_one : List ℕ → Window → Window
-with_one bytes w = record w { unused = bytes; used = one_after w.used }
+-- a line or a sample of so many bytes was used, and this is left of a WAV file
+abbrev pub with_one : (count : ℕ) → Option Wav → Window → Window
+with_one count wav w = record w { unused = drop count w.unused; used = one_after w.used; wav = wav }
 
 -- a line spells no item
 abbrev pub SpellsNone : List ℕ → Type 0
@@ -201,9 +203,20 @@ pub record WindowTells (format : ItemFormat) (before : Window) (answer : Result 
       → IfKnown (left_of before device) (left_of after device)
       (λ left rest. FormatGives format before.wav left after.wav rest answer)
 
+-- the answer of a line or a sample with this number, which spells this item, or none
+abbrev pub answer_of : Option ℤ → (number : ℕ) → Result (Option ℤ) SourceFault
+answer_of (Some item) number = Ok (Some item)
+answer_of None number = Err (BadItem number)
+
+-- the answer that was told, and the window behind it
+abbrev pub IsRightOf : ItemFormat → Window → Told → Type 0
+IsRightOf format w (One item count wav) =
+    (count ≤ length w.unused) × WindowTells format w (answer_of item (one_after w.used)) (with_one count wav w)
+IsRightOf format w (Other answer) = WindowTells format w answer w
+
 -- the same of a WAV file
-abbrev pub WavTells : (before : Window) (answer : Result (Option ℤ) SourceFault) (after : Window) → Type 0
-WavTells before answer after = (written : WavFormat) → WindowTells (format.Wav written) before answer after
+abbrev pub IsRightOfWav : Window → Told → Type 0
+IsRightOfWav w told = (written : WavFormat) → IsRightOf (format.Wav written) w told
 
 -- the answer where no more bytes come than these, which are too few for a sample
 abbrev pub end_told : Wav → List ℕ → Result (Option ℤ) SourceFault

@@ -1,5 +1,5 @@
 //! The inputs of a stream, as the devices of its sources.
-ghost use Rattle.std.specs.Prelude.{◌≡◌, false, None, OnOk, IfErr};
+ghost use Rattle.std.specs.Prelude.{◌≡◌, false, Some, None, Ok, OnOk, IfErr, IfSome, IfNone};
 ghost use Rattle.std.specs.Io.{ReadsAtMost};
 ghost use Rattle.std.specs.Io.KnownBytes.{ReadConsumes};
 ghost use Rattle.kpn_shelf.specs.NonblockingRead.{LookConsumes, LooksAtMost};
@@ -67,6 +67,14 @@ impl<I: NonblockingRead, F: NonblockingRead + Drop> Sources for SourceInputs<'_,
         }
     }
 
+    fn next_at_hand(&mut self, source: usize) -> Option<i64> {
+        let i = input_of(self.each, source)?;
+        let Some(item) = item_at_hand(&mut self.each[i], self.standard) else {
+            return None;
+        };
+        Some(item)
+    }
+
     fn look(&mut self, source: usize) -> Shown {
         let Some(i) = input_of(self.each, source) else {
             return Shown::AtHand;
@@ -84,6 +92,16 @@ fn input_of<F: Drop>(inputs: &[SourceInput<F>], source: usize) -> Option<usize>
     ensures { result ≡ input_of inputs.now source }
 {
     inputs.iter().position(|input| input.channel == source)
+}
+
+/// The next item of an input, if its bytes tell it.
+fn item_at_hand<I: Read, F: Read + Drop>(input: &mut SourceInput<F>, standard: &I) -> Option<i64>
+    ensures gives { IfSome result (λ item. InputGives I.remaining F.remaining standard.now input.old
+        (Ok (Some item)) standard.now input.new) }
+    ensures at_hand { IfSome result (λ item. WaitsForDevice input.old → ⊥) }
+    ensures as_before { IfNone result (input.new ≡ input.old) }
+{
+    input.window.next_item(input.format)
 }
 
 /// Whether an input has an answer without its device.

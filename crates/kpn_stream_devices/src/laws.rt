@@ -1,5 +1,5 @@
 //! What follows from the clauses of the inputs and outputs, as contracts of functions that do nothing.
-ghost use Rattle.std.specs.Prelude.{◌≡◌, ℕ, ℤ, ◌+◌, IsSome, true, false, List, [], length, get_or, Contains, Option, Some};
+ghost use Rattle.std.specs.Prelude.{◌≡◌, ◌++◌, ℕ, ℤ, ◌+◌, IsSome, true, false, List, [], length, get_or, Contains, Option, Some};
 ghost use Rattle.std.specs.Io.KnownBytes.{Appends};
 ghost use Rattle.kpn_net.specs.Tables.{Tables, channel_at, is_source, is_sink};
 ghost use Rattle.kpn_net.specs.Faults.{IsNetwork};
@@ -11,7 +11,8 @@ ghost use Rattle.kpn_stream.specs.declared.faults.SourceFault.TheVariants.{BadIt
 ghost use Rattle.kpn_stream.specs.Devices.{AreFlushedLast, Fed, Served};
 ghost use Rattle.kpn_stream.specs.Ending.{end_numbers};
 ghost use Rattle.kpn_stream_devices.specs.Floats.{float_bits, float_item};
-ghost use Rattle.kpn_stream_devices.specs.Formats.{FormatHolds};
+ghost use Rattle.kpn_stream_devices.specs.Formats.{FormatHolds, IsExact, sample_bytes, sample_value};
+ghost use Rattle.kpn_stream_devices.specs.declared.formats.SampleFormat.{SampleFormat};
 ghost use Rattle.kpn_stream_devices.specs.declared.formats.ItemFormat.TheVariants.{Samples};
 ghost use Rattle.kpn_stream_devices.specs.declared.formats.SampleFormat.TheVariants.{F32};
 ghost use Rattle.kpn_stream_devices.specs.declared.inputs.SourceInput.{SourceInput as Source};
@@ -69,4 +70,12 @@ pub fn what_is_out<O: Write, G: Write + Drop>()
 pub fn a_float_is_read_again()
     ensures { (power : ℕ) (item : ℤ) → FormatHolds (Samples (F32 power)) item
         → IsSome (float_item power (float_bits power item)) }
+{}
+
+/// A sample that was written for an item is read again as this item, if whole samples hold it, or if it has so few places
+/// that a float is not rounded.
+pub fn a_sample_is_read_again()
+    ensures { (sample : SampleFormat) (item : ℤ) (more : List ℕ)
+        → FormatHolds (Samples sample) item → IsExact sample item
+        → sample_value sample (sample_bytes sample item ++ more) ≡ Some item }
 {}

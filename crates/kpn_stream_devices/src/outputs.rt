@@ -4,7 +4,7 @@ ghost use Rattle.std.specs.Int.{to_le_bytes, w16, w32};
 ghost use Rattle.std.specs.Io.KnownBytes.{Appends};
 ghost use Rattle.kpn_text_items.specs.ItemFile.{item_line};
 ghost use Rattle.kpn_stream_devices.specs.Formats.{head_bytes, item_bytes, number_bytes, sample_bytes, sample_width, wav_head};
-ghost use Rattle.kpn_stream_devices.specs.SinkOutputs.{device_holds, output_of, was_put, TakesItem, HandsOn, IsOfDevice, WritesOnly};
+ghost use Rattle.kpn_stream_devices.specs.SinkOutputs.{device_holds, output_of, was_put, KeepsFew, TakesItem, HandsOn, IsOfDevice, WritesOnly};
 
 use crate::floats::float_bits;
 use crate::formats::{ItemFormat, OutputFormat, SampleFormat};
@@ -23,15 +23,13 @@ const WAV_OPENING: &[u8] = b"RIFF\x24\xf0\xff\x7fWAVEfmt \x10\0\0\0\x01\0";
 
 const CLOSING: &[u8] = b"data\x00\xf0\xff\x7f";
 
-/// The output of a sink: that of this file, or else standard output. And the bytes that it has not got yet, and how
-/// many items are still wanted, if there is such a number.
+/// The output of a sink: that of this file, or else standard output. And the bytes that it has not got yet.
 #[derive(Drop)]
 pub struct SinkOutput<G: Drop> {
     pub channel: usize,
     pub format: OutputFormat,
     pub file: Option<G>,
     pub bytes: Vec<u8>,
-    pub wanted: Option<u64>,
 }
 
 /// The outputs of all sinks. They are lent, so that the lender has them as the last write left them.
@@ -82,6 +80,7 @@ fn put_to<O: Write, G: Write + Drop>(
     ensures taken { TakesItem output.old.format item result
         (was_put O.contents G.contents standard.old output.old)
         (was_put O.contents G.contents standard.new output.new) }
+    ensures few { KeepsFew result output.new.bytes.items }
 {
     let Some(written) = output.format.written(item) else {
         return Err(SinkFault::NoSample(item));
@@ -89,20 +88,10 @@ fn put_to<O: Write, G: Write + Drop>(
     if push(&mut output.bytes, output.format.items, written).is_err() {
         return Err(SinkFault::NoMemory);
     }
-    output.wanted = one_less(output.wanted);
-    if output.bytes.len() < WRITE_BYTES && !is_none_wanted(output.wanted) {
+    if output.bytes.len() < WRITE_BYTES {
         return Ok(());
     }
     hand_on(output, standard)
-}
-
-fn one_less(wanted: Option<u64>) -> Option<u64> {
-    wanted.map(|items| items.saturating_sub(1))
-}
-
-/// Whether an item was the last: then its sink is left, and nobody hands on what is kept.
-fn is_none_wanted(wanted: Option<u64>) -> bool {
-    matches!(wanted, Some(0))
 }
 
 /// Puts the text of an item behind these bytes, all of it or nothing.

@@ -2,8 +2,10 @@
 ghost use Rattle.std.specs.Prelude.{◌≡◌, ◌+◌, ◌<◌, ◌≤◌, ◌++◌, [], true, false, Ok, Err, Some, None, drop, length, vec_len, IfOk, OnOk, OnErr, IfSome, MatchOption, position, ◌==◌, min};
 ghost use Rattle.kpn_stream_devices.specs.Formats.{sample_width};
 ghost use Rattle.kpn_stream_devices.specs.Head.{HasHead, head_at};
-ghost use Rattle.kpn_stream_devices.specs.Window.{end_told, fills_up, fresh, ends_samples, one_after, with_one, NeedsMore, HeadNeedsMore, LineNeedsMore, SampleNeedsMore, WindowTells, WavNeedsMore, WavTells};
+ghost use Rattle.kpn_stream_devices.specs.Window.{answer_of, end_told, fills_up, fresh, ends_samples, one_after, with_one, NeedsMore, LineNeedsMore, SampleNeedsMore, WindowTells, WavNeedsMore, IsRightOf, IsRightOfWav};
+ghost use Rattle.kpn_stream.specs.declared.faults.SourceFault.TheVariants.{BadHead};
 ghost use Rattle.kpn_stream_devices.specs.declared.head.Head.TheVariants.{Whole};
+ghost use Rattle.kpn_stream_devices.specs.declared.window.Told.TheVariants.{Other};
 ghost use Rattle.kpn_stream_devices.specs.declared.formats.ItemFormat.TheVariants.{Lines, Samples};
 
 use crate::formats::{ItemFormat, SampleFormat};
@@ -18,6 +20,15 @@ pub type Answer = Result<Option<i64>, SourceFault>;
 
 /// A line with so many bytes spells no item: 19 digits, a `-` and a carriage return are 21.
 const TOO_LONG_LINE: usize = 22;
+
+/// What bytes tell that are enough.
+#[derive(Clone, Copy)]
+enum Told {
+    /// A line or a sample of so many bytes spells this item, or none. This is left of a WAV file behind it.
+    One(Option<i64>, usize, Option<Wav>),
+    /// There is no line or sample, and this is the answer.
+    Other(Answer),
+}
 
 /// A part of an input.
 #[derive(Drop)]
@@ -94,13 +105,14 @@ impl Window {
         self.start = 0;
     }
 
-    /// Uses a line or a sample of so many bytes, and returns its number.
-    fn pass(&mut self, count: usize) -> u64
+    /// Uses a line or a sample of so many bytes, and returns its number. This is left of a WAV file behind it.
+    fn pass(&mut self, count: usize, wav: Option<Wav>) -> u64
         requires { count ≤ length self.old.unused }
-        ensures passed { self.new ≡ with_one (drop count self.old.unused) self.old }
+        ensures passed { self.new ≡ with_one count wav self.old }
         ensures number { result ≡ one_after self.old.used }
     {
         self.start += count;
+        self.wav = wav;
         let number = self.used.saturating_add(1);
         self.used = number;
         number
@@ -113,10 +125,41 @@ impl Window {
         ensures needs { result ≡ None → NeedsMore format self.old }
         ensures over { self.new.is_over ≡ self.old.is_over }
     {
+        match self.tell(format)? {
+            Told::One(item, count, wav) => {
+                let number = self.pass(count, wav);
+                Some(answer_of(item, number))
+            }
+            Told::Other(answer) => Some(answer),
+        }
+    }
+
+    /// The next item, if no more bytes are needed to tell it. Otherwise nothing changes.
+    pub fn next_item(&mut self, format: ItemFormat) -> Option<i64>
+        ensures told { IfSome result (λ item. WindowTells format self.old (Ok (Some item)) self.new) }
+        ensures at_hand { IfSome result (λ item. NeedsMore format self.old → ⊥) }
+        ensures as_before { result ≡ None → self.new ≡ self.old }
+        ensures over { self.new.is_over ≡ self.old.is_over }
+    {
+        match self.tell(format)? {
+            Told::One(Some(item), count, wav) => {
+                self.pass(count, wav);
+                Some(item)
+            }
+            _ => None,
+        }
+    }
+
+    /// What the unused bytes tell, if no more are needed.
+    fn tell(&self, format: ItemFormat) -> Option<Told>
+        ensures told { IfSome result (λ told. IsRightOf format self.now told) }
+        ensures needs { result ≡ None → NeedsMore format self.now }
+        ensures enough { NeedsMore format self.now → result ≡ None }
+    {
         match format {
-            ItemFormat::Lines => self.next_line(),
-            ItemFormat::Samples(sample) => self.next_sample(sample),
-            ItemFormat::Wav(_) => self.next_of_wav(),
+            ItemFormat::Lines => self.tell_line(),
+            ItemFormat::Samples(sample) => self.tell_sample(sample),
+            ItemFormat::Wav(_) => self.tell_wav(),
         }
     }
 
@@ -125,104 +168,68 @@ impl Window {
         ensures told { NeedsMore format self.now → result ≡ false }
         ensures needs { result ≡ false → NeedsMore format self.now }
     {
-        let unused = self.unused();
-        self.is_over
-            || match format {
-                ItemFormat::Lines => unused.len() >= TOO_LONG_LINE || line_feed(unused).is_some(),
-                ItemFormat::Samples(sample) => unused.len() >= sample.width(),
-                ItemFormat::Wav(_) => self.is_wav_at_hand(),
-            }
+        self.tell(format).is_some()
     }
 
-    fn next_line(&mut self) -> Option<Answer>
-        ensures told { IfSome result (λ answer. WindowTells Lines self.old answer self.new) }
-        ensures needs_more { result ≡ None → self.new ≡ self.old }
-        ensures needs { result ≡ None → LineNeedsMore self.old }
-        ensures over { self.new.is_over ≡ self.old.is_over }
+    fn tell_line(&self) -> Option<Told>
+        ensures told { IfSome result (λ told. IsRightOf Lines self.now told) }
+        ensures needs { result ≡ None → LineNeedsMore self.now }
+        ensures enough { LineNeedsMore self.now → result ≡ None }
     {
         match line_feed(self.unused()) {
-            Some(end) => Some(self.line_of(end)),
-            None => self.last_line(),
+            Some(end) => Some(self.tell_line_of(end)),
+            None => self.tell_last_line(),
         }
     }
 
-    /// The answer of the line that has a line feed behind so many bytes.
-    fn line_of(&mut self, end: usize) -> Answer
-        requires { position (λ byte. byte == 10) self.old.unused ≡ Some end }
-        ensures told { WindowTells Lines self.old result self.new }
-        ensures over { self.new.is_over ≡ self.old.is_over }
+    /// What the line tells that has a line feed behind so many bytes.
+    fn tell_line_of(&self, end: usize) -> Told
+        requires { position (λ byte. byte == 10) self.now.unused ≡ Some end }
+        ensures { IsRightOf Lines self.now result }
     {
         let item = item_of_line(without_carriage_return(&self.unused()[..end]));
-        let line = self.pass(end + 1);
-        told(item, line)
+        Told::One(item, end + 1, self.wav)
     }
 
-    /// The answer of the last line, which lacks its line feed.
-    fn last_line(&mut self) -> Option<Answer>
-        requires { position (λ byte. byte == 10) self.old.unused ≡ None }
-        ensures told { IfSome result (λ answer. WindowTells Lines self.old answer self.new) }
-        ensures needs_more { result ≡ None → self.new ≡ self.old }
-        ensures needs { result ≡ None → LineNeedsMore self.old }
-        ensures over { self.new.is_over ≡ self.old.is_over }
+    /// What the last line tells, which lacks its line feed.
+    fn tell_last_line(&self) -> Option<Told>
+        requires { position (λ byte. byte == 10) self.now.unused ≡ None }
+        ensures told { IfSome result (λ told. IsRightOf Lines self.now told) }
+        ensures needs { result ≡ None → LineNeedsMore self.now }
+        ensures enough { LineNeedsMore self.now → result ≡ None }
     {
         let count = self.unused().len();
         if self.is_over && count == 0 {
-            return Some(Ok(None));
+            return Some(Told::Other(Ok(None)));
         }
         if self.is_over {
-            return Some(self.whole_line(count));
+            let item = item_of_line(self.unused());
+            return Some(Told::One(item, count, self.wav));
         }
         if count < TOO_LONG_LINE {
             return None;
         }
-        let line = self.pass(count);
-        Some(Err(SourceFault::BadItem(line)))
+        Some(Told::One(None, count, self.wav))
     }
 
-    /// The answer of the last line, which all bytes are that the input has left.
-    fn whole_line(&mut self, count: usize) -> Answer
-        requires count { count ≡ length self.old.unused }
-        requires some { 0 < count }
-        requires over { self.old.is_over ≡ true }
-        requires line { position (λ byte. byte == 10) self.old.unused ≡ None }
-        ensures told { WindowTells Lines self.old result self.new }
-        ensures over { self.new.is_over ≡ self.old.is_over }
-    {
-        let item = item_of_line(self.unused());
-        let line = self.pass(count);
-        told(item, line)
-    }
-
-    /// The answer of a sample.
-    fn next_sample(&mut self, sample: SampleFormat) -> Option<Answer>
-        ensures told { IfSome result (λ answer. WindowTells (Samples sample) self.old answer self.new) }
-        ensures needs_more { result ≡ None → self.new ≡ self.old }
-        ensures needs { result ≡ None → SampleNeedsMore sample self.old }
-        ensures over { self.new.is_over ≡ self.old.is_over }
+    /// What the bytes of a sample tell.
+    fn tell_sample(&self, sample: SampleFormat) -> Option<Told>
+        ensures told { IfSome result (λ told. IsRightOf (Samples sample) self.now told) }
+        ensures needs { result ≡ None → SampleNeedsMore sample self.now }
+        ensures enough { SampleNeedsMore sample self.now → result ≡ None }
     {
         let unused = self.unused();
         let width = sample.width();
-        if unused.len() < width {
-            return self.no_sample(sample);
+        if unused.len() >= width {
+            return Some(Told::One(sample.value(unused), width, self.wav));
         }
-        let item = sample.value(unused);
-        let number = self.pass(width);
-        Some(told(item, number))
-    }
-
-    /// The answer if there are too few bytes for a sample.
-    fn no_sample(&self, sample: SampleFormat) -> Option<Answer>
-        requires { length self.now.unused < sample_width sample }
-        ensures told { IfSome result (λ answer. WindowTells (Samples sample) self.now answer self.now) }
-        ensures needs { result ≡ None → SampleNeedsMore sample self.now }
-    {
         if !self.is_over {
             return None;
         }
-        if self.unused().is_empty() {
-            return Some(Ok(None));
+        if unused.is_empty() {
+            return Some(Told::Other(Ok(None)));
         }
-        Some(Err(SourceFault::CutSample))
+        Some(Told::Other(Err(SourceFault::CutSample)))
     }
 
     /// Where the samples of a WAV file go on.
@@ -236,79 +243,49 @@ impl Window {
         }
     }
 
-    fn is_wav_at_hand(&self) -> bool
-        ensures told { WavNeedsMore self.now → result ≡ false }
-        ensures needs { result ≡ false → let now = self.now in
-            HeadNeedsMore (head_at now.wav now.unused) now.unused }
+    /// What the bytes of a WAV file tell.
+    fn tell_wav(&self) -> Option<Told>
+        ensures told { IfSome result (λ told. IsRightOfWav self.now told) }
+        ensures needs { result ≡ None → WavNeedsMore self.now }
+        ensures enough { WavNeedsMore self.now → result ≡ None }
     {
         match self.head() {
-            Head::Open => false,
-            Head::Bad(_) => true,
-            Head::Whole(start, wav) => {
-                let count = self.unused().len() - start;
-                count >= wav.sample.width() || count as u64 >= wav.left
-            }
-        }
-    }
-
-    /// The answer of a sample of a WAV file.
-    fn next_of_wav(&mut self) -> Option<Answer>
-        ensures told { IfSome result (λ answer. WavTells self.old answer self.new) }
-        ensures needs_more { result ≡ None → self.new ≡ self.old }
-        ensures needs { result ≡ None → WavNeedsMore self.old }
-        ensures over { self.new.is_over ≡ self.old.is_over }
-    {
-        match self.head() {
-            Head::Whole(start, wav) => self.next_behind(start, wav),
-            Head::Bad(at) => Some(Err(SourceFault::BadHead(at as u64))),
-            Head::Open if self.is_over => {
-                Some(Err(SourceFault::BadHead(self.unused().len() as u64)))
-            }
+            Head::Whole(start, wav) => self.tell_behind(start, wav),
+            Head::Bad(at) => Some(bad_head(at)),
+            Head::Open if self.is_over => Some(bad_head(self.unused().len())),
             Head::Open => None,
         }
     }
 
     /// The same behind so many bytes of the head.
-    fn next_behind(&mut self, start: usize, wav: Wav) -> Option<Answer>
-        requires head { head_at self.old.wav self.old.unused ≡ Whole start wav }
-        requires within { start ≤ length self.old.unused }
-        ensures told { IfSome result (λ answer. WavTells self.old answer self.new) }
-        ensures needs_more { result ≡ None → self.new ≡ self.old }
-        ensures needs { result ≡ None → WavNeedsMore self.old }
-        ensures over { self.new.is_over ≡ self.old.is_over }
+    fn tell_behind(&self, start: usize, wav: Wav) -> Option<Told>
+        requires head { head_at self.now.wav self.now.unused ≡ Whole start wav }
+        requires within { start ≤ length self.now.unused }
+        ensures told { IfSome result (λ told. IsRightOfWav self.now told) }
+        ensures needs { result ≡ None → WavNeedsMore self.now }
+        ensures enough { WavNeedsMore self.now → result ≡ None }
     {
         let behind = &self.unused()[start..];
         let width = wav.sample.width();
-        if behind.len() < width || wav.left < width as u64 {
-            return self.no_wav(start, wav);
+        if behind.len() >= width && wav.left >= width as u64 {
+            let rest = Wav {
+                sample: wav.sample,
+                left: wav.left - width as u64,
+            };
+            return Some(Told::One(wav.sample.value(behind), start + width, Some(rest)));
         }
-        let item = wav.sample.value(behind);
-        let number = self.pass(start + width);
-        self.wav = Some(Wav {
-            sample: wav.sample,
-            left: wav.left - width as u64,
-        });
-        Some(told(item, number))
-    }
-
-    /// The same if there are too few bytes for a sample.
-    fn no_wav(&self, start: usize, wav: Wav) -> Option<Answer>
-        requires head { head_at self.now.wav self.now.unused ≡ Whole start wav }
-        requires within { start ≤ length self.now.unused }
-        requires few { min wav.left (length (drop start self.now.unused))
-            < sample_width wav.sample }
-        ensures told { IfSome result (λ answer. WavTells self.now answer self.now) }
-        ensures needs { result ≡ None → WavNeedsMore self.now }
-    {
-        let bytes = &self.unused()[start..];
-        if bytes.len() as u64 >= wav.left {
-            return Some(end_told(wav, bytes));
-        }
-        if self.is_over {
-            return Some(end_told(wav, bytes));
+        if self.is_over || behind.len() as u64 >= wav.left {
+            return Some(Told::Other(end_told(wav, behind)));
         }
         None
     }
+}
+
+/// The head of a WAV file is wrong from this byte on.
+fn bad_head(at: usize) -> Told
+    ensures { result ≡ Other (Err (BadHead at)) }
+{
+    Told::Other(Err(SourceFault::BadHead(at as u64)))
 }
 
 /// The answer where no more bytes come than these, which are too few for a sample.
@@ -343,9 +320,8 @@ fn fills_up(wav: Wav, bytes: &[u8]) -> bool
 }
 
 /// The answer of a line or a sample, counted from 1, that spells this item, or none.
-fn told(item: Option<i64>, number: u64) -> Answer
-    ensures item { IfSome item (λ item. result ≡ Ok (Some item)) }
-    ensures none { item ≡ None → result ≡ Err (SourceFault.BadItem number) }
+fn answer_of(item: Option<i64>, number: u64) -> Answer
+    ensures { result ≡ answer_of item number }
 {
     match item {
         Some(item) => Ok(Some(item)),

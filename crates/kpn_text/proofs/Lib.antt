@@ -1,5 +1,4 @@
 -- The lemmas. Other crates may cite the public ones.
-pub mod Growing
 pub mod KeptNames
 pub mod Parameters
 pub mod ReadingLaws

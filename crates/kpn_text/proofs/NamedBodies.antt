@@ -15,7 +15,7 @@ use Rattle.kpn_text_names.specs.declared.network_names.ProcessNames.{ProcessName
 use Rattle.kpn_text.specs.Named.{row_name, term_named, statements_named}
 use Rattle.kpn_text_names.proofs.Chains.{ok_is, went}
 use Rattle.kpn_text_names.proofs.KnownNames.{IsNamed, is_named-append, known_named, target_named, if_not}
-use Rattle.kpn_text.proofs.Growing.{Grows, grows_not, grows_on, target_grows}
+use Rattle.kpn_text_names.proofs.Growing.{Grows, grows_not, grows_on, target_grows}
 
 -- ---- scopes
 

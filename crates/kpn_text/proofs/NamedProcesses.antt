@@ -6,11 +6,12 @@ use Rattle.std.specs.List.{AllByRecursion, flat_map}
 use Rattle.std.proofs.Math.Seq.{take-append_seam}
 use Rattle.std.proofs.lemmas.Bool.Decides.{nat_tests}
 use Rattle.std.proofs.lemmas.List.{take_at}
-use Rattle.kpn_limits.specs.declared.TheConstants.{MAX_VARIABLES, MAX_PORTS, MAX_CELLS, MAX_NODES}
+use Rattle.kpn_limits.specs.declared.TheConstants.{MAX_VARIABLES, MAX_PORTS, MAX_CELLS, MAX_NODES, MAX_LEVELS}
 use Rattle.kpn_lang.specs.declared.program.ProgramFault.{ProgramFault}
 use Rattle.kpn_lang.specs.declared.program.ProgramFault.TheVariants as rule
 use Rattle.kpn_lang.specs.Parts.{Parts, IsProgram, is_too_large, statement_nodes}
 use Rattle.kpn_lang.specs.Tree.{Tree, tree_of}
+use Rattle.kpn_text_tokens.specs.declared.tokens.Language.{Language}
 use Rattle.kpn_text_grammar.specs.Syntax.{NameBytes, Declaration, array, table, ProcessNode}
 use Rattle.kpn_text_grammar.specs.Spelling.{ProcessIsWithin}
 use Rattle.kpn_text_names.specs.declared.network_names.ProcessNames.{ProcessNames}
@@ -25,12 +26,13 @@ use Rattle.kpn_text_names.specs.Shared.{values_at}
 use Rattle.kpn_text_names.specs.Body.{tree_in}
 use Rattle.kpn_text_names.specs.Blocks.{body_blocks, WrittenBody, body_of}
 use Rattle.kpn_text_names.specs.Laws.{BlocksAreTheTree}
-use Rattle.kpn_text_names.specs.Named.{NamedProgram, free_of, values_of, program_with, with_uses, named_program, Programs, with_named_process, programs_of}
+use Rattle.kpn_text_names.specs.Named.{NamedProgram, free_of, values_of, program_with, with_uses, at_body, named_program, Programs, with_named_process, programs_of}
 use Rattle.kpn_text_names.specs.NetworkNames.{paired, named_row, process_names_in}
 use Rattle.kpn_text.specs.Named.{statements_named, literal_named, array_named, tables_named, declarations_named, process_named}
 use Rattle.kpn_text_names.proofs.Chains.{ok_is, went}
 use Rattle.kpn_text_names.proofs.KnownNames.{if_so, if_not, declared_is}
 use Rattle.kpn_text.proofs.DeclaredRows.{Laid, rows_of, Declares, all_declared, or_parts}
+use Rattle.kpn_text_names.proofs.Growing.{body_grows}
 use Rattle.kpn_text.proofs.NamedBodies.{block_back}
 use Rattle.kpn_text.proofs.SharedTables.{sorted_process}
 use Rattle.kpn_text.proofs.SortedDeclarations.{arrays_of, tables_of, sorted}
@@ -173,24 +175,25 @@ written_of t = record { scope = t.0; blocks = body_blocks t.1 }
 abbrev ComesBack : ProcessNode → NamedProgram → Type 0
 ComesBack p made = process_named (process_names_in p.name made.names) made.parts ≡ sorted_process p
 
-module _ (flat : BlocksAreTheTree) (shared : SharedTables) (filled : AreFilled shared) where
+module _ (flat : BlocksAreTheTree) (l : Language) (shared : SharedTables) (filled : AreFilled shared) where
   body_comes_back : (p : ProcessNode) (s : NameScope) (t : NameScope × Tree) → HasHead p s
       → Declares s (arrays_of p.declarations) (tables_of p.declarations)
       → HasFewCells (program_with shared s (written_of t)).parts
-      → tree_in shared.names (with_uses shared s p.body) p.body ≡ Ok t
+      → tree_in shared.names (at_body l shared s p.body) p.body ≡ Ok t
       → ComesBack p (program_with shared s (written_of t))
   body_comes_back p s t head_scope d few e =
-      let b = block_back shared.names (with_uses shared s p.body) p.body t e in
+      let b = block_back shared.names (at_body l shared s p.body) p.body t e in
+      let grows = body_grows l shared.names (with_uses shared s p.body) p.body t e in
       let u : Uses shared s.tables t.0.tables =
-      subst (λ ts. Uses shared s.tables ts) (sym b.grows.tables)
+      subst (λ ts. Uses shared s.tables ts) (sym grows.tables)
       (body_uses shared s.tables filled p.body (uses_none shared s.tables d.tables_laid d.tables_end d.unused)) in
       let names : ProcessNames = process_names_in p.name t.0 in
-      let same : t.0.arrays ≡ s.arrays = b.grows.arrays in
+      let same : t.0.arrays ≡ s.arrays = grows.arrays in
       let stand : Standing t.0 =
       standing p.name shared s t.0 (arrays_of p.declarations) (tables_of p.declarations) d same u few in
       let pars : take (length s.vars) t.0.vars ≡ p.pars =
-      (λ i. take (length (head_scope.vars i)) (b.grows.vars i))
-      ∙ ap (λ l. take (length p.pars) (l ++ b.grows.more)) head_scope.vars ∙ take-append_seam p.pars b.grows.more in
+      (λ i. take (length (head_scope.vars i)) (grows.vars i))
+      ∙ ap (λ l. take (length p.pars) (l ++ grows.more)) head_scope.vars ∙ take-append_seam p.pars grows.more in
       let declarations : declarations_named names (values_of shared t.0) ≡ sorted p.declarations =
       declarations_back p.name shared s t.0 (arrays_of p.declarations) (tables_of p.declarations) d same u in
       let body : statements_named names (tree_of (body_blocks t.1) 0) ≡ p.body =
@@ -203,8 +206,8 @@ module _ (flat : BlocksAreTheTree) (shared : SharedTables) (filled : AreFilled s
         vars = sym (append-nil t.0.vars);
         rows = rows_agree p.name t.0 stand;
       }) in
-      let ins : t.0.ins ≡ p.ins = b.grows.ins ∙ head_scope.ins in
-      let outs : t.0.outs ≡ p.outs = b.grows.outs ∙ head_scope.outs in
+      let ins : t.0.ins ≡ p.ins = grows.ins ∙ head_scope.ins in
+      let outs : t.0.outs ≡ p.outs = grows.outs ∙ head_scope.outs in
       λ i. record {
         name = p.name;
         ins = ins i;
@@ -214,13 +217,13 @@ module _ (flat : BlocksAreTheTree) (shared : SharedTables) (filled : AreFilled s
         body = body i;
       }
 
-  process_back : (p : ProcessNode) (made : NamedProgram) → ProcessIsWithin p → named_program shared p ≡ Ok made
+  process_back : (p : ProcessNode) (made : NamedProgram) → ProcessIsWithin MAX_LEVELS MAX_LEVELS p → named_program l shared p ≡ Ok made
       → HasFewCells made.parts → ComesBack p made
   process_back p made within e few =
       let h = went (head_scope shared.names p) _ made e in
       let s = went (each (declare shared.names) h.value p.declarations) _ made h.rest in
-      let body = went (body_of shared.names (with_uses shared s.value p.body) p.body) _ made s.rest in
-      let tree = went (tree_in shared.names (with_uses shared s.value p.body) p.body) _ body.value body.first in
+      let body = went (body_of shared.names (at_body l shared s.value p.body) p.body) _ made s.rest in
+      let tree = went (tree_in shared.names (at_body l shared s.value p.body) p.body) _ body.value body.first in
       let start : NameScope = scope_with p.ins p.outs p.pars in
       let known : start ≡ h.value =
       (if_so (are_new shared.names (p.ins ++ p.outs ++ p.pars)) start h.value h.first).1 in
@@ -265,9 +268,9 @@ record Added (before : Programs) (processes : List ProcessNode) (after : Program
   after_programs : after.programs ≡ before.programs ++ programs
   back : HaveFewCells programs → processes_named names programs ≡ map sorted_process processes
 
-module _ (flat : BlocksAreTheTree) (shared : SharedTables) (filled : AreFilled shared) where
+module _ (flat : BlocksAreTheTree) (l : Language) (shared : SharedTables) (filled : AreFilled shared) where
   added : (before : Programs) (processes : List ProcessNode) (after : Programs)
-      → AllByRecursion ProcessIsWithin processes → each (with_named_process shared) before processes ≡ Ok after
+      → AllByRecursion (ProcessIsWithin MAX_LEVELS MAX_LEVELS) processes → each (with_named_process l shared) before processes ≡ Ok after
       → Added before processes after
   unfolding each
   added before [] after within h =
@@ -280,9 +283,9 @@ module _ (flat : BlocksAreTheTree) (shared : SharedTables) (filled : AreFilled s
         back = λ few. refl;
       }
   added before (p ∷ processes) after within h =
-      let first = went (with_named_process shared before p) (λ q. each (with_named_process shared) q processes) after h in
+      let first = went (with_named_process l shared before p) (λ q. each (with_named_process l shared) q processes) after h in
       let names = went (declared before.names p.name) _ first.value first.first in
-      let made = went (named_program shared p) _ first.value names.rest in
+      let made = went (named_program l shared p) _ first.value names.rest in
       let same : ◌≡◌ {A = Programs} (record { names = names.value; programs = before.programs ++ made.value ∷ [] })
       first.value = ok_is _ _ made.rest in
       let new : before.names ++ p.name ∷ [] ≡ names.value =
@@ -299,14 +302,14 @@ module _ (flat : BlocksAreTheTree) (shared : SharedTables) (filled : AreFilled s
             ∙ append_assoc before.programs (made.value ∷ []) more.programs;
         back =
             λ few.
-            let one = process_back flat shared filled p made.value within.0 made.first few.0 in
+            let one = process_back flat l shared filled p made.value within.0 made.first few.0 in
             let others = more.back few.1 in
             λ i. one i ∷ others i;
       }
 
   -- the processes of a description come back, each with its arrays and then its tables
-  pub processes_back : (processes : List ProcessNode) (p : Programs) → AllByRecursion ProcessIsWithin processes
-      → programs_of shared processes ≡ Ok p → HaveFewCells p.programs
+  pub processes_back : (processes : List ProcessNode) (p : Programs) → AllByRecursion (ProcessIsWithin MAX_LEVELS MAX_LEVELS) processes
+      → programs_of l shared processes ≡ Ok p → HaveFewCells p.programs
       → processes_named p.names p.programs ≡ map sorted_process processes
   processes_back processes p within h few =
       let a = added (record { names = []; programs = [] }) processes p within h in

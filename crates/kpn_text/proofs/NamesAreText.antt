@@ -101,20 +101,20 @@ processes_text l [] all k = no_name
 processes_text l (p ∷ ps) all zero = name_is_text l p.name all.0.name
 processes_text l (p ∷ ps) all (suc k) = processes_text l ps all.1 k
 
-named_text : (l : Language) (d : Description) (n : Named) → resolve d ≡ Ok n → IsProper l d → AreText (names_in n)
+named_text : (l : Language) (d : Description) (n : Named) → resolve l d ≡ Ok n → IsProper l d → AreText (names_in n)
 named_text l d n h is =
     let shared = went (shared_of d.tables) _ n h in
-    let p = went (programs_of shared.value d.processes) _ n shared.rest in
+    let p = went (programs_of l shared.value d.processes) _ n shared.rest in
     let w = went (wiring p.value.names d.network.items) _ n p.rest in
     let made : Named = named_with shared.value (settings_of d.network) p.value w.value in
     let same : made ≡ n = ok_is made n w.rest in
-    let back = names_back shared.value d.processes p.value p.first in
+    let back = names_back l shared.value d.processes p.value p.first in
     let items = items_back l (names_in made) p.value.names d.network.items w.value back refl w.first in
     let there : (k : ℕ) → IsUtf8 (name_at (process_names (names_in made)) k) =
     λ k. subst (λ (xs : List NameBytes). IsUtf8 (name_at xs k))
-    (sym (back ∙ names_kept shared.value d.processes p.value p.first)) (processes_text l d.processes is.processes k) in
+    (sym (back ∙ names_kept l shared.value d.processes p.value p.first)) (processes_text l d.processes is.processes k) in
     let named : AreNamed (names_in made) made.tables =
-    subst (λ (m : Named). AreNamed (names_in m) m.tables) (sym same) (are_named n (resolved_each d n h)) in
+    subst (λ (m : Named). AreNamed (names_in m) m.tables) (sym same) (are_named n (resolved_each l d n h)) in
     subst (λ (m : Named). AreText (names_in m)) same
     (items_text l (names_in made) made.tables named (items.proper is.network.items) there)
 

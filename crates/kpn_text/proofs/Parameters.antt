@@ -5,6 +5,7 @@ use Rattle.std.proofs.lemmas.Bool.Decides.{nat_tests}
 use Rattle.kpn_limits.specs.declared.TheConstants.{MAX_VARIABLES}
 use Rattle.std.proofs.lemmas.List.Elements.{All-nil, All-cons, All-append, All-map}
 use Rattle.kpn_lang.specs.Parts.{Parts}
+use Rattle.kpn_text_tokens.specs.declared.tokens.Language.{Language}
 use Rattle.kpn_text_grammar.specs.Syntax.{ProcessNode, Description}
 use Rattle.kpn_text_names.specs.declared.scope.NameScope.{NameScope}
 use Rattle.kpn_text_names.specs.Names.{declared}
@@ -15,10 +16,10 @@ use Rattle.kpn_text_names.specs.Shared.{shared_of}
 use Rattle.kpn_text_names.specs.Body.{tree_in}
 use Rattle.kpn_text_names.specs.Blocks.{WrittenBody, body_of}
 use Rattle.kpn_text_names.specs.Network.{wiring}
-use Rattle.kpn_text_names.specs.Named.{Named, NamedProgram, Programs, free_of, values_of, with_uses, named_program, programs_of, with_named_process, resolve}
+use Rattle.kpn_text_names.specs.Named.{Named, NamedProgram, Programs, free_of, values_of, with_uses, at_body, named_program, programs_of, with_named_process, resolve}
 use Rattle.kpn_text_names.proofs.Chains.{ok_is, went}
 use Rattle.kpn_text_names.proofs.Steps.{keeps}
-use Rattle.kpn_text.proofs.Growing.{Grows, block_grows}
+use Rattle.kpn_text_names.proofs.Growing.{Grows, body_grows}
 
 -- the parameters are among the variables, and with cells there are 64 of them
 pub record HasItsParameters (p : NamedProgram) : Type 0 where
@@ -33,14 +34,15 @@ apart_by : (b : Bool) (n cells : ℕ) → nat_eq cells 0 ≡ b → cond b n (max
 apart_by true n cells e h = grind (arith, nat_tests, e)
 apart_by false n cells e h = absurd (omega (arith, h))
 
-program_has : (shared : SharedTables) (p : ProcessNode) (q : NamedProgram) → named_program shared p ≡ Ok q → HasItsParameters q
-program_has shared p q e =
+program_has : (l : Language) (shared : SharedTables) (p : ProcessNode) (q : NamedProgram) → named_program l shared p ≡ Ok q → HasItsParameters q
+program_has l shared p q e =
     let h = went (head_scope shared.names p) _ q e in
     let s = went (each (declare shared.names) h.value p.declarations) _ q h.rest in
-    let start : NameScope = with_uses shared s.value p.body in
+    let start : NameScope = at_body l shared s.value p.body in
     let body = went (body_of shared.names start p.body) _ q s.rest in
     let tree = went (tree_in shared.names start p.body) _ body.value body.first in
-    let grown : Grows start tree.value.0 = block_grows shared.names start p.body tree.value tree.first in
+    let grown : Grows (with_uses shared s.value p.body) tree.value.0 =
+    body_grows l shared.names (with_uses shared s.value p.body) p.body tree.value tree.first in
     let scope : tree.value.0 ≡ body.value.scope = ap (λ (v : WrittenBody). v.scope) (ok_is _ body.value tree.rest) in
     let longer : body.value.scope.vars ≡ s.value.vars ++ grown.more =
     ap (λ (t : NameScope). t.vars) (sym scope) ∙ grown.vars in
@@ -59,12 +61,12 @@ program_has shared p q e =
 pub record HaveTheirParameters (p : Programs) : Type 0 where
   pub all : All HasItsParameters p.programs
 
-process_has : (shared : SharedTables) (s t : Programs) (p : ProcessNode) → with_named_process shared s p ≡ Ok t → HaveTheirParameters s
+process_has : (l : Language) (shared : SharedTables) (s t : Programs) (p : ProcessNode) → with_named_process l shared s p ≡ Ok t → HaveTheirParameters s
     → HaveTheirParameters t
-process_has shared s t p e h =
+process_has l shared s t p e h =
     let names = went (declared s.names p.name) _ t e in
-    let made = went (named_program shared p) _ t names.rest in
-    let one = All-cons HasItsParameters made.value [] (program_has shared p made.value made.first)
+    let made = went (named_program l shared p) _ t names.rest in
+    let one = All-cons HasItsParameters made.value [] (program_has l shared p made.value made.first)
     (All-nil HasItsParameters) in
     subst HaveTheirParameters (ok_is _ t made.rest)
     (record { all = All-append HasItsParameters s.programs (made.value ∷ []) h.all one })
@@ -78,14 +80,14 @@ All-weaken : (ps : List NamedProgram) → All HasItsParameters ps → All (λ p.
 All-weaken ps all = λ k d at. record { counted = (all k d at).counted; apart = (all k d at).apart }
 
 -- a process has its parameters among its variables, wherever a description names it
-pub resolved_has : (d : Description) (n : Named) → resolve d ≡ Ok n → All AreCounted n.tables.programs
-resolved_has d n e =
+pub resolved_has : (l : Language) (d : Description) (n : Named) → resolve l d ≡ Ok n → All AreCounted n.tables.programs
+resolved_has l d n e =
     let shared = went (shared_of d.tables) _ n e in
-    let p = went (programs_of shared.value d.processes) _ n shared.rest in
+    let p = went (programs_of l shared.value d.processes) _ n shared.rest in
     let w = went (wiring p.value.names d.network.items) _ n p.rest in
     let P : Named → Type 0 = λ m. All AreCounted m.tables.programs in
     let h : HaveTheirParameters p.value =
-    keeps (with_named_process shared.value) HaveTheirParameters (process_has shared.value) d.processes
+    keeps (with_named_process l shared.value) HaveTheirParameters (process_has l shared.value) d.processes
     (record { names = []; programs = [] }) p.value p.first (record { all = All-nil HasItsParameters }) in
     subst P (ok_is _ n w.rest)
     (All-map AreCounted (λ (q : NamedProgram). q.parts) p.value.programs (All-weaken p.value.programs h.all))

@@ -3,6 +3,7 @@ use Rattle.std.proofs.Common.{◌≡◌, ℕ, ◌<◌, ◌^◌, true, List, [], 
 use Rattle.std.specs.List.{AllByRecursion}
 use Rattle.kpn_net.specs.declared.tables.Growth.{Growth}
 use Rattle.kpn_net.specs.declared.tables.Policy.{Policy}
+use Rattle.kpn_limits.specs.declared.TheConstants.{MAX_LEVELS}
 use Rattle.kpn_text_tokens.specs.declared.tokens.Keyword.{Keyword}
 use Rattle.kpn_text_tokens.specs.declared.tokens.Keyword.TheVariants as keyword
 use Rattle.kpn_text_tokens.specs.declared.tokens.Language.{Language}
@@ -15,6 +16,7 @@ use Rattle.kpn_text_tokens.specs.Laws.{HasSpelling, tokens_of}
 use Rattle.kpn_text_tokens.specs.Rules.{IsName}
 use Rattle.kpn_text_tokens.specs.Spelling.{has_keyword, has_mark}
 use Rattle.kpn_text_grammar.specs.Operators.{operator_mark}
+use Rattle.kpn_text_tokens.proofs.NumeralLaws.{number_small as is_below}
 use Rattle.kpn_text_tokens.proofs.WithoutPlaces.{read_spelled}
 use Rattle.kpn_text_grammar.specs.Syntax.{NameBytes, ExpressionNode, numeral, variable, element, minus, negation, complement, binary, conditional, StatementNode, assign, store, receive, send, choice, loop, Statements, no_statements, statement, Table, Declaration, array, table, ProcessNode, Literal, plain, negated, Item, channel, source, sink, instance, NetworkNode, Description}
 use Rattle.kpn_text_grammar.specs.Spelling.{SpellsTight, as_number, as_name, as_element, as_minus, as_negation, as_complement, in_parentheses, as_sides, as_conditional, as_binary, SpellsStatement, as_assignment, as_store, as_read, as_write, as_if, as_while, SpellsStatements, nothing, one_more, SpellsElse, left_out, behind_else, SpellsSecond, with_braces, as_branch, SpellsProcess, SpellsAll, IsDescription, spell_all, spell_further, spell_list, spell_name, spell_names, spell_table, spell_declaration, spell_part, spell_later_part, spell_parts, spell_literal, spell_values, spell_item, spell_limit, spell_policy, spell_growth, spell_network, spell_language}
@@ -30,7 +32,7 @@ record And (l : Language) (P : Type 0) (tokens : List Token) : Type 0 where
   rest : AreSpelled l tokens
 
 number_small : (l : Language) (n : ℕ) → HasSpelling l (token.Number n) → n < 2 ^ 63
-number_small l n h = omega (arith, h.1.small)
+number_small l n h = is_below l n h.0 h.1
 
 is_name : (l : Language) (x : NameBytes) → HasSpelling l (token.Name x) → IsName l x
 is_name l x h = h.1.0
@@ -92,7 +94,7 @@ tight_is {l} (binary op a b) (as_binary fits s t) h =
     record { is = (has_this l (operator_mark op) left.rest.0, left.is, right.is); rest = right.rest }
 
 mutual
-  statement_is : (l : Language) (s : StatementNode) {tokens more : List Token} → SpellsStatement l s tokens more
+  statement_is : (l : Language) (s : StatementNode) {tokens more : List Token} → SpellsStatement MAX_LEVELS l s tokens more
       → AreSpelled l tokens → And l (IsProperStatement l s) more
   statement_is l (assign x e) (as_assignment s) h =
       let value = tight_is e s h.1.1 in
@@ -123,7 +125,7 @@ mutual
       let body = statements_are l b t test.rest.1 in
       record { is = (test.is, body.is); rest = body.rest.1 }
 
-  statements_are : (l : Language) (ss : Statements) {tokens more : List Token} → SpellsStatements l ss tokens more
+  statements_are : (l : Language) (ss : Statements) {tokens more : List Token} → SpellsStatements MAX_LEVELS l ss tokens more
       → AreSpelled l tokens → And l (AreProper l ss) more
   statements_are l no_statements nothing h = record { is = tt; rest = h }
   statements_are l (statement s ss) (one_more t u) h =
@@ -131,12 +133,12 @@ mutual
       let others = statements_are l ss u first.rest in
       record { is = (first.is, others.is); rest = others.rest }
 
-  else_is : (l : Language) (b : Statements) {tokens more : List Token} → SpellsElse l b tokens more
+  else_is : (l : Language) (b : Statements) {tokens more : List Token} → SpellsElse MAX_LEVELS l b tokens more
       → AreSpelled l tokens → And l (AreProper l b) more
   else_is l no_statements (left_out two ends) h = record { is = tt; rest = h }
   else_is l b (behind_else s) h = second_is l b s h.1
 
-  second_is : (l : Language) (b : Statements) {tokens more : List Token} → SpellsSecond l b tokens more
+  second_is : (l : Language) (b : Statements) {tokens more : List Token} → SpellsSecond MAX_LEVELS l b tokens more
       → AreSpelled l tokens → And l (AreProper l b) more
   second_is l b (with_braces s) h =
       let inside = statements_are l b s h.1 in
@@ -245,7 +247,7 @@ parts_are l [] [] c more h =
     let pars = part_is l keyword.Par c more h in
     record { is = record { ins = tt; outs = tt; pars = pars.is }; rest = pars.rest }
 
-process_is : (l : Language) (p : ProcessNode) (tokens more : List Token) → SpellsProcess l p tokens more
+process_is : (l : Language) (p : ProcessNode) (tokens more : List Token) → SpellsProcess MAX_LEVELS l p tokens more
     → AreSpelled l tokens → And l (IsProperProcess l p) more
 process_is l p tokens more s spelled =
     let h = subst (λ ts. AreSpelled l ts) s.head spelled in
@@ -267,7 +269,7 @@ process_is l p tokens more s spelled =
     }
 
 processes_are : (l : Language) (ps : List ProcessNode) (tokens more : List Token)
-    → SpellsAll (SpellsProcess l) ps tokens more → AreSpelled l tokens
+    → SpellsAll (SpellsProcess MAX_LEVELS l) ps tokens more → AreSpelled l tokens
     → And l (AllByRecursion (IsProperProcess l) ps) more
 processes_are l [] tokens more s h = record { is = tt; rest = subst (λ ts. AreSpelled l ts) s h }
 processes_are l (p ∷ ps) tokens more s h =

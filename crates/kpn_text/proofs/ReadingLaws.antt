@@ -99,7 +99,7 @@ abbrev after_names : Language → Named → Result Document Cause
 after_names l n = unless (tables_cause n.tables) (document_named l n)
 
 abbrev after_tree : Language → Description → Result Document Cause
-after_tree l tree = and_then (phase in_names (resolve tree)) (after_names l)
+after_tree l tree = and_then (phase in_names (resolve l tree)) (after_names l)
 
 abbrev after_tokens : Language → List ℕ → List Lexeme → Result Document Cause
 after_tokens l text ls = and_then (phase in_grammar (description_of l (length text) ls)) (after_tree l)
@@ -126,21 +126,21 @@ tree_read l text ls tree e f =
     tokens_read l text ls e ∙ phase_ok in_grammar (description_of l (length text) ls) (after_tree l) tree f
 
 pub refused_names : (l : Language) (text : List ℕ) (ls : List Lexeme) (tree : Description) (fault : NameError)
-    → lexemes_of l text ≡ Ok ls → description_of l (length text) ls ≡ Ok tree → resolve tree ≡ Err fault
+    → lexemes_of l text ≡ Ok ls → description_of l (length text) ls ≡ Ok tree → resolve l tree ≡ Err fault
     → document_in l text ≡ Err (in_names fault)
 refused_names l text ls tree fault e f i =
-    tree_read l text ls tree e f ∙ phase_err in_names (resolve tree) (after_names l) fault i
+    tree_read l text ls tree e f ∙ phase_err in_names (resolve l tree) (after_names l) fault i
 
 -- what a text names, phase by phase
 pub record ArePhases (l : Language) (text : List ℕ) (ls : List Lexeme) (tree : Description) (n : Named) : Type 0 where
   pub tokens : lexemes_of l text ≡ Ok ls
   pub grammar : description_of l (length text) ls ≡ Ok tree
-  pub names : resolve tree ≡ Ok n
+  pub names : resolve l tree ≡ Ok n
 
 pub last_phases : (l : Language) (text : List ℕ) (ls : List Lexeme) (tree : Description) (n : Named)
     → ArePhases l text ls tree n → document_in l text ≡ unless (tables_cause n.tables) (document_named l n)
 last_phases l text ls tree n is =
-    tree_read l text ls tree is.tokens is.grammar ∙ phase_ok in_names (resolve tree) (after_names l) n is.names
+    tree_read l text ls tree is.tokens is.grammar ∙ phase_ok in_names (resolve l tree) (after_names l) n is.names
 
 -- ---- what is spelled is read
 
@@ -230,11 +230,11 @@ reads_spelled text d e =
     let l : Language = language_of text in
     phase_step in_tokens (lexemes_of l text) _ d e (λ ls tokens f.
     phase_step in_grammar (description_of l (length text) ls) _ d f (λ tree grammar g.
-    phase_step in_names (resolve tree) _ d g (λ n names h.
+    phase_step in_names (resolve l tree) _ d g (λ n names h.
     let last = last_step (tables_cause n.tables) (document_named l n) d h in
     subst (λ (x : Document). SpellsDocument text x) last.1
     (read_spelled text ls tree n (record { tokens = tokens; grammar = grammar; names = names })
-    (tables_keep n.tables last.0 (resolved_has tree n names))))))
+    (tables_keep n.tables last.0 (resolved_has l tree n names))))))
 
 -- ---- what is known of a document that some text spells
 
@@ -242,7 +242,7 @@ reads_spelled text d e =
 pub spelled_named : (d : Document) → IsOfSomeText d → AreNamed d.names d.tables
 spelled_named d (text, s) =
     subst (λ (x : Document). AreNamed x.names x.tables) s.is
-    (are_named s.named (resolved_each s.tree s.named s.resolved))
+    (are_named s.named (resolved_each d.language s.tree s.named s.resolved))
 
 -- the same of what contracts see of a document
 pub seen_named : (d now : Document) → d ≡ now → IsOfSomeText d → AreNamed now.names now.tables

@@ -46,6 +46,10 @@ module _ (bytes : List ℕ) (l : Language) (told : l ≡ language_of bytes) wher
       → description_of l (length bytes) slice ≡ r → description_of (language_of bytes) (length bytes) ls ≡ r
   tree_told ls slice r s d = (λ i. description_of (sym told i) (length bytes) (sym s i)) ∙ d
 
+  names_told : (tree : Description) (r : Result Named names.NameError) → resolve l tree ≡ r
+      → resolve (language_of bytes) tree ≡ r
+  names_told tree r g = ap (λ k. resolve k tree) (sym told) ∙ g
+
   pub tokens_refused : (e : LexFault) (f : TextFault) → lexing.Gives {A = Global} (Err e) (lexemes_of l bytes)
       → f ≡ lex_fault e → Refuses bytes f
   tokens_refused lex.NoMemory f g h = inl h
@@ -68,20 +72,20 @@ module _ (bytes : List ℕ) (l : Language) (told : l ≡ language_of bytes) wher
 
   pub names_refused : (ls slice : List Lexeme) (tree : Description) (e : NameFault) (f : TextFault)
       → lexemes_of l bytes ≡ Ok ls → slice ≡ ls → description_of l (length bytes) slice ≡ Ok tree
-      → names.ResolvingFails e (resolve tree) → f ≡ name_fault e → Refuses bytes f
+      → names.ResolvingFails e (resolve l tree) → f ≡ name_fault e → Refuses bytes f
   names_refused ls slice tree name.NoMemory f t s d g h = inl h
   names_refused ls slice tree (name.UnknownName at) f t s d g h =
       found_out bytes (in_names unknown) f
-      (refused_names (language_of bytes) bytes ls tree unknown (lexemes_told _ t) (tree_told ls slice _ s d) g) (at, h)
+      (refused_names (language_of bytes) bytes ls tree unknown (lexemes_told _ t) (tree_told ls slice _ s d) (names_told tree _ g)) (at, h)
   names_refused ls slice tree (name.DoubleName at) f t s d g h =
       found_out bytes (in_names double) f
-      (refused_names (language_of bytes) bytes ls tree double (lexemes_told _ t) (tree_told ls slice _ s d) g) (at, h)
+      (refused_names (language_of bytes) bytes ls tree double (lexemes_told _ t) (tree_told ls slice _ s d) (names_told tree _ g)) (at, h)
 
   pub phases : (ls slice : List Lexeme) (tree : Description) (n : Named) → lexemes_of l bytes ≡ Ok ls → slice ≡ ls
-      → description_of l (length bytes) slice ≡ Ok tree → resolve tree ≡ Ok n
+      → description_of l (length bytes) slice ≡ Ok tree → resolve l tree ≡ Ok n
       → ArePhases (language_of bytes) bytes ls tree n
   phases ls slice tree n t s d r =
-      record { tokens = lexemes_told _ t; grammar = tree_told ls slice _ s d; names = r }
+      record { tokens = lexemes_told _ t; grammar = tree_told ls slice _ s d; names = names_told tree _ r }
 
 tells_unless : (c : Option Cause) (d : Document) (f : TextFault) → TellsCause c f → TellsWhatIsFound (unless c d) f
 tells_unless (Some cause) d f h = h

@@ -3,7 +3,7 @@ use Rattle.std.proofs.Common.{◌≡◌, ℕ, ◌<◌, ◌≤◌, Bool, true, fa
 use Rattle.std.specs.Prelude.{nat_lt, All, IfOk}
 use Rattle.std.specs.List.{AllByRecursion}
 use Rattle.std.proofs.lemmas.Bool.Decides.{nat_tests}
-use Rattle.kpn_limits.specs.declared.TheConstants.{MAX_CAPACITY, MAX_TEXT_BYTES}
+use Rattle.kpn_limits.specs.declared.TheConstants.{MAX_CAPACITY, MAX_TEXT_BYTES, MAX_LEVELS}
 use Rattle.kpn_lang.specs.Parts.{IsProgram}
 use Rattle.kpn_net.specs.declared.tables.Growth.{Growth}
 use Rattle.kpn_net.specs.declared.tables.Growth.TheVariants as growth
@@ -86,19 +86,19 @@ settings_again s small =
 
 -- ---- what a description names, part by part
 
-record Resolved (d : Description) (n : Named) : Type 0 where
+record Resolved (l : Language) (d : Description) (n : Named) : Type 0 where
   shared : SharedTables
   p : Programs
   w : Wiring
   has_tables : shared_of d.tables ≡ Ok shared
-  has_processes : programs_of shared d.processes ≡ Ok p
+  has_processes : programs_of l shared d.processes ≡ Ok p
   has_items : wiring p.names d.network.items ≡ Ok w
   is : named_with shared (settings_of d.network) p w ≡ n
 
-resolved : (d : Description) (n : Named) → resolve d ≡ Ok n → Resolved d n
-resolved d n h =
+resolved : (l : Language) (d : Description) (n : Named) → resolve l d ≡ Ok n → Resolved l d n
+resolved l d n h =
     let s = went (shared_of d.tables) _ n h in
-    let p = went (programs_of s.value d.processes) _ n s.rest in
+    let p = went (programs_of l s.value d.processes) _ n s.rest in
     let w = went (wiring p.value.names d.network.items) _ n p.rest in
     record {
       shared = s.value;
@@ -110,14 +110,14 @@ resolved d n h =
       is = ok_is _ n w.rest;
     }
 
-resolves : (d : Description) (s : SharedTables) (p : Programs) (w : Wiring) → shared_of d.tables ≡ Ok s
-    → programs_of s d.processes ≡ Ok p → wiring p.names d.network.items ≡ Ok w
-    → resolve d ≡ Ok (named_with s (settings_of d.network) p w)
-resolves d s p w hs hp hw =
+resolves : (l : Language) (d : Description) (s : SharedTables) (p : Programs) (w : Wiring) → shared_of d.tables ≡ Ok s
+    → programs_of l s d.processes ≡ Ok p → wiring p.names d.network.items ≡ Ok w
+    → resolve l d ≡ Ok (named_with s (settings_of d.network) p w)
+resolves l d s p w hs hp hw =
     then_ok (shared_of d.tables)
-    (λ u. and_then (programs_of u d.processes)
+    (λ u. and_then (programs_of l u d.processes)
     (λ q. and_then (wiring q.names d.network.items) (λ v. Ok (named_with u (settings_of d.network) q v)))) s hs
-    ∙ then_ok (programs_of s d.processes)
+    ∙ then_ok (programs_of l s d.processes)
     (λ q. and_then (wiring q.names d.network.items) (λ v. Ok (named_with s (settings_of d.network) q v))) p hp
     ∙ then_ok (wiring p.names d.network.items) (λ v. Ok (named_with s (settings_of d.network) p v)) w hw
 
@@ -133,40 +133,40 @@ pub record Kept (l : Language) (d : Description) (n : Named) : Type 0 where
   pub limit : IsProperLimit (printed n).network.limit
   pub items : AllByRecursion (IsProperItem l) d.network.items
       → AllByRecursion (IsProperItem l) (printed n).network.items
-  pub again : resolve (printed n) ≡ Ok n
+  pub again : resolve l (printed n) ≡ Ok n
 
 kept_by : BlocksAreTheTree → (l : Language) (d : Description) (s : Settings) (shared : SharedTables) (p : Programs)
-    (w : Wiring) → IsWithinLimits d → HaveFewCells p.programs → s.limit ≤ MAX_CAPACITY → shared_of d.tables ≡ Ok shared
-    → programs_of shared d.processes ≡ Ok p → wiring p.names d.network.items ≡ Ok w
+    (w : Wiring) → IsWithinLimits MAX_LEVELS d → HaveFewCells p.programs → s.limit ≤ MAX_CAPACITY → shared_of d.tables ≡ Ok shared
+    → programs_of l shared d.processes ≡ Ok p → wiring p.names d.network.items ≡ Ok w
     → Kept l d (named_with shared s p w)
 kept_by flat l d s shared p w within few small hs hp hw =
     let n : Named = named_with shared s p w in
     let tables : (printed n).tables ≡ map plain_table d.tables = shared_back d.tables shared hs in
     let filled = shared_filled d.tables shared within.tables hs in
     let processes : (printed n).processes ≡ map sorted_process d.processes =
-    processes_back flat shared filled d.processes p within.processes hp few in
+    processes_back flat l shared filled d.processes p within.processes hp few in
     let b =
-    items_back l (names_in n) p.names d.network.items w (names_back shared d.processes p hp) refl hw in
+    items_back l (names_in n) p.names d.network.items w (names_back l shared d.processes p hp) refl hw in
     let has_tables : shared_of (printed n).tables ≡ Ok shared =
     ap (λ ts. shared_of ts) tables ∙ shared_again d.tables ∙ hs in
-    let has_processes : programs_of shared (printed n).processes ≡ Ok p =
-    ap (λ ps. programs_of shared ps) processes ∙ processes_again shared d.processes ∙ hp in
+    let has_processes : programs_of l shared (printed n).processes ≡ Ok p =
+    ap (λ ps. programs_of l shared ps) processes ∙ processes_again l shared d.processes ∙ hp in
     record {
       tables = sym tables;
       processes = sym processes;
       limit = limit_proper s.limit small;
       items = b.proper;
-      again = resolves (printed n) shared p w has_tables has_processes b.again
+      again = resolves l (printed n) shared p w has_tables has_processes b.again
           ∙ ap (λ q. Ok (named_with shared q p w)) (settings_again s small);
     }
 
-kept : BlocksAreTheTree → LimitsAreInRange → (l : Language) (d : Description) (n : Named) → IsWithinLimits d
-    → resolve d ≡ Ok n → IsNetwork n.tables → Kept l d n
+kept : BlocksAreTheTree → LimitsAreInRange → (l : Language) (d : Description) (n : Named) → IsWithinLimits MAX_LEVELS d
+    → resolve l d ≡ Ok n → IsNetwork n.tables → Kept l d n
 kept flat limits l d n within h net =
-    let r = resolved d n h in
+    let r = resolved l d n h in
     let limit : limit_of d.network.limit ≡ n.tables.limit = ap (λ (q : Named). q.tables.limit) r.is in
     let small : limit_of d.network.limit ≤ MAX_CAPACITY =
-    subst (λ l. l ≤ MAX_CAPACITY) (sym limit) (limits n.tables net).1 in
+    subst (λ m. m ≤ MAX_CAPACITY) (sym limit) (limits n.tables net).1 in
     let few : HaveFewCells r.p.programs =
     have_few r.p.programs (subst (λ (q : Named). All IsProgram q.tables.programs) (sym r.is) net.programs) in
     subst (λ q. Kept l d q) r.is
@@ -218,7 +218,8 @@ sorted_proper l p h = record {
   body = h.body;
 }
 
-sorted_within : (p : ProcessNode) → ProcessIsWithin p → ProcessIsWithin (sorted_process p)
+sorted_within : (p : ProcessNode) → ProcessIsWithin MAX_LEVELS MAX_LEVELS p
+    → ProcessIsWithin MAX_LEVELS MAX_LEVELS (sorted_process p)
 sorted_within p h = record {
   declarations = sorted_keep DeclarationIsWithin plain_within p.declarations h.declarations;
   body = h.body;
@@ -247,15 +248,16 @@ proper text d s read k =
 printed_fits : CanonicalSpells → (text : List ℕ) (d : Document) (s : SpellsDocument text d) → Kept d.language s.tree s.named
     → IsDescription d.language (spell_description d.language (printed s.named)) (printed s.named)
 printed_fits spells text d s k =
-    let was : IsWithinLimits s.tree = s.spelled.within in
+    let was : IsWithinLimits MAX_LEVELS s.tree = s.spelled.within in
     spells d.language (printed s.named)
     (record {
       tables =
           subst (λ ts. AllByRecursion TableIsWithin ts) k.tables
           (all_mapped plain_table TableIsWithin TableIsWithin plain_within s.tree.tables was.tables);
       processes =
-          subst (λ ps. AllByRecursion ProcessIsWithin ps) k.processes
-          (all_mapped sorted_process ProcessIsWithin ProcessIsWithin sorted_within s.tree.processes was.processes);
+          subst (λ ps. AllByRecursion (ProcessIsWithin MAX_LEVELS MAX_LEVELS) ps) k.processes
+          (all_mapped sorted_process (ProcessIsWithin MAX_LEVELS MAX_LEVELS) (ProcessIsWithin MAX_LEVELS MAX_LEVELS) sorted_within
+          s.tree.processes was.processes);
     })
 
 pub spelled_kept : BlocksAreTheTree → LimitsAreInRange → (text : List ℕ) (d : Document) (s : SpellsDocument text d)

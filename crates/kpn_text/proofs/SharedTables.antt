@@ -5,6 +5,7 @@ use Rattle.std.specs.Str.{bytes_eq}
 use Rattle.std.specs.Prelude.{slice_index_or}
 use Rattle.std.proofs.lemmas.List.{length-map}
 use Rattle.std.proofs.lemmas.List.Quantifiers.{position-Some}
+use Rattle.kpn_text_tokens.specs.declared.tokens.Language.{Language}
 use Rattle.kpn_text_grammar.specs.Syntax.{literal_value, Table, ProcessNode}
 use Rattle.kpn_text_grammar.specs.Spelling.{TableIsWithin}
 use Rattle.kpn_text_tokens.specs.Results.{and_then}
@@ -113,19 +114,19 @@ middle_same : {A B C E : Type 0} (r : Result A E) (f g : A → Result B E) (k : 
 middle_same r f g k same =
     same_after r (λ x. and_then (f x) (k x)) (λ x. and_then (g x) (k x)) (λ x. ap (λ q. and_then q (k x)) (same x))
 
-program_same : (shared : SharedTables) (p : ProcessNode) → named_program shared (sorted_process p) ≡ named_program shared p
-program_same shared p =
+program_same : (l : Language) (shared : SharedTables) (p : ProcessNode) → named_program l shared (sorted_process p) ≡ named_program l shared p
+program_same l shared p =
     middle_same (head_scope shared.names p) (λ h. each (declare shared.names) h (sorted p.declarations))
     (λ h. each (declare shared.names) h p.declarations) _ (λ h. sorted_same shared.names h p.declarations)
 
-process_same : (shared : SharedTables) (s : Programs) (p : ProcessNode)
-    → with_named_process shared s (sorted_process p) ≡ with_named_process shared s p
-process_same shared s p =
+process_same : (l : Language) (shared : SharedTables) (s : Programs) (p : ProcessNode)
+    → with_named_process l shared s (sorted_process p) ≡ with_named_process l shared s p
+process_same l shared s p =
     ap (λ r. and_then (declared s.names p.name)
     (λ names. and_then r (λ made. Ok (record { names = names; programs = s.programs ++ made ∷ [] }))))
-    (program_same shared p)
+    (program_same l shared p)
 
-pub processes_again : (shared : SharedTables) (ps : List ProcessNode)
-    → programs_of shared (map sorted_process ps) ≡ programs_of shared ps
-processes_again shared ps =
-    each_same (with_named_process shared) sorted_process (process_same shared) (record { names = []; programs = [] }) ps
+pub processes_again : (l : Language) (shared : SharedTables) (ps : List ProcessNode)
+    → programs_of l shared (map sorted_process ps) ≡ programs_of l shared ps
+processes_again l shared ps =
+    each_same (with_named_process l shared) sorted_process (process_same l shared) (record { names = []; programs = [] }) ps

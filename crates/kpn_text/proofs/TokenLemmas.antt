@@ -5,6 +5,7 @@ use Rattle.std.specs.Fmt.{decimal}
 use Rattle.std.proofs.lemmas.Bool.{or_parts}
 use Rattle.kpn_text_tokens.specs.declared.tokens.Keyword.{Keyword}
 use Rattle.kpn_text_tokens.specs.declared.tokens.Language.{Language}
+use Rattle.kpn_text_tokens.specs.declared.tokens.Language.TheVariants as language
 use Rattle.kpn_text_tokens.specs.declared.tokens.Mark.{Mark}
 use Rattle.kpn_text_tokens.specs.declared.tokens.Token.{Token}
 use Rattle.kpn_text_tokens.specs.declared.tokens.Token.TheVariants as token
@@ -39,7 +40,8 @@ keyword_ends l k (b ∷ bs) h = h
 
 number_ends : (l : Language) (n : ℕ) (more : List ℕ) → EndsWord more → EndsBefore l (token.Number n) more
 number_ends l n [] h = tt
-number_ends l n (b ∷ bs) h = (or_parts (begins_name b) (is_ascii_digit b) h).1
+number_ends language.One n (b ∷ bs) h = (or_parts (begins_name b) (is_ascii_digit b) h).1
+number_ends language.Two n (b ∷ bs) h = h
 
 pub name_read : {l : Language} (x more : List ℕ) (tokens : List Token) → IsName l x → EndsWord more
     → IsReadAs l more tokens → IsReadAs l (x ++ more) (token.Name x ∷ tokens)

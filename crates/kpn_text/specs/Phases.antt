@@ -67,7 +67,7 @@ unfoldable pub document_in : Language → List ℕ → Result Document Cause
 document_in l text = do
   tokens ← phase in_tokens (lexemes_of l text)
   tree ← phase in_grammar (description_of l (length text) tokens)
-  named ← phase in_names (resolve tree)
+  named ← phase in_names (resolve l tree)
   unless (tables_cause named.tables) (document_named l named)
 
 -- the same in the language that the text is of

@@ -21,7 +21,7 @@ pub record SpellsDocument (text : List ℕ) (d : Document) : Type 0 where
   pub tree : Description
   pub spelled : IsDescription d.language tokens tree
   pub named : Named
-  pub resolved : resolve tree ≡ Ok named
+  pub resolved : resolve d.language tree ≡ Ok named
   pub is : document_named d.language named ≡ d
   pub keeps : IsNetwork d.tables
 

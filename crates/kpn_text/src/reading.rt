@@ -23,7 +23,7 @@ fn read_text(alloc: Global, text: &[u8]) -> Result<Document, TextFault>
     let language = language_of(text);
     let tokens = lexemes(alloc, language, text)?;
     let tree = description(alloc, language, tokens.as_slice(), text.len())?;
-    let named = resolve(alloc, &tree)?;
+    let named = resolve(alloc, language, &tree)?;
     let names = names_of(alloc, &named)?;
     let network = network(alloc, named)?;
     network.known();

@@ -22,12 +22,12 @@ no_else l (statement (choice e a b) ss) more ends = refl
 no_else l (statement (loop e b) ss) more ends = refl
 
 only_one : {l : Language} {s : StatementNode} {tokens more : List Token}
-    → SpellsStatements l (statement s no_statements) tokens more → SpellsStatement l s tokens more
+    → SpellsStatements MAX_LEVELS l (statement s no_statements) tokens more → SpellsStatement MAX_LEVELS l s tokens more
 only_one (one_more h nothing) = h
 
 canonical_else : (l : Language) (b : Statements) (more : List Token) → begins_else more ≡ false
-    → ((after : List Token) → begins_else after ≡ false → SpellsStatements l b (spell_statements l b after) after)
-    → SpellsElse l b (spell_else l b (spell_statements l b) more) more
+    → ((after : List Token) → begins_else after ≡ false → SpellsStatements MAX_LEVELS l b (spell_statements l b after) after)
+    → SpellsElse MAX_LEVELS l b (spell_else l b (spell_statements l b) more) more
 canonical_else language.Two no_statements more ends inside = left_out refl ends
 canonical_else language.Two (statement (choice e a b) no_statements) more ends inside =
     behind_else (as_branch refl (only_one (inside more ends)))
@@ -35,7 +35,7 @@ canonical_else l b more ends inside = behind_else (with_braces (inside (token.Ma
 
 mutual
   canonical_statement : (l : Language) (s : StatementNode) (more : List Token) → deepest_term s ≤ MAX_LEVELS
-      → begins_else more ≡ false → SpellsStatement l s (spell_statement l s more) more
+      → begins_else more ≡ false → SpellsStatement MAX_LEVELS l s (spell_statement l s more) more
   canonical_statement l (assign x e) more level ends =
       as_assignment {x = x} {e = e} {more = more} (canonical_expression l e (token.Mark mark_.Semicolon ∷ more) level)
   canonical_statement l (store x i e) more level ends =
@@ -61,22 +61,22 @@ mutual
 
   pub canonical_statements : (l : Language) (ss : Statements) (more : List Token)
       → deepest_term_of_all ss ≤ MAX_LEVELS → begins_else more ≡ false
-      → SpellsStatements l ss (spell_statements l ss more) more
+      → SpellsStatements MAX_LEVELS l ss (spell_statements l ss more) more
   canonical_statements l no_statements more level ends = nothing
   canonical_statements l (statement s ss) more level ends =
       one_more (canonical_statement l s (spell_statements l ss more) (omega (arith, level)) (no_else l ss more ends))
       (canonical_statements l ss more (omega (arith, level)) ends)
 
-canonical_process : (l : Language) (p : ProcessNode) (more : List Token) → ProcessIsWithin p
-    → SpellsProcess l p (spell_process l p more) more
+canonical_process : (l : Language) (p : ProcessNode) (more : List Token) → ProcessIsWithin MAX_LEVELS MAX_LEVELS p
+    → SpellsProcess MAX_LEVELS l p (spell_process l p more) more
 canonical_process l p more within = record {
   inside = spell_statements l p.body (token.Mark mark_.RightBrace ∷ more);
   head = refl;
   body = canonical_statements l p.body (token.Mark mark_.RightBrace ∷ more) within.body.terms refl;
 }
 
-canonical_processes : (l : Language) (ps : List ProcessNode) (more : List Token) → AllByRecursion ProcessIsWithin ps
-    → SpellsAll (SpellsProcess l) ps (spell_all (spell_process l) ps more) more
+canonical_processes : (l : Language) (ps : List ProcessNode) (more : List Token) → AllByRecursion (ProcessIsWithin MAX_LEVELS MAX_LEVELS) ps
+    → SpellsAll (SpellsProcess MAX_LEVELS l) ps (spell_all (spell_process l) ps more) more
 canonical_processes l [] more within = refl
 canonical_processes l (p ∷ ps) more within = (
   spell_all (spell_process l) ps more,
@@ -84,7 +84,7 @@ canonical_processes l (p ∷ ps) more within = (
   canonical_processes l ps more within.1,
 )
 
-pub canonical_description : (l : Language) (d : Description) → IsWithinLimits d
+pub canonical_description : (l : Language) (d : Description) → IsWithinLimits MAX_LEVELS d
     → IsDescription l (spell_description l d) d
 canonical_description l d within = record {
   spelled =

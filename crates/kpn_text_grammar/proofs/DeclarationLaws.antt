@@ -11,8 +11,8 @@ use Rattle.kpn_text_grammar.specs.Syntax.{Table, Declaration, array, table}
 use Rattle.kpn_text_grammar.specs.Spelling.{spell_all, spell_list, spell_literal, spell_table, spell_declaration, TableIsWithin, DeclarationIsWithin}
 use Rattle.kpn_text_grammar.specs.TokenTests.{is_keyword}
 use Rattle.kpn_text_grammar.specs.Reading.{all_of, token_size, read_as, array_behind, table_behind, declaration_behind, declaration, declares, shared_table}
-use Rattle.kpn_text_grammar.proofs.Steps.{this_mark, this_keyword}
-use Rattle.kpn_text_grammar.proofs.Readers.{Reader, spell_number, Anything, Unless, done, behind, value, bind, reads, a_name, a_token, Arm, arm, no_arm, Begun, by_token, token_longer, Exactly, exactly, begins, Elements, each_of}
+use Rattle.kpn_text_grammar.proofs.Lookahead.{lower, Anything}
+use Rattle.kpn_text_grammar.proofs.Readers.{this_mark, this_keyword, Reads, HasRoom, spell_number, Unless, done, behind, value, bind, reads, a_name, a_token, Arms, arm, no_arm, Begun, by_token, token_longer, Exactly, exactly, begins, Elements, each_of}
 use Rattle.kpn_text_grammar.proofs.ValueLaws.{values_reads}
 
 -- ---- the size of an array
@@ -40,8 +40,8 @@ sized (suc n) some =
     let differs : (suc n == 0) ≡ false = ne_eqb (suc n) 0 (λ e. absurd (omega (arith, e))) in
     rw differs refl
 
-size_reads : (s : Scope) → Reader s.end spell_number (λ n. 0 < n) Anything (read_as token_size s)
-size_reads s = a_token s token_size token.Number token_size_is sized
+size_reads : (s : Scope) → Reads s spell_number (λ n. 0 < n) Anything (read_as token_size)
+size_reads s = a_token s token_size token.Number token_size_is sized 1 (omega arith)
 
 -- ---- tables
 
@@ -50,7 +50,7 @@ abbrev spell_behind_table : Table → List Token → List Token
 spell_behind_table t more =
     token.Name t.name ∷ token.Mark mark_.Assign ∷ spell_list spell_literal t.values (token.Mark mark_.Semicolon ∷ more)
 
-table_reads : (s : Scope) → Reader s.end spell_behind_table TableIsWithin Anything (table_behind s)
+table_reads : (s : Scope) → Reads s spell_behind_table TableIsWithin Anything table_behind
 unfolding table_behind
 table_reads s =
     reads (value (a_name s) (λ x. behind (this_mark s mark_.Assign) (bind (values_reads s)
@@ -60,23 +60,25 @@ table_reads s =
 
 -- the tables in front of the processes
 pub shared_ones : (s : Scope)
-    → Elements s.end (is_keyword keyword_.Table) (λ t. t) spell_table (λ t more. TableIsWithin t) (λ i. shared_table s)
+    → Elements s.end (HasRoom s) (is_keyword keyword_.Table) (λ t. t) spell_table (λ t more. TableIsWithin t) Anything
+    (λ i. shared_table (lower s)) (λ i. shared_table s)
 unfolding shared_table
 shared_ones s = record {
   laws = λ i. behind (this_keyword s keyword_.Table) (table_reads s);
   starts = λ t more within. refl;
   longer = λ t more within. omega (arith, (table_reads s).laws.no_gap t more within);
+  next = λ t more within. tt;
+  last = λ more ends. tt;
 }
 
-pub shared_reads : (s : Scope) → Reader s.end (spell_all spell_table) (AllByRecursion TableIsWithin)
-    (Unless (is_keyword keyword_.Table)) (all_of (is_keyword keyword_.Table) (shared_table s))
+pub shared_reads : (s : Scope) → Reads s (spell_all spell_table) (AllByRecursion TableIsWithin)
+    (Unless (is_keyword keyword_.Table)) (λ s. all_of (is_keyword keyword_.Table) (shared_table s))
 unfolding all_of
 shared_reads s = each_of (shared_ones s) 0
 
 -- ---- the arrays and tables of a process
 
-declaration_arms : (s : Scope) (t : Token)
-    → Arm s.end (Exactly spell_declaration DeclarationIsWithin) Anything t (declaration_behind s t)
+declaration_arms : (s : Scope) → Arms s (Exactly spell_declaration DeclarationIsWithin) Anything declaration_behind
 unfolding declaration_behind array_behind
 declaration_arms s (token.Keyword keyword_.Array) =
     arm (λ start. value (a_name s) (λ x. behind (this_mark s mark_.LeftBracket) (value (size_reads s)
@@ -88,30 +90,33 @@ declaration_arms s _ = no_arm
 
 declaration_parts : (s : Scope) (d : Declaration) (tokens more : List Token)
     → Exactly spell_declaration DeclarationIsWithin d tokens more
-    → Begun (declaration_behind s) (declaration_arms s) d tokens more
+    → Begun (declaration_arms s) d tokens more
 unfolding declaration_arms
 declaration_parts s (array x n) tokens more is =
     ((token.Keyword keyword_.Array, (x, (n, tt))), refl, (tt, (is.0, tt)), sym is.1)
 declaration_parts s (table t) tokens more is = ((token.Keyword keyword_.Table, (t, tt)), refl, (is.0, tt), sym is.1)
 
-declaration_reads : (s : Scope) → Reader s.end spell_declaration DeclarationIsWithin Anything (declaration s)
-unfolding declaration
-declaration_reads s = exactly (by_token s (declaration_behind s) (declaration_arms s) (declaration_parts s))
+declaration_reads : (s : Scope) → Reads s spell_declaration DeclarationIsWithin Anything declaration
+unfolding declaration declaration_arms
+declaration_reads s = exactly (by_token s (declaration_arms s) (token.Keyword keyword_.Table) tt (declaration_parts s))
 
 declaration_starts : (d : Declaration) (more : List Token) → begins declares (spell_declaration d more) ≡ true
 declaration_starts (array x n) more = refl
 declaration_starts (table t) more = refl
 
 pub declaration_ones : (s : Scope)
-    → Elements s.end declares (λ d. d) spell_declaration (λ d more. DeclarationIsWithin d) (λ i. declaration s)
+    → Elements s.end (HasRoom s) declares (λ d. d) spell_declaration (λ d more. DeclarationIsWithin d) Anything
+    (λ i. declaration (lower s)) (λ i. declaration s)
 declaration_ones s = record {
   laws = λ i. declaration_reads s;
   starts = λ d more within. declaration_starts d more;
   longer = λ d more within.
-      token_longer (declaration_behind s) (declaration_arms s) (declaration_parts s) d _ more (within, refl);
+      token_longer (declaration_arms s) (declaration_parts s) d _ more (within, refl);
+  next = λ d more within. tt;
+  last = λ more ends. tt;
 }
 
-pub declarations_reads : (s : Scope) → Reader s.end (spell_all spell_declaration) (AllByRecursion DeclarationIsWithin)
-    (Unless declares) (all_of declares (declaration s))
+pub declarations_reads : (s : Scope) → Reads s (spell_all spell_declaration) (AllByRecursion DeclarationIsWithin)
+    (Unless declares) (λ s. all_of declares (declaration s))
 unfolding all_of
 declarations_reads s = each_of (declaration_ones s) 0

@@ -10,19 +10,19 @@ use Rattle.kpn_text_grammar.specs.Spelling.{spell_names, spell_later_part, spell
 use Rattle.kpn_text_grammar.specs.TokenTests.{is_mark, is_name}
 use Rattle.kpn_text_grammar.specs.Reading.{next, name, separated, optional_names, HeadParts, after_outs, outs_or_pars, after_ins, parts_behind, parts}
 use Rattle.kpn_text_tokens.specs.Results.{and_then}
-use Rattle.kpn_text_grammar.proofs.Steps.{this_mark, this_keyword}
-use Rattle.kpn_text_grammar.proofs.Readers.{Row, Reader, Free, Unless, done, behind, bind, As, recast, reads, choice, optional, mapped, maybe_some, a_name, Arm, arm, no_arm, rearm, Begun, by_token, Exactly, exactly, begins, either, spell_either, Either, Some_of, some_of, is_comma, with_commas}
+use Rattle.kpn_text_grammar.proofs.Lookahead.{lower}
+use Rattle.kpn_text_grammar.proofs.Readers.{this_mark, this_keyword, Row, Reads, HasRoom, Free, Unless, as_seen, done, behind, bind, As, recast, reads, choice, optional, mapped, maybe_some, a_name, Arms, arm, no_arm, rearm, Begun, by_token, Exactly, exactly, begins, either, spell_either, Either, Some_of, some_of, is_comma, with_commas}
 
 -- ---- names
 
-names_reads : (s : Scope) → Reader s.end spell_names Some_of (Unless is_comma) (separated s (name s))
+names_reads : (s : Scope) → Reads s spell_names Some_of (Unless is_comma) (λ s. separated s (name s))
 names_reads s = some_of (with_commas s (a_name s))
 
 -- no name and no comma follows
 abbrev pub NoNames : List Token → Type 0
 NoNames more = Unless is_name more × Unless is_comma more
 
-pub optional_names_reads : (s : Scope) → Reader s.end spell_names Free NoNames (optional_names s)
+pub optional_names_reads : (s : Scope) → Reads s spell_names Free NoNames optional_names
 unfolding optional_names
 optional_names_reads s =
     maybe_some is_name spell_names (names_reads s) (λ more may. (may.1, may.0)) (λ x xs more. refl) (λ more. refl)
@@ -47,7 +47,8 @@ closes_not goes more may h = ap (begins goes) may.1 ∙ h
 
 -- behind the out ports, which are known: the parameters
 after_outs_row : (s : Scope) (ins outs : List NameBytes)
-    → Row s.end (of_parts ins outs) (spell_later_part keyword_.Par) (λ pars more. Unit {0}) Closes (after_outs s ins outs)
+    → Row s.end (HasRoom s) (of_parts ins outs) (spell_later_part keyword_.Par) (λ pars more. Unit {0}) Closes
+    (after_outs (lower s) ins outs) (after_outs s ins outs)
 unfolding after_outs
 after_outs_row s ins outs =
     maybe_some semicolon (spell_later_part keyword_.Par) (behind (this_mark s mark_.Semicolon)
@@ -83,8 +84,7 @@ spell_pars : (pars : List NameBytes) (more : List Token) → Some_of pars
 spell_pars [] more some = absurd (omega (arith, some))
 spell_pars (x ∷ xs) more some = refl
 
-outs_arms : (s : Scope) (ins : List NameBytes) (t : Token)
-    → Arm s.end (Exactly spell_behind (Behind ins)) Closes t (outs_or_pars s ins t)
+outs_arms : (s : Scope) (ins : List NameBytes) → Arms s (Exactly spell_behind (Behind ins)) Closes (λ s. outs_or_pars s ins)
 unfolding outs_or_pars
 outs_arms s ins (token.Keyword keyword_.Out) =
     arm (λ start. bind (names_reads s) (after_outs_row s ins) (λ outs pars more within may. pars_end pars more may))
@@ -96,7 +96,7 @@ outs_arms s ins (token.Keyword keyword_.Par) =
 outs_arms s ins _ = no_arm
 
 outs_begin : (s : Scope) (ins outs pars : List NameBytes) (tokens more : List Token) → 0 < length outs + length pars
-    → tokens ≡ spell_parts [] outs pars more → Begun (outs_or_pars s ins) (outs_arms s ins) (of_parts ins outs pars) tokens more
+    → tokens ≡ spell_parts [] outs pars more → Begun (outs_arms s ins) (of_parts ins outs pars) tokens more
 unfolding outs_arms
 outs_begin s ins [] [] tokens more some h = absurd (omega (arith, some))
 outs_begin s ins [] (x ∷ xs) tokens more some h = ((token.Keyword keyword_.Par, x ∷ xs), refl, omega arith, sym h)
@@ -106,11 +106,12 @@ outs_begin s ins (x ∷ xs) pars tokens more some h =
 with_ins : (p : HeadParts) (ins : List NameBytes) → p.ins ≡ ins → of_parts ins p.outs p.pars ≡ p
 with_ins p ins h = ap (λ xs. of_parts xs p.outs p.pars) (sym h)
 
-outs_reads : (s : Scope) (ins : List NameBytes) → Reader s.end spell_behind (Behind ins) Closes
-    (λ ls. and_then (next s ls) (λ l. outs_or_pars s ins l.0.token l.0.start l.1))
+outs_reads : (s : Scope) (ins : List NameBytes) → Reads s spell_behind (Behind ins) Closes
+    (λ s ls. and_then (next s ls) (λ l. outs_or_pars s ins l.0.token l.0.start l.1))
+unfolding outs_arms
 outs_reads s ins =
-    exactly (by_token s (outs_or_pars s ins) (outs_arms s ins)
-    (λ p tokens more is. subst (λ q. Begun (outs_or_pars s ins) (outs_arms s ins) q tokens more)
+    exactly (by_token s (outs_arms s ins) (token.Keyword keyword_.Par) tt
+    (λ p tokens more is. subst (λ q. Begun (outs_arms s ins) q tokens more)
     (with_ins p ins is.0.same) (outs_begin s ins p.outs p.pars tokens more is.0.some is.1)))
 
 -- the same behind its semicolon, or nothing
@@ -124,8 +125,8 @@ later_outs [] (x ∷ xs) more some = refl
 later_outs (x ∷ xs) pars more some = refl
 
 after_ins_row : (s : Scope) (ins : List NameBytes)
-    → Row {Z = List NameBytes × List NameBytes} s.end (λ z. of_parts ins z.0 z.1) spell_after_ins (λ z more. Unit {0}) Closes
-    (after_ins s ins)
+    → Row {Z = List NameBytes × List NameBytes} s.end (HasRoom s) (λ z. of_parts ins z.0 z.1) spell_after_ins
+    (λ z more. Unit {0}) Closes (after_ins (lower s) ins) (after_ins s ins)
 unfolding after_ins
 after_ins_row s ins =
     recast (optional semicolon (of_parts ins [] []) (behind (this_mark s mark_.Semicolon) (outs_reads s ins))
@@ -160,7 +161,7 @@ spell_ins : (ins outs pars : List NameBytes) (more : List Token) → Some_of ins
 spell_ins [] outs pars more some = absurd (omega (arith, some))
 spell_ins (x ∷ xs) outs pars more some = refl
 
-parts_arms : (s : Scope) (t : Token) → Arm s.end (Exactly spell_head_parts IsSome) Closes t (parts_behind s t)
+parts_arms : (s : Scope) → Arms s (Exactly spell_head_parts IsSome) Closes parts_behind
 unfolding parts_behind
 parts_arms s (token.Keyword keyword_.In) =
     arm (λ start. bind (names_reads s) (after_ins_row s) (λ x z more within may. outs_end z.0 z.1 more may))
@@ -171,7 +172,7 @@ parts_arms s t =
 
 parts_begin : (s : Scope) (ins outs pars : List NameBytes) (tokens more : List Token)
     → 0 < length ins + (length outs + length pars) → tokens ≡ spell_parts ins outs pars more
-    → Begun (parts_behind s) (parts_arms s) (of_parts ins outs pars) tokens more
+    → Begun (parts_arms s) (of_parts ins outs pars) tokens more
 unfolding parts_arms outs_arms
 parts_begin s [] [] [] tokens more some h = absurd (omega (arith, some))
 parts_begin s [] [] (x ∷ xs) tokens more some h = ((token.Keyword keyword_.Par, x ∷ xs), refl, omega arith, sym h)
@@ -188,14 +189,14 @@ parts_open [] (x ∷ xs) pars more some = refl
 parts_open (x ∷ xs) outs pars more some = refl
 
 -- ports and parameters up to the closing parenthesis
-pub parts_reads : (s : Scope) → Reader s.end spell_head_parts Free Closes (parts s)
-unfolding parts
+pub parts_reads : (s : Scope) → Reads s spell_head_parts Free Closes parts
+unfolding parts parts_arms outs_arms
 parts_reads s =
-    reads (choice (is_mark mark_.RightParen) (done {May = Closes} (of_parts [] [] []))
-    (exactly (by_token s (parts_behind s) (parts_arms s)
+    reads (choice (is_mark mark_.RightParen) (as_seen (done {May = Closes} (of_parts [] [] [])))
+    (exactly (by_token s (parts_arms s) (token.Keyword keyword_.Par) tt
     (λ p tokens more is. parts_begin s p.ins p.outs p.pars tokens more is.0 is.1)))
-    (λ u more within may. (may, ap (begins (is_mark mark_.RightParen)) may.1))
-    (λ p more some may. (may, parts_open p.ins p.outs p.pars more some))) back (λ p more free. parts_of p.ins p.outs p.pars more) where
+    (λ u more within may. ap (begins (is_mark mark_.RightParen)) may.1)
+    (λ p more some may. parts_open p.ins p.outs p.pars more some)) back (λ p more free. parts_of p.ins p.outs p.pars more) where
       back : (z : Unit {0} ⊎ HeadParts) (more : List Token) → Either (λ u more. Unit {0}) (λ p more. IsSome p) z more
           → Unit {0} × (spell_either (λ u more. more) spell_head_parts z more
           ≡ spell_head_parts (either (λ (u : Unit {0}). of_parts [] [] []) (λ p. p) z) more)

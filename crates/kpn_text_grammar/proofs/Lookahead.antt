@@ -1,13 +1,19 @@
--- How far a reader looks: at the tokens that it takes and one behind them, or at those up to the one that it refuses.
-use Rattle.std.proofs.Common.{◌≡◌, ◌⊎◌, inl, inr, ℕ, zero, suc, ◌+◌, ◌<◌, ◌≤◌, Bool, true, false, cond, List, [], ◌∷◌, ◌++◌, length, Option, Some, None, Result, Ok, Err, refl, sym, ap, subst, ◌∙◌, append_assoc, arith}
+-- How far a reader looks, and what leads on from where it refuses. It is compared with a deeper one, which has a level
+-- more: what it returned that one returns too, in front of all tokens that may follow; where it refuses a token, that
+-- one does too, and reads on from there with some other tokens.
+use Rattle.std.proofs.Common.{◌≡◌, ◌⊎◌, inl, inr, ℕ, zero, suc, ◌+◌, ◌-◌, ◌<◌, ◌≤◌, Bool, true, false, cond, List, [], ◌∷◌, ◌++◌, length, Option, Some, None, Ok, Err, refl, sym, ap, subst, ◌∙◌, append_assoc, arith}
 use Rattle.kpn_text_tokens.specs.declared.tokens.Lexeme.{Lexeme}
 use Rattle.kpn_text_tokens.specs.declared.tokens.Token.{Token}
-use Rattle.kpn_text_grammar.specs.declared.fault.GrammarFault.{GrammarFault}
 use Rattle.kpn_text_grammar.specs.declared.fault.GrammarFault.TheVariants as fault
 use Rattle.kpn_text_grammar.specs.declared.parser.Scope.{Scope}
 use Rattle.kpn_text_tokens.specs.Results.{and_then}
 use Rattle.kpn_text_grammar.specs.Laws.{fault_place}
+use Rattle.kpn_text_grammar.specs.Spelling.{kinds}
 use Rattle.kpn_text_grammar.specs.Reading.{Read, first_is, next, many}
+
+-- the same with a level less
+abbrev pub lower : Scope → Scope
+lower s = record { end = s.end; process = s.process; language = s.language; levels = s.levels - 1 }
 
 -- the token at the front, if there is one
 abbrev pub ahead : List Lexeme → Option Lexeme
@@ -18,138 +24,209 @@ ahead_behind : (before other rest : List Lexeme) → ahead other ≡ ahead rest 
 ahead_behind [] other rest h = h
 ahead_behind (l ∷ ls) other rest h = refl
 
--- Some tokens are in front of the rest. In front of others that begin like the rest, a call answers so.
-pub record Alike {B : Type 0} (call : List Lexeme → Result B GrammarFault) (ls rest : List Lexeme)
-    (answer : List Lexeme → Result B GrammarFault) : Type 0 where
+-- anything may follow
+abbrev pub Anything : List Token → Type 0
+Anything more = Unit {0}
+
+-- tokens that a reader reads in front of all that may follow
+pub record Fills {Y : Type 0} (May : List Token → Type 0) (call : List Lexeme → Read Y) : Type 0 where
+  pub fill : List Lexeme
+  pub value : Y
+  pub reads : (other : List Lexeme) → May (kinds other) → call (fill ++ other) ≡ Ok (value, other)
+
+-- the tokens begin as the rest does, or may follow
+abbrev pub Near : (List Token → Type 0) → (rest other : List Lexeme) → Type 0
+Near May rest other = (ahead other ≡ ahead rest) ⊎ May (kinds other)
+
+-- what was read in front of the rest is read in front of others too
+pub record Keeps {Y : Type 0} (May : List Token → Type 0) (call : List Lexeme → Read Y) (ls : List Lexeme) (y : Y)
+    (rest : List Lexeme) : Type 0 where
   pub before : List Lexeme
   pub whole : ls ≡ before ++ rest
-  pub again : (other : List Lexeme) → ahead other ≡ ahead rest → call (before ++ other) ≡ answer other
+  pub again : (other : List Lexeme) → Near May rest other → call (before ++ other) ≡ Ok (y, other)
 
--- a call refuses what stands in front of the rest
-pub record Refuses {B : Type 0} (end : ℕ) (call : List Lexeme → Result B GrammarFault) (ls : List Lexeme) (at : ℕ) : Type 0 where
+-- The call refuses what stands in front of the rest, and all that begins like it. The tokens before it lead on.
+pub record Refuses {Y : Type 0} (end : ℕ) (May : List Token → Type 0) (call : List Lexeme → Read Y) (ls : List Lexeme)
+    (at : ℕ) : Type 0 where
+  pub before : List Lexeme
   pub rest : List Lexeme
+  pub whole : ls ≡ before ++ rest
   pub place : at ≡ fault_place end rest
-  pub alike : Alike call ls rest (λ other. Err (fault.Grammar at))
+  pub again : (other : List Lexeme) → ahead other ≡ ahead rest → call (before ++ other) ≡ Err (fault.Grammar at)
+  pub leads : Fills May (λ ts. call (before ++ ts))
 
--- what a call keeps to that returned this
-pub data Look {B : Type 0} (Kept : B → Type 0) (end : ℕ) (call : List Lexeme → Result B GrammarFault) (ls : List Lexeme)
-    : Result B GrammarFault → Type 0 where
-  returns : {x : B} → Kept x → Look Kept end call ls (Ok x)
-  refuses : {at : ℕ} → Refuses end call ls at → Look Kept end call ls (Err (fault.Grammar at))
-  forgets : Look Kept end call ls (Err fault.NoMemory)
-  nests : {p : ℕ} → Look Kept end call ls (Err (fault.TooDeep p))
+-- what the deeper call keeps to, by what was returned
+pub data Look {Y : Type 0} (end : ℕ) (May : List Token → Type 0) (call : List Lexeme → Read Y) (ls : List Lexeme)
+    : Read Y → Type 0 where
+  returns : {y : Y} {rest : List Lexeme} → Keeps May call ls y rest → Look end May call ls (Ok (y, rest))
+  refuses : {at : ℕ} → Refuses end May call ls at → Look end May call ls (Err (fault.Grammar at))
+  forgets : Look end May call ls (Err fault.NoMemory)
+  nests : {p : ℕ} → Look end May call ls (Err (fault.TooDeep p))
 
-pub record Looks {B : Type 0} (Kept : List Lexeme → B → Type 0) (end : ℕ) (call : List Lexeme → Result B GrammarFault)
-    : Type 0 where
-  pub at : (ls : List Lexeme) → Look (Kept ls) end call ls (call ls)
+pub record Looks {Y : Type 0} (end : ℕ) (May : List Token → Type 0) (one deeper : List Lexeme → Read Y) : Type 0 where
+  pub at : (ls : List Lexeme) → Look end May deeper ls (one ls)
 
--- a reader returns the same where other tokens follow that begin alike
-abbrev pub Kept : {Y : Type 0} → (List Lexeme → Read Y) → List Lexeme → Y × List Lexeme → Type 0
-Kept one ls y = Alike one ls y.1 (λ other. Ok (y.0, other))
+-- ---- the same where another call does as this one does
 
-abbrev pub Local : {Y : Type 0} → ℕ → (List Lexeme → Read Y) → Type 0
-Local end one = Looks (Kept one) end one
-
--- so does a step
-abbrev pub Step : ℕ → (List Lexeme → Result (List Lexeme) GrammarFault) → Type 0
-Step end step = Looks (λ ls rest. Alike step ls rest (λ other. Ok other)) end step
-
--- what returns no tokens keeps to nothing
-abbrev pub Ends : {B : Type 0} → ℕ → (List Lexeme → Result B GrammarFault) → Type 0
-Ends end call = Looks (λ ls x. Unit {0}) end call
-
--- the same for another call, of other tokens, that does as the first one does
-over : {B : Type 0} {end : ℕ} {call other : List Lexeme → Result B GrammarFault} {ls ts : List Lexeme} {Here There : B → Type 0}
-    → ((rest : List Lexeme) (answer : List Lexeme → Result B GrammarFault) → Alike call ls rest answer
-    → Alike other ts rest answer) → ((y : B) → Here y → There y) → {r : Result B GrammarFault} → Look Here end call ls r
-    → Look There end other ts r
-over alike kept (returns {x = y} h) = returns (kept y h)
-over alike kept (refuses h) =
-    refuses (record { rest = h.rest; place = h.place; alike = alike h.rest (λ o. Err (fault.Grammar _)) h.alike })
-over alike kept forgets = forgets
-over alike kept nests = nests
-
--- ---- one call behind another
-
-module _ {A B : Type 0} (first : List Lexeme → Result A GrammarFault) (next : A → Result B GrammarFault) {ls : List Lexeme} where
-  then : {mid rest : List Lexeme} (made : List Lexeme → A) {answer : List Lexeme → Result B GrammarFault}
-      → Alike first ls mid (λ other. Ok (made other)) → Alike (λ other. next (made other)) mid rest answer
-      → Alike (λ ts. and_then (first ts) next) ls rest answer
-  unfolding and_then
-  then {mid} {rest} made a b = record {
-    before = a.before ++ b.before;
-    whole = a.whole ∙ ap (λ ts. a.before ++ ts) b.whole ∙ sym (append_assoc a.before b.before rest);
-    again = λ other same.
-        let here : first (a.before ++ (b.before ++ other)) ≡ Ok (made (b.before ++ other)) =
-        a.again (b.before ++ other) (ahead_behind b.before other rest same ∙ ap ahead (sym b.whole)) in
-        rw (append_assoc a.before b.before other, here) (b.again other same);
+module _ {Y : Type 0} {May Then : List Token → Type 0} {call other : List Lexeme → Read Y}
+    (narrow : (more : List Token) → Then more → May more)
+    (read : (ts rest : List Lexeme) (y : Y) → call ts ≡ Ok (y, rest) → Then (kinds rest) → other ts ≡ call ts) where
+  pub fills_as : Fills May call → Fills Then other
+  fills_as f = record {
+    fill = f.fill;
+    value = f.value;
+    reads = λ ts may.
+        let e = f.reads ts (narrow (kinds ts) may) in
+        read (f.fill ++ ts) ts f.value e may ∙ e;
   }
 
-  at_once : {rest : List Lexeme} {e : GrammarFault} → Alike first ls rest (λ other. Err e)
-      → Alike (λ ts. and_then (first ts) next) ls rest (λ other. Err e)
-  unfolding and_then
-  at_once a = record { before = a.before; whole = a.whole; again = λ other same. rw (a.again other same) refl }
+pub looks_as : {Y : Type 0} {end : ℕ} {May Then : List Token → Type 0} {call other : List Lexeme → Read Y} {ls : List Lexeme}
+    → ((more : List Token) → Then more → May more)
+    → ((ts : List Lexeme) → ahead ts ≡ ahead ls → other ts ≡ call ts)
+    → ((ts rest : List Lexeme) (y : Y) → call ts ≡ Ok (y, rest) → Then (kinds rest) → other ts ≡ call ts)
+    → {r : Read Y} → Look end May call ls r → Look end Then other ls r
+looks_as {Y} {Then = Then} {call = call} {other} {ls} narrow near read (returns {y} {rest} k) =
+    returns (record { before = k.before; whole = k.whole; again = again }) where
+      again : (ts : List Lexeme) → Near Then rest ts → other (k.before ++ ts) ≡ Ok (y, ts)
+      again ts (inl same) =
+          near (k.before ++ ts) (ahead_behind k.before ts rest same ∙ sym (ap ahead k.whole)) ∙ k.again ts (inl same)
+      again ts (inr may) =
+          let e = k.again ts (inr (narrow (kinds ts) may)) in
+          read (k.before ++ ts) ts y e may ∙ e
+looks_as {Y} {call = call} {other} {ls} narrow near read (refuses f) = refuses (record {
+  before = f.before;
+  rest = f.rest;
+  whole = f.whole;
+  place = f.place;
+  again = λ ts same.
+      near (f.before ++ ts) (ahead_behind f.before ts f.rest same ∙ sym (ap ahead f.whole)) ∙ f.again ts same;
+  leads = fills_as narrow (λ ts rest y e may. read (f.before ++ ts) rest y e may) f.leads;
+})
+looks_as narrow near read forgets = forgets
+looks_as narrow near read nests = nests
 
-  in_turn : {end : ℕ} {First : A → Type 0} {Both : B → Type 0} (r : Result A GrammarFault) → first ls ≡ r
-      → Look First end first ls r
-      → ((x : A) → first ls ≡ Ok x → First x → Look Both end (λ ts. and_then (first ts) next) ls (next x))
-      → Look Both end (λ ts. and_then (first ts) next) ls (and_then r next)
-  unfolding and_then
-  in_turn r e (returns {x = x} kept) on = on x e kept
-  in_turn r e (refuses h) on = refuses (record { rest = h.rest; place = h.place; alike = at_once h.alike })
-  in_turn r e forgets on = forgets
-  in_turn r e nests on = nests
+pub looks_same : {Y : Type 0} {end : ℕ} {May Then : List Token → Type 0} {one one_too call other : List Lexeme → Read Y}
+    → ((more : List Token) → Then more → May more) → ((ls : List Lexeme) → one_too ls ≡ one ls)
+    → ((ls : List Lexeme) → other ls ≡ call ls) → Looks end May one call → Looks end Then one_too other
+looks_same {end = end} {Then = Then} {other = other} narrow low high looks = record {
+  at = λ ls. subst (Look end Then other ls) (sym (low ls))
+      (looks_as narrow (λ ts h. high ts) (λ ts rest y e may. high ts) (looks.at ls));
+}
 
-  goes_on : {end : ℕ} {mid : List Lexeme} {Next Both : B → Type 0} (made : List Lexeme → A)
-      → Alike first ls mid (λ other. Ok (made other)) → ((y : B) → Next y → Both y) → {r : Result B GrammarFault}
-      → Look Next end (λ other. next (made other)) mid r → Look Both end (λ ts. and_then (first ts) next) ls r
-  goes_on made kept lift look = over (λ rest answer. then made kept) lift look
+-- what was read the deeper one reads too
+pub kept_too : {Y : Type 0} {end : ℕ} {May : List Token → Type 0} {one deeper : List Lexeme → Read Y} → Looks end May one deeper
+    → {ls : List Lexeme} {y : Y} {rest : List Lexeme} → one ls ≡ Ok (y, rest) → deeper ls ≡ Ok (y, rest)
+kept_too {Y} {end} {May} {one} {deeper} looks {ls} {y} {rest} h = kept (subst (Look end May deeper ls) h (looks.at ls)) where
+  kept : Look end May deeper ls (Ok (y, rest)) → deeper ls ≡ Ok (y, rest)
+  kept (returns k) = ap deeper k.whole ∙ k.again rest (inl refl)
 
-pub done_looks : {Y : Type 0} {end : ℕ} (v : Y) → Local end (λ ls. Ok (v, ls))
+-- ---- the end of a chain, and one reader behind another
+
+pub done_looks : {Y : Type 0} {end : ℕ} {May : List Token → Type 0} (v : Y) → Looks end May (λ ls. Ok (v, ls)) (λ ls. Ok (v, ls))
 done_looks v =
-    record { at = λ ls. returns (record { before = []; whole = refl; again = λ other same. refl }) }
+    record { at = λ ls. returns (record { before = []; whole = refl; again = λ other near. refl }) }
 
-pub deep_looks : {Y : Type 0} {end p : ℕ} → Local {Y = Y} end (λ ls. Err (fault.TooDeep p))
-deep_looks = record { at = λ ls. nests }
+pub done_fills : {Y : Type 0} {May : List Token → Type 0} (v : Y) → Fills May (λ ls. Ok (v, ls))
+done_fills v = record { fill = []; value = v; reads = λ other may. refl }
 
--- a reader, and another on what it read
-module _ {X Y : Type 0} (first : List Lexeme → Read X) (one : X → List Lexeme → Read Y) where
-  abbrev pair : List Lexeme → Read Y
-  pair ls = and_then (first ls) (λ x. one x.0 x.1)
+pub deep_looks : {Y : Type 0} {end p : ℕ} {May : List Token → Type 0} (call : List Lexeme → Read Y)
+    → Looks end May (λ ls. Err (fault.TooDeep p)) call
+deep_looks call = record { at = λ ls. nests }
 
-  bind_at : {end : ℕ} (ls : List Lexeme) → Look (Kept first ls) end first ls (first ls)
-      → ((x : X × List Lexeme) → first ls ≡ Ok x → Look (Kept (one x.0) x.1) end (one x.0) x.1 (one x.0 x.1))
-      → Look (Kept pair ls) end pair ls (pair ls)
-  bind_at ls head tail =
-      in_turn first (λ x. one x.0 x.1) (first ls) refl head (λ x e kept.
-      goes_on first (λ x. one x.0 x.1) (λ other. (x.0, other)) kept
-      (λ y more. then first (λ x. one x.0 x.1) (λ other. (x.0, other)) kept more) (tail x e))
+joined : {X Y : Type 0} (r : Read X) (x : X × List Lexeme) (one : X → List Lexeme → Read Y) (y : Read Y) → r ≡ Ok x
+    → one x.0 x.1 ≡ y → and_then r (λ x. one x.0 x.1) ≡ y
+unfolding and_then
+joined r x one y e h = rw e h
 
-pub bind_looks : {X Y : Type 0} {end : ℕ} {first : List Lexeme → Read X} {one : X → List Lexeme → Read Y}
-    → Local end first → ((x : X) → Local end (one x)) → Local end (λ ls. and_then (first ls) (λ x. one x.0 x.1))
-bind_looks {first = first} {one} head tail =
-    record { at = λ ls. bind_at first one ls (head.at ls) (λ x e. (tail x.0).at x.1) }
+-- one reader, and another by what the first one read
+abbrev pub both : {X Y : Type 0} → (List Lexeme → Read X) → (X → List Lexeme → Read Y) → List Lexeme → Read Y
+both first one ls = and_then (first ls) (λ x. one x.0 x.1)
 
-pub ends_behind : {X B : Type 0} {end : ℕ} {first : List Lexeme → Read X} {one : X → List Lexeme → Result B GrammarFault}
-    → Local end first → ((x : X) → Ends end (one x)) → Ends end (λ ls. and_then (first ls) (λ x. one x.0 x.1))
-ends_behind {first = first} {one} head tail = record {
-  at = λ ls. in_turn first (λ x. one x.0 x.1) (first ls) refl (head.at ls) (λ x e kept.
-      goes_on first (λ x. one x.0 x.1) (λ other. (x.0, other)) kept (λ y u. tt) ((tail x.0).at x.1));
-}
+-- the second reader reads what may stand behind the first one
+abbrev pub Meets : {X Y : Type 0} → (MayFirst May : List Token → Type 0) → (X → List Lexeme → Read Y) → Type 0
+Meets {X} {Y} MayFirst May one =
+    (x : X) (ts rest : List Lexeme) (y : Y) → one x ts ≡ Ok (y, rest) → May (kinds rest) → MayFirst (kinds ts)
 
--- a step, and a call behind it
-pub step_looks : {Y : Type 0} {end : ℕ} {step : List Lexeme → Result (List Lexeme) GrammarFault}
-    {one : List Lexeme → Read Y} → Step end step → Local end one → Local end (λ ls. and_then (step ls) one)
-step_looks {step = step} {one} head tail = record {
-  at = λ ls. in_turn step one (step ls) refl (head.at ls) (λ mid e kept.
-      goes_on step one (λ other. other) kept (λ y more. then step one (λ other. other) kept more) (tail.at mid));
-}
+module _ {X Y : Type 0} {MayFirst May : List Token → Type 0} (first : List Lexeme → Read X) (one : X → List Lexeme → Read Y)
+    (meets : Meets MayFirst May one) where
+  pub bind_fills : (f : Fills MayFirst first) → Fills May (one f.value) → Fills May (λ ls. and_then (first ls) (λ x. one x.0 x.1))
+  bind_fills f n = record {
+    fill = f.fill ++ n.fill;
+    value = n.value;
+    reads = λ other may.
+        let tail = n.reads other may in
+        let head = f.reads (n.fill ++ other) (meets f.value (n.fill ++ other) other n.value tail may) in
+        rw (append_assoc f.fill n.fill other)
+        (joined (first (f.fill ++ (n.fill ++ other))) (f.value, n.fill ++ other) one (Ok (n.value, other)) head tail);
+  }
 
-pub steps_look : {end : ℕ} {first next : List Lexeme → Result (List Lexeme) GrammarFault} → Step end first → Step end next
-    → Step end (λ ls. and_then (first ls) next)
-steps_look {first = first} {next} head tail = record {
-  at = λ ls. in_turn first next (first ls) refl (head.at ls) (λ mid e kept.
-      goes_on first next (λ other. other) kept (λ y more. then first next (λ other. other) kept more) (tail.at mid));
+module _ {X Y : Type 0} {end : ℕ} {MayFirst May : List Token → Type 0} (call : List Lexeme → Read X)
+    (deeper : X → List Lexeme → Read Y) (meets : Meets MayFirst May deeper)
+    (finish : (before : List Lexeme) → Fills MayFirst (λ ts. call (before ++ ts))
+    → Fills May (λ ts. and_then (call (before ++ ts)) (λ x. deeper x.0 x.1))) {ls : List Lexeme} where
+  behind_kept : (x : X) (mid : List Lexeme) → Keeps MayFirst call ls x mid → {r : Read Y}
+      → Look end May (deeper x) mid r → Look end May (both call deeper) ls r
+  behind_kept x mid k (returns {y} {rest} m) = returns (record {
+    before = k.before ++ m.before;
+    whole = k.whole ∙ ap (λ ts. k.before ++ ts) m.whole ∙ sym (append_assoc k.before m.before rest);
+    again = λ other near.
+        let tail = m.again other near in
+        rw (append_assoc k.before m.before other)
+        (joined (call (k.before ++ (m.before ++ other))) (x, m.before ++ other) deeper (Ok (y, other))
+        (k.again (m.before ++ other) (kept other near tail)) tail);
+  }) where
+    kept : (other : List Lexeme) → Near May rest other → deeper x (m.before ++ other) ≡ Ok (y, other)
+        → Near MayFirst mid (m.before ++ other)
+    kept other (inl same) tail = inl (ahead_behind m.before other rest same ∙ ap ahead (sym m.whole))
+    kept other (inr may) tail = inr (meets x (m.before ++ other) other y tail may)
+  behind_kept x mid k (refuses {at} f) = refuses (record {
+    before = k.before ++ f.before;
+    rest = f.rest;
+    whole = k.whole ∙ ap (λ ts. k.before ++ ts) f.whole ∙ sym (append_assoc k.before f.before f.rest);
+    place = f.place;
+    again = λ other same.
+        rw (append_assoc k.before f.before other)
+        (joined (call (k.before ++ (f.before ++ other))) (x, f.before ++ other) deeper (Err (fault.Grammar at))
+        (k.again (f.before ++ other) (inl (ahead_behind f.before other f.rest same ∙ ap ahead (sym f.whole))))
+        (f.again other same));
+    leads = record {
+      fill = f.leads.fill;
+      value = f.leads.value;
+      reads = λ other may.
+          let tail = f.leads.reads other may in
+          let ts = f.before ++ (f.leads.fill ++ other) in
+          rw (append_assoc k.before f.before (f.leads.fill ++ other))
+          (joined (call (k.before ++ ts)) (x, ts) deeper (Ok (f.leads.value, other))
+          (k.again ts (inr (meets x ts other f.leads.value tail may))) tail);
+    };
+  })
+  behind_kept x mid k forgets = forgets
+  behind_kept x mid k nests = nests
+
+  pub in_turn : (one : X → List Lexeme → Read Y) (r : Read X) → Look end MayFirst call ls r
+      → ((x : X) (mid : List Lexeme) → r ≡ Ok (x, mid) → Look end May (deeper x) mid (one x mid))
+      → Look end May (both call deeper) ls (and_then r (λ x. one x.0 x.1))
+  unfolding and_then
+  in_turn one r (returns {y} {rest} k) tail = behind_kept y rest k (tail y rest refl)
+  in_turn one r (refuses {at} f) tail = refuses (record {
+    before = f.before;
+    rest = f.rest;
+    whole = f.whole;
+    place = f.place;
+    again = λ other same. rw (f.again other same) refl;
+    leads = finish f.before f.leads;
+  })
+  in_turn one r forgets tail = forgets
+  in_turn one r nests tail = nests
+
+pub bind_looks : {X Y : Type 0} {end : ℕ} {MayFirst May : List Token → Type 0} {first call : List Lexeme → Read X}
+    {one deeper : X → List Lexeme → Read Y} → Meets MayFirst May deeper
+    → ((before : List Lexeme) → Fills MayFirst (λ ts. call (before ++ ts))
+    → Fills May (λ ts. and_then (call (before ++ ts)) (λ x. deeper x.0 x.1)))
+    → Looks end MayFirst first call → ((x : X) → Looks end May (one x) (deeper x))
+    → Looks end May (λ ls. and_then (first ls) (λ x. one x.0 x.1)) (λ ls. and_then (call ls) (λ x. deeper x.0 x.1))
+bind_looks {first = first} {call} {one} {deeper} meets finish head tail = record {
+  at = λ ls. in_turn call deeper meets finish one (first ls) (head.at ls) (λ x mid e. (tail x).at mid);
 }
 
 -- ---- choices
@@ -166,102 +243,142 @@ first_looks goes (l ∷ ls) (m ∷ ms) h =
     let same : m ≡ l = cc in
     ap (λ (k : Lexeme). goes k.token) same
 
--- a reader that returns the same on all tokens that begin so
-module _ {Y : Type 0} {one other : List Lexeme → Read Y} {ls : List Lexeme}
-    (same : (ts : List Lexeme) → ahead ts ≡ ahead ls → other ts ≡ one ts) where
-  alike_as : {rest : List Lexeme} {answer : List Lexeme → Read Y} → Alike one ls rest answer → Alike other ls rest answer
-  alike_as {rest} a = record {
-    before = a.before;
-    whole = a.whole;
-    again = λ ts h.
-        same (a.before ++ ts) (ahead_behind a.before ts rest h ∙ sym (ap ahead a.whole)) ∙ a.again ts h;
-  }
+-- the test finds the same of all that this call reads
+abbrev pub Finds : {Y : Type 0} → (List Lexeme → Bool) → Bool → (List Token → Type 0) → (List Lexeme → Read Y) → Type 0
+Finds {Y} picks b May call =
+    (ls ts rest : List Lexeme) (y : Y) → picks ls ≡ b → call ts ≡ Ok (y, rest) → May (kinds rest) → picks ts ≡ b
 
-  looks_as : {end : ℕ} {r : Read Y} → Look (Kept one ls) end one ls r → Look (Kept other ls) end other ls r
-  looks_as look = over (λ rest answer. alike_as) (λ y. alike_as) look
-
-module _ {Y : Type 0} {end : ℕ} (picks : List Lexeme → Bool) {one other : List Lexeme → Read Y} (looking : Looking picks)
-    (first : Local end one) (second : Local end other) where
+module _ {Y : Type 0} {end : ℕ} {May : List Token → Type 0} (picks : List Lexeme → Bool)
+    {one call other call_other : List Lexeme → Read Y} (looking : Looking picks) (first : Looks end May one call)
+    (second : Looks end May other call_other) (found : Finds picks true May call)
+    (missed : Finds picks false May call_other) where
   by_pick : (ls : List Lexeme) (b : Bool) → picks ls ≡ b
-      → Look (Kept (λ ts. cond (picks ts) (one ts) (other ts)) ls) end (λ ts. cond (picks ts) (one ts) (other ts)) ls
-      (cond b (one ls) (other ls))
-  by_pick ls true e = looks_as (λ ts h. rw (looking ls ts h ∙ e) refl) (first.at ls)
-  by_pick ls false e = looks_as (λ ts h. rw (looking ls ts h ∙ e) refl) (second.at ls)
+      → Look end May (λ ts. cond (picks ts) (call ts) (call_other ts)) ls (cond b (one ls) (other ls))
+  by_pick ls true e = looks_as (λ more may. may) (λ ts h. rw (looking ls ts h ∙ e) refl)
+      (λ ts rest y read may. rw (found ls ts rest y e read may) refl) (first.at ls)
+  by_pick ls false e = looks_as (λ more may. may) (λ ts h. rw (looking ls ts h ∙ e) refl)
+      (λ ts rest y read may. rw (missed ls ts rest y e read may) refl) (second.at ls)
 
-  pub pick_looks : Local end (λ ls. cond (picks ls) (one ls) (other ls))
+  pub pick_looks : Looks end May (λ ls. cond (picks ls) (one ls) (other ls)) (λ ls. cond (picks ls) (call ls) (call_other ls))
   pick_looks = record { at = λ ls. by_pick ls (picks ls) refl }
 
 -- ---- by the first token
 
 -- what is read behind the first token, or that token is refused
-abbrev pub Starts : {Y : Type 0} → ℕ → ℕ → (List Lexeme → Read Y) → Type 0
-Starts end start from = Local end from ⊎ ((ls : List Lexeme) → from ls ≡ Err (fault.Grammar start))
+abbrev pub Starts : {Y : Type 0} → (end : ℕ) → (ok : Type 0) → (May : List Token → Type 0) → ℕ → (from deeper : List Lexeme → Read Y) → Type 0
+Starts {Y} end ok May start from deeper =
+    (ok → Looks end May from deeper)
+    ⊎ ((ls : List Lexeme) → (from ls ≡ Err (fault.Grammar start)) × (deeper ls ≡ Err (fault.Grammar start)))
 
-module _ {B : Type 0} (s : Scope) (from : Lexeme → List Lexeme → Result B GrammarFault) where
-  abbrev by_first : List Lexeme → Result B GrammarFault
-  by_first ls = and_then (next s ls) (λ l. from l.0 l.1)
+abbrev pub CanStart : {A B : Type 0} → A ⊎ B → Type 0
+CanStart (inl x) = Unit {0}
+CanStart (inr y) = ⊥
 
-  own : (l : Lexeme) → ((ls : List Lexeme) → from l ls ≡ Err (fault.Grammar l.start)) → (other : List Lexeme)
-      → ahead other ≡ Some l → by_first other ≡ Err (fault.Grammar l.start)
+-- one token more in front of what another call reads
+pub passed : {Y : Type 0} {end : ℕ} {May : List Token → Type 0} {call deeper : List Lexeme → Read Y} (l : Lexeme)
+    → ((ts : List Lexeme) → call (l ∷ ts) ≡ deeper ts) → {ls : List Lexeme} {r : Read Y} → Look end May deeper ls r
+    → Look end May call (l ∷ ls) r
+passed l same (returns k) = returns (record {
+  before = l ∷ k.before;
+  whole = ap (λ ts. l ∷ ts) k.whole;
+  again = λ other near. same (k.before ++ other) ∙ k.again other near;
+})
+passed l same (refuses f) = refuses (record {
+  before = l ∷ f.before;
+  rest = f.rest;
+  whole = ap (λ ts. l ∷ ts) f.whole;
+  place = f.place;
+  again = λ other h. same (f.before ++ other) ∙ f.again other h;
+  leads = record {
+    fill = f.leads.fill;
+    value = f.leads.value;
+    reads = λ other may. same (f.before ++ (f.leads.fill ++ other)) ∙ f.leads.reads other may;
+  };
+})
+passed l same forgets = forgets
+passed l same nests = nests
+
+abbrev pub by_first : {Y : Type 0} → Scope → (Lexeme → List Lexeme → Read Y) → List Lexeme → Read Y
+by_first s from ls = and_then (next s ls) (λ l. from l.0 l.1)
+
+module _ {Y : Type 0} (s : Scope) (deeper : Lexeme → List Lexeme → Read Y) where
+  own : (l : Lexeme) → ((ls : List Lexeme) → deeper l ls ≡ Err (fault.Grammar l.start)) → (other : List Lexeme)
+      → ahead other ≡ Some l → by_first s deeper other ≡ Err (fault.Grammar l.start)
   unfolding next and_then
   own l fails [] h = absurd cc
   own l fails (m ∷ ms) h =
       let same : m ≡ l = cc in
       rw same (fails ms)
 
-  pub refuses_first : (l : Lexeme) (ls : List Lexeme) → ((ls : List Lexeme) → from l ls ≡ Err (fault.Grammar l.start))
-      → Refuses s.end by_first (l ∷ ls) l.start
-  refuses_first l ls fails =
-      record { rest = l ∷ ls; place = refl; alike = record { before = []; whole = refl; again = own l fails } }
-
-  none : (other : List Lexeme) → ahead other ≡ None → by_first other ≡ Err (fault.Grammar s.end)
+  none : (other : List Lexeme) → ahead other ≡ None → by_first s deeper other ≡ Err (fault.Grammar s.end)
   unfolding next and_then
   none [] h = refl
   none (m ∷ ms) h = absurd cc
 
-  pub looks_first : {Keeps : List Lexeme → B → Type 0}
-      → ((l : Lexeme) (ls : List Lexeme) → Look (Keeps (l ∷ ls)) s.end by_first (l ∷ ls) (from l ls))
-      → Looks Keeps s.end by_first
+  -- by a token that can start, what is read then
+  pub start_fills : {May : List Token → Type 0} (l : Lexeme) → Fills May (deeper l) → Fills May (by_first s deeper)
   unfolding next and_then
-  looks_first {Keeps} behind = record { at = at } where
-    at : (ls : List Lexeme) → Look (Keeps ls) s.end by_first ls (by_first ls)
-    at [] = refuses (record { rest = []; place = refl; alike = record { before = []; whole = refl; again = none } })
-    at (l ∷ ls) = behind l ls
+  start_fills l f = record { fill = l ∷ f.fill; value = f.value; reads = f.reads }
 
-module _ {Y : Type 0} (s : Scope) (from : Lexeme → List Lexeme → Read Y) where
-  passed : (l : Lexeme) {ls rest : List Lexeme} {answer : List Lexeme → Read Y} → Alike (from l) ls rest answer
-      → Alike (by_first s from) (l ∷ ls) rest answer
-  unfolding next and_then
-  passed l a = record { before = l ∷ a.before; whole = ap (λ ts. l ∷ ts) a.whole; again = a.again }
+  module _ {May : List Token → Type 0} (sample : Fills May (by_first s deeper)) where
+    pub refused : (l : Lexeme) (ls : List Lexeme) → ((ts : List Lexeme) → deeper l ts ≡ Err (fault.Grammar l.start))
+        → Look s.end May (by_first s deeper) (l ∷ ls) (Err (fault.Grammar l.start))
+    refused l ls fails = refuses (record {
+      before = [];
+      rest = l ∷ ls;
+      whole = refl;
+      place = refl;
+      again = own l fails;
+      leads = record { fill = sample.fill; value = sample.value; reads = sample.reads };
+    })
 
-  started : (l : Lexeme) (ls : List Lexeme) → Starts s.end l.start (from l)
-      → Look (Kept (by_first s from) (l ∷ ls)) s.end (by_first s from) (l ∷ ls) (from l ls)
-  started l ls (inl looks) = over (λ rest answer. passed l) (λ y. passed l) (looks.at ls)
-  started l ls (inr fails) =
-      subst (λ (r : Read Y). Look (Kept (by_first s from) (l ∷ ls)) s.end (by_first s from) (l ∷ ls) r) (sym (fails ls))
-      (refuses (refuses_first s from l ls fails))
+    started : (from : Lexeme → List Lexeme → Read Y) (ok : Type 0) → ok → (l : Lexeme) (ls : List Lexeme)
+        → Starts s.end ok May l.start (from l) (deeper l) → Look s.end May (by_first s deeper) (l ∷ ls) (from l ls)
+    unfolding next and_then
+    started from ok so l ls (inl looks) = passed l (λ ts. refl) ((looks so).at ls)
+    started from ok so l ls (inr fails) =
+        subst (λ (r : Read Y). Look s.end May (by_first s deeper) (l ∷ ls) r) (sym (fails ls).0) (refused l ls (λ ts. (fails ts).1))
 
-  pub first_reads : ((l : Lexeme) → Starts s.end l.start (from l))
-      → Local s.end (λ ls. and_then (next s ls) (λ l. from l.0 l.1))
-  first_reads starts = looks_first s from (λ l ls. started l ls (starts l))
+    pub first_reads : (from : Lexeme → List Lexeme → Read Y) (ok : Type 0) → ok → ((l : Lexeme) → Starts s.end ok May l.start (from l) (deeper l))
+        → Looks s.end May (by_first (lower s) from) (by_first s deeper)
+    unfolding next and_then
+    first_reads from ok so starts = record { at = at } where
+      at : (ls : List Lexeme) → Look s.end May (by_first s deeper) ls (by_first (lower s) from ls)
+      at [] = refuses (record {
+        before = [];
+        rest = [];
+        whole = refl;
+        place = refl;
+        again = none;
+        leads = record { fill = sample.fill; value = sample.value; reads = sample.reads };
+      })
+      at (l ∷ ls) = started from ok so l ls (starts l)
 
-pub starts_on : {X Y : Type 0} (end start : ℕ) (first : List Lexeme → Read X) {one : X → List Lexeme → Read Y}
-    → Starts end start first → ((x : X) → Local end (one x)) → Starts end start (λ ls. and_then (first ls) (λ x. one x.0 x.1))
+pub starts_on : {X Y : Type 0} {end start : ℕ} {ok : Type 0} {MayFirst May : List Token → Type 0} {first call : List Lexeme → Read X}
+    {one deeper : X → List Lexeme → Read Y} → Meets MayFirst May deeper
+    → ((before : List Lexeme) → Fills MayFirst (λ ts. call (before ++ ts))
+    → Fills May (λ ts. and_then (call (before ++ ts)) (λ x. deeper x.0 x.1)))
+    → Starts end ok MayFirst start first call → (ok → (x : X) → Looks end May (one x) (deeper x))
+    → Starts end ok May start (λ ls. and_then (first ls) (λ x. one x.0 x.1)) (λ ls. and_then (call ls) (λ x. deeper x.0 x.1))
 unfolding and_then
-starts_on end start first (inl looks) tail = inl (bind_looks looks tail)
-starts_on end start first (inr fails) tail = inr (λ ls. rw (fails ls) refl)
+starts_on meets finish (inl looks) tail = inl (λ so. bind_looks meets finish (looks so) (tail so))
+starts_on meets finish (inr fails) tail = inr (λ ls. (rw (fails ls).0 refl, rw (fails ls).1 refl))
 
 -- ---- one after another
 
-module _ {A : Type 0} {end : ℕ} (goes : Token → Bool) (one : ℕ → List Lexeme → Read A)
+-- all of them from number i on, one more in front of those that a reader reads, and one and all others
+abbrev pub each : {A : Type 0} → (Token → Bool) → (ℕ → List Lexeme → Read A) → ℕ → List Lexeme → Read (List A)
+each goes one i ls = many goes one i (length ls) ls
+
+abbrev pub with_others : {A : Type 0} → (List Lexeme → Read (List A)) → A → List Lexeme → Read (List A)
+with_others others x ls = and_then (others ls) (λ xs. Ok (x ∷ xs.0, xs.1))
+
+abbrev pub turn : {A : Type 0} → (Token → Bool) → (ℕ → List Lexeme → Read A) → ℕ → List Lexeme → Read (List A)
+turn goes one i ls = and_then (one i ls) (λ x. with_others (each goes one (i + 1)) x.0 x.1)
+
+module _ {A : Type 0} (goes : Token → Bool) (one : ℕ → List Lexeme → Read A)
     (shorter : (i : ℕ) (ls : List Lexeme) (x : A) (rest : List Lexeme) → one i ls ≡ Ok (x, rest)
-    → length rest < length ls) (looks : (i : ℕ) → Local end (one i)) where
-  abbrev each : ℕ → List Lexeme → Read (List A)
-  each i ls = many goes one i (length ls) ls
-
-  abbrev turn : ℕ → List Lexeme → Read (List A)
-  turn i ls = and_then (one i ls) (λ x. and_then (each (i + 1) x.1) (λ xs. Ok (x.0 ∷ xs.0, xs.1)))
-
+    → length rest < length ls) where
   same_turn : (i n : ℕ) (fuel : List Lexeme → ℕ) (ls : List Lexeme)
       → ((ts : List Lexeme) → length ts < length ls → many goes one (i + 1) n ts ≡ many goes one (i + 1) (fuel ts) ts)
       → (r : Read A) → one i ls ≡ r
@@ -285,7 +402,7 @@ module _ {A : Type 0} {end : ℕ} (goes : Token → Bool) (one : ℕ → List Le
       (same_turn i n (λ ts. m) ls (λ ts less. enough (i + 1) n m ts (omega (arith, a, less)) (omega (arith, b, less)))
       (one i ls) refl)
 
-  each_is : (i : ℕ) (ls : List Lexeme) → each i ls ≡ cond (first_is goes ls) (turn i ls) (Ok ([], ls))
+  pub each_is : (i : ℕ) (ls : List Lexeme) → each goes one i ls ≡ cond (first_is goes ls) (turn goes one i ls) (Ok ([], ls))
   unfolding many
   each_is i [] = refl
   each_is i (l ∷ ls) =
@@ -293,22 +410,65 @@ module _ {A : Type 0} {end : ℕ} (goes : Token → Bool) (one : ℕ → List Le
       (same_turn i (length ls) length (l ∷ ls)
       (λ ts less. enough (i + 1) (length ls) (length ts) ts (omega (arith, less)) (omega arith)) (one i (l ∷ ls)) refl)
 
-  each_by : (i : ℕ) (ls : List Lexeme) → ((ts : List Lexeme) → length ts < length ls
-      → Look (Kept (each (i + 1)) ts) end (each (i + 1)) ts (each (i + 1) ts)) → (b : Bool) → first_is goes ls ≡ b
-      → Look (Kept (each i) ls) end (each i) ls (cond b (turn i ls) (Ok ([], ls)))
-  each_by i ls below false e =
-      looks_as (λ ts h. each_is i ts ∙ rw (first_looks goes ls ts h ∙ e) refl) ((done_looks []).at ls)
-  each_by i ls below true e =
-      looks_as (λ ts h. each_is i ts ∙ rw (first_looks goes ls ts h ∙ e) refl)
-      (bind_at (one i) (λ x ts. and_then (each (i + 1) ts) (λ xs. Ok (x ∷ xs.0, xs.1))) ls ((looks i).at ls)
-      (λ x read. bind_at (each (i + 1)) (λ xs ts. Ok (x.0 ∷ xs, ts)) x.1 (below x.1 (shorter i ls x.0 x.1 read))
-      (λ xs _. (done_looks (x.0 ∷ xs.0)).at xs.1)))
+same_rest : {Y : Type 0} (p q : Y × List Lexeme) → ◌≡◌ {A = Read Y} (Ok p) (Ok q) → p ≡ q
+same_rest p q e = cc
 
-  each_in : (n i : ℕ) (ls : List Lexeme) → length ls ≤ n → Look (Kept (each i) ls) end (each i) ls (each i ls)
-  each_in zero i ls room = subst (Look (Kept (each i) ls) end (each i) ls) (sym (each_is i ls))
+pub done_meets : {X Y : Type 0} (May : List Token → Type 0) (f : X → Y) → Meets May May (λ x ts. Ok (f x, ts))
+done_meets May f x ts rest y e may =
+    subst (λ (us : List Lexeme). May (kinds us)) (sym (ap (λ p. p.1) (same_rest (f x, ts) (y, rest) e))) may
+
+-- the other reader may have a level more
+module _ {A : Type 0} {end : ℕ} {MayOne Stops : List Token → Type 0} (goes : Token → Bool) (one deeper : ℕ → List Lexeme → Read A)
+    (shorter : (i : ℕ) (ls : List Lexeme) (x : A) (rest : List Lexeme) → one i ls ≡ Ok (x, rest)
+    → length rest < length ls)
+    (shorter_too : (i : ℕ) (ls : List Lexeme) (x : A) (rest : List Lexeme) → deeper i ls ≡ Ok (x, rest)
+    → length rest < length ls)
+    (stops : (ls : List Lexeme) → Stops (kinds ls) → first_is goes ls ≡ false)
+    (goes_on : (i : ℕ) (ts rest : List Lexeme) (xs : List A) → turn goes deeper i ts ≡ Ok (xs, rest)
+    → first_is goes ts ≡ true)
+    (meets : (i : ℕ) → Meets {X = A} {Y = List A} MayOne Stops (with_others (each goes deeper i)))
+    (looks : (i : ℕ) → Looks end MayOne (one i) (deeper i)) where
+  pub no_more : (i : ℕ) → Fills Stops (each goes deeper i)
+  no_more i = record {
+    fill = [];
+    value = [];
+    reads = λ other may. each_is goes deeper shorter_too i other ∙ rw (stops other may) refl;
+  }
+
+  finish_rest : (i : ℕ) (x : A) (before : List Lexeme) → Fills Stops (λ ts. each goes deeper i (before ++ ts))
+      → Fills Stops (λ ts. with_others (each goes deeper i) x (before ++ ts))
+  finish_rest i x before f =
+      bind_fills (λ ts. each goes deeper i (before ++ ts)) (λ xs ts. Ok (x ∷ xs, ts)) (done_meets Stops (λ xs. x ∷ xs)) f
+      (done_fills (x ∷ f.value))
+
+  finish_turn : (i : ℕ) (before : List Lexeme) → Fills MayOne (λ ts. deeper i (before ++ ts))
+      → Fills Stops (λ ts. turn goes deeper i (before ++ ts))
+  finish_turn i before f =
+      bind_fills (λ ts. deeper i (before ++ ts)) (with_others (each goes deeper (i + 1))) (meets (i + 1)) f
+      (finish_rest (i + 1) f.value [] (no_more (i + 1)))
+
+  each_by : (i : ℕ) (ls : List Lexeme) → ((ts : List Lexeme) → length ts < length ls
+      → Look end Stops (each goes deeper (i + 1)) ts (each goes one (i + 1) ts)) → (b : Bool) → first_is goes ls ≡ b
+      → Look end Stops (each goes deeper i) ls (cond b (turn goes one i ls) (Ok ([], ls)))
+  each_by i ls below false e =
+      looks_as (λ more may. may) (λ ts h. each_is goes deeper shorter_too i ts ∙ rw (first_looks goes ls ts h ∙ e) refl)
+      (λ ts rest y read may. each_is goes deeper shorter_too i ts
+      ∙ rw (stops ts (done_meets Stops (λ (y : List A). y) [] ts rest y read may)) refl)
+      ((done_looks []).at ls)
+  each_by i ls below true e =
+      looks_as (λ more may. may) (λ ts h. each_is goes deeper shorter_too i ts ∙ rw (first_looks goes ls ts h ∙ e) refl)
+      (λ ts rest y read may. each_is goes deeper shorter_too i ts ∙ rw (goes_on i ts rest y read) refl)
+      (in_turn (deeper i) (with_others (each goes deeper (i + 1))) (meets (i + 1)) (finish_turn i)
+      (with_others (each goes one (i + 1))) (one i ls) ((looks i).at ls)
+      (λ x mid read. in_turn (each goes deeper (i + 1)) (λ xs ts. Ok (x ∷ xs, ts)) (done_meets Stops (λ xs. x ∷ xs))
+      (finish_rest (i + 1) x) (λ xs ts. Ok (x ∷ xs, ts)) (each goes one (i + 1) mid) (below mid (shorter i ls x mid read))
+      (λ xs rest _. (done_looks (x ∷ xs)).at rest)))
+
+  each_in : (n i : ℕ) (ls : List Lexeme) → length ls ≤ n → Look end Stops (each goes deeper i) ls (each goes one i ls)
+  each_in zero i ls room = subst (Look end Stops (each goes deeper i) ls) (sym (each_is goes one shorter i ls))
       (each_by i ls (λ ts less. absurd (omega (arith, room, less))) (first_is goes ls) refl)
-  each_in (suc n) i ls room = subst (Look (Kept (each i) ls) end (each i) ls) (sym (each_is i ls))
+  each_in (suc n) i ls room = subst (Look end Stops (each goes deeper i) ls) (sym (each_is goes one shorter i ls))
       (each_by i ls (λ ts less. each_in n (i + 1) ts (omega (arith, room, less))) (first_is goes ls) refl)
 
-  pub each_looks : (i : ℕ) → Local end (each i)
+  pub each_looks : (i : ℕ) → Looks end Stops (each goes one i) (each goes deeper i)
   each_looks i = record { at = λ ls. each_in (length ls) i ls (omega arith) }

@@ -8,20 +8,23 @@ use Rattle.kpn_text_tokens.specs.declared.tokens.Keyword.{Keyword}
 use Rattle.kpn_text_tokens.specs.declared.tokens.Keyword.TheVariants as keyword_
 use Rattle.kpn_net.specs.declared.tables.Growth.{Growth}
 use Rattle.kpn_net.specs.declared.tables.Policy.{Policy}
+use Rattle.kpn_net.specs.declared.tables.Growth.TheVariants as growth
+use Rattle.kpn_net.specs.declared.tables.Policy.TheVariants as policy
 use Rattle.kpn_text_grammar.specs.declared.parser.Scope.{Scope}
 use Rattle.kpn_text_grammar.specs.Syntax.{NameBytes, Literal, Item, channel, source, sink, instance}
 use Rattle.kpn_text_grammar.specs.Words.{growth_word, growth_spelled, policy_word, policy_spelled}
 use Rattle.kpn_text_grammar.specs.Spelling.{spell_all, spell_values, spell_call, spell_item, spell_setting, spell_limit, spell_policy, spell_growth, spell_network}
 use Rattle.kpn_text_grammar.specs.TokenTests.{is_keyword}
 use Rattle.kpn_text_grammar.specs.Reading.{Read, all_of, number, stands_in_block, with_capacity, optional_values, call, instance_behind, item_behind, item, token_word, read_as, setting, network}
-use Rattle.kpn_text_grammar.proofs.Steps.{this_mark, this_keyword, is_keyword_same, Spells, growths_spelled, policies_spelled}
-use Rattle.kpn_text_grammar.proofs.Readers.{Reader, Anything, Free, Unless, done, behind, value, bind, reads, a_name, a_number, a_token, optional, maybe_some, either, spell_either, Either, Arm, arm, no_arm, Begun, by_token, token_longer, Exactly, exactly, begins, Elements, each_of, all_free, is_comma}
+use Rattle.kpn_text_grammar.proofs.Steps.{is_keyword_same, Spells, growths_spelled, policies_spelled}
+use Rattle.kpn_text_grammar.proofs.Lookahead.{lower, Anything}
+use Rattle.kpn_text_grammar.proofs.Readers.{this_mark, this_keyword, Reads, HasRoom, Free, Unless, done, behind, value, bind, reads, a_name, a_number, a_token, optional, maybe_some, either, spell_either, Either, Arms, arm, no_arm, Begun, by_token, token_longer, Exactly, exactly, begins, Elements, each_of, all_free, is_comma}
 use Rattle.kpn_text_grammar.proofs.HeadLaws.{semicolon, Closes, closes_not, optional_names_reads}
 use Rattle.kpn_text_grammar.proofs.ValueLaws.{values_reads}
 
 -- ---- instances
 
-optional_values_reads : (s : Scope) → Reader s.end spell_values Free Closes (optional_values s)
+optional_values_reads : (s : Scope) → Reads s spell_values Free Closes optional_values
 unfolding optional_values
 optional_values_reads s =
     maybe_some semicolon spell_values (behind (this_mark s mark_.Semicolon) (values_reads s))
@@ -33,7 +36,7 @@ values_begin : (goes : Token → Bool) (vs : List Literal) (more : List Token) �
 values_begin goes [] more other may closes = closes_not goes more may closes
 values_begin goes (v ∷ vs) more other may closes = other
 
-call_reads : (s : Scope) (x : NameBytes) → Reader s.end spell_call (λ i. i.name ≡ x) Anything (call s x)
+call_reads : (s : Scope) (x : NameBytes) → Reads s spell_call (λ i. i.name ≡ x) Anything (λ s. call s x)
 unfolding call
 call_reads s x =
     reads (value (a_name s) (λ f. behind (this_mark s mark_.LeftParen) (bind (optional_names_reads s)
@@ -52,7 +55,7 @@ call_reads s x =
 
 -- ---- items
 
-item_arms : (s : Scope) (t : Token) → Arm s.end (Exactly spell_item Free) Anything t (item_behind s t)
+item_arms : (s : Scope) → Arms s (Exactly spell_item Free) Anything item_behind
 unfolding item_behind with_capacity instance_behind
 item_arms s (token.Keyword keyword_.Channel) =
     arm (λ start. value (a_name s) (λ x. behind (this_keyword s keyword_.Cap) (value (a_number s)
@@ -74,7 +77,7 @@ item_arms s (token.Name x) =
 item_arms s _ = no_arm
 
 item_parts : (s : Scope) (x : Item) (tokens more : List Token) → Exactly spell_item Free x tokens more
-    → Begun (item_behind s) (item_arms s) x tokens more
+    → Begun (item_arms s) x tokens more
 unfolding item_arms
 item_parts s (channel x n) tokens more is =
     ((token.Keyword keyword_.Channel, (x, (n, tt))), refl, (tt, (tt, tt)), sym is.1)
@@ -83,9 +86,9 @@ item_parts s (sink x n) tokens more is =
     ((token.Keyword keyword_.Sink, (x, (n, tt))), refl, (tt, (tt, tt)), sym is.1)
 item_parts s (instance i) tokens more is = ((token.Name i.name, (i, tt)), refl, (refl, tt), sym is.1)
 
-item_reads : (s : Scope) → Reader s.end spell_item Free Anything (item s)
-unfolding item
-item_reads s = exactly (by_token s (item_behind s) (item_arms s) (item_parts s))
+item_reads : (s : Scope) → Reads s spell_item Free Anything item
+unfolding item item_arms
+item_reads s = exactly (by_token s (item_arms s) (token.Keyword keyword_.Source) tt (item_parts s))
 
 item_starts : (x : Item) (more : List Token) → begins stands_in_block (spell_item x more) ≡ true
 item_starts (channel x n) more = refl
@@ -93,14 +96,17 @@ item_starts (source x) more = refl
 item_starts (sink x n) more = refl
 item_starts (instance i) more = refl
 
-pub item_ones : (s : Scope) → Elements s.end stands_in_block (λ x. x) spell_item (λ x more. Free x) (λ i. item s)
+pub item_ones : (s : Scope) → Elements s.end (HasRoom s) stands_in_block (λ x. x) spell_item (λ x more. Free x) Anything
+    (λ i. item (lower s)) (λ i. item s)
 item_ones s = record {
   laws = λ i. item_reads s;
   starts = λ x more within. item_starts x more;
-  longer = λ x more within. token_longer (item_behind s) (item_arms s) (item_parts s) x _ more (within, refl);
+  longer = λ x more within. token_longer (item_arms s) (item_parts s) x _ more (within, refl);
+  next = λ x more within. tt;
+  last = λ more ends. tt;
 }
 
-items_reads : (s : Scope) → Reader s.end (spell_all spell_item) Free (Unless stands_in_block) (all_of stands_in_block (item s))
+items_reads : (s : Scope) → Reads s (spell_all spell_item) Free (Unless stands_in_block) (λ s. all_of stands_in_block (item s))
 unfolding all_of
 items_reads s =
     reads (each_of (item_ones s) 0) (λ xs more within. (tt, refl)) (λ xs more within. (xs, refl, all_free xs))
@@ -108,8 +114,8 @@ items_reads s =
 -- ---- settings
 
 setting_reads : {A : Type 0} (k : Keyword) (spelled : A → Token) (one : Scope → List Lexeme → Read A) (s : Scope)
-    → Reader s.end (λ x more. spelled x ∷ more) Free Anything (one s)
-    → Reader s.end (spell_setting k spelled) Free (Unless (is_keyword k)) (setting k one s)
+    → Reads s (λ x more. spelled x ∷ more) Free Anything one
+    → Reads s (spell_setting k spelled) Free (Unless (is_keyword k)) (setting k one)
 unfolding setting
 setting_reads {A} k spelled one s row =
     reads (optional (is_keyword k) None (behind (this_keyword s k) (value row
@@ -128,30 +134,30 @@ setting_reads {A} k spelled one s row =
       parts None more within = (inr tt, refl, tt)
       parts (Some x) more within = (inl (x, tt), refl, (tt, tt))
 
-word_reads : {A : Type 0} (meant : NameBytes → Option A) (spelled : A → NameBytes) → Spells meant spelled → (s : Scope)
-    → Reader s.end (λ x more. token.Name (spelled x) ∷ more) Free Anything (read_as (token_word meant) s)
-word_reads {A} meant spelled table s =
-    a_token s (token_word meant) (λ x. token.Name (spelled x)) means (λ x within. table.found x) where
+word_reads : {A : Type 0} (meant : NameBytes → Option A) (spelled : A → NameBytes) → Spells meant spelled → A → (s : Scope)
+    → Reads s (λ x more. token.Name (spelled x) ∷ more) Free Anything (read_as (token_word meant))
+word_reads {A} meant spelled table x s =
+    a_token s (token_word meant) (λ x. token.Name (spelled x)) means (λ x within. table.found x) x tt where
       means : (t : Token) (x : A) → token_word meant t ≡ Some x → (t ≡ token.Name (spelled x)) × Free x
       means (token.Name n) x h = (ap token.Name (table.back n x h), tt)
       means (token.Number n) x h = absurd cc
       means (token.Mark m) x h = absurd cc
       means (token.Keyword k) x h = absurd cc
 
-limit_reads : (s : Scope) → Reader s.end spell_limit Free (Unless (is_keyword keyword_.Limit)) (setting keyword_.Limit number s)
+limit_reads : (s : Scope) → Reads s spell_limit Free (Unless (is_keyword keyword_.Limit)) (setting keyword_.Limit number)
 limit_reads s = setting_reads keyword_.Limit token.Number number s (a_number s)
 
 policy_reads : (s : Scope)
-    → Reader s.end spell_policy Free (Unless (is_keyword keyword_.Policy)) (setting keyword_.Policy (read_as (token_word policy_spelled)) s)
+    → Reads s spell_policy Free (Unless (is_keyword keyword_.Policy)) (setting keyword_.Policy (read_as (token_word policy_spelled)))
 policy_reads s =
     setting_reads keyword_.Policy (λ q. token.Name (policy_word q)) (read_as (token_word policy_spelled)) s
-    (word_reads policy_spelled policy_word policies_spelled s)
+    (word_reads policy_spelled policy_word policies_spelled policy.All s)
 
 growth_reads : (s : Scope)
-    → Reader s.end spell_growth Free (Unless (is_keyword keyword_.Grow)) (setting keyword_.Grow (read_as (token_word growth_spelled)) s)
+    → Reads s spell_growth Free (Unless (is_keyword keyword_.Grow)) (setting keyword_.Grow (read_as (token_word growth_spelled)))
 growth_reads s =
     setting_reads keyword_.Grow (λ g. token.Name (growth_word g)) (read_as (token_word growth_spelled)) s
-    (word_reads growth_spelled growth_word growths_spelled s)
+    (word_reads growth_spelled growth_word growths_spelled growth.One s)
 
 -- ---- the network
 
@@ -192,7 +198,7 @@ no_limit None (Some g) xs more = refl
 no_limit None None xs more = items_begin (is_keyword keyword_.Limit)
     (record { at_channel = refl; at_source = refl; at_sink = refl; at_instance = λ x. refl; at_brace = refl }) xs more
 
-pub network_reads : (s : Scope) → Reader s.end spell_network Free Anything (network s)
+pub network_reads : (s : Scope) → Reads s spell_network Free Anything network
 unfolding network
 network_reads s =
     reads (behind (this_keyword s keyword_.Network) (behind (this_mark s mark_.LeftBrace) (bind (limit_reads s)

@@ -1,7 +1,6 @@
 -- Processes: what is read is spelled so, and what is spelled so is read.
-use Rattle.std.proofs.Common.{◌<◌, List, ◌∷◌, length, refl, sym, ap, arith}
+use Rattle.std.proofs.Common.{◌<◌, ◌-◌, suc, subst, List, ◌∷◌, length, refl, sym, ap, arith}
 use Rattle.std.specs.List.{AllByRecursion}
-use Rattle.kpn_text_tokens.specs.declared.tokens.Language.{Language}
 use Rattle.kpn_text_tokens.specs.declared.tokens.Token.{Token}
 use Rattle.kpn_text_tokens.specs.declared.tokens.Token.TheVariants as token
 use Rattle.kpn_text_tokens.specs.declared.tokens.Mark.TheVariants as mark_
@@ -10,17 +9,21 @@ use Rattle.kpn_text_grammar.specs.declared.parser.Scope.{Scope}
 use Rattle.kpn_text_grammar.specs.Syntax.{ProcessNode}
 use Rattle.kpn_text_grammar.specs.Spelling.{SpellsAll, SpellsProcess, spell_all, spell_declaration, ProcessIsWithin}
 use Rattle.kpn_text_grammar.specs.TokenTests.{is_keyword}
-use Rattle.kpn_text_grammar.specs.Reading.{process, numbered_process, processes}
-use Rattle.kpn_text_grammar.proofs.Steps.{this_mark, this_keyword}
-use Rattle.kpn_text_grammar.proofs.Readers.{ReaderBy, Anything, Unless, behind, value, bind, mapped, reads_by, a_name, begins, Elements, each_by}
+use Rattle.kpn_text_grammar.specs.Reading.{many, process, numbered_process, processes}
+use Rattle.kpn_text_grammar.proofs.Lookahead.{lower, Anything}
+use Rattle.kpn_text_grammar.proofs.Readers.{this_mark, this_keyword, ReadsBy, HasRoom, Unless, behind, value, bind, mapped, reads_by, a_name, begins, Elements, each_by}
 use Rattle.kpn_text_grammar.proofs.DeclarationLaws.{declarations_reads}
 use Rattle.kpn_text_grammar.proofs.HeadLaws.{parts_reads}
 use Rattle.kpn_text_grammar.proofs.StatementLaws.{whole_body_reads, no_declaration}
 
-abbrev ProcessOf : Language → ProcessNode → List Token → List Token → Type 0
-ProcessOf l p tokens more = SpellsProcess l p tokens more × ProcessIsWithin p
+-- within the levels of the scope; a body has one at least
+abbrev ProcessNests : Scope → ProcessNode → Type 0
+ProcessNests s = ProcessIsWithin s.levels (suc (s.levels - 1))
 
-process_reads : (s : Scope) → ReaderBy s.end (ProcessOf s.language) Anything (process s)
+abbrev ProcessOf : Scope → ProcessNode → List Token → List Token → Type 0
+ProcessOf s p tokens more = SpellsProcess s.levels s.language p tokens more × ProcessNests s p
+
+process_reads : (s : Scope) → ReadsBy s (ProcessOf s) Anything process
 unfolding process
 process_reads s =
     reads_by (behind (this_keyword s keyword_.Process) (value (a_name s)
@@ -53,7 +56,7 @@ process_reads s =
       sym is.0.head,
     ))
 
-process_longer : (s : Scope) (p : ProcessNode) (tokens more : List Token) → ProcessOf s.language p tokens more
+process_longer : (s : Scope) (p : ProcessNode) (tokens more : List Token) → ProcessOf s p tokens more
     → length more < length tokens
 process_longer s p tokens more is =
     let declared = spell_all spell_declaration p.declarations is.0.inside in
@@ -66,17 +69,24 @@ process_longer s p tokens more is =
       (whole_body_reads s).laws.no_gap (p.body, is.0.inside) more (is.0.body, is.1.body),
     )
 
-pub process_ones : (s : Scope) → Elements {Z = ProcessNode × List Token} s.end (is_keyword keyword_.Process) (λ z. z.0)
-    (λ z more. z.1) (λ z more. ProcessOf s.language z.0 z.1 more) (numbered_process s)
+pub process_ones : (s : Scope) → Elements {Z = ProcessNode × List Token} s.end (HasRoom s) (is_keyword keyword_.Process)
+    (λ z. z.0) (λ z more. z.1) (λ z more. ProcessOf s z.0 z.1 more) Anything (numbered_process (lower s)) (numbered_process s)
 unfolding numbered_process
 process_ones s = record {
-  laws = λ i. process_reads (record { end = s.end; process = i; language = s.language });
+  laws = λ i. process_reads (record { end = s.end; process = i; language = s.language; levels = s.levels });
   starts = λ z more is. ap (begins (is_keyword keyword_.Process)) is.0.head;
   longer = λ z more is. process_longer s z.0 z.1 more is;
+  next = λ z more is. tt;
+  last = λ more ends. tt;
 }
 
-pub processes_reads : (s : Scope)
-    → ReaderBy s.end (λ ps tokens more. SpellsAll (SpellsProcess s.language) ps tokens more × AllByRecursion ProcessIsWithin ps)
-    (Unless (is_keyword keyword_.Process)) (processes s)
+pub processes_reads : (s : Scope) → 0 < s.levels → ReadsBy s (λ ps tokens more.
+    SpellsAll (SpellsProcess s.levels s.language) ps tokens more × AllByRecursion (ProcessIsWithin s.levels s.levels) ps)
+    (Unless (is_keyword keyword_.Process)) processes
 unfolding processes
-processes_reads s = each_by (SpellsProcess s.language) ProcessIsWithin (process_ones s) 0
+processes_reads s some =
+    subst (λ d. ReadsBy s (λ ps tokens more.
+    SpellsAll (SpellsProcess s.levels s.language) ps tokens more × AllByRecursion (ProcessIsWithin s.levels d) ps)
+    (Unless (is_keyword keyword_.Process)) (λ s ls. many (is_keyword keyword_.Process) (numbered_process s) 0 (length ls) ls))
+    (omega (arith, some))
+    (each_by (SpellsProcess s.levels s.language) (ProcessNests s) (process_ones s) 0)

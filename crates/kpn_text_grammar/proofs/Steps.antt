@@ -1,5 +1,5 @@
 -- Steps of reading: what a chain of steps returns, and the laws of the parsers of one token.
-use Rattle.std.proofs.Common.{◌≡◌, ℕ, ◌≤◌, Bool, true, false, cond, List, [], ◌∷◌, length, Option, Some, None, Result, Ok, Err, IfOk, refl, sym, ap, subst, ◌∙◌, arith}
+use Rattle.std.proofs.Common.{◌≡◌, ℕ, Bool, true, false, cond, List, [], ◌∷◌, Option, Some, None, Result, Ok, Err, IfOk, refl, sym, ap, subst, ◌∙◌}
 use Rattle.std.specs.Str.{bytes_eq}
 use Rattle.std.proofs.lemmas.Bool.{eqb-true}
 use Rattle.std.proofs.lemmas.Slice.Eq.{bytes_eq-Decides}
@@ -28,9 +28,8 @@ use Rattle.kpn_text_grammar.specs.Words.{growth_word, growth_spelled, policy_wor
 use Rattle.kpn_text_grammar.specs.Spelling.{kinds}
 use Rattle.kpn_text_tokens.specs.Results.{and_then, OkOr}
 use Rattle.kpn_text_grammar.specs.TokenTests.{same_mark, same_keyword, is_mark, is_keyword, is_number_two}
-use Rattle.kpn_text_grammar.specs.Reading.{ReadingFails, ReadingGives, first_is, is_second, next, mark, keyword, token_operator, or_fault_at, two}
+use Rattle.kpn_text_grammar.specs.Reading.{ReadingFails, ReadingGives, first_is, is_second, next, token_operator, or_fault_at}
 use Rattle.kpn_text_tokens.proofs.Pieces.{find_passes}
-use Rattle.kpn_text_grammar.proofs.Lookahead.{Alike, Look, returns, refuses, Step, refuses_first, looks_first, steps_look}
 
 -- the value of a step that had no fault
 pub bind_ok : {A B : Type 0} (r : Result A GrammarFault) (f : A → Result B GrammarFault) (y : B) → and_then r f ≡ Ok y
@@ -157,84 +156,11 @@ pub next_again : (s : Scope) (l : Lexeme) (rest : List Lexeme) → next s (l ∷
 unfolding next
 next_again s l rest = refl
 
--- ---- a mark, a reserved word, the number 2
-
--- the step that passes tokens, which stand so in front of others
-pub record Passes (end : ℕ) (spell : List Token → List Token) (step : List Lexeme → Result (List Lexeme) GrammarFault)
-    : Type 0 where
-  pub takes : (ls rest : List Lexeme) → step ls ≡ Ok rest → kinds ls ≡ spell (kinds rest)
-  pub again : (ls : List Lexeme) (more : List Token) → kinds ls ≡ spell more
-      → (rest : List Lexeme) × (step ls ≡ Ok rest) × (kinds rest ≡ more)
-  pub no_gap : (more : List Token) → length more ≤ length (spell more)
-  pub looks : Step end step
-
-pub passes_on : {end : ℕ} {spell_first spell_next : List Token → List Token}
-    {first next : List Lexeme → Result (List Lexeme) GrammarFault} → Passes end spell_first first
-    → Passes end spell_next next → Passes end (λ more. spell_first (spell_next more)) (λ ls. and_then (first ls) next)
-passes_on {end} {spell_first} {spell_next} {first} {next} a b = record {
-  takes = λ ls rest h.
-      let m = bind_ok (first ls) next rest h in
-      a.takes ls m.0 m.1 ∙ ap spell_first (b.takes m.0 rest m.2);
-  again = λ ls more h.
-      let m = a.again ls (spell_next more) h in
-      let n = b.again m.0 more m.2 in
-      (n.0, bound (first ls) m.0 next (Ok n.0) m.1 n.1, n.2);
-  no_gap = λ more. omega (arith, a.no_gap (spell_next more), b.no_gap more);
-  looks = steps_look a.looks b.looks;
-}
-
-module _ (s : Scope) (goes : Token → Bool) where
-  abbrev from : Lexeme → List Lexeme → Result (List Lexeme) GrammarFault
-  from l ls = cond (goes l.token) (Ok ls) (Err (fault.Grammar l.start))
-
-  abbrev step : List Lexeme → Result (List Lexeme) GrammarFault
-  step ls = and_then (next s ls) (λ x. from x.0 x.1)
-
-  step_at : (ls : List Lexeme) (l : Lexeme) (rest : List Lexeme) → ls ≡ l ∷ rest → goes l.token ≡ true → step ls ≡ Ok rest
-  step_at ls l rest e h =
-      bound (next s ls) (l, rest) (λ x. from x.0 x.1) (Ok rest) (rw (e, next_again s l rest) refl) (rw h refl)
-
-  abbrev Keeps : List Lexeme → List Lexeme → Type 0
-  Keeps ls rest = Alike step ls rest (λ other. Ok other)
-
-  looks_by : (l : Lexeme) (ls : List Lexeme) (b : Bool) → goes l.token ≡ b
-      → Look (Keeps (l ∷ ls)) s.end step (l ∷ ls) (cond b (Ok ls) (Err (fault.Grammar l.start)))
-  unfolding next and_then
-  looks_by l ls true e =
-      returns (record { before = l ∷ []; whole = refl; again = λ other same. rw e refl })
-  looks_by l ls false e = refuses (refuses_first s from l ls (λ ts. rw e refl))
-
-  passes : (t : Token) → ((u : Token) → goes u ≡ true → u ≡ t) → goes t ≡ true → Passes s.end (λ more. t ∷ more) step
-  passes t only here = record {
-    takes = λ ls rest h.
-        let b = bind_ok (next s ls) (λ x. from x.0 x.1) rest h in
-        let found = test_ok (goes b.0.0.token) b.0.1 rest (fault.Grammar b.0.0.start) b.2 in
-        ap kinds (next_takes s ls b.0.0 b.0.1 b.1) ∙ ap (λ (k : Token). k ∷ kinds b.0.1) (only b.0.0.token found.0)
-        ∙ ap (λ (r : List Lexeme). t ∷ kinds r) found.1;
-    again = λ ls more h.
-        let f = front ls t more h in
-        (f.rest, step_at ls f.lexeme f.rest f.whole (ap goes f.kind ∙ here), f.after);
-    no_gap = λ more. omega arith;
-    looks = looks_first s from (λ l ls. looks_by l ls (goes l.token) refl);
-  }
-
-pub this_mark : (s : Scope) (m : Mark) → Passes s.end (λ more. token.Mark m ∷ more) (mark s m)
-unfolding mark
-this_mark s m = passes s (is_mark m) (token.Mark m) (is_mark_true m) (is_mark_same m)
-
-pub this_keyword : (s : Scope) (k : Keyword) → Passes s.end (λ more. token.Keyword k ∷ more) (keyword s k)
-unfolding keyword
-this_keyword s k = passes s (is_keyword k) (token.Keyword k) (is_keyword_true k) (is_keyword_same k)
-
-is_two_true : (t : Token) → is_number_two t ≡ true → t ≡ token.Number 2
+pub is_two_true : (t : Token) → is_number_two t ≡ true → t ≡ token.Number 2
 is_two_true (token.Number n) h = ap token.Number (eqb-true n 2 h)
 is_two_true (token.Name x) h = absurd cc
 is_two_true (token.Mark m) h = absurd cc
 is_two_true (token.Keyword k) h = absurd cc
-
-pub this_two : (s : Scope) → Passes s.end (λ more. token.Number 2 ∷ more) (two s)
-unfolding two
-this_two s = passes s is_number_two (token.Number 2) is_two_true refl
 
 -- ---- operators and words
 

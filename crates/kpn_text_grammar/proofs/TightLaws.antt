@@ -20,7 +20,7 @@ use Rattle.kpn_text_grammar.proofs.Readers.{begins, an_operator}
 pub operator_takes : (s : Scope) (ls : List Lexeme) (o : Op) (rest : List Lexeme) → operator s ls ≡ Ok (o, rest)
     → kinds ls ≡ token.Mark (operator_mark o) ∷ kinds rest
 operator_takes s ls o rest h =
-    let t = (an_operator s).laws.takes ls o rest h in
+    let t = (an_operator {ok = Unit {0}} s).laws.takes ls o rest h in
     t.3 ∙ ap (λ (p : Op). token.Mark (operator_mark p) ∷ kinds rest) t.1
 
 -- ---- the table of operators

@@ -237,7 +237,7 @@ tight s (suc depth) levels n ls = tight_over s (tight s depth) levels n ls
 
 -- an expression of a statement
 unfoldable pub whole : Scope → List Lexeme → Read ExpressionNode
-whole s ls = tight s MAX_LEVELS MAX_LEVELS (loosest s.language) ls
+whole s ls = tight s s.levels s.levels (loosest s.language) ls
 
 -- ---- statements, by a parser of the blocks one level deeper
 
@@ -465,7 +465,7 @@ process s ls = do
   after ← mark s mark_.RightParen p.1
   opened ← mark s mark_.LeftBrace after
   ds ← all_of declares (declaration s) opened
-  body ← block_behind s (block s (MAX_LEVELS - 1)) (second_block s (MAX_LEVELS - 1)) ds.1
+  body ← block_behind s (block s (s.levels - 1)) (second_block s (s.levels - 1)) ds.1
   Ok (
     record {
       name = x.0;
@@ -479,7 +479,7 @@ process s ls = do
   )
 
 unfoldable pub numbered_process : Scope → ℕ → List Lexeme → Read ProcessNode
-numbered_process s i ls = process (record { end = s.end; process = i; language = s.language }) ls
+numbered_process s i ls = process (record { end = s.end; process = i; language = s.language; levels = s.levels }) ls
 
 unfoldable pub processes : Scope → List Lexeme → Read (List ProcessNode)
 processes s ls = many (is_keyword keyword_.Process) (numbered_process s) 0 (length ls) ls
@@ -590,4 +590,4 @@ description s ls = language_at s s.language ls >>= contents s
 
 -- what the tokens of a text of this length are read as in a language, with the processes numbered from 0
 abbrev pub description_of : Language → ℕ → List Lexeme → Result Description GrammarFault
-description_of l end ls = description (record { end = end; process = 0; language = l }) ls
+description_of l end ls = description (record { end = end; process = 0; language = l; levels = MAX_LEVELS }) ls

@@ -101,8 +101,8 @@ pub data SpellsTight (l : Language) : (depth n : ℕ) → ExpressionNode → Lis
       → SpellsTight l depth n (binary op a b) at_a more
 
 -- the tokens up to those that follow spell an expression of a statement
-abbrev pub SpellsTerm : Language → ExpressionNode → List Token → List Token → Type 0
-SpellsTerm l = SpellsTight l MAX_LEVELS (loosest l)
+abbrev pub SpellsTerm : (levels : ℕ) → Language → ExpressionNode → List Token → List Token → Type 0
+SpellsTerm levels l = SpellsTight l levels (loosest l)
 
 -- a number or a name has one level, and an index, a sign, an operator or a choice one more than its deepest part
 abbrev pub term_level : ExpressionNode → ℕ
@@ -156,51 +156,51 @@ begins_else (t ∷ ts) = is_keyword keyword.Else t
 
 mutual
   -- The rules of statements: the tokens up to those that follow spell the statement in a language.
-  pub data SpellsStatement (l : Language) : StatementNode → List Token → List Token → Type 0 where
+  pub data SpellsStatement (levels : ℕ) (l : Language) : StatementNode → List Token → List Token → Type 0 where
     as_assignment : {x : NameBytes} {e : ExpressionNode} {tokens more : List Token}
-        → SpellsTerm l e tokens (token.Mark mark.Semicolon ∷ more)
-        → SpellsStatement l (assign x e) (token.Name x ∷ token.Mark mark.Assign ∷ tokens) more
+        → SpellsTerm levels l e tokens (token.Mark mark.Semicolon ∷ more)
+        → SpellsStatement levels l (assign x e) (token.Name x ∷ token.Mark mark.Assign ∷ tokens) more
     as_store : {x : NameBytes} {i e : ExpressionNode} {at_i more : List Token} (at_e : List Token)
-        → SpellsTerm l i at_i (token.Mark mark.RightBracket ∷ token.Mark mark.Assign ∷ at_e)
-        → SpellsTerm l e at_e (token.Mark mark.Semicolon ∷ more)
-        → SpellsStatement l (store x i e) (token.Name x ∷ token.Mark mark.LeftBracket ∷ at_i) more
+        → SpellsTerm levels l i at_i (token.Mark mark.RightBracket ∷ token.Mark mark.Assign ∷ at_e)
+        → SpellsTerm levels l e at_e (token.Mark mark.Semicolon ∷ more)
+        → SpellsStatement levels l (store x i e) (token.Name x ∷ token.Mark mark.LeftBracket ∷ at_i) more
     as_read : {i x : NameBytes} {more : List Token}
-        → SpellsStatement l (receive i x)
+        → SpellsStatement levels l (receive i x)
         (token.Keyword keyword.Read ∷ token.Name i ∷ token.Name x ∷ token.Mark mark.Semicolon ∷ more) more
     as_write : {o : NameBytes} {e : ExpressionNode} {tokens more : List Token}
-        → SpellsTerm l e tokens (token.Mark mark.Semicolon ∷ more)
-        → SpellsStatement l (send o e) (token.Keyword keyword.Write ∷ token.Name o ∷ tokens) more
+        → SpellsTerm levels l e tokens (token.Mark mark.Semicolon ∷ more)
+        → SpellsStatement levels l (send o e) (token.Keyword keyword.Write ∷ token.Name o ∷ tokens) more
     as_if : {e : ExpressionNode} {a b : Statements} {at_e at_a at_else more : List Token}
-        → SpellsTerm l e at_e (token.Mark mark.LeftBrace ∷ at_a)
-        → SpellsStatements l a at_a (token.Mark mark.RightBrace ∷ at_else) → SpellsElse l b at_else more
-        → SpellsStatement l (choice e a b) (token.Keyword keyword.If ∷ at_e) more
+        → SpellsTerm levels l e at_e (token.Mark mark.LeftBrace ∷ at_a)
+        → SpellsStatements levels l a at_a (token.Mark mark.RightBrace ∷ at_else) → SpellsElse levels l b at_else more
+        → SpellsStatement levels l (choice e a b) (token.Keyword keyword.If ∷ at_e) more
     as_while : {e : ExpressionNode} {b : Statements} {at_e at_b more : List Token}
-        → SpellsTerm l e at_e (token.Mark mark.LeftBrace ∷ at_b)
-        → SpellsStatements l b at_b (token.Mark mark.RightBrace ∷ more)
-        → SpellsStatement l (loop e b) (token.Keyword keyword.While ∷ at_e) more
+        → SpellsTerm levels l e at_e (token.Mark mark.LeftBrace ∷ at_b)
+        → SpellsStatements levels l b at_b (token.Mark mark.RightBrace ∷ more)
+        → SpellsStatement levels l (loop e b) (token.Keyword keyword.While ∷ at_e) more
 
   -- one after the other
-  pub data SpellsStatements (l : Language) : Statements → List Token → List Token → Type 0 where
-    nothing : {more : List Token} → SpellsStatements l no_statements more more
+  pub data SpellsStatements (levels : ℕ) (l : Language) : Statements → List Token → List Token → Type 0 where
+    nothing : {more : List Token} → SpellsStatements levels l no_statements more more
     one_more : {s : StatementNode} {ss : Statements} {tokens others more : List Token}
-        → SpellsStatement l s tokens others → SpellsStatements l ss others more
-        → SpellsStatements l (statement s ss) tokens more
+        → SpellsStatement levels l s tokens others → SpellsStatements levels l ss others more
+        → SpellsStatements levels l (statement s ss) tokens more
 
   -- The second block of an `if`. In language 2 an empty one may be left out, where no `else` follows.
-  pub data SpellsElse (l : Language) : Statements → List Token → List Token → Type 0 where
+  pub data SpellsElse (levels : ℕ) (l : Language) : Statements → List Token → List Token → Type 0 where
     left_out : {more : List Token} → l ≡ language.Two → begins_else more ≡ false
-        → SpellsElse l no_statements more more
-    behind_else : {b : Statements} {tokens more : List Token} → SpellsSecond l b tokens more
-        → SpellsElse l b (token.Keyword keyword.Else ∷ tokens) more
+        → SpellsElse levels l no_statements more more
+    behind_else : {b : Statements} {tokens more : List Token} → SpellsSecond levels l b tokens more
+        → SpellsElse levels l b (token.Keyword keyword.Else ∷ tokens) more
 
   -- The same behind `else`. In language 2 a block that is an `if` needs no braces.
-  pub data SpellsSecond (l : Language) : Statements → List Token → List Token → Type 0 where
+  pub data SpellsSecond (levels : ℕ) (l : Language) : Statements → List Token → List Token → Type 0 where
     with_braces : {b : Statements} {tokens more : List Token}
-        → SpellsStatements l b tokens (token.Mark mark.RightBrace ∷ more)
-        → SpellsSecond l b (token.Mark mark.LeftBrace ∷ tokens) more
+        → SpellsStatements levels l b tokens (token.Mark mark.RightBrace ∷ more)
+        → SpellsSecond levels l b (token.Mark mark.LeftBrace ∷ tokens) more
     as_branch : {e : ExpressionNode} {a b : Statements} {tokens more : List Token} → l ≡ language.Two
-        → SpellsStatement l (choice e a b) tokens more
-        → SpellsSecond l (statement (choice e a b) no_statements) tokens more
+        → SpellsStatement levels l (choice e a b) tokens more
+        → SpellsSecond levels l (statement (choice e a b) no_statements) tokens more
 
 abbrev mutual
   -- how many levels of blocks are inside a statement
@@ -231,10 +231,10 @@ abbrev mutual
   deepest_term_of_all (statement s ss) = max (deepest_term s) (deepest_term_of_all ss)
 
 -- a block within the limits of depth: it has at most so many levels of blocks, itself among them, and its expressions
--- have at most 32 levels
-pub record BlockIsWithin (depth : ℕ) (b : Statements) : Type 0 where
+-- at most so many
+pub record BlockIsWithin (levels depth : ℕ) (b : Statements) : Type 0 where
   pub blocks : suc (levels_within b) ≤ depth
-  pub terms : deepest_term_of_all b ≤ MAX_LEVELS
+  pub terms : deepest_term_of_all b ≤ levels
 
 -- ---- lists
 
@@ -324,10 +324,10 @@ abbrev pub spell_process : Language → ProcessNode → List Token → List Toke
 spell_process l p more = spell_head p (spell_statements l p.body (token.Mark mark.RightBrace ∷ more))
 
 -- The tokens up to those that follow spell the process in a language: those of its head, and then of its statements.
-pub record SpellsProcess (l : Language) (p : ProcessNode) (tokens more : List Token) : Type 0 where
+pub record SpellsProcess (levels : ℕ) (l : Language) (p : ProcessNode) (tokens more : List Token) : Type 0 where
   pub inside : List Token
   pub head : tokens ≡ spell_head p inside
-  pub body : SpellsStatements l p.body inside (token.Mark mark.RightBrace ∷ more)
+  pub body : SpellsStatements levels l p.body inside (token.Mark mark.RightBrace ∷ more)
 
 -- ---- networks
 
@@ -391,23 +391,26 @@ spell_description l d = spell_language l (spell_all spell_table d.tables
     (spell_all (spell_process l) d.processes (spell_network d.network [])))
 
 -- the tokens spell the same, in one way or another
-pub record SpellsDescription (l : Language) (d : Description) (tokens : List Token) : Type 0 where
+pub record SpellsDescription (levels : ℕ) (l : Language) (d : Description) (tokens : List Token) : Type 0 where
   pub inside : List Token
   pub opening : tokens ≡ spell_language l (spell_all spell_table d.tables inside)
-  pub processes : SpellsAll (SpellsProcess l) d.processes inside (spell_network d.network [])
+  pub processes : SpellsAll (SpellsProcess levels l) d.processes inside (spell_network d.network [])
 
--- its arrays and tables are within the limits, its blocks nest at most 32 levels, its body among them, and its
--- expressions at most 32
-pub record ProcessIsWithin (p : ProcessNode) : Type 0 where
+-- its arrays and tables are within the limits, and its blocks, with its body among them
+pub record ProcessIsWithin (levels depth : ℕ) (p : ProcessNode) : Type 0 where
   pub declarations : AllByRecursion DeclarationIsWithin p.declarations
-  pub body : BlockIsWithin MAX_LEVELS p.body
+  pub body : BlockIsWithin levels depth p.body
 
--- a description within the limits of the grammar
-pub record IsWithinLimits (d : Description) : Type 0 where
+-- a description within the limits of the grammar: its blocks and its expressions nest at most so many levels
+pub record IsWithinLimits (levels : ℕ) (d : Description) : Type 0 where
   pub tables : AllByRecursion TableIsWithin d.tables
-  pub processes : AllByRecursion ProcessIsWithin d.processes
+  pub processes : AllByRecursion (ProcessIsWithin levels levels) d.processes
 
 -- The tokens are those of the description in a language, and it is within the limits of the grammar.
-pub record IsDescription (l : Language) (tokens : List Token) (d : Description) : Type 0 where
-  pub spelled : SpellsDescription l d tokens
-  pub within : IsWithinLimits d
+pub record IsDescriptionWithin (levels : ℕ) (l : Language) (tokens : List Token) (d : Description) : Type 0 where
+  pub spelled : SpellsDescription levels l d tokens
+  pub within : IsWithinLimits levels d
+
+-- the same with the 32 levels that there may be
+abbrev pub IsDescription : Language → List Token → Description → Type 0
+IsDescription = IsDescriptionWithin MAX_LEVELS

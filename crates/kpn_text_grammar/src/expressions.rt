@@ -11,7 +11,6 @@ use crate::fault::GrammarFault;
 use crate::operators::{OPERAND, loosest, right_side, tightness};
 use crate::parser::{Read, Scope, Source, at_mark, goes_further, is_second, mark, next, operator};
 use crate::tree::{Expression, Identifier};
-use kpn_limits::MAX_LEVELS;
 use kpn_text_tokens::{Lexeme, Mark, Token};
 use std::alloc::Global;
 
@@ -313,8 +312,8 @@ pub(crate) fn whole<'a>(alloc: Global, source: Source<'a>, at: usize) -> Read<Ex
     ensures { Parses term spec.whole source.entry at result }
 {
     let room = Room {
-        levels: MAX_LEVELS,
-        depth: MAX_LEVELS,
+        levels: source.scope.levels,
+        depth: source.scope.levels,
     };
     let least = loosest(source.scope.language);
     let (Subtree { root, .. }, at) = tight(alloc, source, room, least, at)?;

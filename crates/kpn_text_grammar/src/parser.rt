@@ -20,6 +20,8 @@ pub(crate) struct Scope {
     /// The number of the process that the parser reads.
     pub process: usize,
     pub language: Language,
+    /// How many levels of blocks may nest, and how many of an expression.
+    pub levels: usize,
 }
 
 /// The tokens of a text.

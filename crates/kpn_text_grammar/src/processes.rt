@@ -10,7 +10,6 @@ use crate::fault::GrammarFault;
 use crate::lists::names;
 use crate::parser::{Read, Scope, Source, at_keyword, at_mark, keyword, mark, name, next};
 use crate::tree::{HeadParts, Names, ProcessNode};
-use kpn_limits::MAX_LEVELS;
 use kpn_text_tokens::{Keyword, Lexeme, Mark, Token};
 use std::alloc::Global;
 
@@ -134,7 +133,7 @@ fn process<'a>(alloc: Global, source: Source<'a>, at: usize) -> Read<ProcessNode
     let at = mark(source, Mark::RightParen, at)?;
     let at = mark(source, Mark::LeftBrace, at)?;
     let (declarations, at) = declarations(alloc, source, at)?;
-    let (body, at) = block_behind(alloc, source, MAX_LEVELS - 1, at)?;
+    let (body, at) = block_behind(alloc, source, source.scope.levels.saturating_sub(1), at)?;
     let process = ProcessNode {
         name,
         parts,
@@ -158,6 +157,7 @@ fn numbered_process<'a>(
         end: source.scope.end,
         process: number,
         language: source.scope.language,
+        levels: source.scope.levels,
     };
     let tokens = source.tokens;
     process(alloc, Source { tokens, scope }, at)

@@ -14,6 +14,7 @@ use crate::networks::network;
 use crate::parser::{Scope, Source, keyword, mark, two};
 use crate::processes::processes;
 use crate::tree::Description;
+use kpn_limits::MAX_LEVELS;
 use kpn_text_tokens::{Keyword, Language, Lexeme, Mark};
 use std::alloc::Global;
 
@@ -108,6 +109,7 @@ pub fn description<'a>(
         end,
         process: 0,
         language,
+        levels: MAX_LEVELS,
     };
     whole(alloc, Source { tokens, scope })
 }

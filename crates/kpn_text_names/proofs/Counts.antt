@@ -3,6 +3,7 @@ use Rattle.std.proofs.Common.{◌≡◌, suc, List, [], ◌∷◌, ◌++◌, len
 use Rattle.std.proofs.lemmas.List.{length-map}
 use Rattle.kpn_net.specs.declared.tables.ChannelSpec.{ChannelSpec}
 use Rattle.kpn_net.specs.declared.tables.ChannelSpec.TheVariants.{Inner, Source, Sink}
+use Rattle.kpn_text_tokens.specs.declared.tokens.Language.{Language}
 use Rattle.kpn_text_grammar.specs.Syntax as grammar
 use Rattle.kpn_text_grammar.specs.Syntax.{NameBytes, ProcessNode, Item, channel, source, sink, instance, Description}
 use Rattle.kpn_text_names.specs.Fault.{each}
@@ -34,14 +35,14 @@ both_longer table names things thing x e p = let q = one_longer table names x e 
 abbrev pub ProgramsMatch : Programs → Type 0
 ProgramsMatch s = length s.names ≡ length s.programs
 
-one_process : (shared : SharedTables) (s t : Programs) (p : ProcessNode) → with_named_process shared s p ≡ Ok t → ProgramsMatch s → ProgramsMatch t
-one_process shared s t p e match =
+one_process : (l : Language) (shared : SharedTables) (s t : Programs) (p : ProcessNode) → with_named_process l shared s p ≡ Ok t → ProgramsMatch s → ProgramsMatch t
+one_process l shared s t p e match =
     let b =
     went (declared s.names p.name)
-    (λ names. and_then (named_program shared p) (λ made. Ok (record { names = names; programs = s.programs ++ made ∷ [] })))
+    (λ names. and_then (named_program l shared p) (λ made. Ok (record { names = names; programs = s.programs ++ made ∷ [] })))
     t e in
     let d =
-    went (named_program shared p) (λ made. Ok (record { names = b.value; programs = s.programs ++ made ∷ [] })) t b.rest in
+    went (named_program l shared p) (λ made. Ok (record { names = b.value; programs = s.programs ++ made ∷ [] })) t b.rest in
     let is : ◌≡◌ {A = Programs} (record { names = b.value; programs = s.programs ++ d.value ∷ [] }) t =
     ok_is (record { names = b.value; programs = s.programs ++ d.value ∷ [] }) t d.rest in
     subst ProgramsMatch is (both_longer s.names b.value s.programs d.value p.name b.first match)
@@ -94,9 +95,9 @@ one_item programs channels w v (instance i) e match = one_instance programs chan
 
 -- ---- the whole
 
-pub programs_match : (shared : SharedTables) (processes : List ProcessNode) (p : Programs) → programs_of shared processes ≡ Ok p → ProgramsMatch p
-programs_match shared processes p e =
-    keeps (with_named_process shared) ProgramsMatch (one_process shared) processes (record { names = []; programs = [] }) p e refl
+pub programs_match : (l : Language) (shared : SharedTables) (processes : List ProcessNode) (p : Programs) → programs_of l shared processes ≡ Ok p → ProgramsMatch p
+programs_match l shared processes p e =
+    keeps (with_named_process l shared) ProgramsMatch (one_process l shared) processes (record { names = []; programs = [] }) p e refl
 
 pub wiring_matches : (programs : List NameBytes) (items : List Item) (w : Wiring) → wiring programs items ≡ Ok w
     → WiringMatches w
@@ -116,15 +117,15 @@ each_named p n is scopes processes i c = record {
   channels = c;
 }
 
-pub resolved_each : (d : Description) (n : Named) → resolve d ≡ Ok n → EachIsNamed n
-resolved_each d n e =
+pub resolved_each : (l : Language) (d : Description) (n : Named) → resolve l d ≡ Ok n → EachIsNamed n
+resolved_each l d n e =
     let shared = went (shared_of d.tables) _ n e in
-    let p = went (programs_of shared.value d.processes) _ n shared.rest in
+    let p = went (programs_of l shared.value d.processes) _ n shared.rest in
     let w = went (wiring p.value.names d.network.items) _ n p.rest in
     let match = wiring_matches p.value.names d.network.items w.value w.first in
     let made : Named = named_with shared.value (settings_of d.network) p.value w.value in
     subst EachIsNamed (ok_is made n w.rest)
-    (each_named p.value.programs made refl refl (programs_match shared.value d.processes p.value p.first)
+    (each_named p.value.programs made refl refl (programs_match l shared.value d.processes p.value p.first)
     match.instances match.channels)
 
 -- ---- the names by number

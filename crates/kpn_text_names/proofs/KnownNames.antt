@@ -25,7 +25,7 @@ is_named-append table more k x h =
           ∙ h.name;
     }
 
-or_known : (o : Option ℕ) (k : ℕ) → or_unknown o ≡ Ok k → o ≡ Some k
+pub or_known : (o : Option ℕ) (k : ℕ) → or_unknown o ≡ Ok k → o ≡ Some k
 or_known (Some j) k e = ap (λ n. Some n) (ok_is j k e)
 or_known None k e = absurd (cc)
 

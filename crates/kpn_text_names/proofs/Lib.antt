@@ -6,5 +6,8 @@ mod Writing
 mod Heads
 mod Trees
 pub mod KnownNames
+pub mod KnownTargets
+pub mod Growing
+mod FirstTargets
 pub mod Counts
 mod Once

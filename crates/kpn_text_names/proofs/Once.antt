@@ -1,5 +1,5 @@
 -- No name is twice in a table of names: each step adds a name that is new, or none.
-use Rattle.std.proofs.Common.{◌≡◌, ℕ, zero, suc, ◌<◌, Bool, true, false, cond, not, ◌||◌, List, [], ◌∷◌, ◌++◌, length, map, Option, Some, None, Ok, refl, sym, ap, subst, ◌∙◌, append_assoc, append-nil, length-append, inl, inr, arith}
+use Rattle.std.proofs.Common.{◌≡◌, ℕ, zero, suc, ◌<◌, Bool, true, false, cond, not, ◌||◌, List, [], ◌∷◌, ◌++◌, length, map, Option, Some, None, Ok, Err, refl, sym, ap, subst, ◌∙◌, append_assoc, append-nil, length-append, inl, inr, arith}
 use Rattle.std.specs.List.{All, position_or_len}
 use Rattle.std.specs.Str.{bytes_eq}
 use Rattle.std.specs.Cmp.Lexicographic.{bytes_decides}
@@ -12,6 +12,7 @@ use Rattle.std.proofs.lemmas.List.Sums.{position_or_len_is}
 use Rattle.kpn_lang.specs.Tree.{Tree}
 use Rattle.kpn_net.specs.declared.tables.ChannelSpec.{ChannelSpec}
 use Rattle.kpn_net.specs.declared.tables.ChannelSpec.TheVariants.{Inner, Source, Sink}
+use Rattle.kpn_text_tokens.specs.declared.tokens.Language.{Language}
 use Rattle.kpn_text_grammar.specs.Syntax as grammar
 use Rattle.kpn_text_grammar.specs.Syntax.{NameBytes, ExpressionNode, numeral, variable, element, minus, negation, complement, binary, conditional, Table, StatementNode, assign, store, receive, send, choice, loop, Statements, no_statements, statement, Declaration, ProcessNode, Item, channel, source, sink, instance, Description}
 use Rattle.kpn_text_names.specs.declared.scope.NameScope.{NameScope}
@@ -19,18 +20,19 @@ use Rattle.kpn_text_tokens.specs.Results.{and_then}
 use Rattle.kpn_text_names.specs.Names.{name_at, has, declared, number_of, with_name}
 use Rattle.kpn_text_names.specs.declared.tables.SharedTables.{SharedTables}
 use Rattle.kpn_text_names.specs.declared.tables.KnownTables.{KnownTables}
-use Rattle.kpn_text_names.specs.Fault.{each}
-use Rattle.kpn_text_names.specs.Scope.{are_new, scope_with, head_scope, is_port, is_row, is_taken, declared_name, with_declaration, declare, table_values, behind_arrays, target}
+use Rattle.kpn_text_names.specs.Fault.{double, each}
+use Rattle.kpn_text_names.specs.Scope.{are_new, scope_with, head_scope, is_port, is_row, is_taken, declared_name, with_declaration, declare, table_values, behind_arrays, target, with_target}
 use Rattle.kpn_text_names.specs.Shared.{no_shared, with_shared, shared_of, with_use, with_use_if, with_name_used, used_in_term, used_in_statement, used_in}
 use Rattle.kpn_text_names.specs.Body.{statement_in, tree_in}
 use Rattle.kpn_text_names.specs.Blocks.{WrittenBody, body_blocks, body_of}
 use Rattle.kpn_text_names.specs.Network.{Settings, settings_of, Wiring, within_32_bits, with_wired_channel, with_instance, with_wired_item, instance_of, all_channels, wiring}
-use Rattle.kpn_text_names.specs.Named.{NamedProgram, program_with, with_uses, named_program, Programs, with_named_process, programs_of, Named, named_with, resolve}
+use Rattle.kpn_text_names.specs.Named.{NamedProgram, program_with, with_uses, at_body, named_program, Programs, with_named_process, programs_of, Named, named_with, resolve}
 use Rattle.kpn_text_names.specs.NetworkNames.{named_row, named_table, paired, process_names_in, names_in}
 use Rattle.kpn_text_names.specs.Once.{StandOnce, InsideOnce, EachStandsOnce}
 use Rattle.kpn_text_names.proofs.Chains.{ok_is, went}
 use Rattle.kpn_text_names.proofs.Steps.{keeps}
 use Rattle.kpn_text_names.proofs.KnownNames.{if_not, if_so, declared_is}
+use Rattle.kpn_text_names.proofs.KnownTargets.{known_keep}
 use Rattle.kpn_text_names.proofs.Counts.{programs_match}
 
 -- ---- one table
@@ -212,6 +214,19 @@ target_apart shared s x r e apart =
       tables = apart.tables;
     })
 
+-- a target of the body, which is none of the ports
+unless_apart : (shared : List NameBytes) (s : NameScope) (x : NameBytes) (b : Bool) → (is_port s x || is_row shared s x) ≡ b
+    → ScopeApart s → ScopeApart (cond b s (record s { vars = with_name s.vars x }))
+unless_apart shared s x true is apart = apart
+unless_apart shared s x false is apart =
+    target_apart shared s x (record s { vars = with_name s.vars x }, position_or_len (bytes_eq x) s.vars)
+    (ap (λ b. cond b (Err double) (Ok (record s { vars = with_name s.vars x }, position_or_len (bytes_eq x) s.vars))) is)
+    apart
+
+with_target_apart : (shared : List NameBytes) (s : NameScope) (x : NameBytes) → ScopeApart s
+    → ScopeApart (with_target shared s x)
+with_target_apart shared s x apart = unless_apart shared s x (is_port s x || is_row shared s x) refl apart
+
 mutual
   unfolding statement_in tree_in
 
@@ -260,19 +275,21 @@ body_apart shared s b w e apart =
     let r = went (tree_in shared s b) (λ r. Ok (made r)) w e in
     subst (λ v. ScopeApart v.scope) (ok_is (made r.value) w r.rest) (tree_apart shared s b r.value r.first apart)
 
-program_apart : (shared : SharedTables) (p : ProcessNode) (q : NamedProgram) → named_program shared p ≡ Ok q → ScopeApart q.names
-program_apart shared p q e =
+program_apart : (l : Language) (shared : SharedTables) (p : ProcessNode) (q : NamedProgram) → named_program l shared p ≡ Ok q → ScopeApart q.names
+program_apart l shared p q e =
     let h = went (head_scope shared.names p) _ q e in
     let s = went (each (declare shared.names) h.value p.declarations) _ q h.rest in
-    let body = went (body_of shared.names (with_uses shared s.value p.body) p.body) _ q s.rest in
+    let body = went (body_of shared.names (at_body l shared s.value p.body) p.body) _ q s.rest in
     let declared : ScopeApart s.value = keeps (declare shared.names) ScopeApart (declare_apart shared.names) p.declarations
     h.value s.value s.first (head_apart shared.names p h.value h.first) in
     subst (λ made. ScopeApart made.names) (ok_is (program_with shared s.value body.value) q body.rest)
-    (body_apart shared.names (with_uses shared s.value p.body) p.body body.value body.first (record {
+    (body_apart shared.names (at_body l shared s.value p.body) p.body body.value body.first
+    (known_keep (λ t. ScopeApart t) shared.names (with_target_apart shared.names) l (with_uses shared s.value p.body) p.body
+    (record {
       names = declared.names;
       arrays = declared.arrays;
       tables = uses_apart shared s.value.tables p.body declared.tables;
-    }))
+    })))
 
 -- ---- processes
 
@@ -280,22 +297,22 @@ record ProgramsApart (s : Programs) : Type 0 where
   names : Apart s.names
   inside : All (λ q. ScopeApart q.names) s.programs
 
-process_apart : (shared : SharedTables) (s t : Programs) (p : ProcessNode) → with_named_process shared s p ≡ Ok t → ProgramsApart s → ProgramsApart t
-process_apart shared s t p e apart =
+process_apart : (l : Language) (shared : SharedTables) (s t : Programs) (p : ProcessNode) → with_named_process l shared s p ≡ Ok t → ProgramsApart s → ProgramsApart t
+process_apart l shared s t p e apart =
     let made : List NameBytes → NamedProgram → Programs =
     λ names made. record { names = names; programs = s.programs ++ made ∷ [] } in
-    let names = went (declared s.names p.name) (λ names. and_then (named_program shared p) (λ q. Ok (made names q))) t e in
-    let q = went (named_program shared p) (λ q. Ok (made names.value q)) t names.rest in
+    let names = went (declared s.names p.name) (λ names. and_then (named_program l shared p) (λ q. Ok (made names q))) t e in
+    let q = went (named_program l shared p) (λ q. Ok (made names.value q)) t names.rest in
     subst ProgramsApart (ok_is (made names.value q.value) t q.rest)
     (record {
       names = declared_apart s.names names.value p.name names.first apart.names;
-      inside = All-push (λ q. ScopeApart q.names) s.programs q.value apart.inside (program_apart shared p q.value q.first);
+      inside = All-push (λ q. ScopeApart q.names) s.programs q.value apart.inside (program_apart l shared p q.value q.first);
     })
 
-programs_apart : (shared : SharedTables) (processes : List ProcessNode) (p : Programs) → programs_of shared processes ≡ Ok p
+programs_apart : (l : Language) (shared : SharedTables) (processes : List ProcessNode) (p : Programs) → programs_of l shared processes ≡ Ok p
     → ProgramsApart p
-programs_apart shared processes p e =
-    keeps (with_named_process shared) ProgramsApart (process_apart shared) processes (record { names = []; programs = [] }) p e
+programs_apart l shared processes p e =
+    keeps (with_named_process l shared) ProgramsApart (process_apart l shared) processes (record { names = []; programs = [] }) p e
     (record { names = none_apart; inside = λ k d here. absurd (omega arith) })
 
 -- ---- items
@@ -404,15 +421,15 @@ named_once shared s p w tables programs wires match =
       inside = paired_inside p.names p.programs programs.inside;
     }
 
-pub names_stand_once : (d : Description) (n : Named) → resolve d ≡ Ok n → EachStandsOnce (names_in n)
-names_stand_once d n e =
+pub names_stand_once : (l : Language) (d : Description) (n : Named) → resolve l d ≡ Ok n → EachStandsOnce (names_in n)
+names_stand_once l d n e =
     let shared = went (shared_of d.tables) _ n e in
-    let p = went (programs_of shared.value d.processes) _ n shared.rest in
+    let p = went (programs_of l shared.value d.processes) _ n shared.rest in
     let w = went (wiring p.value.names d.network.items) _ n p.rest in
     subst (λ m. EachStandsOnce (names_in m))
     (ok_is (named_with shared.value (settings_of d.network) p.value w.value) n w.rest)
     (named_once shared.value (settings_of d.network) p.value w.value
     (keeps with_shared (λ v. Apart v.names) shared_apart d.tables no_shared shared.value shared.first none_apart)
-    (programs_apart shared.value d.processes p.value p.first)
+    (programs_apart l shared.value d.processes p.value p.first)
     (wiring_apart p.value.names d.network.items w.value w.first)
-    (programs_match shared.value d.processes p.value p.first))
+    (programs_match l shared.value d.processes p.value p.first))

@@ -3,6 +3,7 @@ pub mod Names
 pub mod Rows
 pub mod Scope
 pub mod Shared
+pub mod Targets
 pub mod Body
 pub mod Blocks
 pub mod Network

@@ -6,6 +6,7 @@ use Rattle.kpn_lang.specs.View.{vars_with}
 use Rattle.kpn_lang.specs.Parts.{Parts}
 use Rattle.kpn_net.specs.Tables.{Tables}
 use Rattle.kpn_text_grammar.specs.Syntax.{NameBytes, Statements, ProcessNode, Description}
+use Rattle.kpn_text_tokens.specs.declared.tokens.Language.{Language}
 use Rattle.kpn_text_names.specs.declared.scope.NameScope.{NameScope}
 use Rattle.kpn_text_names.specs.Fault.{NameError, each}
 use Rattle.kpn_text_tokens.specs.Results.{◌>>=◌}
@@ -13,6 +14,7 @@ use Rattle.kpn_text_names.specs.Names.{declared}
 use Rattle.kpn_text_names.specs.declared.tables.SharedTables.{SharedTables}
 use Rattle.kpn_text_names.specs.Scope.{head_scope, declare}
 use Rattle.kpn_text_names.specs.Shared.{shared_of, values_at, used_in}
+use Rattle.kpn_text_names.specs.Targets.{known_before}
 use Rattle.kpn_text_names.specs.Blocks.{WrittenBody, body_of}
 use Rattle.kpn_text_names.specs.Network.{Wiring, Settings, settings_of, wiring}
 
@@ -52,12 +54,16 @@ program_with shared s body =
 abbrev pub with_uses : SharedTables → NameScope → Statements → NameScope
 with_uses shared s b = record s { tables = used_in shared s.tables b }
 
+-- the names that are known at the first statement of a body
+abbrev pub at_body : Language → SharedTables → NameScope → Statements → NameScope
+at_body l shared s b = known_before l shared.names (with_uses shared s b) b
+
 -- a process: its head, its arrays and tables, and its body with the locals that it makes
-abbrev pub named_program : SharedTables → ProcessNode → Result NamedProgram NameError
-named_program shared p = do
+abbrev pub named_program : Language → SharedTables → ProcessNode → Result NamedProgram NameError
+named_program l shared p = do
   h ← head_scope shared.names p
   s ← each (declare shared.names) h p.declarations
-  body ← body_of shared.names (with_uses shared s p.body) p.body
+  body ← body_of shared.names (at_body l shared s p.body) p.body
   Ok (program_with shared s body)
 
 -- the processes so far, with their names
@@ -65,15 +71,15 @@ pub record Programs : Type 0 where
   pub names : List NameBytes
   pub programs : List NamedProgram
 
-abbrev pub with_named_process : SharedTables → Programs → ProcessNode → Result Programs NameError
-with_named_process shared so_far p = do
+abbrev pub with_named_process : Language → SharedTables → Programs → ProcessNode → Result Programs NameError
+with_named_process l shared so_far p = do
   names ← declared so_far.names p.name
-  made ← named_program shared p
+  made ← named_program l shared p
   Ok (record { names = names; programs = so_far.programs ++ made ∷ [] })
 
 -- the processes in the order of the text
-abbrev pub programs_of : SharedTables → List ProcessNode → Result Programs NameError
-programs_of shared processes = each (with_named_process shared) (record { names = []; programs = [] }) processes
+abbrev pub programs_of : Language → SharedTables → List ProcessNode → Result Programs NameError
+programs_of l shared processes = each (with_named_process l shared) (record { names = []; programs = [] }) processes
 
 -- a description with numbers for names: the tables of a network, the shared tables, and the names by number
 pub record Named : Type 0 where
@@ -103,11 +109,11 @@ named_with shared s p w = record {
   channels = w.channel_names;
 }
 
--- what the description names, or what is first wrong with a name in the order of the text
-abbrev pub resolve : Description → Result Named NameError
-resolve d = do
+-- what the description of this language names, or what is first wrong with a name in the order of the text
+abbrev pub resolve : Language → Description → Result Named NameError
+resolve l d = do
   shared ← shared_of d.tables
-  p ← programs_of shared d.processes
+  p ← programs_of l shared d.processes
   w ← wiring p.names d.network.items
   Ok (named_with shared (settings_of d.network) p w)
 

@@ -76,6 +76,10 @@ target shared s x =
     if is_port s x || is_row shared s x then Err double else
     Ok (record s { vars = with_name s.vars x }, position_or_len (bytes_eq x) s.vars)
 
+-- the same before the body is read: a port, an array or a table makes no variable
+abbrev pub with_target : (shared : List NameBytes) → NameScope → NameBytes → NameScope
+with_target shared s x = if is_port s x || is_row shared s x then s else record s { vars = with_name s.vars x }
+
 -- the cells of an array
 abbrev pub array_row : NameScope → NameBytes → Result Row NameError
 array_row s x = known s.arrays.names x >>= λ k. Ok (row_at s.arrays.rows k)

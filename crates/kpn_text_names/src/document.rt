@@ -15,7 +15,7 @@ use crate::tables::SharedTables;
 use kpn_limits::MAX_CAPACITY;
 use kpn_net::{ChannelSpec, Growth, Instance, Policy};
 use kpn_text_grammar::Description;
-use kpn_text_tokens::Number;
+use kpn_text_tokens::{Language, Number};
 use std::alloc::Global;
 
 /// What a description names, by number: the parts of its programs, the tables of its network as `kpn_net::Network::new`
@@ -75,7 +75,8 @@ fn growth(written: Option<Growth>) -> Growth
     }
 }
 
-/// Looks up each name of a description.
+/// Looks up each name of a description of this language. In language 2 a process has the variables that are targets
+/// anywhere in it; in language 1 each from its first target on.
 ///
 /// If 32 bits cannot hold a capacity or a limit, the result has the greatest number that they can.
 ///
@@ -85,12 +86,16 @@ fn growth(written: Option<Growth>) -> Growth
 /// its use, [`NameFault::DoubleName`] at one that is already in its table. [`NameFault::NoMemory`] comes only if memory
 /// ran out.
 #[tactic(auto, unfolding(kpn_text_tokens::specs::Results::and_then))]
-pub fn resolve<'a>(alloc: Global, description: &Description<'a>) -> Result<Named<'a>, NameFault>
-    ensures exact { ResolvingGives named_seen result (spec.resolve (document description.now)) }
+pub fn resolve<'a>(
+    alloc: Global,
+    language: Language,
+    description: &Description<'a>,
+) -> Result<Named<'a>, NameFault>
+    ensures exact { ResolvingGives named_seen result (spec.resolve language (document description.now)) }
     ensures each { IfOk result (λ n. spec.EachIsNamed (named_seen n)) }
 {
     let shared = SharedTables::read(alloc, description.tables.as_slice())?;
-    let processes = Processes::read(alloc, &shared, description.processes.as_slice())?;
+    let processes = Processes::read(alloc, language, &shared, description.processes.as_slice())?;
     let Processes { names, programs } = processes;
     let wiring = Wiring::read(alloc, &names, description.network.items.as_slice())?;
     let Wiring {

@@ -16,11 +16,12 @@ mod process;
 mod rows;
 mod scope;
 mod tables;
+mod targets;
 mod writer;
 
 pub use document::{Named, resolve};
 pub use fault::NameFault;
-pub use laws::{blocks_are_the_tree, names_stand_once};
+pub use laws::{blocks_are_the_tree, names_stand_once, second_resolves_first};
 pub use names::NameTable;
 pub use network_names::{NamedRow, NamedTable, NetworkNames, ProcessNames};
 pub use process::ProgramParts;

@@ -13,6 +13,7 @@ use crate::tables::SharedTables;
 use crate::writer::Writer;
 use kpn_lang::Stmt;
 use kpn_text_grammar::ProcessNode;
+use kpn_text_tokens::Language;
 use std::alloc::Global;
 
 /// What a program is made of, as `kpn_lang::Program::with_cells` takes it, and the names in it. The values of its
@@ -33,16 +34,18 @@ pub struct ProgramParts<'a> {
 #[tactic(auto, unfolding(kpn_text_tokens::specs::Results::and_then))]
 fn program_parts<'a>(
     alloc: Global,
+    language: Language,
     shared: &SharedTables<'a>,
     process: &ProcessNode<'a>,
 ) -> Result<ProgramParts<'a>, NameFault>
     ensures { ResolvingGives (program_seen shared.now) result
-        (named_program shared.now (process_seen process.now)) }
+        (named_program language shared.now (process_seen process.now)) }
 {
     let mut scope = NameScope::of_head(alloc, &shared.names, process)?;
     scope.declare_rows(&shared.names, process.declarations.as_slice())?;
     let pars = scope.vars.len();
     scope.tables.add_all_uses(shared, process.body.as_slice())?;
+    scope.add_known(language, &shared.names, process.body.as_slice())?;
     let mut writer = Writer {
         scope,
         blocks: Vec::new(alloc),
@@ -69,18 +72,19 @@ impl<'a> Processes<'a> {
     /// The processes in the order of the text.
     pub(crate) fn read(
         alloc: Global,
+        language: Language,
         shared: &SharedTables<'a>,
         processes: &[ProcessNode<'a>],
     ) -> Result<Processes<'a>, NameFault>
         ensures { ResolvingGives (programs_seen shared.now) result
-            (programs_of shared.now (map process_seen processes.now)) }
+            (programs_of language shared.now (map process_seen processes.now)) }
     {
         let mut read = Processes {
             names: NameTable::new(alloc),
             programs: Vec::new(alloc),
         };
         for process in processes {
-            read.add(alloc, shared, process)?;
+            read.add(alloc, language, shared, process)?;
         }
         Ok(read)
     }
@@ -90,15 +94,16 @@ impl<'a> Processes<'a> {
     fn add(
         &mut self,
         alloc: Global,
+        language: Language,
         shared: &SharedTables<'a>,
         process: &ProcessNode<'a>,
     ) -> Result<(), NameFault>
         ensures { ResolvingGives (λ _. programs_seen shared.now self.new) result
-            (with_named_process shared.now (programs_seen shared.now self.old)
+            (with_named_process language shared.now (programs_seen shared.now self.old)
             (process_seen process.now)) }
     {
         self.names.declare(&process.name)?;
-        let program = program_parts(alloc, shared, process)?;
+        let program = program_parts(alloc, language, shared, process)?;
         self.programs.push(program)?;
         Ok(())
     }

@@ -1,6 +1,6 @@
 //! The names that a process knows: its ports, its variables, and its arrays and tables.
 
-ghost use Rattle.std.specs.Prelude.{◌≡◌, ◌≤◌, [], length, map, OnOk};
+ghost use Rattle.std.specs.Prelude.{◌≡◌, ◌≤◌, [], length, map, OnOk, IfErr};
 ghost use Rattle.kpn_text_grammar.specs.View.{declaration_seen, names_seen, process_seen};
 ghost use Rattle.kpn_text_names.specs.Fault.{ResolvingGives, each};
 ghost use Rattle.kpn_text_names.specs.Scope as spec;
@@ -205,6 +205,24 @@ impl<'a> NameScope<'a> {
             return Err(NameFault::DoubleName(name.start));
         }
         self.vars.number(name.bytes)
+    }
+
+    /// Adds the variable that a name sets. A port, an array or a table makes none.
+    pub(crate) fn add_target(
+        &mut self,
+        shared: &NameTable<'a>,
+        name: &Identifier<'a>,
+    ) -> Result<(), NameFault>
+        ensures scope { OnOk result
+            (self.new ≡ spec.with_target shared.now self.old name.now.bytes.now) }
+        ensures vars { OnOk result (length self.old.vars ≤ length self.new.vars) }
+        ensures only { IfErr result (λ fault. fault ≡ NameFault.NoMemory) }
+    {
+        if self.is_port(name.bytes) || self.is_row(shared, name.bytes) {
+            return Ok(());
+        }
+        self.vars.number(name.bytes)?;
+        Ok(())
     }
 
     /// The cells of an array.

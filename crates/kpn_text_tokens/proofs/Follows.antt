@@ -5,7 +5,7 @@ use Rattle.std.specs.List.{starts_with}
 use Rattle.std.specs.Prelude.{◌==◌, nat_eq, slice_index}
 use Rattle.std.specs.Str.{bytes_eq}
 use Rattle.std.specs.Str.Parse.{digits_value}
-use Rattle.std.proofs.lemmas.Bool.{and_cases, and_parts, cond_both, eqb-true, leb-false, leb-true, ltb-false, ltb-true, or_left}
+use Rattle.std.proofs.lemmas.Bool.{and_cases, and_parts, cond_both, eqb-true, leb-false, leb-true, ltb-false, ltb-true, or_left, or_right}
 use Rattle.std.proofs.lemmas.Bool.Decides.{Decides-eqb}
 use Rattle.std.proofs.lemmas.Slice.Eq.{bytes_eq-Decides, starts_is}
 use Rattle.kpn_limits.specs.declared.TheConstants.{MAX_DIGITS, MAX_NAME_BYTES}
@@ -17,15 +17,17 @@ use Rattle.kpn_text_tokens.specs.declared.lexer.Piece.{Piece}
 use Rattle.kpn_text_tokens.specs.declared.lexer.Piece.TheVariants as piece
 use Rattle.kpn_text_tokens.specs.declared.tokens.Keyword.{Keyword}
 use Rattle.kpn_text_tokens.specs.declared.tokens.Language.{Language}
-use Rattle.kpn_text_tokens.specs.declared.tokens.Language.{Language}
+use Rattle.kpn_text_tokens.specs.declared.tokens.Language.TheVariants as language
 use Rattle.kpn_text_tokens.specs.declared.tokens.Lexeme.{Lexeme}
 use Rattle.kpn_text_tokens.specs.declared.tokens.Mark.{Mark}
 use Rattle.kpn_text_tokens.specs.declared.tokens.Token.{Token}
 use Rattle.kpn_text_tokens.specs.declared.tokens.Token.TheVariants as token
-use Rattle.kpn_text_tokens.specs.Lexing.{is_white_space, begins_name, run, word_token, word_piece, number_piece, marked, piece_of, cons_lexeme, scan}
-use Rattle.kpn_text_tokens.specs.Rules.{IsWord, IsSpelled, EndsBefore, Reads, done, white, comment, spelled, nothing, bad_number, long_name}
+use Rattle.kpn_text_tokens.specs.Lexing.{is_white_space, begins_name, run, word_token, word_piece, number_piece, numbered, is_in, number_class, numeral_piece, marked, piece_of, cons_lexeme, scan}
+use Rattle.kpn_text_tokens.specs.Rules.{IsWord, IsSpelled, EndsBefore, Reads, done, white, comment, spelled, nothing, bad_number, long_name, quoted, bad_quoted}
+use Rattle.kpn_text_tokens.specs.Numerals.{begins_quote, numeral_value, quoted_length, quoted_value}
+use Rattle.kpn_text_tokens.specs.declared.lexer.Class.{Class}
 use Rattle.kpn_text_tokens.specs.Spelling.{has_keyword, keyword_bytes, keyword_of, keywords, mark_at, mark_bytes}
-use Rattle.kpn_text_tokens.proofs.Pieces.{find_passes, mark_stands, run-cons, run_takes}
+use Rattle.kpn_text_tokens.proofs.Pieces.{find_passes, mark_stands, run-cons}
 use Rattle.kpn_text_tokens.proofs.Runs.{IsRunOf, run_is}
 use Rattle.kpn_text_tokens.proofs.Scanning.{BeginsWith, begins_fits, scan_gap, scan_token, scan_none, scan_long}
 use Rattle.kpn_text_tokens.proofs.Tables.{mark_ends, no_mark_is_found}
@@ -73,29 +75,6 @@ module _ (l : Language) (place : ℕ) (text : List ℕ) where
       (long_name word (drop (length word) text) is front.stops (ltb-true MAX_NAME_BYTES (length word) e)))
       (λ e. word_rule word front is (ltb-false MAX_NAME_BYTES (length word) e) (keyword_of l word) refl)
 
-  -- the front of a text is digits
-  number_piece_rule : (digits : List ℕ) → IsRunOf class.Digit text digits → 0 < length digits
-      → IsRule l place text (number_piece digits)
-  number_piece_rule digits front some =
-      let few = nat_le (length digits) MAX_DIGITS in
-      let small = nat_le (digits_value 10 digits) MAX_NUMBER in
-      cond_both (few && small) (piece.Token (token.Number (digits_value 10 digits)) (length digits)) piece.NoToken
-      (IsRule l place text)
-      (λ e. let both = and_parts few small e in
-      token_rule (token.Number (digits_value 10 digits)) digits front.whole
-      (record {
-        digits = front.all;
-        some = some;
-        few = leb-true (length digits) MAX_DIGITS both.0;
-        has_value =
-            refl;
-        small = leb-true (digits_value 10 digits) MAX_NUMBER both.1;
-      }) front.stops)
-      (λ e. subst (λ (bytes : List ℕ). Reads l place bytes (Err (fault.Token place))) (sym front.whole)
-      (bad_number digits (drop (length digits) text) front.all some front.stops
-      (⊎_elim (λ f. inl (leb-false (length digits) MAX_DIGITS f))
-      (λ f. inr (leb-false (digits_value 10 digits) MAX_NUMBER f)) (and_cases few small e))))
-
   -- the front of a text is a mark
   mark_rule : (m : Mark) → mark_at l text ≡ Some m → IsRule l place text
       (piece.Token (token.Mark m) (length (mark_bytes m)))
@@ -106,6 +85,66 @@ module _ (l : Language) (place : ℕ) (text : List ℕ) where
       let P : List ℕ → Type 0 = λ bytes. mark_at l bytes ≡ Some m in
       token_rule (token.Mark m) (mark_bytes m) whole (stands.has, refl)
       (mark_ends l m (drop (length (mark_bytes m)) text) (subst P whole found))
+
+first_there : (digits : List ℕ) → is_ascii_digit (slice_index digits 0) ≡ true → 0 < length digits
+first_there [] e = absurd (cc)
+first_there (b ∷ bs) e = omega arith
+
+-- the front of a text is a number of language 1
+digits_rule : (place : ℕ) (text digits : List ℕ) → IsRunOf class.Digit text digits
+    → is_ascii_digit (slice_index digits 0) ≡ true → IsRule language.One place text (number_piece digits)
+digits_rule place text digits front first =
+    let few = nat_le (length digits) MAX_DIGITS in
+    let small = nat_le (digits_value 10 digits) MAX_NUMBER in
+    cond_both (few && small) (piece.Token (token.Number (digits_value 10 digits)) (length digits)) piece.NoToken
+    (IsRule language.One place text)
+    (λ e. let both = and_parts few small e in
+    token_rule language.One place text (token.Number (digits_value 10 digits)) digits front.whole
+    (record {
+      digits = front.all;
+      some = first_there digits first;
+      few = leb-true (length digits) MAX_DIGITS both.0;
+      has_value = refl;
+      small = leb-true (digits_value 10 digits) MAX_NUMBER both.1;
+    }) front.stops)
+    (λ e. subst (λ (bytes : List ℕ). Reads language.One place bytes (Err (fault.Token place))) (sym front.whole)
+    (bad_number digits (drop (length digits) text) front.all first front.stops
+    (⊎_elim (λ f. inl (leb-false (length digits) MAX_DIGITS f))
+    (λ f. inr (leb-false (digits_value 10 digits) MAX_NUMBER f)) (and_cases few small e))))
+
+-- and of language 2
+numeral_rule : (place : ℕ) (text word : List ℕ) → IsRunOf class.Word text word
+    → is_ascii_digit (slice_index word 0) ≡ true → (value : Option ℕ) → numeral_value word ≡ value
+    → IsRule language.Two place text (numbered value (length word))
+numeral_rule place text word front first (Some v) is =
+    token_rule language.Two place text (token.Number v) word front.whole
+    (record { begins = first; goes_on = front.all; has_value = is }) front.stops
+numeral_rule place text word front first None is =
+    subst (λ (bytes : List ℕ). Reads language.Two place bytes (Err (fault.Token place))) (sym front.whole)
+    (bad_number word (drop (length word) text) front.all first front.stops is)
+
+-- the run of a number begins with its digit
+number_begins : (c : Class) (b : ℕ) (bs : List ℕ) → is_in c b ≡ true → is_ascii_digit b ≡ true
+    → is_ascii_digit (slice_index (run c (b ∷ bs)) 0) ≡ true
+number_begins c b bs here e =
+    let Q : List ℕ → Type 0 = λ l. is_ascii_digit (slice_index l 0) ≡ true in
+    subst Q (sym (run-cons c b bs here)) e
+
+number_rule : (l : Language) (place b : ℕ) (bs : List ℕ) → is_ascii_digit b ≡ true
+    → IsRule l place (b ∷ bs) (numeral_piece l (run (number_class l) (b ∷ bs)))
+number_rule language.One place b bs e =
+    digits_rule place (b ∷ bs) (run class.Digit (b ∷ bs)) (run_is class.Digit (b ∷ bs))
+    (number_begins class.Digit b bs e e)
+number_rule language.Two place b bs e =
+    let word : List ℕ = run class.Word (b ∷ bs) in
+    numeral_rule place (b ∷ bs) word (run_is class.Word (b ∷ bs))
+    (number_begins class.Word b bs (or_right (begins_name b) (is_ascii_digit b) e) e) (numeral_value word) refl
+
+-- a quote
+quote_rule : (l : Language) (place b : ℕ) (bs : List ℕ) → begins_quote l b ≡ true → (value : Option ℕ)
+    → quoted_value (b ∷ bs) ≡ value → IsRule l place (b ∷ bs) (numbered value (quoted_length (b ∷ bs)))
+quote_rule l place b bs e (Some v) is = λ r more. quoted v e is more
+quote_rule l place b bs e None is = bad_quoted e is
 
 -- a comment
 comment_rule : (l : Language) (place : ℕ) (bs : List ℕ)
@@ -120,15 +159,17 @@ comment_rule l place bs =
 
 -- no piece of another kind: a mark, or nothing
 mark_piece_rule : (l : Language) (place b : ℕ) (bs : List ℕ) → is_white_space b ≡ false → (b == 35) ≡ false
-    → begins_name b ≡ false → is_ascii_digit b ≡ false → (found : Option Mark) → mark_at l (b ∷ bs) ≡ found
+    → begins_name b ≡ false → is_ascii_digit b ≡ false → begins_quote l b ≡ false → (found : Option Mark)
+    → mark_at l (b ∷ bs) ≡ found
     → IsRule l place (b ∷ bs) (marked found)
-mark_piece_rule l place b bs no_space no_comment no_word no_number (Some m) found = mark_rule l place (b ∷ bs) m found
-mark_piece_rule l place b bs no_space no_comment no_word no_number None found =
+mark_piece_rule l place b bs no_space no_comment no_word no_number no_quote (Some m) found = mark_rule l place (b ∷ bs) m found
+mark_piece_rule l place b bs no_space no_comment no_word no_number no_quote None found =
     nothing (record {
       no_space = no_space;
       no_comment = no_comment;
       no_word = no_word;
       no_number = no_number;
+      no_quote = no_quote;
       no_mark =
           no_mark_is_found l (b ∷ bs) found;
     })
@@ -155,9 +196,11 @@ piece_rule l place b bs =
     (λ no_comment. cond_both (begins_name b) _ _ P
     (λ e. word_piece_rule l place (b ∷ bs) (run class.Word (b ∷ bs)) (run_is class.Word (b ∷ bs)) (word_is b bs e))
     (λ no_word. cond_both (is_ascii_digit b) _ _ P
-    (λ e. number_piece_rule l place (b ∷ bs) (run class.Digit (b ∷ bs)) (run_is class.Digit (b ∷ bs))
-    (run_takes class.Digit b bs e).0)
-    (λ no_number. mark_piece_rule l place b bs no_space no_comment no_word no_number (mark_at l (b ∷ bs)) refl))))
+    (λ e. number_rule l place b bs e)
+    (λ no_number. cond_both (begins_quote l b) _ _ P
+    (λ e. quote_rule l place b bs e (quoted_value (b ∷ bs)) refl)
+    (λ no_quote. mark_piece_rule l place b bs no_space no_comment no_word no_number no_quote (mark_at l (b ∷ bs))
+    refl)))))
 
 -- from the piece at the front on
 follows_piece : (l : Language) (place : ℕ) (text : List ℕ) (p : Piece) → BeginsWith l text p → IsRule l place text p

@@ -1,8 +1,10 @@
--- The lemmas. Other crates may cite the public ones: the rules (`Follows`, `TokenLaws`), white space (`Parting`), the
+-- The lemmas. Other crates may cite the public ones: the rules (`Follows`, `TokenLaws`,
+-- `NumeralLaws`), white space (`Parting`), the
 -- tokens without their places (`WithoutPlaces`), the language of a text (`Openings`), and what a search finds
 -- (`Pieces`).
 mod Digits
 pub mod Follows
+pub mod NumeralLaws
 pub mod Openings
 pub mod WithoutPlaces
 pub mod Parting

@@ -1,12 +1,12 @@
 -- The piece at the front of a text takes a byte or more, and no more than the text has.
-use Rattle.std.proofs.Common.{◌≡◌, ℕ, suc, ◌<◌, ◌≤◌, Bool, true, ◌&&◌, List, [], ◌∷◌, length, take, Option, Some, None, refl, sym, ap, ◌∙◌, subst, eqb, nat_lt, nat_le, arith, lit≤, length-take}
+use Rattle.std.proofs.Common.{◌≡◌, ℕ, suc, ◌<◌, ◌≤◌, Bool, true, false, cond, ◌&&◌, List, [], ◌∷◌, length, take, Option, Some, None, refl, sym, ap, ◌∙◌, subst, eqb, nat_lt, nat_le, arith, lit≤, length-take}
 use Rattle.std.specs.Char.{digit_value, is_ascii_digit}
 use Rattle.std.specs.Cmp.Lexicographic.{pointwise}
 use Rattle.std.specs.Int.{IsInRange}
 use Rattle.std.specs.List.{find, prefix_len, starts_with}
-use Rattle.std.specs.Prelude.{nat_eq, ◌==◌}
+use Rattle.std.specs.Prelude.{nat_eq, ◌==◌, slice_index}
 use Rattle.std.specs.Str.Parse.{AllDigits, digits_value}
-use Rattle.std.proofs.lemmas.Bool.{and_parts, cond_both, cond-true, leb-true, or_left}
+use Rattle.std.proofs.lemmas.Bool.{and_parts, cond_both, cond-true, leb-true, or_left, or_right}
 use Rattle.std.proofs.lemmas.Bool.Decides.{nat_tests}
 use Rattle.std.proofs.lemmas.List.Sums.{take_while-cons}
 use Rattle.std.proofs.lemmas.Str.{digit_value_digit}
@@ -17,10 +17,13 @@ use Rattle.kpn_text_tokens.specs.declared.lexer.Class.TheVariants as class
 use Rattle.kpn_text_tokens.specs.declared.lexer.Piece.{Piece}
 use Rattle.kpn_text_tokens.specs.declared.lexer.Piece.TheVariants as piece
 use Rattle.kpn_text_tokens.specs.declared.tokens.Language.{Language}
+use Rattle.kpn_text_tokens.specs.declared.tokens.Language.TheVariants as language
 use Rattle.kpn_text_tokens.specs.declared.tokens.Mark.{Mark}
 use Rattle.kpn_text_tokens.specs.declared.tokens.Mark.TheVariants as mark
 use Rattle.kpn_text_tokens.specs.declared.tokens.Token.TheVariants as token
-use Rattle.kpn_text_tokens.specs.Lexing.{is_white_space, begins_name, is_in, TakesWithin, run, word_token, word_piece, number_piece, marked, mark_piece, piece_of}
+use Rattle.kpn_text_tokens.specs.Lexing.{is_white_space, begins_name, is_in, TakesWithin, run, word_token, word_piece, number_piece, numbered, number_class, numeral_piece, marked, mark_piece, piece_of}
+use Rattle.kpn_text_tokens.specs.Numerals.{begins_quote, numeral_value, quoted_length, quoted_value}
+use Rattle.kpn_text_tokens.proofs.NumeralLaws.{is_quoted}
 use Rattle.kpn_text_tokens.specs.Spelling.{has_mark, keyword_of, mark_at, mark_bytes, marks}
 
 -- what find returns passes the test
@@ -99,6 +102,33 @@ number_fits b bs e =
     (piece.Token (token.Number (digits_value 10 digits)) (length digits)) piece.NoToken (λ p. TakesWithin p size)
     (λ _. run_takes class.Digit b bs e) (λ _. tt)
 
+numeral_fits : (b : ℕ) (bs : List ℕ) (value : Option ℕ) → is_in class.Word b ≡ true
+    → TakesWithin (numbered value (length (run class.Word (b ∷ bs)))) (suc (length bs))
+numeral_fits b bs (Some v) e = run_takes class.Word b bs e
+numeral_fits b bs None e = tt
+
+digit_fits : (l : Language) (b : ℕ) (bs : List ℕ) → is_ascii_digit b ≡ true
+    → TakesWithin (numeral_piece l (run (number_class l) (b ∷ bs))) (suc (length bs))
+digit_fits language.One b bs e = number_fits b bs e
+digit_fits language.Two b bs e =
+    numeral_fits b bs (numeral_value (run class.Word (b ∷ bs))) (or_right (begins_name b) (is_ascii_digit b) e)
+
+-- the same of a text that begins with the digit
+pub digit_takes : (l : Language) (text : List ℕ) → is_ascii_digit (slice_index text 0) ≡ true
+    → TakesWithin (numeral_piece l (run (number_class l) text)) (length text)
+digit_takes l [] e = absurd (cc)
+digit_takes l (b ∷ bs) e = digit_fits l b bs e
+
+pub quote_fits : (text : List ℕ) (value : Option ℕ) → quoted_value text ≡ value
+    → TakesWithin (numbered value (quoted_length text)) (length text)
+quote_fits text None is = tt
+quote_fits text (Some v) is =
+    (length_some (slice_index text 1 == 92), (is_quoted text v is).within)
+  where
+    length_some : (b : Bool) → 1 ≤ cond b 4 3
+    length_some true = omega arith
+    length_some false = omega arith
+
 -- a piece takes at least a byte, and no more than there are
 pub piece_fits : (l : Language) (b : ℕ) (bs : List ℕ) → TakesWithin (piece_of l b (b ∷ bs)) (suc (length bs))
 unfolding piece_of
@@ -112,8 +142,10 @@ piece_fits l b bs =
     (λ _. cond_both (begins_name b) _ _ P
     (λ e. word_fits l b bs (or_left (begins_name b) (is_ascii_digit b) e))
     (λ _. cond_both (is_ascii_digit b) _ _ P
-    (λ e. number_fits b bs e)
-    (λ _. marked_fits l text (mark_at l text) refl))))
+    (λ e. digit_fits l b bs e)
+    (λ _. cond_both (begins_quote l b) _ _ P
+    (λ _. quote_fits text (quoted_value text) refl)
+    (λ _. marked_fits l text (mark_at l text) refl)))))
 
 digit_below_ten : (b : ℕ) → is_ascii_digit b ≡ true → digit_value b < 10
 digit_below_ten b e =

@@ -1,10 +1,10 @@
 -- The laws of the tokens.
-use Rattle.std.proofs.Common.{◌≡◌, ◌⊎◌, ⊎_elim, ℕ, ◌+◌, ◌<◌, ◌≤◌, true, false, ◌&&◌, List, [], ◌∷◌, ◌++◌, length, get_or, Result, nat_le, nat_lt, refl, sym, ap, ◌∙◌, subst, arith, length-append}
+use Rattle.std.proofs.Common.{◌≡◌, ◌⊎◌, ⊎_elim, ℕ, ◌+◌, ◌<◌, ◌≤◌, true, false, ◌&&◌, List, [], ◌∷◌, ◌++◌, length, get_or, Option, Some, None, Result, nat_le, nat_lt, refl, sym, ap, ◌∙◌, subst, arith, length-append}
 use Rattle.std.specs.Char.{is_ascii_digit}
 use Rattle.std.specs.List.{list_all}
-use Rattle.std.specs.Prelude.{◌==◌}
+use Rattle.std.specs.Prelude.{◌==◌, slice_index}
 use Rattle.std.specs.Str.Parse.{digits_value}
-use Rattle.std.proofs.lemmas.Bool.{and_from, and_left, and_parts, and_right, cond-true, cond-false, le-leb, le-ltb, lt-leb, lt-ltb}
+use Rattle.std.proofs.lemmas.Bool.{and_from, and_left, and_parts, and_right, cond-true, cond-false, eqb-true, le-leb, le-ltb, lt-leb, lt-ltb}
 use Rattle.std.proofs.lemmas.Bool.Decides.{nat_tests}
 use Rattle.std.proofs.lemmas.List.{drop_at}
 use Rattle.kpn_limits.specs.declared.TheConstants.{MAX_DIGITS, MAX_NAME_BYTES, MAX_TEXT_BYTES}
@@ -14,14 +14,16 @@ use Rattle.kpn_text_tokens.specs.declared.lexer.LexFault.{LexFault}
 use Rattle.kpn_text_tokens.specs.declared.lexer.Piece.TheVariants as piece
 use Rattle.kpn_text_tokens.specs.declared.tokens.Keyword.{Keyword}
 use Rattle.kpn_text_tokens.specs.declared.tokens.Language.{Language}
+use Rattle.kpn_text_tokens.specs.declared.tokens.Language.TheVariants as language
 use Rattle.kpn_text_tokens.specs.declared.tokens.Lexeme.{Lexeme}
 use Rattle.kpn_text_tokens.specs.declared.tokens.Mark.{Mark}
 use Rattle.kpn_text_tokens.specs.declared.tokens.Token.{Token}
 use Rattle.kpn_text_tokens.specs.declared.tokens.Token.TheVariants as token
 use Rattle.kpn_text_tokens.specs.Laws.{ShortTextIsScanned}
-use Rattle.kpn_text_tokens.specs.Lexing.{is_white_space, begins_name, run, word_token, word_piece, number_piece, marked, piece_of, cons_lexeme, scan}
-use Rattle.kpn_text_tokens.specs.Rules.{AllIn, Stops, IsWord, IsName, IsNumberOf, IsSpelled, EndsBefore, MarkEnds, BeginsNothing, Reads, done, white, comment, spelled, nothing, bad_number, long_name}
-use Rattle.kpn_text_tokens.specs.Spelling.{has_keyword, has_mark, keyword_of, keyword_bytes, mark_bytes}
+use Rattle.kpn_text_tokens.specs.Lexing.{is_white_space, begins_name, run, word_token, word_piece, numbered, number_class, numeral_piece, marked, piece_of, cons_lexeme, scan}
+use Rattle.kpn_text_tokens.specs.Rules.{AllIn, Stops, IsWord, IsName, IsSpelled, EndsBefore, MarkEnds, IsNumber, IsBadNumber, BeginsNothing, Reads, done, white, comment, spelled, nothing, bad_number, long_name, quoted, bad_quoted}
+use Rattle.kpn_text_tokens.specs.Numerals.{begins_quote, quoted_length, quoted_value}
+use Rattle.kpn_text_tokens.specs.Spelling.{is_two, has_keyword, has_mark, keyword_of, keyword_bytes, mark_bytes}
 use Rattle.kpn_text_tokens.proofs.Pieces.{mark_nonempty}
 use Rattle.kpn_text_tokens.proofs.Runs.{run_front}
 use Rattle.kpn_text_tokens.proofs.Scanning.{BeginsWith, scan_gap, scan_token, scan_none, scan_long}
@@ -46,7 +48,7 @@ word_reached l b text e =
 
 -- where a number begins
 number_reached : (l : Language) (b : ℕ) (text : List ℕ) → is_ascii_digit b ≡ true
-    → piece_of l b text ≡ number_piece (run class.Digit text)
+    → piece_of l b text ≡ numeral_piece l (run (number_class l) text)
 unfolding piece_of
 number_reached l b text e =
     let no = digit_byte b e in
@@ -82,24 +84,32 @@ keyword_piece l k rest has stops =
     ∙ ap (λ found. piece.Token (word_token found (keyword_bytes k)) (length (keyword_bytes k)))
     (keyword_is_found l k has)
 
--- digits are the run at the front
-number_run : (l : Language) (digits rest : List ℕ) → AllIn class.Digit digits → 0 < length digits
-    → Stops class.Digit rest
-    → piece_of l (get_or (digits ++ rest) 0 0) (digits ++ rest) ≡ number_piece digits
-number_run l [] rest all some stops = absurd (omega arith)
-number_run l (b ∷ bs) rest all some stops =
-    number_reached l b ((b ∷ bs) ++ rest) (and_parts (is_ascii_digit b) (list_all is_ascii_digit bs) all).0
-    ∙ ap number_piece (run_front class.Digit (b ∷ bs) rest all stops)
+-- the bytes of a number are the run at the front
+number_run : (l : Language) (digits rest : List ℕ) → AllIn (number_class l) digits
+    → is_ascii_digit (slice_index digits 0) ≡ true → Stops (number_class l) rest
+    → piece_of l (get_or (digits ++ rest) 0 0) (digits ++ rest) ≡ numeral_piece l digits
+number_run l [] rest all first stops = absurd (cc)
+number_run l (b ∷ bs) rest all first stops =
+    number_reached l b ((b ∷ bs) ++ rest) first
+    ∙ ap (numeral_piece l) (run_front (number_class l) (b ∷ bs) rest all stops)
+
+first_digit : (digits : List ℕ) → AllIn class.Digit digits → 0 < length digits
+    → is_ascii_digit (slice_index digits 0) ≡ true
+first_digit [] all some = absurd (omega arith)
+first_digit (b ∷ bs) all some = (and_parts (is_ascii_digit b) (list_all is_ascii_digit bs) all).0
 
 -- the piece that a number is
-digits_piece : (l : Language) (value : ℕ) (digits rest : List ℕ) → IsNumberOf value digits → Stops class.Digit rest
+digits_piece : (l : Language) (value : ℕ) (digits rest : List ℕ) → IsNumber l value digits
+    → Stops (number_class l) rest
     → piece_of l (get_or (digits ++ rest) 0 0) (digits ++ rest) ≡ piece.Token (token.Number value) (length digits)
-digits_piece l value digits rest is stops =
+digits_piece language.Two value word rest is stops =
+    number_run language.Two word rest is.goes_on is.begins stops ∙ ap (λ v. numbered v (length word)) is.has_value
+digits_piece language.One value digits rest is stops =
     let test = nat_le (length digits) MAX_DIGITS && nat_le (digits_value 10 digits) MAX_NUMBER in
     let small : digits_value 10 digits ≤ MAX_NUMBER = rw is.has_value is.small in
     let fits : test ≡ true = and_from (nat_le (length digits) MAX_DIGITS) (nat_le (digits_value 10 digits) MAX_NUMBER)
     (le-leb (length digits) MAX_DIGITS is.few) (le-leb (digits_value 10 digits) MAX_NUMBER small) in
-    number_run l digits rest is.digits is.some stops ∙ cond-true test _ _ fits
+    number_run language.One digits rest is.digits (first_digit digits is.digits is.some) stops ∙ cond-true test _ _ fits
     ∙ ap (λ v. piece.Token (token.Number v) (length digits)) is.has_value
 
 -- the piece that a mark is
@@ -107,6 +117,11 @@ mark_piece_is : (l : Language) (m : Mark) (rest : List ℕ) → has_mark l m ≡
     → piece_of l (get_or (mark_bytes m ++ rest) 0 0) (mark_bytes m ++ rest) ≡ piece.Token (token.Mark m)
     (length (mark_bytes m))
 mark_piece_is l m rest has ends = mark_is_reached l m rest ∙ ap marked (mark_is_found l m rest has ends)
+
+number_nonempty : (l : Language) (value : ℕ) (bytes : List ℕ) → IsNumber l value bytes → 0 < length bytes
+number_nonempty language.One value bytes is = is.some
+number_nonempty language.Two value [] is = absurd (let no = is.begins in cc)
+number_nonempty language.Two value (b ∷ bs) is = omega arith
 
 -- a name has a byte
 name_nonempty : (name : List ℕ) → IsWord name → 0 < length name
@@ -127,7 +142,10 @@ spelled_begins l (token.Name name) bytes rest is ends =
           sym (name_piece l name rest is.0 ends);
     })
 spelled_begins l (token.Number value) bytes rest is ends =
-    record { some = front_nonempty bytes rest is.some; is = sym (digits_piece l value bytes rest is ends) }
+    record {
+      some = front_nonempty bytes rest (number_nonempty l value bytes is);
+      is = sym (digits_piece l value bytes rest is ends);
+    }
 spelled_begins l (token.Mark m) bytes rest is ends =
     let P : List ℕ → Type 0 = λ text. BeginsWith l (text ++ rest) (piece.Token (token.Mark m) (length text)) in
     subst P (sym is.1) (record {
@@ -182,23 +200,47 @@ nothing_begins l b bs none = record {
   some = omega arith;
   is = sym (cond-false (is_white_space b) _ _ none.no_space ∙ cond-false (b == 35) _ _ none.no_comment
       ∙ cond-false (begins_name b) _ _ none.no_word ∙ cond-false (is_ascii_digit b) _ _ none.no_number
-      ∙ ap marked (no_mark_stands l (b ∷ bs) none.no_mark));
+      ∙ cond-false (begins_quote l b) _ _ none.no_quote ∙ ap marked (no_mark_stands l (b ∷ bs) none.no_mark));
 }
 
 -- digits that are too many, or too great a number
-bad_number_begins : (l : Language) (digits rest : List ℕ) → AllIn class.Digit digits → 0 < length digits
-    → Stops class.Digit rest → (MAX_DIGITS < length digits) ⊎ (MAX_NUMBER < digits_value 10 digits)
+bad_number_begins : (l : Language) (digits rest : List ℕ) → AllIn (number_class l) digits
+    → is_ascii_digit (slice_index digits 0) ≡ true → Stops (number_class l) rest → IsBadNumber l digits
     → BeginsWith l (digits ++ rest) piece.NoToken
-bad_number_begins l digits rest all some stops bad =
+bad_number_begins l [] rest all first stops bad = absurd (cc)
+bad_number_begins language.Two (b ∷ bs) rest all first stops bad = record {
+  some = omega arith;
+  is = sym (number_run language.Two (b ∷ bs) rest all first stops ∙ ap (λ v. numbered v (length (b ∷ bs))) bad);
+}
+bad_number_begins language.One (b ∷ bs) rest all first stops bad =
+    let digits : List ℕ = b ∷ bs in
     let few = nat_le (length digits) MAX_DIGITS in
     let small = nat_le (digits_value 10 digits) MAX_NUMBER in
     let fails : (few && small) ≡ false = ⊎_elim (λ many. and_left few small (lt-leb (length digits) MAX_DIGITS many))
     (λ great. and_right few small (lt-leb (digits_value 10 digits) MAX_NUMBER great)) bad in
     record {
-      some = front_nonempty digits rest some;
-      is =
-          sym (number_run l digits rest all some stops ∙ cond-false (few && small) _ _ fails);
+      some = omega arith;
+      is = sym (number_run language.One digits rest all first stops ∙ cond-false (few && small) _ _ fails);
     }
+
+-- what begins a quote begins nothing else
+quote_byte : (l : Language) (b : ℕ) → begins_quote l b ≡ true
+    → (is_white_space b ≡ false) × ((b == 35) ≡ false) × (begins_name b ≡ false) × (is_ascii_digit b ≡ false)
+quote_byte l b e =
+    let quote : b ≡ 39 = eqb-true b 39 (and_parts (b == 39) (is_two l) e).0 in
+    subst (λ c. (is_white_space c ≡ false) × ((c == 35) ≡ false) × (begins_name c ≡ false) × (is_ascii_digit c ≡ false))
+    (sym quote) (refl, refl, refl, refl)
+
+-- a quote, whether it has a value or not
+quote_begins : (l : Language) (b : ℕ) (bs : List ℕ) (value : Option ℕ) → begins_quote l b ≡ true
+    → quoted_value (b ∷ bs) ≡ value → BeginsWith l (b ∷ bs) (numbered value (quoted_length (b ∷ bs)))
+unfolding piece_of
+quote_begins l b bs value e is = let no = quote_byte l b e in record {
+  some = omega arith;
+  is = sym (cond-false (is_white_space b) _ _ no.0 ∙ cond-false (b == 35) _ _ no.1
+      ∙ cond-false (begins_name b) _ _ no.2 ∙ cond-false (is_ascii_digit b) _ _ no.3
+      ∙ cond-true (begins_quote l b) _ _ e ∙ ap (λ v. numbered v (quoted_length (b ∷ bs))) is);
+}
 
 -- a name that is too long
 long_name_begins : (l : Language) (word rest : List ℕ) → IsWord word → Stops class.Word rest
@@ -222,7 +264,11 @@ rules_scan {l} {place} (spelled t bytes rest is ends more) =
     scan_spelled l place t bytes rest is ends ∙ ap (λ r. cons_lexeme (record { token = t; start = place }) r)
     (rules_scan more)
 rules_scan {l} {place} (nothing {b} {bs} none) = scan_none l (b ∷ bs) place (nothing_begins l b bs none)
-rules_scan {l} {place} (bad_number digits rest all some stops bad) =
-    scan_none l (digits ++ rest) place (bad_number_begins l digits rest all some stops bad)
+rules_scan {l} {place} (bad_number digits rest all first stops bad) =
+    scan_none l (digits ++ rest) place (bad_number_begins l digits rest all first stops bad)
+rules_scan {l} {place} (quoted {b} {bs} value e is more) =
+    scan_token l (b ∷ bs) place (quoted_length (b ∷ bs)) (token.Number value) (quote_begins l b bs (Some value) e is)
+    ∙ ap (λ r. cons_lexeme (record { token = token.Number value; start = place }) r) (rules_scan more)
+rules_scan {l} {place} (bad_quoted {b} {bs} e is) = scan_none l (b ∷ bs) place (quote_begins l b bs None e is)
 rules_scan {l} {place} (long_name word rest is stops long) =
     scan_long l (word ++ rest) place (long_name_begins l word rest is stops long)

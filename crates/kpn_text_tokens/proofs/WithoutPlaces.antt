@@ -1,11 +1,11 @@
 -- The tokens of a text without their places.
-use Rattle.std.proofs.Common.{◌≡◌, ℕ, zero, suc, ◌+◌, ◌-◌, ◌<◌, ◌^◌, List, [], ◌∷◌, length, Option, Some, None, Result, Ok, Err, nat_le, refl, sym, ap, ◌∙◌, arith}
+use Rattle.std.proofs.Common.{◌≡◌, ℕ, zero, suc, ◌+◌, ◌-◌, ◌<◌, ◌≤◌, ◌||◌, ◌^◌, List, [], ◌∷◌, length, Option, Some, None, Result, Ok, Err, nat_le, refl, sym, ap, ◌∙◌, subst, arith}
 use Rattle.std.specs.Char.{is_ascii_digit}
 use Rattle.std.specs.Fmt.{decimal}
 use Rattle.std.specs.Int.{IsInRange}
 use Rattle.std.specs.List.{AllByRecursion, list_all}
-use Rattle.std.specs.Str.Parse.{AllDigits}
-use Rattle.std.proofs.lemmas.Bool.{and_from, le-leb}
+use Rattle.std.specs.Str.Parse.{AllDigits, digits_value}
+use Rattle.std.proofs.lemmas.Bool.{and_from, and_parts, le-leb, or_right}
 use Rattle.std.proofs.lemmas.List.{map-append}
 use Rattle.std.proofs.lemmas.Fmt.{decimal_is_IsNumeral, length-decimal-le}
 use Rattle.std.proofs.lemmas.Str.Parse.{digit_from_value}
@@ -14,12 +14,16 @@ use Rattle.kpn_text_tokens.specs.declared.lexer.LexFault.{LexFault}
 use Rattle.kpn_text_tokens.specs.declared.lexer.Piece.{Piece}
 use Rattle.kpn_text_tokens.specs.declared.lexer.Piece.TheVariants as piece
 use Rattle.kpn_text_tokens.specs.declared.tokens.Language.{Language}
+use Rattle.kpn_text_tokens.specs.declared.tokens.Language.TheVariants as language
+use Rattle.kpn_text_tokens.specs.declared.tokens.TheConstants.{MAX_NUMBER}
 use Rattle.kpn_text_tokens.specs.declared.tokens.Lexeme.{Lexeme}
 use Rattle.kpn_text_tokens.specs.declared.tokens.Token.{Token}
+use Rattle.kpn_text_tokens.specs.declared.tokens.Token.TheVariants as token
 use Rattle.kpn_text_tokens.specs.Laws.{DecimalIsSpelled, EmptyTextHasNoTokens, HasSpelling, ReadTokensAreSpelled, SpelledTokenIsRead, TokensKeepTheirKind, WhiteSpaceIsDropped, WhiteSpaceSeparatesTokens, append_tokens, cons_token, followed_by, tokens_in, tokens_of}
-use Rattle.kpn_text_tokens.specs.Lexing.{after, cons_lexeme, piece_of, scan}
-use Rattle.kpn_text_tokens.specs.Rules.{AllIn, Reads, done, white, comment, spelled, nothing, bad_number, long_name}
+use Rattle.kpn_text_tokens.specs.Lexing.{begins_name, is_in, after, cons_lexeme, piece_of, scan}
+use Rattle.kpn_text_tokens.specs.Rules.{AllIn, IsNumeralOf, Reads, done, white, comment, spelled, nothing, bad_number, long_name, quoted, bad_quoted}
 use Rattle.kpn_text_tokens.proofs.Follows.{scan_rules}
+use Rattle.kpn_text_tokens.proofs.NumeralLaws.{decimal_numeral, is_quoted}
 use Rattle.kpn_text_tokens.proofs.Parting.{white_space_separates}
 use Rattle.kpn_text_tokens.proofs.TokenLaws.{scan_spelled, scan_white}
 
@@ -86,8 +90,31 @@ all_digits (d ∷ ds) digits =
     and_from (is_ascii_digit d) (list_all is_ascii_digit ds)
     (and_from (nat_le 48 d) (nat_le d 57) (le-leb 48 d range.0) (le-leb d 57 range.1)) (all_digits ds digits.1)
 
+digits_are_words : (ds : List ℕ) → AllIn class.Digit ds → AllIn class.Word ds
+digits_are_words [] all = refl
+digits_are_words (d ∷ ds) all =
+    let parts = and_parts (is_ascii_digit d) (list_all is_ascii_digit ds) all in
+    and_from (begins_name d || is_ascii_digit d) (list_all (is_in class.Word) ds)
+    (or_right (begins_name d) (is_ascii_digit d) parts.0) (digits_are_words ds parts.1)
+
+-- decimal digits in language 2
+digits_spelled : (n : ℕ) (ds : List ℕ) → AllDigits 10 ds → 0 < length ds → digits_value 10 ds ≡ n → n ≤ MAX_NUMBER
+    → IsNumeralOf n ds
+digits_spelled n [] digits some value small = absurd (omega arith)
+digits_spelled n (d ∷ ds) digits some value small =
+    let all = all_digits (d ∷ ds) digits in
+    record {
+      begins = (and_parts (is_ascii_digit d) (list_all is_ascii_digit ds) all).0;
+      goes_on = digits_are_words (d ∷ ds) all;
+      has_value = decimal_numeral d ds digits (subst (λ m. m ≤ MAX_NUMBER) (sym value) small) ∙ ap (λ m. Some m) value;
+    }
+
 pub decimal_spelled : DecimalIsSpelled
-decimal_spelled l n small =
+decimal_spelled language.Two n small =
+    let fits : n < 2 ^ 64 = omega arith in
+    let numeral = decimal_is_IsNumeral n fits in
+    digits_spelled n (decimal n) numeral.0.1 numeral.0.0 numeral.1 (omega arith)
+decimal_spelled language.One n small =
     let fits : n < 2 ^ 64 = omega arith in
     let numeral = decimal_is_IsNumeral n fits in
     record {
@@ -117,7 +144,12 @@ reads_spelled {l} {place} (spelled t bytes rest {r} is ends tail) =
     rw (tokens_in-cons (record { token = t; start = place }) r)
     (cons_spelled l t (tokens_in r) (bytes, is) (reads_spelled tail))
 reads_spelled (nothing none) = tt
-reads_spelled (bad_number digits rest all some stops bad) = tt
+reads_spelled (bad_number digits rest all first stops bad) = tt
+reads_spelled {l} {place} (quoted {b} {bs} value {r} e is tail) =
+    rw (tokens_in-cons (record { token = token.Number value; start = place }) r)
+    (cons_spelled l (token.Number value) (tokens_in r)
+    (decimal value, decimal_spelled l value (is_quoted (b ∷ bs) value is).small) (reads_spelled tail))
+reads_spelled (bad_quoted e is) = tt
 reads_spelled (long_name word rest is stops long) = tt
 
 pub read_spelled : ReadTokensAreSpelled

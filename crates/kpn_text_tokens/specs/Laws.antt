@@ -1,6 +1,6 @@
 -- The laws of the tokens, on which the layers above depend: a scan reads what the rules say, and how the parts of a
 -- printed text are read.
-use Rattle.std.specs.Prelude.{◌≡◌, ℕ, ◌+◌, ◌<◌, ◌≤◌, ◌^◌, ◌⊎◌, ◌↔◌, true, not, ◌==◌, List, [], ◌∷◌, ◌++◌, length, map, Option, Some, None, Result, Ok, Err}
+use Rattle.std.specs.Prelude.{◌≡◌, ℕ, ◌+◌, ◌<◌, ◌≤◌, ◌^◌, ◌⊎◌, ◌↔◌, Bool, true, not, ◌||◌, ◌==◌, List, [], ◌∷◌, ◌++◌, length, map, Option, Some, None, Result, Ok, Err}
 use Rattle.std.specs.Fmt.{decimal}
 use Rattle.std.specs.List.{AllByRecursion, list_all}
 use Rattle.kpn_limits.specs.declared.TheConstants.{MAX_TEXT_BYTES}
@@ -10,6 +10,7 @@ use Rattle.kpn_text_tokens.specs.declared.tokens.Lexeme.{Lexeme}
 use Rattle.kpn_text_tokens.specs.declared.tokens.Token.{Token}
 use Rattle.kpn_text_tokens.specs.declared.tokens.Token.TheVariants as token
 use Rattle.kpn_text_tokens.specs.Lexing.{is_white_space, lexemes_of, scan}
+use Rattle.kpn_text_tokens.specs.Numerals.{begins_quote}
 use Rattle.kpn_text_tokens.specs.Rules.{EndsBefore, IsSpelled, Reads}
 
 -- A scan returns what the rules say, and they allow only one result.
@@ -28,13 +29,17 @@ followed_by (Ok front) (Ok ls) = Ok (front ++ ls)
 followed_by (Ok front) (Err fault) = Err fault
 followed_by (Err fault) r = Err fault
 
--- A byte of white space ends what comes before it, if that is no comment; a line feed ends a comment too.
-abbrev pub Separates : ℕ → List ℕ → Type 0
-Separates w before = (is_white_space w ≡ true) × ((w ≡ 10) ⊎ (list_all (λ b. not (b == 35)) before ≡ true))
+-- what the byte begins may go on with white space: a comment, or a quote of language 2
+abbrev pub may_hide : Language → ℕ → Bool
+may_hide l b = b == 35 || begins_quote l b
+
+-- A byte of white space ends what comes before it, if that is no comment and no quote; a line feed ends both.
+abbrev pub Separates : Language → ℕ → List ℕ → Type 0
+Separates l w before = (is_white_space w ≡ true) × ((w ≡ 10) ⊎ (list_all (λ b. not (may_hide l b)) before ≡ true))
 
 -- What comes before such a byte is read by itself, and then what comes after it.
 abbrev pub WhiteSpaceSeparates : Type 0
-WhiteSpaceSeparates = (l : Language) (place w : ℕ) (before rest : List ℕ) → Separates w before
+WhiteSpaceSeparates = (l : Language) (place w : ℕ) (before rest : List ℕ) → Separates l w before
     → scan l 0 place (before ++ w ∷ rest) ≡
     followed_by (scan l 0 place before) (scan l 0 (place + length before + 1) rest)
 
@@ -78,7 +83,7 @@ WhiteSpaceIsDropped =
 
 -- White space parts the tokens of a text.
 abbrev pub WhiteSpaceSeparatesTokens : Type 0
-WhiteSpaceSeparatesTokens = (l : Language) (w : ℕ) (before rest : List ℕ) → Separates w before
+WhiteSpaceSeparatesTokens = (l : Language) (w : ℕ) (before rest : List ℕ) → Separates l w before
     → tokens_of l (before ++ w ∷ rest) ≡ append_tokens (tokens_of l before) (tokens_of l rest)
 
 -- A number in canonical decimal is spelled.

@@ -14,10 +14,12 @@ use Rattle.kpn_text_tokens.specs.declared.lexer.Piece.{Piece}
 use Rattle.kpn_text_tokens.specs.declared.lexer.Piece.TheVariants as piece
 use Rattle.kpn_text_tokens.specs.declared.tokens.Keyword.{Keyword}
 use Rattle.kpn_text_tokens.specs.declared.tokens.Language.{Language}
+use Rattle.kpn_text_tokens.specs.declared.tokens.Language.TheVariants as language
 use Rattle.kpn_text_tokens.specs.declared.tokens.Lexeme.{Lexeme}
 use Rattle.kpn_text_tokens.specs.declared.tokens.Mark.{Mark}
 use Rattle.kpn_text_tokens.specs.declared.tokens.Token.{Token}
 use Rattle.kpn_text_tokens.specs.declared.tokens.Token.TheVariants as token
+use Rattle.kpn_text_tokens.specs.Numerals.{begins_quote, numeral_value, quoted_length, quoted_value}
 use Rattle.kpn_text_tokens.specs.Spelling.{keyword_of, mark_at, mark_bytes}
 
 -- space, tab, carriage return, line feed
@@ -55,6 +57,24 @@ number_piece digits =
     then piece.Token (token.Number (digits_value 10 digits)) (length digits)
     else piece.NoToken
 
+-- a number of this value in so many bytes, or no token
+abbrev pub numbered : Option ℕ → ℕ → Piece
+numbered (Some value) n = piece.Token (token.Number value) n
+numbered None n = piece.NoToken
+
+-- what a number goes on with: in language 2 with letters, digits and `_`
+abbrev pub number_class : Language → Class
+number_class language.One = class.Digit
+number_class language.Two = class.Word
+
+-- the number that such bytes are
+abbrev pub numeral_piece : Language → List ℕ → Piece
+numeral_piece language.One digits = number_piece digits
+numeral_piece language.Two word = numbered (numeral_value word) (length word)
+
+abbrev pub quoted_piece : List ℕ → Piece
+quoted_piece text = numbered (quoted_value text) (quoted_length text)
+
 -- the mark that was found, or no token
 abbrev pub marked : Option Mark → Piece
 marked (Some mark) = piece.Token (token.Mark mark) (length (mark_bytes mark))
@@ -69,8 +89,9 @@ piece_of l b text =
     if is_white_space b then piece.Gap 1
     else (if b == 35 then piece.Gap (length (run class.Comment text))
     else (if begins_name b then word_piece l (run class.Word text)
-    else (if is_ascii_digit b then number_piece (run class.Digit text)
-    else mark_piece l text)))
+    else (if is_ascii_digit b then numeral_piece l (run (number_class l) text)
+    else (if begins_quote l b then quoted_piece text
+    else mark_piece l text))))
 
 -- Scaffolding, of the one call that finds a piece: it takes a byte or more, and no more than there are.
 abbrev pub TakesWithin : Piece → ℕ → Type 0

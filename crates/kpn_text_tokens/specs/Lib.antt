@@ -6,3 +6,4 @@ pub mod Opening
 pub mod Results
 pub mod Rules
 pub mod Spelling
+pub mod Numerals

@@ -1,6 +1,6 @@
 -- The rules by which a text is read in a language, as the format states them: how each token is spelled, what may
 -- follow it, and what is a fault. They say nothing about how a scan works.
-use Rattle.std.specs.Prelude.{◌≡◌, ℕ, ◌+◌, ◌<◌, ◌≤◌, ◌⊎◌, true, false, ◌==◌, List, [], ◌∷◌, ◌++◌, length, slice_index, codes, None, Result, Ok, Err, nat_eq}
+use Rattle.std.specs.Prelude.{◌≡◌, ℕ, ◌+◌, ◌<◌, ◌≤◌, ◌⊎◌, true, false, ◌==◌, List, [], ◌∷◌, ◌++◌, length, drop, slice_index, codes, Option, Some, None, Result, Ok, Err, nat_eq}
 use Rattle.std.specs.Char.{is_ascii_digit}
 use Rattle.std.specs.List.{list_all, starts_with}
 use Rattle.std.specs.Str.Parse.{digits_value}
@@ -17,7 +17,8 @@ use Rattle.kpn_text_tokens.specs.declared.tokens.Mark.{Mark}
 use Rattle.kpn_text_tokens.specs.declared.tokens.Mark.TheVariants as mark
 use Rattle.kpn_text_tokens.specs.declared.tokens.Token.{Token}
 use Rattle.kpn_text_tokens.specs.declared.tokens.Token.TheVariants as token
-use Rattle.kpn_text_tokens.specs.Lexing.{is_white_space, begins_name, is_in, cons_lexeme}
+use Rattle.kpn_text_tokens.specs.Lexing.{is_white_space, begins_name, is_in, number_class, cons_lexeme}
+use Rattle.kpn_text_tokens.specs.Numerals.{begins_quote, numeral_value, quoted_length, quoted_value}
 use Rattle.kpn_text_tokens.specs.Spelling.{has_keyword, has_mark, keyword_of, keyword_bytes, mark_bytes}
 
 -- all bytes are of a class
@@ -48,10 +49,25 @@ pub record IsNumberOf (value : ℕ) (bytes : List ℕ) : Type 0 where
   pub has_value : digits_value 10 bytes ≡ value
   pub small : value ≤ MAX_NUMBER
 
--- the bytes spell the token in a language, which has it
+-- in language 2 a digit, and then letters, digits and `_` that have a value
+pub record IsNumeralOf (value : ℕ) (bytes : List ℕ) : Type 0 where
+  pub begins : is_ascii_digit (slice_index bytes 0) ≡ true
+  pub goes_on : AllIn class.Word bytes
+  pub has_value : numeral_value bytes ≡ Some value
+
+abbrev pub IsNumber : Language → ℕ → List ℕ → Type 0
+IsNumber language.One value bytes = IsNumberOf value bytes
+IsNumber language.Two value bytes = IsNumeralOf value bytes
+
+-- the bytes are too many, or have too great a value, or in language 2 none
+abbrev pub IsBadNumber : Language → List ℕ → Type 0
+IsBadNumber language.One digits = (MAX_DIGITS < length digits) ⊎ (MAX_NUMBER < digits_value 10 digits)
+IsBadNumber language.Two word = numeral_value word ≡ None
+
+-- the bytes spell the token in a language, which has it. In language 2 a number may also be a byte in quotes, as below
 abbrev pub IsSpelled : Language → Token → List ℕ → Type 0
 IsSpelled l (token.Name name) bytes = IsName l name × (bytes ≡ name)
-IsSpelled l (token.Number value) bytes = IsNumberOf value bytes
+IsSpelled l (token.Number value) bytes = IsNumber l value bytes
 IsSpelled l (token.Mark mark) bytes = (has_mark l mark ≡ true) × (bytes ≡ mark_bytes mark)
 IsSpelled l (token.Keyword keyword) bytes = (has_keyword l keyword ≡ true) × (bytes ≡ keyword_bytes keyword)
 
@@ -73,7 +89,7 @@ MarkEnds l _ rest = Unit {0}
 -- the token is the longest there: what follows does not go on with it
 abbrev pub EndsBefore : Language → Token → List ℕ → Type 0
 EndsBefore l (token.Name name) rest = Stops class.Word rest
-EndsBefore l (token.Number value) rest = Stops class.Digit rest
+EndsBefore l (token.Number value) rest = Stops (number_class l) rest
 EndsBefore l (token.Mark mark) rest = MarkEnds l mark rest
 EndsBefore l (token.Keyword keyword) rest = Stops class.Word rest
 
@@ -83,6 +99,7 @@ pub record BeginsNothing (l : Language) (b : ℕ) (bs : List ℕ) : Type 0 where
   pub no_comment : (b == 35) ≡ false
   pub no_word : begins_name b ≡ false
   pub no_number : is_ascii_digit b ≡ false
+  pub no_quote : begins_quote l b ≡ false
   pub no_mark : (m : Mark) → has_mark l m ≡ true → starts_with nat_eq (b ∷ bs) (mark_bytes m) ≡ false
 
 -- In a language a text that begins at a place is read as these lexemes, or has this first fault.
@@ -96,8 +113,14 @@ pub data Reads (l : Language) : ℕ → List ℕ → Result (List Lexeme) LexFau
       → EndsBefore l t rest → Reads l (place + length bytes) rest r
       → Reads l place (bytes ++ rest) (cons_lexeme (record { token = t; start = place }) r)
   nothing : {place b : ℕ} {bs : List ℕ} → BeginsNothing l b bs → Reads l place (b ∷ bs) (Err (fault.Token place))
-  bad_number : {place : ℕ} (digits rest : List ℕ) → AllIn class.Digit digits → 0 < length digits
-      → Stops class.Digit rest → (MAX_DIGITS < length digits) ⊎ (MAX_NUMBER < digits_value 10 digits)
+  bad_number : {place : ℕ} (digits rest : List ℕ) → AllIn (number_class l) digits
+      → is_ascii_digit (slice_index digits 0) ≡ true → Stops (number_class l) rest → IsBadNumber l digits
       → Reads l place (digits ++ rest) (Err (fault.Token place))
+  quoted : {place b : ℕ} {bs : List ℕ} (value : ℕ) {r : Result (List Lexeme) LexFault} → begins_quote l b ≡ true
+      → quoted_value (b ∷ bs) ≡ Some value
+      → Reads l (place + quoted_length (b ∷ bs)) (drop (quoted_length (b ∷ bs)) (b ∷ bs)) r
+      → Reads l place (b ∷ bs) (cons_lexeme (record { token = token.Number value; start = place }) r)
+  bad_quoted : {place b : ℕ} {bs : List ℕ} → begins_quote l b ≡ true → quoted_value (b ∷ bs) ≡ None
+      → Reads l place (b ∷ bs) (Err (fault.Token place))
   long_name : {place : ℕ} (word rest : List ℕ) → IsWord word → Stops class.Word rest → MAX_NAME_BYTES < length word
       → Reads l place (word ++ rest) (Err (fault.TooLong place))

@@ -1,10 +1,12 @@
 //! Cuts a text into its tokens: again and again the piece at the front, which is white space, a
 //! comment or the longest token there.
 
-ghost use Rattle.std.specs.Prelude.{◌≡◌, ◌<◌, ◌≤◌, length, slice_index};
+ghost use Rattle.std.specs.Prelude.{◌≡◌, ◌<◌, ◌≤◌, ◌^◌, length, slice_index};
+ghost use Rattle.std.specs.Option.{ForSome};
 ghost use Rattle.std.specs.Str.Parse.{AllDigits, digits_value};
 ghost use Rattle.kpn_text_tokens.specs.Lexing as spec;
 
+use crate::numerals::{begins_quote, numeral_value, quoted_length, quoted_value};
 use crate::tokens::{Keyword, Language, Lexeme, MAX_NUMBER, Mark, Name, Number, Token};
 use kpn_limits::{MAX_DIGITS, MAX_NAME_BYTES, MAX_TEXT_BYTES};
 use std::alloc::{AllocFailed, Global};
@@ -133,6 +135,37 @@ fn number_piece<'a>(digits: &[u8]) -> Piece<'a>
     Piece::Token(Token::Number(Number::new(value)), digits.len())
 }
 
+/// A number of this value in so many bytes as a piece.
+fn numbered<'a>(value: Option<u64>, length: usize) -> Piece<'a>
+    requires { ForSome value (λ v. v < 2 ^ 63) }
+    ensures { result ≡ spec.numbered value length }
+{
+    match value {
+        Some(value) => Piece::Token(Token::Number(Number::new(value)), length),
+        None => Piece::NoToken,
+    }
+}
+
+/// What a digit at the front of a text begins.
+fn digit_piece(language: Language, text: &[u8]) -> Piece<'_>
+    ensures { result ≡ spec.numeral_piece language (spec.run (spec.number_class language) text.now) }
+{
+    match language {
+        Language::One => number_piece(run(Class::Digit, text)),
+        Language::Two => {
+            let word = run(Class::Word, text);
+            numbered(numeral_value(word), word.len())
+        }
+    }
+}
+
+/// What a quote at the front of a text begins.
+fn quoted_piece(text: &[u8]) -> Piece<'_>
+    ensures { result ≡ spec.quoted_piece text.now }
+{
+    numbered(quoted_value(text), quoted_length(text))
+}
+
 /// The mark at the front of a text as a piece.
 fn mark_piece<'a>(language: Language, text: &[u8]) -> Piece<'a>
     ensures { result ≡ spec.mark_piece language text.now }
@@ -158,7 +191,9 @@ pub(crate) fn first_piece(language: Language, text: &[u8]) -> Piece<'_>
     } else if begins_name(first) {
         word_piece(language, run(Class::Word, text))
     } else if first.is_ascii_digit() {
-        number_piece(run(Class::Digit, text))
+        digit_piece(language, text)
+    } else if begins_quote(language, first) {
+        quoted_piece(text)
     } else {
         mark_piece(language, text)
     }
@@ -167,16 +202,17 @@ pub(crate) fn first_piece(language: Language, text: &[u8]) -> Piece<'_>
 /// The tokens of a text in a language, each with the byte at which it begins; or its first fault.
 ///
 /// White space (space, tab, carriage return, line feed) and comments (from `#` up to the next line feed, with any bytes
-/// in them) may come between tokens and are dropped. The longest token counts each time, so `12abc` is a number and a
-/// name, `<=` is one mark, and `<<=` in language 2 is `<<` and `=`.
+/// in them) may come between tokens and are dropped. The longest token counts each time, so `12abc` in language 1 is a
+/// number and a name, `<=` is one mark, and `<<=` in language 2 is `<<` and `=`. In language 2 a number goes on with
+/// letters, digits and `_`.
 ///
 /// # Errors
 ///
 /// If the text is longer than [`MAX_TEXT_BYTES`], the error is [`LexFault::TooLong`] at that byte, before anything
 /// else. Else it is the first of these in the text, at its first byte:
 ///
-/// - [`LexFault::Token`] if no token begins there, or if a run of digits has more than [`MAX_DIGITS`] or a value above
-///   [`MAX_NUMBER`];
+/// - [`LexFault::Token`] if no token begins there, or if a number has a value above [`MAX_NUMBER`], in language 1 more
+///   than [`MAX_DIGITS`] digits, or in language 2 a letter that is no digit of it;
 /// - [`LexFault::TooLong`] at a name of more than [`MAX_NAME_BYTES`].
 ///
 /// [`LexFault::NoMemory`] comes only if memory ran out.

@@ -7,7 +7,10 @@ syntax match kpnError /[^ \t\r]/
 syntax match kpnPunctuation /[][(){};,]/
 syntax match kpnOperator /[-+*\/%<>!=~&|^?:]/
 syntax match kpnOperator /<=\|>=\|==\|!=\|&&\|||/
-syntax match kpnNumber /[0-9]\+/
+syntax match kpnNumber /[0-9]\+\%(_[0-9]\+\)*/
+syntax match kpnNumber /0x[0-9A-Fa-f_]\+/
+syntax match kpnNumber /0b[01_]\+/
+syntax match kpnNumber /'\%([ -&(-\[\]-~]\|\\[n\\'0]\)'/
 syntax match kpnError /[0-9]\{20,}/
 syntax match kpnName /[A-Za-z_][A-Za-z0-9_]*/
 syntax match kpnError /[A-Za-z_][A-Za-z0-9_]\{32,}/

@@ -131,7 +131,7 @@ def process_of(process: Process) -> Dict[str, Any]:
     """A process: its ports, its text as somebody wrote it, its canonical lines, and where these stand in the text."""
     canonical = str(process)
     lines, starts = canonical.splitlines(), [it.start for it in tokens_of(canonical)]
-    ends = {it.start: it.start + len(it.text) for it in tokens_of(process.source)}
+    ends = {it.start: it.start + len(it.text) for it in tokens_of(process.source, process.language)}
     spans, at = [], 0
     for line in lines:
         first, end = (bisect.bisect_left(starts, it) for it in (at + len(line) - len(line.lstrip()), at + len(line)))

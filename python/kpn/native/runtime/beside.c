@@ -32,7 +32,7 @@ struct end {
 
 struct kpn_beside {
   const struct kpn_plan *plan;
-  struct kpn_folder folder;
+  int net;           /* the file of the network */
   struct end *ends;  /* of each channel; `pipe` is -1 of one inside */
   char *words[2 * KPN_MOST_CHANNELS + 16];
   size_t word_count;
@@ -103,12 +103,12 @@ static bool make_end(struct kpn_beside *beside, unsigned c) {
 }
 
 static bool make_words(struct kpn_beside *beside, const struct kpn_run *run) {
-  char number[32], *net = kpn_store_text(&beside->folder, beside->plan->text);
-  bool is_made = net != NULL;
+  char number[32], net[KPN_NAMELESS];
+  beside->net = kpn_store_nameless(beside->plan->text, strlen(beside->plan->text));
+  bool is_made = beside->net >= 0;
   word(beside, run->program);
   word(beside, "stream");
-  word(beside, net ? net : "");
-  free(net);
+  word(beside, kpn_name_nameless(beside->net, net));
   word(beside, "--format");
   word(beside, "s64le");
   for (unsigned c = 0; c < beside->plan->channel_count && is_made; c++) {
@@ -149,9 +149,7 @@ static void drop(struct kpn_beside *beside) {
   }
   close_pipe(&beside->told_pipe);
   close_pipe(&beside->told_far);
-  if (beside->folder.path[0]) {
-    kpn_drop_folder(&beside->folder);
-  }
+  close_pipe(&beside->net);
   for (size_t k = 0; k < beside->word_count; k++) {
     free(beside->words[k]);
   }
@@ -164,11 +162,11 @@ static bool start(struct kpn_beside *beside, const struct kpn_run *run) {
   size_t count = beside->plan->channel_count;
   beside->ends = calloc(count + 1, sizeof *beside->ends);
   beside->told = malloc(MOST_TOLD);
-  beside->told_pipe = beside->told_far = -1;
+  beside->told_pipe = beside->told_far = beside->net = -1;
   for (size_t c = 0; beside->ends && c < count; c++) {
     beside->ends[c].pipe = beside->ends[c].far = -1;
   }
-  if (!beside->ends || !beside->told || !kpn_make_folder(&beside->folder) || !make_words(beside, run)) {
+  if (!beside->ends || !beside->told || !make_words(beside, run)) {
     return false;
   }
   beside->child = fork();

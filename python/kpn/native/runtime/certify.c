@@ -6,78 +6,50 @@
 #include <unistd.h>
 
 #include "judge.h"
+#include "program.h"
 
-enum { MOST_COMMITS = 1000000000 };
+/* A name has 32 bytes at most. */
+enum { MOST_COMMITS = 1000000000, WORD = 96 };
 
 static bool write_to(void *to, const char *text, size_t length) {
   return kpn_write_all(*(int *)to, text, length);
 }
 
-static char *store_history(struct kpn_folder *folder, const struct kpn_run *run) {
-  int to;
-  char *path = kpn_open_next(folder, &to);
+/* Stores the history for the judge; -1 says that it can't. */
+static int store_history(const struct kpn_run *run) {
   const struct kpn_plan *plan = run->network.plan;
-  if (to < 0 || !kpn_history_write(&run->history, plan->is_policy_all, plan->is_growth_double, write_to, &to) ||
-      close(to) != 0) {
-    free(path);
-    return NULL;
+  int to = kpn_open_nameless();
+  if (to >= 0 && !kpn_history_write(&run->history, plan->is_policy_all, plan->is_growth_double, write_to, &to)) {
+    close(to);
+    return -1;
   }
-  return path;
+  return to;
 }
 
-/* Reads a word up to a space or a line feed, and tells which. */
-static int next_word(FILE *from, char *word, size_t room) {
-  size_t length = 0;
-  int byte = getc_unlocked(from);
-  while (byte != ' ' && byte != '\n' && byte != EOF) {
-    if (length + 1 < room) {
-      word[length++] = (char)byte;
-    }
-    byte = getc_unlocked(from);
-  }
-  word[length] = 0;
-  return byte;
-}
-
-/* Compares the journal in the rest of a line with what a run gave of a sink: all of it, or as many as --take says. If
-   only the first events were judged, the journal begins what the run gave. */
-static bool is_given(FILE *from, int last, const struct kpn_run *run, const struct kpn_text_items *given) {
-  char word[64];
-  size_t count = 0;
-  bool is_right = true;
-  while (last == ' ') {
-    int64_t item;
-    last = next_word(from, word, sizeof word);
-    if (count == given->count && run->words.has_take && count == run->words.take) {
-      continue;
-    }
-    is_right = is_right && count < given->count && kpn_read_item(word, strlen(word), &item) &&
-               given->items[count] == item;
-    count++;
-  }
-  return is_right && (count == given->count || run->history.count > run->history.most);
+/* Whether a sink gave the items of its journal: all, or as many as --take says. If only the first events were judged,
+   the journal begins what the run gave. */
+static bool is_given(const struct kpn_run *run, size_t given, struct kpn_compared found) {
+  bool is_cut = run->history.count > run->history.most, is_enough = run->words.has_take && given == run->words.take;
+  return (found.same == found.length && (is_cut || given == found.length)) || (found.same == given && is_enough);
 }
 
 /* Reads what `kpn audit` says behind its first line. */
 static bool are_all_given(FILE *from, const struct kpn_run *run, bool *is_exact, const char **wrong) {
   char word[64];
-  next_word(from, word, sizeof word);
-  int last = next_word(from, word, sizeof word);
+  bool is_there = true;
+  kpn_next_word(from, word, sizeof word);
+  kpn_next_word(from, word, sizeof word);
   *is_exact = strcmp(word, "yes") == 0;
-  for (size_t c = 0; c < run->network.plan->channel_count && last != EOF; c++) {
-    static const struct kpn_text_items none;
-    bool is_sink = run->network.plan->channels[c].kind == KPN_SINK, is_right;
-    last = next_word(from, word, sizeof word);
-    while (word[0] && word[strlen(word) - 1] != ':') {
-      last = next_word(from, word, sizeof word);
-    }
-    is_right = is_given(from, last, run, is_sink ? &run->sinks[c].list : &none);
-    if (is_sink && !is_right) {
+  for (size_t c = 0; c < run->network.plan->channel_count && is_there; c++) {
+    const struct kpn_text_items *list = &run->sinks[c].list;
+    struct kpn_compared found;
+    is_there = kpn_compare_journal(from, list->items, list->count, &found);
+    if (run->network.plan->channels[c].kind == KPN_SINK && !(is_there && is_given(run, list->count, found))) {
       *wrong = run->network.plan->channels[c].name;
       return false;
     }
   }
-  return last != EOF;
+  return is_there;
 }
 
 /* Judges the answer of `kpn audit`. */
@@ -97,8 +69,7 @@ static int judge(FILE *from, const struct kpn_run *run) {
     return kpn_refuse(KPN_NOT_CERTIFIED, "not certified: the items of the sink `%s` are not those of the history",
                       wrong ? wrong : "?");
   }
-  if (!is_cut && is_exact != (run->outcome == KPN_ENDED) && run->outcome != KPN_ENOUGH &&
-      run->outcome != KPN_STOPPED) {
+  if (!is_cut && is_exact != (run->outcome == KPN_ENDED) && run->outcome != KPN_ENOUGH && run->outcome != KPN_STOPPED) {
     return kpn_refuse(KPN_NOT_CERTIFIED, "not certified: the outcome is not that of the history");
   }
   if (is_cut) {
@@ -109,28 +80,24 @@ static int judge(FILE *from, const struct kpn_run *run) {
 }
 
 int kpn_certify(struct kpn_run *run) {
-  struct kpn_folder folder;
   pid_t child;
-  int status = KPN_NOT_CERTIFIED;
-  if (!kpn_make_folder(&folder)) {
-    return kpn_refuse(status, "not certified: no folder can be made in TMPDIR");
-  }
-  char *net = kpn_store_text(&folder, run->network.plan->text), *trace = store_history(&folder, run);
-  char *words[] = {(char *)run->program, "audit", net, trace, "--steps", "1000000000", NULL};
-  FILE *from = net && trace ? kpn_start_judge(words, &child) : NULL;
+  const char *text = run->network.plan->text;
+  char net_word[KPN_NAMELESS], trace_word[KPN_NAMELESS];
+  int status = KPN_NOT_CERTIFIED, net = kpn_store_nameless(text, strlen(text)), trace = store_history(run);
+  kpn_name_nameless(net, net_word);
+  kpn_name_nameless(trace, trace_word);
+  char *words[] = {(char *)run->program, "audit", net_word, trace_word, "--steps", "1000000000", NULL};
+  FILE *from = net >= 0 && trace >= 0 ? kpn_start_judge(words, &child) : NULL;
   if (from) {
     status = judge(from, run);
-    while (getc_unlocked(from) != EOF) {
-    }
     if (kpn_finish_judge(from, child) != 0 && status == 0) {
       status = kpn_refuse(KPN_NOT_CERTIFIED, "not certified: `kpn audit` has failed");
     }
   } else {
-    kpn_refuse(status, "not certified: the trace cannot be stored in %s, or `kpn` cannot be started", folder.path);
+    kpn_refuse(status, "not certified: the trace cannot be stored in TMPDIR, or `kpn` cannot be started");
   }
-  kpn_drop_folder(&folder);
-  free(net);
-  free(trace);
+  kpn_close_nameless(net);
+  kpn_close_nameless(trace);
   return status;
 }
 
@@ -150,10 +117,11 @@ static bool compare(void *to, const char *text, size_t length) {
   return true;
 }
 
-static char *store_items(struct kpn_folder *folder, const struct kpn_text_items *list) {
-  int to;
-  char *path = kpn_open_next(folder, &to), line[32];
-  FILE *file = to >= 0 ? fdopen(to, "w") : NULL;
+/* Stores items for the judge; -1 says that it can't. */
+static int store_items(const struct kpn_text_items *list) {
+  char line[32];
+  int to = kpn_open_nameless(), copy = to >= 0 ? dup(to) : -1;
+  FILE *file = copy >= 0 ? fdopen(copy, "w") : NULL;
   bool is_stored = file != NULL;
   for (size_t k = 0; is_stored && k < list->count; k++) {
     char *end = kpn_digits(line, list->items[k]);
@@ -161,10 +129,10 @@ static char *store_items(struct kpn_folder *folder, const struct kpn_text_items 
     is_stored = fwrite(line, 1, (size_t)(end - line), file) == (size_t)(end - line);
   }
   if ((file && fclose(file) != 0) || !is_stored) {
-    free(path);
-    return NULL;
+    kpn_close_nameless(to);
+    return -1;
   }
-  return path;
+  return to;
 }
 
 /* The most commits that `kpn run` may make for a run. This one counts its commits in its own way, unless a turn is one
@@ -176,65 +144,84 @@ static uint64_t most_commits(const struct kpn_run *run) {
   return run->words.has_most_commits ? run->words.most_commits : KPN_USUAL_COMMITS;
 }
 
-/* The words of `kpn run` for a run: 2 for each source, and 8 at most beside these. */
-static bool run_words(struct kpn_folder *folder, const struct kpn_run *run, char **words) {
-  char number[32], *path;
-  size_t count = 0;
-  words[count++] = strdup(run->program);
-  words[count++] = strdup("run");
-  words[count++] = kpn_store_text(folder, run->network.plan->text);
+/* The words of `kpn run` for a run, and the files that they name. */
+struct question {
+  char *words[2 * KPN_MOST_CHANNELS + 16];
+  int files[KPN_MOST_CHANNELS + 1];
+  size_t count, file_count;
+  bool is_right;
+};
+
+static void add_word(struct question *to, const char *text) {
+  char *copy = strdup(text);
+  to->is_right = to->is_right && copy;
+  to->words[to->count++] = copy;
+}
+
+static void add_number(struct question *to, const char *option, uint64_t number) {
+  char text[32];
+  *kpn_digits(text, (int64_t)number) = 0;
+  add_word(to, option);
+  add_word(to, text);
+}
+
+static void add_file(struct question *to, const char *before, int file) {
+  char text[WORD], name[KPN_NAMELESS];
+  snprintf(text, sizeof text, "%s%s", before, kpn_name_nameless(file, name));
+  add_word(to, text);
+  to->is_right = to->is_right && file >= 0;
+  to->files[to->file_count++] = file;
+}
+
+static void ask(struct question *to, const struct kpn_run *run) {
+  char before[WORD / 2];
+  add_word(to, run->program);
+  add_word(to, "run");
+  add_file(to, "", kpn_store_nameless(run->network.plan->text, strlen(run->network.plan->text)));
   for (size_t k = 0; k < run->words.source_count; k++) {
     const struct kpn_end *source = &run->words.sources[k];
-    path = store_items(folder, &run->lists[source->channel]);
-    words[count++] = strdup("--source");
-    words[count++] = path ? malloc(KPN_PATH + 64) : NULL;
-    if (path && words[count - 1]) {
-      snprintf(words[count - 1], KPN_PATH + 64, "%s=%s", source->name, path);
-    }
-    free(path);
+    snprintf(before, sizeof before, "%s=", source->name);
+    add_word(to, "--source");
+    add_file(to, before, store_items(&run->lists[source->channel]));
   }
-  words[count++] = strdup("--max-commits");
-  *kpn_digits(number, (int64_t)most_commits(run)) = 0;
-  words[count++] = strdup(number);
+  add_number(to, "--max-commits", most_commits(run));
   if (run->words.has_take) {
-    *kpn_digits(number, (int64_t)run->words.take) = 0;
-    words[count++] = strdup("--take");
-    words[count++] = strdup(number);
+    add_number(to, "--take", run->words.take);
   }
-  for (size_t k = 0; k < count; k++) {
-    if (!words[k]) {
-      return false;
-    }
+}
+
+static void free_question(struct question *of) {
+  for (size_t k = 0; k < of->count; k++) {
+    free(of->words[k]);
   }
-  return true;
+  for (size_t k = 0; k < of->file_count; k++) {
+    kpn_close_nameless(of->files[k]);
+  }
+  free(of);
 }
 
 int kpn_compare_runs(struct kpn_run *run) {
-  struct kpn_folder folder;
   pid_t child;
-  size_t most = 2 * run->words.source_count + 8;
+  struct question *question = calloc(1, sizeof *question);
+  struct comparison comparison = {.is_same = true};
   if (run->outcome == KPN_STOPPED && !run->network.plan->is_one_talk) {
+    free(question);
     return kpn_refuse(0, "not checked: the run was stopped, and reports no items");
   }
-  char **words = calloc(most, sizeof *words);
-  if (!words || !kpn_make_folder(&folder)) {
-    free(words);
-    return kpn_refuse(KPN_NOT_CERTIFIED, "not checked: no folder can be made in TMPDIR");
+  if (question) {
+    question->is_right = true;
+    ask(question, run);
+    comparison.from = question->is_right ? kpn_start_judge(question->words, &child) : NULL;
+    free_question(question);
   }
-  struct comparison comparison = {run_words(&folder, run, words) ? kpn_start_judge(words, &child) : NULL, true};
-  if (comparison.from) {
-    kpn_report(run, compare, &comparison);
-    comparison.is_same = comparison.is_same && getc_unlocked(comparison.from) == EOF;
-    while (getc_unlocked(comparison.from) != EOF) {
-    }
-    kpn_finish_judge(comparison.from, child);
+  if (!comparison.from) {
+    return kpn_refuse(KPN_NOT_CERTIFIED,
+                      "not checked: its items cannot be stored in TMPDIR, or `kpn` cannot be started");
   }
-  kpn_drop_folder(&folder);
-  for (size_t k = 0; k < most; k++) {
-    free(words[k]);
-  }
-  free(words);
-  if (!comparison.from || !comparison.is_same) {
+  kpn_report(run, compare, &comparison);
+  comparison.is_same = comparison.is_same && getc_unlocked(comparison.from) == EOF;
+  kpn_finish_judge(comparison.from, child);
+  if (!comparison.is_same) {
     return kpn_refuse(KPN_NOT_CERTIFIED, "not checked: `kpn run` does not give this report");
   }
   return kpn_refuse(0, "checked: the report is that of `kpn run`");

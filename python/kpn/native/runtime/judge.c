@@ -3,53 +3,48 @@
 
 #include <errno.h>
 #include <fcntl.h>
+#include <signal.h>
 #include <stdlib.h>
 #include <string.h>
+#ifdef __linux__
+#include <sys/prctl.h>
+#endif
 #include <sys/wait.h>
 #include <unistd.h>
 
-bool kpn_make_folder(struct kpn_folder *folder) {
+#include "files.h"
+
+enum { PATH = 4096, WORD = 64 };
+
+int kpn_open_nameless(void) {
+  char path[PATH];
   const char *base = getenv("TMPDIR");
-  folder->file_count = 0;
-  int length = snprintf(folder->path, sizeof folder->path, "%s/kpn-XXXXXX", base && *base ? base : "/tmp");
-  return length > 0 && length < KPN_PATH - 64 && mkdtemp(folder->path);
-}
-
-/* The path of a file by its number; the texts live until the folder is dropped. */
-static char *path_of(const struct kpn_folder *folder, size_t number) {
-  char *path = malloc(KPN_PATH);
-  if (path) {
-    snprintf(path, KPN_PATH, "%.*s/%zu", KPN_PATH - 32, folder->path, number);
+  int length = snprintf(path, sizeof path, "%s/kpn-XXXXXX", base && *base ? base : "/tmp");
+  int file = length > 0 && length < PATH ? mkstemp(path) : -1;
+  if (file >= 0) {
+    unlink(path);
   }
-  return path;
+  return file;
 }
 
-char *kpn_open_next(struct kpn_folder *folder, int *to) {
-  char *path = path_of(folder, folder->file_count);
-  *to = path ? open(path, O_WRONLY | O_CREAT | O_TRUNC | O_CLOEXEC, 0600) : -1;
-  folder->file_count += *to >= 0;
-  return path;
-}
-
-void kpn_drop_folder(struct kpn_folder *folder) {
-  for (size_t k = 0; k < folder->file_count; k++) {
-    char *path = path_of(folder, k);
-    if (path) {
-      unlink(path);
-      free(path);
-    }
+int kpn_store_nameless(const char *text, size_t length) {
+  int file = kpn_open_nameless();
+  if (file >= 0 && !kpn_write_all(file, text, length)) {
+    close(file);
+    return -1;
   }
-  rmdir(folder->path);
+  return file;
 }
 
-char *kpn_store_text(struct kpn_folder *folder, const char *text) {
-  int to;
-  char *path = kpn_open_next(folder, &to);
-  if (to < 0 || !kpn_write_all(to, text, strlen(text)) || close(to) != 0) {
-    free(path);
-    return NULL;
+char *kpn_name_nameless(int file, char *word) {
+  snprintf(word, KPN_NAMELESS, "/dev/fd/%d", file);
+  return word;
+}
+
+void kpn_close_nameless(int file) {
+  if (file >= 0) {
+    close(file);
   }
-  return path;
 }
 
 void kpn_become(char *const *words) {
@@ -65,6 +60,9 @@ FILE *kpn_start_judge(char *const *words, pid_t *child) {
   }
   *child = fork();
   if (*child == 0) {
+#ifdef __linux__
+    prctl(PR_SET_PDEATHSIG, SIGKILL); /* it does not outlive who asks */
+#endif
     dup2(ends[1], STDOUT_FILENO);
     kpn_become(words);
   }
@@ -78,6 +76,8 @@ FILE *kpn_start_judge(char *const *words, pid_t *child) {
 
 int kpn_finish_judge(FILE *from, pid_t child) {
   int status;
+  while (getc_unlocked(from) != EOF) {
+  }
   fclose(from);
   while (waitpid(child, &status, 0) < 0) {
     if (errno != EINTR) {
@@ -85,4 +85,35 @@ int kpn_finish_judge(FILE *from, pid_t child) {
     }
   }
   return WIFEXITED(status) ? WEXITSTATUS(status) : -1;
+}
+
+int kpn_next_word(FILE *from, char *word, size_t room) {
+  size_t length = 0;
+  int byte = getc_unlocked(from);
+  while (byte != ' ' && byte != '\n' && byte != EOF) {
+    if (length + 1 < room) {
+      word[length++] = (char)byte;
+    }
+    byte = getc_unlocked(from);
+  }
+  word[length] = 0;
+  return byte;
+}
+
+bool kpn_compare_journal(FILE *from, const int64_t *items, size_t count, struct kpn_compared *found) {
+  char word[WORD], *end;
+  bool is_same = true;
+  int last;
+  *found = (struct kpn_compared){0};
+  do { /* the name and the capacity */
+    last = getc_unlocked(from);
+  } while (last != ':' && last != EOF);
+  last = last == ':' ? getc_unlocked(from) : EOF;
+  while (last == ' ') {
+    last = kpn_next_word(from, word, sizeof word);
+    is_same = is_same && found->length < count && items[found->length] == strtoll(word, &end, 10) && !*end;
+    found->length++;
+    found->same += is_same;
+  }
+  return last != EOF;
 }

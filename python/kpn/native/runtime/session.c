@@ -218,12 +218,25 @@ uint32_t kpn_is_complete(kpn_session *session, size_t channel, bool *complete) {
   return KPN_OK;
 }
 
+/* Whether the caller has done all: each source is closed, and each sink is empty or left. */
+static bool is_outside_done(const struct kpn_network *network) {
+  for (size_t c = 0; c < network->plan->channel_count; c++) {
+    const struct kpn_channel *own = &network->channels[c];
+    if ((is_of_kind(network, c, KPN_SOURCE) && !own->is_shut) ||
+        (is_of_kind(network, c, KPN_SINK) && !own->is_shut && own->put != own->got)) {
+      return false;
+    }
+  }
+  return true;
+}
+
 uint32_t kpn_verdict(kpn_session *session, uint32_t *verdict) {
   if (!session || !verdict) return KPN_NULL;
   *verdict = 0;
   if (!session->at) return KPN_NO_SESSION;
   const struct kpn_network *network = kpn_network_of(session);
-  *verdict = network->lock.is_on && kpn_lock_has_work(network) ? (uint32_t)KPN_GOING : kpn_verdict_of(network);
+  bool is_going = !is_outside_done(network) || (network->lock.is_on && kpn_lock_has_work(network));
+  *verdict = is_going ? (uint32_t)KPN_GOING : kpn_verdict_of(network);
   return KPN_OK;
 }
 

@@ -2,9 +2,10 @@
 use Rattle.std.proofs.Common.{IfErr, ap, not, rules, subst}
 use Rattle.std.proofs.lemmas.Result.{IfErr-weaker}
 use Rattle.kpn_command_base.specs.Outputs.{AreAllApart, IsRefusalOfOutputs}
+use Rattle.kpn_command_stream.specs.declared.command.Words.{Words}
 use Rattle.kpn_command_stream.specs.Words.{names_standard}
 use Rattle.kpn_command_stream.proofs.Listing.{asked_are, words_kept}
-use Rattle.kpn_command_stream.proofs.Refusing.{output_word}
+use Rattle.kpn_command_stream.proofs.Refusing.{are_taken, output_word}
 use Rattle.kpn_command_stream.proofs.command.check_words.Goals as goal
 
 pub returns-clause-apart : goal.returns-clause-apart
@@ -28,3 +29,11 @@ returns-in_err-outputs-clause-cause g c =
     search rules in
     IfErr-weaker c.from_residual-in_err-outputs.result (IsRefusalOfOutputs may_alias c.asked_of-asked.result) _
     (output_word may_alias c.args.request.now c.asked_of-asked.result asked) cause
+
+pub returns-clause-words : goal.returns-clause-words
+returns-clause-words g c =
+    let words : Words = record { sources = c.in_ok-sources.sources; sinks = c.in_ok-outputs.outputs.sinks } in
+    record {
+      ends = are_taken words c.args.request.now (search rules) (search rules) (search rules) (search rules);
+      trace = search rules;
+    }

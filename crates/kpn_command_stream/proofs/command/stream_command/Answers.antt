@@ -1,4 +1,7 @@
 -- A stream, or a refusal that is reported.
+use Rattle.std.proofs.Common.{[], ◌∷◌, ◌++◌, subst}
+use Rattle.kpn_command_base.specs.Told.{IsLineTold}
+use Rattle.kpn_command_stream.specs.Refusal.{refusal_text}
 use Rattle.kpn_command_stream.specs.Command.{streamed, refused}
 use Rattle.kpn_command_stream.proofs.command.stream_command.Goals as goal
 
@@ -6,4 +9,8 @@ pub returns-in-Ok : goal.returns-in-Ok
 returns-in-Ok g c = streamed c.in-Ok.ensures.streamed
 
 pub returns-in-Err : goal.returns-in-Err
-returns-in-Err g c = refused c.in-Err.refusal c.in-Err.ensures.cause c.in-Err.ensures.refused c.report.ensures
+returns-in-Err g c =
+    refused c.in-Err.refusal c.in-Err.ensures.cause c.in-Err.ensures.refused
+    (subst (λ (err : g.row.E.Denot). IsLineTold (g.E.Write.contents err) (g.E.Write.contents c.report.new.err)
+    (refusal_text c.in-Err.refusal ++ 10 ∷ [])) c.in-Err.ensures.untold c.report.ensures.told)
+    c.report.ensures.status

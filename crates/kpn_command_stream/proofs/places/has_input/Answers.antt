@@ -7,4 +7,8 @@ pub loop-place-preserved : goal.loop-place-preserved
 loop-place-preserved g c =
     all_next (λ (place : EndPlace). g.S.Ports.are_two_inputs c.args.shelf.now place.name.now c.args.name.now)
     c.args.places.now c.loop-place.place-index _ c.loop-place-test.true c.loop-place.invariant
-    (c.is_one_input.ensures c.if-is_one_input.false)
+    (c.is_one_input.ensures.two c.if-is_one_input.false)
+
+pub returns-then-is_one_input-clause-shared : goal.returns-then-is_one_input-clause-shared
+returns-then-is_one_input-clause-shared g c = λ _ all.
+    all c.loop-place.place-index _ c.loop-place-test.true (c.is_one_input.ensures.one c.if-is_one_input.true)

@@ -4,7 +4,7 @@ use Rattle.kpn_stream_devices.specs.Formats.{NamesFormat}
 use Rattle.kpn_command_stream.specs.Formats.{format_word}
 use Rattle.kpn_command_stream.specs.EndPlaces.{ArePlaced}
 use Rattle.kpn_command_stream.specs.declared.places.EndPlace.{EndPlace}
-use Rattle.kpn_command_stream.proofs.Worded.{placed_more}
+use Rattle.kpn_command_stream.proofs.Worded.{placed_more, says_none}
 use Rattle.kpn_command_stream.proofs.places.place_each.Goals as goal
 
 pub loop-number-preserved : goal.loop-number-preserved
@@ -18,3 +18,6 @@ loop-number-preserved c =
     (sym c.name_for.ensures ∙ ap (option_map (λ (name : Bor (List ℕ)). name.now)) c.in-Some.is)
     (subst (λ (name : List ℕ). NamesFormat (format_word words name) c.in-Some-format_for.format)
     c.channel_name-in-loop-number.ensures c.in-Some-format_for.ensures))
+
+pub returns-in_default-format_for-clause-cause : goal.returns-in_default-format_for-clause-cause
+returns-in_default-format_for-clause-cause c = says_none _ _ c.in_default-format_for.ensures

@@ -27,9 +27,11 @@ returns-clause-placed c =
 pub returns-clause-cause : goal.returns-clause-cause
 returns-clause-cause c =
     IfErr-weaker c.places_by.result _ _
-    (unplaced c.args.ends c.args.document.now _ c.in_ok-named.named.items c.in_ok-named.ensures.named)
+    (unplaced c.args.ends c.args.document.now _ (map (λ word. word.now) c.args.formats.now) c.in_ok-named.named.items
+    c.in_ok-named.ensures.named)
     (subst
     (λ (named : List NamedEnd).
     IfErr c.places_by.result
-    (IsUnplacedBy c.args.ends named (length (end_numbers (is_end c.args.ends) c.args.document.now.tables))))
+    (IsUnplacedBy c.args.ends named (length (end_numbers (is_end c.args.ends) c.args.document.now.tables))
+    (map (λ word. word.now) c.args.formats.now)))
     c.deref.ensures.value c.places_by.ensures.cause)

@@ -1,5 +1,6 @@
 -- The run, from standard input and output as they were to what they are afterwards.
-use Rattle.std.proofs.Common.{refl, rules}
+use Rattle.std.proofs.Common.{refl, rules, subst}
+use Rattle.kpn_book.specs.Remembering.{Remembers}
 use Rattle.kpn_command_stream.proofs.Keeping.{ran_by}
 use Rattle.kpn_command_stream.proofs.running.run_between.Goals as goal
 
@@ -20,3 +21,8 @@ returns-clause-ran g c =
       output_is = refl;
       output_written = search rules;
     }
+
+pub returns-clause-kept : goal.returns-clause-kept
+returns-clause-kept g c =
+    subst (λ keeping. Remembers keeping c.in_ok-streamed.streamed.book) c.keeping_of.ensures
+    c.in_ok-streamed.ensures.kept

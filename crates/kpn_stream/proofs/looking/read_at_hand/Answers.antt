@@ -13,7 +13,7 @@ returns-then-not-has_come g c = not_read refl refl c.has_come.ensures.looked
 pub returns : goal.returns
 returns g c =
     is_read c.has_come.new.sources c.has_come.ensures.looked (c.has_come.ensures.at_hand c.if-not-has_come.false)
-    c.read.ensures
+    c.read.ensures.reads
 
 pub is_due-requires : goal.is_due-requires
 is_due-requires g c = source_there c.args.book.now.tables c.args.c c.requires.source

@@ -1,4 +1,4 @@
-use Rattle.std.proofs.Common.{rules, subst, w64, SFits}
+use Rattle.std.proofs.Common.{◌≡◌, [], ◌∷◌, ◌++◌, rules, subst, w64, SFits}
 use Rattle.std.proofs.lemmas.Int.{to_z-of_z}
 use Rattle.kpn_history.specs.declared.event.Event.TheVariants as event
 use Rattle.kpn_book.specs.Appending.{Appends}
@@ -11,3 +11,9 @@ returns-in-Ok-clause-fed c =
     happens_alone (event.Feed c.args.c c.args.item) c.args.book.now c.feed.new.self c.known.ensures
     (subst (λ v. Appends (event.Feed c.args.c v) c.args.book.now c.feed.new.self)
     (to_z-of_z w64 c.args.item fits) c.in-Ok.ensures.done.appends)
+
+pub returns-in-Ok-clause-alone : goal.returns-in-Ok-clause-alone
+returns-in-Ok-clause-alone c =
+    let fits : SFits w64 c.args.item = search rules in
+    subst (λ v. c.feed.new.self.history ≡ c.args.book.now.history ++ event.Feed c.args.c v ∷ [])
+    (to_z-of_z w64 c.args.item fits) c.in-Ok.ensures.done.appends.history

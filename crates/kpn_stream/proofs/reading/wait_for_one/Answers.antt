@@ -51,7 +51,7 @@ returns-clause-goes_on g c =
     c.flush_all-ended.ensures.serves)
     c.requires.sinks
     (c.flush_all-ended.ensures.flushed (none_of c.flush_all-ended.result (sym c.is_some.ensures ∙ c.if-is_some.false)))
-    (c.is_idle.ensures.stopped c.if-not-is_idle.false) c.first_to_come-c.ensures.looked c.read.ensures
+    (c.is_idle.ensures.stopped c.if-not-is_idle.false) c.first_to_come-c.ensures.looked c.read.ensures.reads
 
 pub returns-then-is_some-clause-taken : goal.returns-then-is_some-clause-taken
 returns-then-is_some-clause-taken g c =
@@ -72,4 +72,4 @@ returns-in_default-clause-taken g c =
     c.requires.taken
 
 pub returns-clause-taken : goal.returns-clause-taken
-returns-clause-taken g c = c.read.ensures.taken
+returns-clause-taken g c = c.read.ensures.reads.taken

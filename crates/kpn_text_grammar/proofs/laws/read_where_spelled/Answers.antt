@@ -1,6 +1,11 @@
 -- Each way by the law of the readers.
+use Rattle.std.proofs.Common.{arith}
+use Rattle.kpn_limits.specs.declared.TheConstants.{MAX_LEVELS}
+use Rattle.kpn_text_grammar.specs.declared.parser.Scope.{Scope}
 use Rattle.kpn_text_grammar.proofs.DescriptionLaws.{description_takes, description_again}
 use Rattle.kpn_text_grammar.proofs.laws.read_where_spelled.Goals as goal
 
 pub returns : goal.returns
-returns c s ls d = (description_takes s ls d, description_again s ls d)
+returns c l end ls d =
+    let s : Scope = record { end = end; process = 0; language = l; levels = MAX_LEVELS } in
+    (description_takes s ls d (omega arith), description_again s ls d (omega arith))

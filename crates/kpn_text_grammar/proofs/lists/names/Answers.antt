@@ -15,12 +15,12 @@ returns-in_err-name c =
 pub names-smaller : goal.names-smaller
 names-smaller c =
     place_moves c.args.source.tokens.now c.names.place c.in_ok-name.after
-    (shortens (further_ones c.args.source.scope (a_name c.args.source.scope)) 0 c.in_ok-name.ensures)
+    (shortens (further_ones c.args.source.scope (a_name {ok = Unit {0}} c.args.source.scope)) 0 c.in_ok-name.ensures)
 
 pub names-preserved : goal.names-preserved
 names-preserved c =
     one_more (λ (x : Identifier). x.bytes.now) c.names.found.items c.in_ok-name.name c.names.invariant (sym c.at_mark.ensures ∙ c.names-test.true) c.in_ok-name.ensures
-    (shortens (further_ones c.args.source.scope (a_name c.args.source.scope)) 0 c.in_ok-name.ensures) c.in_ok-push-2.ensures.items
+    (shortens (further_ones c.args.source.scope (a_name {ok = Unit {0}} c.args.source.scope)) 0 c.in_ok-name.ensures) c.in_ok-push-2.ensures.items
 
 pub returns : goal.returns
 returns c = stops_here c.names.invariant (sym c.at_mark.ensures ∙ c.names-test.false)

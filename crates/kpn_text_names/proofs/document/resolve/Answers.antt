@@ -12,5 +12,5 @@ returns-clause-each c =
     wiring_matches _ (map item_seen c.as_slice-3.result.now) (wiring_seen c.in_ok-wiring.wiring)
     c.in_ok-wiring.ensures in
     each_named (map (program_seen shared) c.in_ok-processes.processes.programs.items) _ refl refl
-    (programs_match shared (map process_seen c.as_slice-2.result.now)
+    (programs_match c.args.language shared (map process_seen c.as_slice-2.result.now)
     (programs_seen shared c.in_ok-processes.processes) c.in_ok-processes.ensures) w.instances w.channels

@@ -1,9 +1,19 @@
--- A run of digits is made of digits, and a mark is within the text.
-use Rattle.kpn_text_tokens.proofs.Pieces.{mark_takes, run_of_digits}
+-- What is found is within the text.
+use Rattle.std.proofs.Common.{rules, ◌≡◌, true, refl}
+use Rattle.std.specs.Char.{is_ascii_digit}
+use Rattle.std.specs.Prelude.{slice_index}
+use Rattle.kpn_text_tokens.specs.Numerals.{quoted_value}
+use Rattle.kpn_text_tokens.proofs.Pieces.{digit_takes, mark_takes, quote_fits}
 use Rattle.kpn_text_tokens.proofs.lexer.first_piece.Goals as goal
 
-pub number_piece-requires : goal.number_piece-requires
-number_piece-requires c = rw c.run-then-is_ascii_digit.ensures (run_of_digits c.args.text.now)
+pub returns-then-is_ascii_digit-clause-within : goal.returns-then-is_ascii_digit-clause-within
+returns-then-is_ascii_digit-clause-within c =
+    let first : is_ascii_digit (slice_index c.args.text.now 0) ≡ true = search rules in
+    rw c.digit_piece.ensures (digit_takes c.args.language c.args.text.now first)
 
-pub returns-else-is_ascii_digit-clause-within : goal.returns-else-is_ascii_digit-clause-within
-returns-else-is_ascii_digit-clause-within c = rw c.mark_piece.ensures (mark_takes c.args.language c.args.text.now)
+pub returns-then-begins_quote-clause-within : goal.returns-then-begins_quote-clause-within
+returns-then-begins_quote-clause-within c =
+    rw c.quoted_piece.ensures (quote_fits c.args.text.now (quoted_value c.args.text.now) refl)
+
+pub returns-else-begins_quote-clause-within : goal.returns-else-begins_quote-clause-within
+returns-else-begins_quote-clause-within c = rw c.mark_piece.ensures (mark_takes c.args.language c.args.text.now)

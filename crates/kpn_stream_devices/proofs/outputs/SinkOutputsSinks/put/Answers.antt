@@ -13,4 +13,4 @@ returns g c =
     (search rules) c.put_to.ensures.channel c.put_to.ensures.format c.put_to.ensures.only
     (subst (λ (v : ℤ). Takes g.O.Write.contents g.G.Write.contents v c.put_to.result
     c.args.self.now.standard.now c.index_mut.result.now c.put_to.new.standard c.put_to.new.output)
-    (to_z-of_z w64 c.args.item fits) c.put_to.ensures.taken) refl refl refl
+    (to_z-of_z w64 c.args.item fits) (c.put_to.ensures.taken, c.put_to.ensures.few)) refl refl refl
