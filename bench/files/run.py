@@ -979,6 +979,14 @@ def words_only_where_faults_go(folder):
 
 
 @case
+def words_by_the_environment(folder):
+    for word, has_words in (('always', True), ('never', False), ('loud', False)):
+        done = subprocess.run([PROGRAM, 'run', JAMMED], timeout=60, capture_output=True,
+                              env={**os.environ, 'KPN_WORDS': word})
+        expect((done.stdout, len(done.stderr) > 0, done.returncode), (JAMMED_REPORT, has_words, 4))
+
+
+@case
 def words_that_nobody_takes(folder):
     """A place for faults that is closed, full, or a pipe whose reader has gone."""
     words = '--words', 'always', 'run', JAMMED

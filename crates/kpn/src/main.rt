@@ -13,6 +13,9 @@ use std::rt::Env;
 // The option that says when words follow. It stands in front of the command.
 const WORDS_OPTION: &str = "--words";
 
+// The variable of the environment that says it without the option.
+const WORDS_VARIABLE: &str = "KPN_WORDS";
+
 fn main(rt: HostRuntime) -> ExitCode {
     fill_standard(&rt);
     let mut words = match words(&rt) {
@@ -21,7 +24,7 @@ fn main(rt: HostRuntime) -> ExitCode {
             return ExitCode::from(refusal.report(&mut Patient::new(&rt, rt.stderr())));
         }
     };
-    let Some(wanted) = take_wanted(&mut words) else {
+    let Some(wanted) = take_wanted(&rt, &mut words) else {
         return ExitCode::from(refuse(&mut Patient::new(&rt, rt.stderr())));
     };
     let has_words = wanted.holds(&rt);
@@ -55,9 +58,9 @@ fn main(rt: HostRuntime) -> ExitCode {
 }
 
 // When words are wanted. If the first two words behind the program's name say it, they are taken out.
-fn take_wanted(words: &mut Vec<String>) -> Option<WordsWanted> {
+fn take_wanted(rt: &(impl Env + AllocGlobal), words: &mut Vec<String>) -> Option<WordsWanted> {
     if words.len() < 2 || words[1].as_str() != WORDS_OPTION {
-        return Some(WordsWanted::Terminal);
+        return Some(usually_wanted(rt));
     }
     if words.len() < 3 {
         return None;
@@ -66,6 +69,14 @@ fn take_wanted(words: &mut Vec<String>) -> Option<WordsWanted> {
     words.remove(2);
     words.remove(1);
     wanted
+}
+
+// When words are wanted without the option. Another word in the variable says nothing.
+fn usually_wanted(rt: &(impl Env + AllocGlobal)) -> WordsWanted {
+    match env::var(rt, WORDS_VARIABLE) {
+        Ok(word) => WordsWanted::of_word(word.as_str()).unwrap_or(WordsWanted::Terminal),
+        Err(_) => WordsWanted::Terminal,
+    }
 }
 
 // Tells how to say when words are wanted, and returns the status.

@@ -1,13 +1,15 @@
 //! What to do about an outcome: about a ring of processes or a fault, about a run that is clogged, jammed or stopped,
 //! and about a source without items.
 
+use crate::faults::{FedFiles, lines_of_stream, push_faults};
 use crate::pieces::{file_in, has_name, has_one, is_of, is_plain, push, push_name, text_of};
 use crate::room::push_room;
 use crate::sounds::push_sounds;
 use crate::stopped::{push_looks, push_others};
-use crate::waits::{push_faults, waits_in};
+use crate::waits::waits_in;
 use crate::words::SeenBytes;
 use kpn_command_base::{EndKind, RunRequest, StreamRequest, load_document};
+use kpn_command_explain::warnings_text;
 use kpn_command_line::Request;
 use kpn_shelf::{STANDARD, Shelf};
 use kpn_text::Document;
@@ -64,14 +66,33 @@ pub(crate) fn push_advice<R: Files + AllocGlobal, S: Shelf>(
             match &document {
                 Some(document) => {
                     push_sounds(text, alloc, stream, document, known, rt)?;
-                    push_stream(text, alloc, stream, document, shelf, status, known)
+                    push_stream(text, alloc, stream, document, shelf, rt, status, known)
                 }
                 None => Ok(()),
             }
         }
+        Request::Check(file) if status == 0 => push_warnings(text, alloc, file, shelf, rt),
         _ if status == 5 => push(text, MORE_STEPS),
         _ => Ok(()),
     }
+}
+
+// Adds what may be meant otherwise in a description that is right.
+fn push_warnings<R: Files, S: Shelf>(
+    text: &mut Vec<u8>,
+    alloc: Global,
+    file: &str,
+    shelf: &S,
+    rt: &R,
+) -> Result<(), AllocError> {
+    if !is_plain(rt, file) {
+        return Ok(());
+    }
+    let Ok(bytes) = shelf.load(alloc, file) else {
+        return Ok(());
+    };
+    let told = warnings_text(alloc, file, &bytes)?;
+    text.extend_from_slice(&told)
 }
 
 // The network of a file, if it can be read once more.
@@ -116,7 +137,11 @@ fn push_run<R: Files, S: Shelf>(
     let report = text_of(known.written);
     let waits = waits_in(alloc, document, report)?;
     waits.push_rings(text, document)?;
-    push_faults(text, report)?;
+    let inputs = FedFiles {
+        file: run.file,
+        sources: &run.sources,
+    };
+    push_faults(text, alloc, report, Some(inputs), shelf, rt)?;
     if status != 3 && status != 4 {
         return Ok(());
     }
@@ -146,12 +171,13 @@ The file `-` was written: a run has no other meaning for this name. Give it `/de
 ";
 
 // Adds what the summary of a stream means.
-fn push_stream<S: Shelf>(
+fn push_stream<R: Files, S: Shelf>(
     text: &mut Vec<u8>,
     alloc: Global,
     stream: &StreamRequest<'_>,
     document: &Document,
     shelf: &S,
+    rt: &R,
     status: u8,
     known: &SeenBytes<'_>,
 ) -> Result<(), AllocError> {
@@ -162,7 +188,8 @@ fn push_stream<S: Shelf>(
     });
     let waits = waits_in(alloc, document, summary)?;
     waits.push_rings(text, document)?;
-    push_faults(text, summary)?;
+    let inputs = lines_of_stream(stream.file, &stream.sources, &stream.formats, document);
+    push_faults(text, alloc, summary, inputs, shelf, rt)?;
     match status {
         3 | 4 => push_room(text, alloc, document, stream.file, &waits, status, shelf),
         5 => push_others(text, document, &waits),

@@ -6,6 +6,7 @@ mod advice;
 mod causes;
 mod concluding;
 mod ends;
+mod faults;
 mod here;
 mod keeping;
 mod named;

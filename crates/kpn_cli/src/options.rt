@@ -15,14 +15,7 @@ use std::rt::Files;
 const UNEXPECTED: &str = "unexpected argument '";
 
 // What `kpn run` has not and `kpn stream` has.
-const OF_STREAMS: [&str; 6] = [
-    "--format",
-    "--rate",
-    "--channels",
-    "--clip",
-    "--quiet",
-    "--stats",
-];
+const OF_STREAMS: [&str; 5] = ["--format", "--rate", "--channels", "--clip", "--stats"];
 
 /// Adds where a command lists its options, if a word is told that it does not know.
 pub(crate) fn push_unclear(

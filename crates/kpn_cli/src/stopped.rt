@@ -82,8 +82,8 @@ const GO_ON: &str = " went on after 20,000 commits.\n";
 
 const WENT_ON: &str = " went on to the end.\n";
 
-// Whether a file is plain and has few bytes.
-fn is_short<R: Files>(rt: &R, file: &str) -> bool {
+/// Whether a file is plain and has few bytes.
+pub(crate) fn is_short<R: Files>(rt: &R, file: &str) -> bool {
     fs::metadata(rt, file).is_ok_and(|found| found.is_file() && found.len() <= MOST_SOURCE_BYTES)
 }
 

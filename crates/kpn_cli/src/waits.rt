@@ -1,4 +1,4 @@
-//! Which processes wait, and have faulted, as the lines of a report say, and what follows from it.
+//! Which processes wait, as the lines of a report say, and what follows from it.
 
 use crate::pieces::{push, push_name};
 use kpn_history::State;
@@ -204,75 +204,6 @@ impl NetworkWaits {
         true
     }
 }
-
-/// Adds which processes have ended by a fault, as the lines `fault INSTANCE CAUSE` of a text tell, and what it means.
-pub(crate) fn push_faults(text: &mut Vec<u8>, report: &str) -> Result<(), AllocError> {
-    let mut has_fault = false;
-    for (cause, said) in &FAULTS {
-        if push_faulted(text, report, cause, said)? {
-            has_fault = true;
-        }
-    }
-    if has_fault {
-        return push(text, FAULTED);
-    }
-    Ok(())
-}
-
-// Adds the names of the processes that a text tells to have ended by this fault. It returns whether there are some.
-fn push_faulted(
-    text: &mut Vec<u8>,
-    report: &str,
-    cause: &str,
-    said: &str,
-) -> Result<bool, AllocError> {
-    let mut count = 0u32;
-    for line in report.lines() {
-        if let Some((instance, how)) = fault_in(line) {
-            if how == cause {
-                push_name(text, lead(count), instance, "")?;
-                count = count.saturating_add(1);
-            }
-        }
-    }
-    if count == 0 {
-        return Ok(false);
-    }
-    push(text, said)?;
-    Ok(true)
-}
-
-// What stands before a name of a list, of which this is the number.
-fn lead(count: u32) -> &'static str {
-    if count == 0 { "" } else { ", " }
-}
-
-// The process and the cause that a line `fault INSTANCE CAUSE` tells.
-fn fault_in(line: &str) -> Option<(&str, &str)> {
-    line.strip_prefix("fault ")?.split_once(' ')
-}
-
-// The word of each fault in a report, and what is said of those that it ended.
-const FAULTS: [(&str, &str); 4] = [
-    (
-        "zero-divisor",
-        " ended by a division by 0 (`zero-divisor`).\n",
-    ),
-    (
-        "overflow",
-        " ended by a result out of range (`overflow`).\n",
-    ),
-    ("index", " ended by an index out of range (`index`).\n"),
-    (
-        "shift",
-        " ended by a shift by less than 0 or more than 63 (`shift`).\n",
-    ),
-];
-
-const FAULTED: &str = "\
-A process that has ended writes nothing more: its readers get what is unread, and then wait. With `--trace OUT`,
-`kpn explain FILE OUT` says after which item it was.
-";
 
 const FIRST_ITEM: &str = "\
 ; one of them has to write before it reads (a first item before its loop)

@@ -13,6 +13,8 @@ use Rattle.kpn_book.specs.declared.outcome.Outcome.{Outcome}
 use Rattle.kpn_book.specs.declared.outcome.Outcome.TheVariants.{Ended, Clogged, Jammed, Enough, Stopped}
 use Rattle.kpn_book.specs.declared.report.Report.{Report}
 use Rattle.kpn_command_base.specs.ListText.{list_line, lines_from}
+use Rattle.kpn_command_base.specs.Sources.{file_for}
+use Rattle.kpn_command_base.specs.declared.sources.NamedEnd.{NamedEnd}
 use Rattle.kpn_command_base.specs.Faulted.{faulted_line}
 
 -- ---- sinks
@@ -22,20 +24,21 @@ abbrev pub wanted_of : (wanted : Option ℕ) → List ℤ → List ℤ
 wanted_of None items = items
 wanted_of (Some most) items = take most items
 
--- `sink NAME:` and the items
-abbrev pub sink_line : (name : List ℕ) → List ℤ → List ℕ
-sink_line name items = codes "sink " ++ list_line name items
+-- `sink NAME:` and the items, or nothing of a sink that has this file and is left out for it
+abbrev pub sink_line : (file : Option (List ℕ)) (name : List ℕ) → List ℤ → List ℕ
+sink_line None name items = codes "sink " ++ list_line name items
+sink_line (Some file) name items = []
 
--- a line for each sink among these channels in order, of which the first has the number c and k sinks stand before it;
--- the lists of all sinks are given in order
-abbrev pub sink_lines : (names : List (List ℕ)) (wanted : Option ℕ) (taken : List (List ℤ)) → (k c : ℕ)
-    → List ChannelSpec → List ℕ
-sink_lines names wanted taken k c [] = []
-sink_lines names wanted taken k c (channel ∷ channels) =
+-- a line for each sink among these channels in order, of which the first has the number c and k sinks stand before it,
+-- but for the sinks that are left out; the lists of all sinks are given in order
+abbrev pub sink_lines : (names : List (List ℕ)) (left_out : List NamedEnd) (wanted : Option ℕ) (taken : List (List ℤ))
+    → (k c : ℕ) → List ChannelSpec → List ℕ
+sink_lines names left_out wanted taken k c [] = []
+sink_lines names left_out wanted taken k c (channel ∷ channels) =
     if is_sink channel
-    then sink_line (name_at names c) (wanted_of wanted (slice_index_or taken k []))
-    ++ sink_lines names wanted taken (suc k) (suc c) channels
-    else sink_lines names wanted taken k (suc c) channels
+    then sink_line (file_for left_out k) (name_at names c) (wanted_of wanted (slice_index_or taken k []))
+    ++ sink_lines names left_out wanted taken (suc k) (suc c) channels
+    else sink_lines names left_out wanted taken k (suc c) channels
 
 -- ---- processes
 
@@ -86,10 +89,10 @@ shows_processes outcome = true
 
 -- ---- the whole text
 
-abbrev pub sinks_text : Document → (wanted : Option ℕ) → Report → List ℕ
-sinks_text d wanted report =
+abbrev pub sinks_text : Document → (left_out : List NamedEnd) (wanted : Option ℕ) → Report → List ℕ
+sinks_text d left_out wanted report =
     if shows_sinks report.outcome
-    then sink_lines d.names.channels wanted report.taken 0 0 d.tables.channels
+    then sink_lines d.names.channels left_out wanted report.taken 0 0 d.tables.channels
     else []
 
 abbrev pub processes_text : Document → Report → List ℕ
@@ -99,7 +102,8 @@ processes_text d report =
     ++ state_lines (wait_text d.names.channels) d.names.instances 0 report.view.states
     else []
 
--- the sinks, the faults, the waits and the outcome, as far as the outcome wants them, each on a line
-abbrev pub report_text : Document → (wanted : Option ℕ) → Report → List ℕ
-report_text d wanted report =
-    sinks_text d wanted report ++ processes_text d report ++ outcome_word report.outcome ++ codes "\n"
+-- the sinks, but for those that are left out, the faults, the waits and the outcome, as far as the outcome wants them,
+-- each on a line
+abbrev pub report_text : Document → (left_out : List NamedEnd) (wanted : Option ℕ) → Report → List ℕ
+report_text d left_out wanted report =
+    sinks_text d left_out wanted report ++ processes_text d report ++ outcome_word report.outcome ++ codes "\n"

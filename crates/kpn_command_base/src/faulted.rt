@@ -1,9 +1,10 @@
-//! The line of a process that ended by a fault.
+//! Processes that ended by a fault, and the line of one.
+ghost use Rattle.std.specs.Prelude.{◌≡◌};
 ghost use Rattle.kpn_command_base.specs.Added.{Adds};
-ghost use Rattle.kpn_command_base.specs.Faulted.{faulted_line};
+ghost use Rattle.kpn_command_base.specs.Faulted.{faulted_line, has_fault, is_faulted};
 
 use crate::pieces::Pushed;
-use kpn_history::How;
+use kpn_history::{How, State};
 use kpn_trace::how_word;
 
 /// `fault NAME CAUSE`, and a line feed. The word for the cause is that of a trace. Call it only for an end by a fault.
@@ -12,4 +13,21 @@ pub fn push_faulted(text: &mut String, name: &str, how: How) -> Pushed
 {
     let cause = how_word(how);
     writeln!(text, "fault {name} {cause}")
+}
+
+/// Whether a process ended by a fault.
+pub fn has_fault(states: &[State]) -> bool
+    ensures { result ≡ has_fault states.now }
+{
+    states.iter().any(|state| is_faulted(*state))
+}
+
+fn is_faulted(state: State) -> bool
+    ensures { result ≡ is_faulted state }
+{
+    match state {
+        State::Ended(How::Done) => false,
+        State::Ended(_) => true,
+        _ => false,
+    }
 }

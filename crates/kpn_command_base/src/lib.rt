@@ -33,7 +33,7 @@ pub use conclusion::{Conclusion, OutputFile};
 pub use counts_line::summary;
 pub use description::load_document;
 pub use direction::Direction;
-pub use faulted::push_faulted;
+pub use faulted::{has_fault, push_faulted};
 pub use flaw::Flaw;
 pub use inputs::{Inputs, RunInputs, load_inputs};
 pub use list_text::push_list;

@@ -1,29 +1,32 @@
 //! The text of a report.
-ghost use Rattle.std.specs.Prelude.{◌≡◌, [], slice_index_or, IfOk};
+ghost use Rattle.std.specs.Prelude.{◌≡◌, [], option_map, slice_index_or, IfOk};
 ghost use Rattle.kpn_command_base.specs.Added.{Adds};
-ghost use Rattle.kpn_command_base.specs.ReportText.{fault_text, outcome_status, outcome_word, processes_text, report_text, sink_lines, sinks_text, state_lines, wait_text, wanted_of};
+ghost use Rattle.kpn_command_base.specs.ReportText.{fault_text, outcome_status, outcome_word, processes_text, report_text, sink_line, sink_lines, sinks_text, state_lines, wait_text, wanted_of};
 
 use crate::faulted::push_faulted;
 use crate::list_text::push_list;
 use crate::pieces::Pushed;
+use crate::sources::{NamedEnd, file_for};
 use kpn_book::{Outcome, Report};
 use kpn_history::{How, State};
 use kpn_lang::Sequence;
 use kpn_text::Document;
 use std::alloc::{AllocError, Global};
 
-/// The sinks, the faults, the waits and the outcome, as far as the outcome wants them. Of each sink
-/// as many items are written as are wanted at most.
+/// The sinks, but for those that are left out, the faults, the waits and the outcome, as far as the outcome wants them.
+/// Of each sink as many items are written as are wanted at most.
 pub fn text_of_report(
     alloc: Global,
     document: &Document,
+    left_out: &[NamedEnd<'_>],
     wanted: Option<u64>,
     report: &Report,
 ) -> Result<Vec<u8>, AllocError>
-    ensures { IfOk result (λ text. text.items ≡ report_text document.now wanted report.now) }
+    ensures { IfOk result (λ text. text.items
+        ≡ report_text document.now left_out.now wanted report.now) }
 {
     let mut text = String::new(alloc);
-    push_sinks(&mut text, document, wanted, report)?;
+    push_sinks(&mut text, document, left_out, wanted, report)?;
     push_processes(&mut text, document, report)?;
     writeln!(text, "{}", word_of(report.outcome))?;
     Ok(text.into_bytes())
@@ -58,40 +61,61 @@ pub fn word_of(outcome: Outcome) -> &'static str
 fn push_sinks(
     text: &mut String,
     document: &Document,
+    left_out: &[NamedEnd<'_>],
     wanted: Option<u64>,
     report: &Report,
 ) -> Pushed
-    ensures { Adds result text.old text.new (sinks_text document.now wanted report.now) }
+    ensures { Adds result text.old text.new
+        (sinks_text document.now left_out.now wanted report.now) }
 {
     match report.outcome {
         Outcome::Ended | Outcome::Enough => {
-            push_taken(text, document, wanted, report.taken.as_slice())
+            push_taken(text, document, left_out, wanted, report.taken.as_slice())
         }
         Outcome::Clogged | Outcome::Jammed | Outcome::Stopped => Ok(()),
     }
 }
 
-// The line of each sink.
+// The line of each sink that is not left out.
 fn push_taken(
     text: &mut String,
     document: &Document,
+    left_out: &[NamedEnd<'_>],
     wanted: Option<u64>,
     taken: &[Sequence<i64>],
 ) -> Pushed
-    ensures { Adds result text.old text.new (sink_lines document.now.names.channels wanted
-        taken.now 0 0 document.now.tables.channels) }
+    ensures { Adds result text.old text.new (sink_lines document.now.names.channels left_out.now
+        wanted taken.now 0 0 document.now.tables.channels) }
 {
     let network = document.network();
     let mut sink = 0;
     for channel in 0..network.channels() {
         if network.is_sink(channel) {
-            text.push_str("sink ")?;
             let items = wanted_of(items_of(taken, sink), wanted);
-            push_list(text, document.channel_name(channel), items)?;
+            push_sink(
+                text,
+                file_for(left_out, sink),
+                document.channel_name(channel),
+                items,
+            )?;
             sink += 1;
         }
     }
     Ok(())
+}
+
+// The line of a sink, if it is not left out for a file.
+fn push_sink(text: &mut String, file: Option<&str>, name: &str, items: &[i64]) -> Pushed
+    ensures { Adds result text.old text.new
+        (sink_line (option_map (λ name. name.now) file.entry) name.now items.now) }
+{
+    match file {
+        Some(_) => Ok(()),
+        None => {
+            text.push_str("sink ")?;
+            push_list(text, name, items)
+        }
+    }
 }
 
 // The list of a sink; none if there is no such sink.

@@ -22,6 +22,10 @@ pub struct RunRequest<'a> {
     pub trace: Option<&'a str>,
     /// How many workers run the network. Without a number the calling thread does.
     pub workers: Option<u32>,
+    /// Whether the report leaves out the lists of sinks that are stored.
+    pub quiet: bool,
+    /// Whether faults and rings have a status of their own.
+    pub strict: bool,
 }
 
 impl<'a> Model for RunRequest<'a> {
@@ -38,5 +42,7 @@ impl<'a> Model for RunRequest<'a> {
       take = r.take;
       trace = option_map (λ name. name.now) r.trace;
       workers = r.workers;
+      quiet = r.quiet;
+      strict = r.strict;
     } };
 }

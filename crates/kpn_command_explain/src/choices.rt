@@ -4,13 +4,14 @@ use kpn_text_grammar::{GrammarFault, description};
 use kpn_text_tokens::{Keyword, LexFault, Mark, language_of, lexemes};
 use std::alloc::{AllocError, Global};
 
-/// Adds all that may stand behind this text, with a space before each: any name, or else words of settings; any number;
-/// and each word and mark of its language.
+/// Adds all that may stand behind this text, with a space before each: `;`, which is missing most often; any name, or
+/// else words of settings; any number; and each other word and mark of its language.
 pub(crate) fn push_choices(
     alloc: Global,
     told: &mut Vec<u8>,
     front: &[u8],
 ) -> Result<(), AllocError> {
+    push_word(alloc, told, front, Mark::Semicolon.spelling())?;
     if may_stand(alloc, front, b"x")? {
         told.extend_from_slice(b" NAME")?;
     } else {
@@ -30,7 +31,7 @@ pub(crate) fn push_choices(
         }
     }
     for mark in &Mark::ALL {
-        if mark.is_of(language) {
+        if *mark != Mark::Semicolon && mark.is_of(language) {
             push_word(alloc, told, front, mark.spelling())?;
         }
     }

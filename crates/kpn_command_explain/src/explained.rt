@@ -10,6 +10,7 @@ use crate::excess::push_excess;
 use crate::habits::habit_of;
 use crate::lines::front;
 use crate::names::name_at;
+use crate::port_counts::push_port_counts;
 use crate::remedies::remedy;
 use crate::sentences::{Case, advice, is_named, other, said};
 use crate::spots::row_of;
@@ -59,7 +60,7 @@ fn rest_of<'a>(
     let case = case_of(alloc, text, tokens, places, fault)?;
     let habit = habit_of(alloc, text, tokens, places.first, case)?;
     let mut told = Vec::new(alloc);
-    push_sentence(alloc, &mut told, text, places.first, case)?;
+    push_sentence(alloc, &mut told, text, tokens, places.first, case)?;
     push_bracket(alloc, &mut told, &Refusal::Description(fault))?;
     push_excerpt(&mut told, text, places.first)?;
     if let Some(at) = second_place(text, tokens, places, case) {
@@ -91,11 +92,13 @@ fn second_place(
     }
 }
 
-// What is wrong: of the name at the place if it has one, with the limit that is passed, or with what may stand there.
-fn push_sentence(
+// What is wrong: of the name at the place if it has one, with the limit that is passed, the numbers that differ, or with
+// what may stand there.
+fn push_sentence<'a>(
     alloc: Global,
     told: &mut Vec<u8>,
     text: &[u8],
+    tokens: &'a [Lexeme<'a>],
     at: usize,
     case: Case,
 ) -> Result<(), AllocError> {
@@ -107,6 +110,7 @@ fn push_sentence(
     told.extend_from_slice(said(case))?;
     match case {
         Case::LargeProgram(excess) | Case::LargeNetwork(excess) => push_excess(told, excess),
+        Case::PortCount => push_port_counts(alloc, told, text, tokens, at),
         Case::Reserved | Case::Misplaced | Case::EarlyEnd => {
             push_alternatives(alloc, told, front(text, at))
         }

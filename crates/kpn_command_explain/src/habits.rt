@@ -7,7 +7,7 @@ use crate::second_habits::habit_of_two;
 use crate::sentences::Case;
 use crate::spots::{TokenSpot, spot_at, start_before};
 use crate::stands::{Stand, stand_of};
-use crate::words::is_fraction;
+use crate::words::{begins_name, is_fraction};
 use kpn_text_tokens::{Language, LexFault, Lexeme, language_of, lexemes};
 use std::alloc::{AllocError, Global};
 
@@ -76,6 +76,14 @@ pub(crate) enum Habit {
     NoCapacity,
     /// A number with a point.
     Fraction,
+    /// `'` before a letter.
+    Letter,
+    /// `(` behind a name in an expression.
+    Calls,
+    /// `const` before a name.
+    Constant,
+    /// An instance without `;` behind its in channels.
+    NoOuts,
     /// `^`
     Power,
     /// `**`
@@ -112,6 +120,7 @@ pub(crate) fn habit_of(
 ) -> Result<Option<Habit>, AllocError> {
     let (last, here) = (back(text, start_before(tokens, at)), back(text, at));
     match case {
+        Case::Misplaced if closes_reads(tokens, at, here) => Ok(Some(Habit::NoOuts)),
         Case::Misplaced => {
             let stand = stand_of(alloc, text, tokens, at)?;
             Ok(match language_of(text) {
@@ -131,6 +140,11 @@ pub(crate) fn habit_of(
         )),
         _ => Ok(None),
     }
+}
+
+// Whether the parentheses of an instance close behind its in channels.
+fn closes_reads(tokens: &[Lexeme<'_>], at: usize, here: &[u8]) -> bool {
+    spot_at(tokens, at) == TokenSpot::Reads && here.starts_with(b")")
 }
 
 pub(crate) fn habit_if(is_one: bool, habit: Habit) -> Option<Habit> {
@@ -162,6 +176,8 @@ fn elsewhere_habit(last: &[u8], here: &[u8]) -> Option<Habit> {
         Some(Habit::Opening)
     } else if is_word(last, b"else") && is_word(here, b"if") {
         Some(Habit::ElseIf)
+    } else if is_word(last, b"const") || is_word(here, b"const") {
+        Some(Habit::Constant)
     } else {
         // At the front of the text no token stands before.
         habit_if(
@@ -231,7 +247,7 @@ fn shift(text: &[u8]) -> Option<Habit> {
 
 /// Behind the name of a variable that begins a statement.
 pub(crate) fn assigning_habit(last: &[u8], here: &[u8]) -> Option<Habit> {
-    let declares = is_word(last, b"let") || is_word(last, b"var") || is_word(last, b"int");
+    let declares = is_declaring(last);
     if changes(here) {
         Some(Habit::Changes)
     } else if here.starts_with(b"==") {
@@ -249,6 +265,19 @@ pub(crate) fn assigning_habit(last: &[u8], here: &[u8]) -> Option<Habit> {
     }
 }
 
+/// `let` and the like, which stands before a variable that is declared elsewhere.
+pub(crate) fn is_declaring(text: &[u8]) -> bool {
+    is_word(text, b"let")
+        || is_word(text, b"var")
+        || is_word(text, b"int")
+        || is_word(text, b"const")
+}
+
+/// `(` behind a name.
+pub(crate) fn calls(last: &[u8], here: &[u8]) -> bool {
+    here.starts_with(b"(") && begins_name(last)
+}
+
 /// `and`, `or`, or an operand behind `not`.
 pub(crate) fn word_habit(last: &[u8], here: &[u8]) -> Option<Habit> {
     if is_word(here, b"and") {
@@ -264,6 +293,8 @@ pub(crate) fn word_habit(last: &[u8], here: &[u8]) -> Option<Habit> {
 fn side_habit(last: &[u8], here: &[u8]) -> Option<Habit> {
     if here.starts_with(b")") {
         Some(Habit::Parentheses)
+    } else if calls(last, here) {
+        Some(Habit::Calls)
     } else if assigns(here) {
         Some(Habit::Compares)
     } else {
@@ -284,6 +315,8 @@ fn whole_habit(last: &[u8], here: &[u8]) -> Option<Habit> {
         Some(Habit::Stars)
     } else if is_operator(here) {
         Some(Habit::Sides)
+    } else if calls(last, here) {
+        Some(Habit::Calls)
     } else if assigns(here) {
         Some(Habit::Compares)
     } else {
@@ -398,6 +431,8 @@ fn byte_habit(alloc: Global, front: &[u8], here: &[u8]) -> Result<Option<Habit>,
         Ok(habit_if(may_stand(alloc, front, b"!")?, Habit::Complement))
     } else if here.starts_with(b"?") {
         Ok(habit_if(ends_operand(alloc, front)?, Habit::Question))
+    } else if here.starts_with(b"'") {
+        Ok(habit_if(may_stand(alloc, front, b"0")?, Habit::Letter))
     } else {
         Ok(None)
     }

@@ -26,6 +26,10 @@ fn without_parentheses(habit: Habit) -> &'static [u8] {
         Habit::Or => b"Write `||` for or: `x || y`.",
         Habit::Fraction => b"Numbers are whole: scale them first, or divide, as in `x / 2`.",
         Habit::Stars => b"There is no `**`: a power is a product, as in `x * x`.",
+        Habit::Calls =>
+            b"There are no functions: `(x < 0 ? -x : x)` is abs(x), and `(x < y ? x : y)` is min(x, y).",
+        Habit::Constant =>
+            b"There are no constants: `table n = 5;` in front of all processes is one for all, read as `n[0]`.",
         other => usual(other),
     }
 }
@@ -93,6 +97,15 @@ const VALUES: &[u8] =
 const DECLARATION: &[u8] =
     b"Write `array x[9];` for an array of 9 cells, and `table x = 1, 2, 3;` for a table.";
 
+const CALLS: &[u8] =
+    b"There are no functions: write out what one computes, as in `if (x < 0) { x = -x; } else { }`.";
+
+const NO_OUTS: &[u8] =
+    b"A `;` stands behind the in channels of an instance, even if there are no out channels: `e = eat(c;);`.";
+
+const CONSTANT: &[u8] =
+    b"There are no constants: write the number, or give it to a process as a parameter, as in `par n`.";
+
 fn usual(habit: Habit) -> &'static [u8] {
     match habit {
         Habit::Sides => SIDES,
@@ -126,6 +139,10 @@ fn usual(habit: Habit) -> &'static [u8] {
         Habit::Ports => b"Write `in`, `out` and `par` once each, as in `in a, b; out c, d; par k`.",
         Habit::NoCapacity => b"Write a capacity behind the name, as in `channel a cap 1;`.",
         Habit::Fraction => b"Numbers are whole: scale them first, or divide, as in `(x / 2)`.",
+        Habit::Letter => b"Write the number of a letter, as 65 for `A`.",
+        Habit::Calls => CALLS,
+        Habit::Constant => CONSTANT,
+        Habit::NoOuts => NO_OUTS,
         Habit::Power => b"There is no `^`: a power is a product, as in `((x * x) * x)`.",
         Habit::Stars => b"There is no `**`: a power is a product, as in `(x * x)`.",
         Habit::Place => PLACE,

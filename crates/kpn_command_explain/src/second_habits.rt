@@ -2,8 +2,8 @@
 
 use crate::choices::may_stand;
 use crate::habits::{
-    Habit, assigning_habit, assigns, begins_any, begins_comment, begins_shift, changes, habit_at,
-    habit_if, is_else_if, is_word, operand_habit, word_habit,
+    Habit, assigning_habit, assigns, begins_any, begins_comment, begins_shift, calls, changes,
+    habit_at, habit_if, is_declaring, is_else_if, is_word, operand_habit, word_habit,
 };
 use crate::stands::Stand;
 use crate::words::indexes_next;
@@ -35,7 +35,7 @@ pub(crate) fn habit_of_two(
 fn assigning_habit_of_two(last: &[u8], here: &[u8]) -> Option<Habit> {
     if here.starts_with(b"[") {
         Some(Habit::Index)
-    } else if is_type(last) && indexes_next(here) {
+    } else if is_declaring(last) && indexes_next(here) {
         Some(Habit::Declaration)
     } else if begins_any(here, &[b"<<=", b">>=", b"&=", b"|=", b"^="]) {
         Some(Habit::Changes)
@@ -65,6 +65,8 @@ fn side_habit_of_two(
         Ok(Some(Habit::Choice))
     } else if here.starts_with(b"[") {
         Ok(Some(Habit::Index))
+    } else if calls(last, here) {
+        Ok(Some(Habit::Calls))
     } else if assigns(here) {
         Ok(Some(Habit::Compares))
     } else {
@@ -127,9 +129,4 @@ fn elsewhere_habit_of_two(last: &[u8], here: &[u8]) -> Option<Habit> {
     } else {
         habit_at(Stand::Elsewhere, last, here)
     }
-}
-
-// What stands before a variable that is declared elsewhere.
-fn is_type(text: &[u8]) -> bool {
-    is_word(text, b"let") || is_word(text, b"var") || is_word(text, b"int")
 }

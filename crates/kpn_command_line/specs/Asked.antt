@@ -127,7 +127,8 @@ GivesToCommand given (Run run) =
     × (texts_for (codes "SINK") given ≡ run.sinks)
     × (unwrap_or (number_for 64 (codes "MAX_COMMITS") given) 10000000 ≡ run.commits)
     × (number_for 64 (codes "K") given ≡ run.take) × (text_for (codes "TRACE") given ≡ run.trace)
-    × (number_for 32 (codes "WORKERS") given ≡ run.workers)
+    × (number_for 32 (codes "WORKERS") given ≡ run.workers) × (is_set (codes "QUIET") given ≡ run.quiet)
+    × (is_set (codes "STRICT") given ≡ run.strict)
 GivesToCommand given (Stream stream) =
     (text_for (codes "FILE") given ≡ Some stream.file) × (texts_for (codes "SOURCE") given ≡ stream.sources)
     × (texts_for (codes "SINK") given ≡ stream.sinks) × (texts_for (codes "FORMAT") given ≡ stream.formats)

@@ -110,6 +110,9 @@ quiet_flag = flag (codes "QUIET") (codes "quiet")
 abbrev pub stats_flag : Rule
 stats_flag = flag (codes "STATS") (codes "stats")
 
+abbrev pub strict_flag : Rule
+strict_flag = flag (codes "STRICT") (codes "strict")
+
 abbrev pub across_flag : Rule
 across_flag = flag (codes "ACROSS") (codes "across")
 
@@ -139,7 +142,8 @@ rounds_words = command (codes "rounds") (file_word ∷ rounds_word ∷ source_op
 abbrev pub run_words : App
 run_words =
     command (codes "run")
-    (file_word ∷ source_option ∷ sink_option ∷ workers_option ∷ take_option ∷ commits_option ∷ trace_option ∷ [])
+    (file_word ∷ source_option ∷ sink_option ∷ workers_option ∷ take_option ∷ commits_option ∷ trace_option ∷ quiet_flag
+    ∷ strict_flag ∷ [])
 
 abbrev pub stream_words : App
 stream_words =

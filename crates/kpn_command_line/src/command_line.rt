@@ -66,6 +66,8 @@ pub(crate) const QUIET: &str = "QUIET";
 
 pub(crate) const STATS: &str = "STATS";
 
+pub(crate) const STRICT: &str = "STRICT";
+
 pub(crate) const ACROSS: &str = "ACROSS";
 
 // The commands and their words.
@@ -120,7 +122,8 @@ fn and<'a>(
 // What help says below the commands.
 const STATUSES: &str = "\
 `kpn --words always|never|terminal COMMAND` says when words for a person follow a line of kpn, such as
-which file it is about and what to do: always, never, or on a terminal, as without it.
+which file it is about and what to do: always, never, or on a terminal. Without the option the variable
+KPN_WORDS of the environment says it, and else it is on a terminal.
 
 Statuses: 0 for success, 1 for a refused input or a device that fails, 2 for words that are not
 understood, 6 for want of memory; explain, draw, run, stream, audit, join, stats and timeline have more.
@@ -314,7 +317,8 @@ The file of a source has an item on each line: an optional `-` and 1 to 19 digit
 
 Statuses: 0 for ended and enough, 3 for clogged, 4 for jammed, 5 for stopped, 1 for a refused file or
 name or a device that fails, 2 for words that are not understood, 6 for want of memory, 7 for a run
-by workers that came to nothing (the faults 47, 48 and 49).";
+by workers that came to nothing (the faults 47, 48 and 49). With --strict the status is 8 if a process
+has faulted, and else 9 if there is a ring: processes of which each waits for an item of the next.";
 
 // The words of `kpn run`.
 fn run_words<'a>(alloc: Global) -> Result<Command<'a>, AllocError>
@@ -324,12 +328,17 @@ fn run_words<'a>(alloc: Global) -> Result<Command<'a>, AllocError>
     let commits = "Stops after N commits: 1 to 1000000000, and 10000000 without it";
     let trace =
         "Stores all events of the run in the file OUT, which is no input of it, before the report is written";
+    let quiet = "Leaves out of the report the items of sinks that --sink stores";
+    let strict =
+        "Ends with status 8 if a process has faulted, and with 9 at a ring of waiting processes";
     let words = and(run_inputs(alloc), count(alloc, TAKE, "take", "K", take));
     let words = and(
         words,
         count(alloc, MAX_COMMITS, "max-commits", "N", commits),
     );
-    and(words, option(alloc, TRACE, "trace", "OUT", trace))
+    let words = and(words, option(alloc, TRACE, "trace", "OUT", trace));
+    let words = and(words, flag(alloc, QUIET, "quiet", quiet));
+    and(words, flag(alloc, STRICT, "strict", strict))
 }
 
 // The words of `kpn run` for the network, its sources and sinks, and its workers.

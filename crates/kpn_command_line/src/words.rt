@@ -11,7 +11,7 @@ ghost use Rattle.kpn_command_line.specs.Asked.{is_across};
 
 use crate::command_line::{
     ACROSS, CHANNELS, CLIP, FILE, FORMAT, FROM, ITEMS, MAX_COMMITS, NAME, PARTS, QUIET, RATE,
-    ROUNDS, SINK, SOURCE, STATS, STEPS, SVG, TABLE, TAKE, TO, TRACE, WORKERS, program,
+    ROUNDS, SINK, SOURCE, STATS, STEPS, STRICT, SVG, TABLE, TAKE, TO, TRACE, WORKERS, program,
 };
 use crate::request::{Request, WordsFault};
 use clap::error::ErrorKind;
@@ -173,6 +173,8 @@ fn run_request<'a>(
         take: count_of(run, TAKE),
         trace: text_of(run, TRACE),
         workers: number_of(run, WORKERS),
+        quiet: is_set(run, QUIET),
+        strict: is_set(run, STRICT),
     }))
 }
 

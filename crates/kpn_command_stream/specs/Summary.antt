@@ -1,19 +1,18 @@
 -- What is told of a stream that has ended, and its status.
-use Rattle.std.specs.Prelude.{◌≡◌, ◌↔◌, ℕ, nat_lt, Bool, true, false, ◌&&◌, ◌||◌, if◌then◌else◌, List, [], ◌++◌, length, Option, Some, None, IsTrue, codes}
-use Rattle.std.specs.List.{AllZip, list_any, list_all, flat_map}
+use Rattle.std.specs.Prelude.{◌≡◌, ◌↔◌, ℕ, nat_lt, Bool, ◌&&◌, ◌||◌, if◌then◌else◌, List, [], ◌++◌, length, Option, Some, None, IsTrue, codes}
+use Rattle.std.specs.List.{AllZip, list_all, flat_map}
 use Rattle.std.specs.Fmt.{decimal}
 use Rattle.kpn_net.specs.Tables.{is_sink}
 use Rattle.kpn_text_names.specs.Names.{name_at}
 use Rattle.kpn_text.specs.Document.{Document}
-use Rattle.kpn_history.specs.declared.event.How.TheVariants as how
 use Rattle.kpn_history.specs.declared.state.State.{State}
-use Rattle.kpn_history.specs.declared.state.State.TheVariants as state
 use Rattle.kpn_history.specs.Channels.{read_on}
 use Rattle.kpn_history.specs.Complete.{IsComplete}
 use Rattle.kpn_machine.specs.Machine.{channel_in}
 use Rattle.kpn_book.specs.Book.{Book}
 use Rattle.kpn_book.specs.declared.outcome.Outcome.{Outcome}
 use Rattle.kpn_book.specs.declared.outcome.Outcome.TheVariants.{Stopped}
+use Rattle.kpn_command_base.specs.Faulted.{has_fault}
 use Rattle.kpn_command_base.specs.ReportText.{fault_text, wait_text, state_lines, outcome_word, outcome_status}
 use Rattle.kpn_deadlock.specs.Told.{are_some}
 use Rattle.kpn_stream.specs.Ending.{end_numbers}
@@ -33,15 +32,6 @@ abbrev pub AreSinkEnds : Book → List SinkEnd → Type 0
 AreSinkEnds b ends = AllZip (IsSinkEnd b) (end_numbers is_sink b.tables) ends
 
 -- ---- the status
-
--- a process ended by a fault
-abbrev pub is_faulted : State → Bool
-is_faulted (state.Ended how.Done) = false
-is_faulted (state.Ended end) = true
-is_faulted other = false
-
-abbrev pub has_fault : List State → Bool
-has_fault states = list_any is_faulted states
 
 -- each sink is complete or was left
 abbrev pub are_all_done : List SinkEnd → Bool

@@ -6,11 +6,11 @@ ghost use Rattle.kpn_net.specs.Tables.{is_sink};
 ghost use Rattle.kpn_command_base.specs.Added.{Adds};
 ghost use Rattle.kpn_deadlock.specs.Told.{are_some};
 ghost use Rattle.kpn_stream.specs.Ending.{end_numbers};
-ghost use Rattle.kpn_command_stream.specs.Summary.{IsSinkEnd, AreSinkEnds, are_all_done, are_done, has_fault, is_faulted, members_text, outcome_text, ring_text, rings_text, sink_text, sink_ends_text, status_at, stream_status, stream_summary_text};
+ghost use Rattle.kpn_command_stream.specs.Summary.{IsSinkEnd, AreSinkEnds, are_all_done, are_done, members_text, outcome_text, ring_text, rings_text, sink_text, sink_ends_text, status_at, stream_status, stream_summary_text};
 
 use kpn_book::Book;
-use kpn_command_base::{Pushed, push_faults, push_waits, status_of, word_of};
-use kpn_history::{How, State};
+use kpn_command_base::{Pushed, has_fault, push_faults, push_waits, status_of, word_of};
+use kpn_history::State;
 use kpn_lang::Sequence;
 use kpn_stream::{Outcome, end_numbers_of};
 use kpn_text::Document;
@@ -77,23 +77,6 @@ fn status_at(outcome: Option<Outcome>) -> u8
     match outcome {
         Some(outcome) => status_of(outcome),
         None => status_of(Outcome::Stopped),
-    }
-}
-
-/// Whether a process ended by a fault.
-fn has_fault(states: &[State]) -> bool
-    ensures { result ≡ has_fault states.now }
-{
-    states.iter().any(|state| is_fault(*state))
-}
-
-fn is_fault(state: State) -> bool
-    ensures { result ≡ is_faulted state }
-{
-    match state {
-        State::Ended(How::Done) => false,
-        State::Ended(_) => true,
-        _ => false,
     }
 }
 

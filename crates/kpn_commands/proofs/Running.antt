@@ -2,6 +2,7 @@
 use Rattle.std.proofs.Common.{◌≡◌, ◌∙◌, ℕ, ℤ, List, Option, Some, None, is_some, subst}
 use Rattle.kpn_net.specs.Tables.{Tables}
 use Rattle.kpn_book.specs.declared.outcome.Limits.{Limits}
+use Rattle.kpn_book.specs.declared.report.Report.{Report}
 use Rattle.kpn_book.specs.Reports.{IsReport}
 use Rattle.kpn_shelf.specs.Shelf.{Loads}
 use Rattle.kpn_command_base.specs.RunRequest.{RunRequest}
@@ -10,6 +11,7 @@ use Rattle.kpn_command_base.specs.Outputs.{AreSinksNamed}
 use Rattle.kpn_commands.specs.declared.reporting.Reported.{Reported}
 use Rattle.kpn_commands.specs.Limits.{run_limits_of}
 use Rattle.kpn_commands.specs.Reported.{IsRunReported, RanHere}
+use Rattle.kpn_commands.specs.Run.{IsOfLegal}
 
 pub along : (P : Tables → List (List ℤ) → Limits → Type 0) {network t : Tables} {lists given : List (List ℤ)}
     {limits asked : Limits} → network ≡ t → lists ≡ given → limits ≡ asked → P network lists limits → P t given asked
@@ -35,3 +37,8 @@ reported_by may_give request reported inputs sinks report here is same be = reco
   is_report = along (λ t ls l. IsReport t ls l reported.report) is same be report;
   here = λ without. along (λ t ls l. RanHere (is_some request.trace) t ls l reported.report) is same be (here without);
 }
+
+pub of_legal : {network t : Tables} {lists : List (List ℤ)} {limits : Limits} (report : Report)
+    → IsReport network lists limits report → network ≡ t → IsOfLegal t report
+of_legal report is same =
+    subst (λ (u : Tables). IsOfLegal u report) same (record { legal = is.legal; view = is.view })

@@ -10,6 +10,6 @@ invariant-loop-channel l =
     let channels = l.document.tables.channels in
     record {
       few : l.sink ≤ l.channel;
-      lines : string_bytes l.text ++ sink_lines names l.wanted l.taken l.sink l.channel (drop l.channel channels)
-          ≡ string_bytes l.initial.text ++ sink_lines names l.wanted l.taken 0 0 channels;
+      lines : string_bytes l.text ++ sink_lines names l.left_out l.wanted l.taken l.sink l.channel (drop l.channel channels)
+          ≡ string_bytes l.initial.text ++ sink_lines names l.left_out l.wanted l.taken 0 0 channels;
     }

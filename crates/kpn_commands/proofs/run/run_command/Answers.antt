@@ -2,8 +2,11 @@
 use Rattle.std.proofs.Common.{inr, ◌∙◌}
 use Rattle.std.proofs.lemmas.Result.{IfOk-weaker, IfErr-weaker}
 use Rattle.kpn_commands.specs.declared.reporting.Reported.{Reported}
-use Rattle.kpn_commands.proofs.Running.{reported_by}
+use Rattle.kpn_commands.proofs.Running.{of_legal, reported_by}
 use Rattle.kpn_commands.proofs.run.run_command.Goals as goal
+
+pub conclusion_of-requires : goal.conclusion_of-requires
+conclusion_of-requires g c = of_legal _ c.in-Ok-run_on_this_thread.ensures.report c.network-network.ensures
 
 pub returns-clause-ok : goal.returns-clause-ok
 returns-clause-ok g c =

@@ -2,8 +2,11 @@
 use Rattle.std.proofs.lemmas.Result.{IfOk-weaker, IfErr-weaker}
 use Rattle.std.proofs.Common.{◌≡◌, ◌∙◌, Some, sym, ap, inr}
 use Rattle.kpn_commands.specs.declared.reporting.Reported.{Reported}
-use Rattle.kpn_commands.proofs.Running.{reported_by, has_workers}
+use Rattle.kpn_commands.proofs.Running.{of_legal, reported_by, has_workers}
 use Rattle.kpn_commands.proofs.run.run_command_by_workers.Goals as goal
+
+pub conclusion_of-requires : goal.conclusion_of-requires
+conclusion_of-requires g c = of_legal _ c.in-Ok-run_by_workers.ensures.report c.network-network.ensures
 
 pub returns-clause-ok : goal.returns-clause-ok
 returns-clause-ok g c =

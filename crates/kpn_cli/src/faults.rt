@@ -1,0 +1,187 @@
+//! Which processes have ended by a fault, as the lines of a report say, where and with which values, and what it means.
+//! The network is run once more for that, and so are these processes, if what it read are plain files.
+ghost use Rattle.std.specs.Prelude.{◌<◌, length};
+
+use crate::pieces::{file_in, has_name, is_of, push, push_name};
+use crate::stopped::is_short;
+use kpn_book::{Limits, run_here};
+use kpn_command_base::{EndKind, QUOTA, load_inputs};
+use kpn_command_explain::{GottenItems, fault_text};
+use kpn_history::{History, State};
+use kpn_shelf::{STANDARD, Shelf};
+use kpn_text::Document;
+use std::alloc::{AllocError, Global};
+use std::rt::Files;
+
+// How many commits the run has that is made once more.
+const MOST_COMMITS: u64 = 1_000_000;
+
+/// What a network was run on: the file of its description, and the options of its sources.
+#[derive(Clone, Copy)]
+pub(crate) struct FedFiles<'r, 'a> {
+    pub(crate) file: &'a str,
+    pub(crate) sources: &'r [&'a str],
+}
+
+/// Adds which processes have ended by a fault, as the lines `fault INSTANCE CAUSE` of a report tell, and what it means.
+/// Where it was is told if there are these inputs.
+pub(crate) fn push_faults<R: Files, S: Shelf>(
+    text: &mut Vec<u8>,
+    alloc: Global,
+    report: &str,
+    inputs: Option<FedFiles<'_, '_>>,
+    shelf: &S,
+    rt: &R,
+) -> Result<(), AllocError> {
+    let mut has_fault = false;
+    for (cause, said) in &FAULTS {
+        if push_faulted(text, report, cause, said)? {
+            has_fault = true;
+        }
+    }
+    if !has_fault {
+        return Ok(());
+    }
+    if let Some(inputs) = inputs {
+        push_places(text, alloc, report, inputs, shelf, rt)?;
+    }
+    push(text, FAULTED)
+}
+
+/// The inputs of a stream, if they can be read as those of a run: lines of plain files.
+pub(crate) fn lines_of_stream<'r, 'a>(
+    file: &'a str,
+    sources: &'r [&'a str],
+    formats: &[&str],
+    document: &Document,
+) -> Option<FedFiles<'r, 'a>> {
+    if !formats.is_empty() || sources.iter().any(|source| file_in(source) == STANDARD) {
+        return None;
+    }
+    for channel in 0..document.network().channels() {
+        let name = document.channel_name(channel);
+        if is_of(document, EndKind::Sources, channel) && !has_name(sources, name) {
+            return None;
+        }
+    }
+    Some(FedFiles { file, sources })
+}
+
+// Adds the place of each fault that a report tells.
+fn push_places<R: Files, S: Shelf>(
+    text: &mut Vec<u8>,
+    alloc: Global,
+    report: &str,
+    inputs: FedFiles<'_, '_>,
+    shelf: &S,
+    rt: &R,
+) -> Result<(), AllocError> {
+    let FedFiles { file, sources } = inputs;
+    if !sources.iter().all(|source| is_short(rt, file_in(source))) {
+        return Ok(());
+    }
+    let (Ok(loaded), Ok(bytes)) = (
+        load_inputs(alloc, shelf, file, sources),
+        shelf.load(alloc, file),
+    ) else {
+        return Ok(());
+    };
+    let network = loaded.document.network();
+    let limits = Limits {
+        commits: MOST_COMMITS,
+        take: None,
+        quota: QUOTA,
+    };
+    let again = run_here(alloc, network, &loaded.given, &limits)?;
+    let states = again.view.states.as_slice();
+    for p in 0..network.instances() {
+        let has_ended = matches!(states.get(p), Some(State::Ended(_)));
+        if has_ended && is_told(report, loaded.document.instance_name(p)) {
+            let got = items_of(alloc, &loaded.document, p, &again.history)?;
+            let told = fault_text(alloc, file, &bytes, &loaded.document, got)?;
+            text.extend_from_slice(&told)?;
+        }
+    }
+    Ok(())
+}
+
+// Whether a report tells a fault of a process of this name.
+fn is_told(report: &str, name: &str) -> bool {
+    report.lines().any(|line| match fault_in(line) {
+        Some((instance, _)) => instance == name,
+        None => false,
+    })
+}
+
+// The items that a process got in a run.
+fn items_of(
+    alloc: Global,
+    document: &Document,
+    p: usize,
+    history: &History,
+) -> Result<GottenItems, AllocError>
+    requires { p < length document.now.tables.instances }
+{
+    let mut got = GottenItems::new(alloc, document, p)?;
+    for k in 0..history.len() {
+        if let Some(event) = history.at(k) {
+            got.add(event)?;
+        }
+    }
+    Ok(got)
+}
+
+// Adds the names of the processes that a text tells to have ended by this fault. It returns whether there are some.
+fn push_faulted(
+    text: &mut Vec<u8>,
+    report: &str,
+    cause: &str,
+    said: &str,
+) -> Result<bool, AllocError> {
+    let mut count = 0u32;
+    for line in report.lines() {
+        if let Some((instance, how)) = fault_in(line) {
+            if how == cause {
+                push_name(text, lead(count), instance, "")?;
+                count = count.saturating_add(1);
+            }
+        }
+    }
+    if count == 0 {
+        return Ok(false);
+    }
+    push(text, said)?;
+    Ok(true)
+}
+
+// What stands before a name of a list, of which this is the number.
+fn lead(count: u32) -> &'static str {
+    if count == 0 { "" } else { ", " }
+}
+
+// The process and the cause that a line `fault INSTANCE CAUSE` tells.
+fn fault_in(line: &str) -> Option<(&str, &str)> {
+    line.strip_prefix("fault ")?.split_once(' ')
+}
+
+// The word of each fault in a report, and what is said of those that it ended.
+const FAULTS: [(&str, &str); 4] = [
+    (
+        "zero-divisor",
+        " ended by a division by 0 (`zero-divisor`).\n",
+    ),
+    (
+        "overflow",
+        " ended by a result out of range (`overflow`).\n",
+    ),
+    ("index", " ended by an index out of range (`index`).\n"),
+    (
+        "shift",
+        " ended by a shift by less than 0 or more than 63 (`shift`).\n",
+    ),
+];
+
+const FAULTED: &str = "\
+A process that has ended writes nothing more: its readers get what is unread, and then wait. With `--trace OUT`,
+`kpn explain FILE OUT` says after which item it was.
+";

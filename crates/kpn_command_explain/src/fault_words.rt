@@ -1,0 +1,94 @@
+//! Where a fault has ended a process, and with which values: what its statements come to once more. Rows show the words.
+ghost use Rattle.std.specs.Prelude.{◌<◌, length};
+
+use crate::excerpt::{push_excerpt, push_where};
+use crate::fault_frame::{FaultFrame, Stuck};
+use kpn_history::Event;
+use kpn_text::Document;
+use kpn_text_grammar::description;
+use kpn_text_tokens::{language_of, lexemes};
+use std::alloc::{AllocError, Global};
+
+/// The items that a process got, for each of its in ports.
+#[derive(Drop)]
+pub struct GottenItems {
+    process: usize,
+    channels: Vec<usize>,
+    items: Vec<Vec<i64>>,
+}
+
+impl GottenItems {
+    /// None so far.
+    pub fn new(alloc: Global, document: &Document, p: usize) -> Result<GottenItems, AllocError>
+        requires { p < length document.now.tables.instances }
+    {
+        let channels = document.network().ins(p).to_vec(alloc)?;
+        let mut items = Vec::new(alloc);
+        for _channel in &channels {
+            items.push(Vec::new(alloc))?;
+        }
+        Ok(GottenItems {
+            process: p,
+            channels,
+            items,
+        })
+    }
+
+    /// Adds the item of an event, if it is a get of the process.
+    pub fn add(&mut self, event: Event) -> Result<(), AllocError> {
+        let Event::Get(p, c, item) = event else {
+            return Ok(());
+        };
+        if usize::from(p) != self.process {
+            return Ok(());
+        }
+        for (port, channel) in self.channels.iter().enumerate() {
+            if *channel == usize::from(c) {
+                if let Some(items) = self.items.get_mut(port) {
+                    items.push(item)?;
+                }
+            }
+        }
+        Ok(())
+    }
+}
+
+/// What is said of the fault that has ended a process of the description in this text, which got these items: the place
+/// in the text, the expression, and the values in it. It is empty if nothing is known.
+pub fn fault_text(
+    alloc: Global,
+    file: &str,
+    text: &[u8],
+    document: &Document,
+    got: GottenItems,
+) -> Result<Vec<u8>, AllocError> {
+    let mut out = Vec::new(alloc);
+    let p = got.process;
+    let network = document.network();
+    if network.instances() <= p {
+        return Ok(out);
+    }
+    let language = language_of(text);
+    let Ok(tokens) = lexemes(alloc, language, text) else {
+        return Ok(out);
+    };
+    let Ok(tree) = description(alloc, language, tokens.as_slice(), text.len()) else {
+        return Ok(out);
+    };
+    let Some(process) = tree.processes.get(network.program_number(p)) else {
+        return Ok(out);
+    };
+    let mut frame = FaultFrame::start(alloc, &tree, process, network.pars(p), got.items)?;
+    if frame.make_block(&process.body) != Err(Stuck::Faulted) {
+        return Ok(out);
+    }
+    let at = frame.at.unwrap_or(process.name.start);
+    push_where(&mut out, file.as_bytes(), text, at)?;
+    out.push(b'`')?;
+    out.extend_from_slice(document.instance_name(p).as_bytes())?;
+    out.extend_from_slice(b"` ended at ")?;
+    out.extend_from_slice(&frame.said)?;
+    out.push(b'\n')?;
+    push_excerpt(&mut out, text, at)?;
+    Ok(out)
+}

@@ -1,0 +1,97 @@
+//! How often processes have to go round for each other so that their channels balance.
+
+use std::alloc::{AllocError, Global};
+
+/// A channel: the numbers of its writer and its reader, and the items that each moves there in a turn, at least 1.
+#[derive(Clone, Copy)]
+pub(crate) struct RatedChannel {
+    pub writer: usize,
+    pub reader: usize,
+    pub put: u64,
+    pub got: u64,
+}
+
+// How many turns of a process there are, as a fraction.
+#[derive(Clone, Copy, PartialEq)]
+struct Ratio {
+    over: u64,
+    under: u64,
+}
+
+/// The first of these channels that the others contradict, if one does. Nothing is said where numbers become too large.
+pub(crate) fn first_unbalanced(
+    alloc: Global,
+    links: &[RatedChannel],
+    processes: usize,
+) -> Result<Option<usize>, AllocError> {
+    let mut turns: Vec<Option<Ratio>> = vec![in alloc; None; processes]?;
+    for p in 0..processes {
+        if turns[p].is_none() {
+            turns[p] = Some(Ratio { over: 1, under: 1 });
+            for _round in 0..processes {
+                spread(links, &mut turns);
+            }
+        }
+    }
+    Ok(links.iter().position(|link| is_contradicted(*link, &turns)))
+}
+
+// What is known of one end of a channel, for the other.
+fn spread(links: &[RatedChannel], turns: &mut [Option<Ratio>]) {
+    for link in links {
+        let (writer, reader) = (known(turns, link.writer), known(turns, link.reader));
+        match (writer, reader) {
+            (Some(writer), None) => learn(turns, link.reader, scaled(writer, link.put, link.got)),
+            (None, Some(reader)) => learn(turns, link.writer, scaled(reader, link.got, link.put)),
+            _ => {}
+        }
+    }
+}
+
+fn known(turns: &[Option<Ratio>], p: usize) -> Option<Ratio> {
+    turns.get(p).copied().unwrap_or(None)
+}
+
+fn learn(turns: &mut [Option<Ratio>], p: usize, found: Option<Ratio>) {
+    if p < turns.len() {
+        turns[p] = found;
+    }
+}
+
+// Whether both ends of a channel are known, and do not fit.
+fn is_contradicted(link: RatedChannel, turns: &[Option<Ratio>]) -> bool {
+    match (known(turns, link.writer), known(turns, link.reader)) {
+        (Some(writer), Some(reader)) => match scaled(writer, link.put, link.got) {
+            Some(wanted) => wanted != reader,
+            None => false,
+        },
+        _ => false,
+    }
+}
+
+// So many turns times a fraction, in lowest terms.
+fn scaled(turns: Ratio, over: u64, under: u64) -> Option<Ratio> {
+    let over = turns.over.checked_mul(over)?;
+    let under = turns.under.checked_mul(under)?;
+    let common = common_divisor(over, under);
+    Some(Ratio {
+        over: over.checked_div(common)?,
+        under: under.checked_div(common)?,
+    })
+}
+
+// The greatest common divisor, after Euclid.
+fn common_divisor(one: u64, other: u64) -> u64 {
+    let (mut larger, mut smaller) = (one, other);
+    // Two steps at least halve a number of 64 bits.
+    for _step in 0..128 {
+        match larger.checked_rem(smaller) {
+            Some(rest) => {
+                larger = smaller;
+                smaller = rest;
+            }
+            None => return larger,
+        }
+    }
+    larger
+}
