@@ -1,5 +1,5 @@
 -- What the parts of the code refuse, as why a stream is not begun.
-use Rattle.std.proofs.Common.{◌≡◌, ℕ, List, All, map, length, inl, inr, Ok, refl, sym, subst}
+use Rattle.std.proofs.Common.{◌≡◌, ◌∙◌, ℕ, ◌<◌, List, All, map, length, get_or, inl, inr, None, Ok, refl, sym, subst}
 use Rattle.kpn_text.specs.Document.{Document}
 use Rattle.kpn_shelf.specs.Shelf.{Aliases}
 use Rattle.kpn_command_base.specs.declared.refusal.Refusal.{Refusal}
@@ -13,8 +13,10 @@ use Rattle.kpn_stream.specs.Ending.{end_numbers}
 use Rattle.kpn_command_stream.specs.declared.refusal.StreamRefusal.{StreamRefusal}
 use Rattle.kpn_command_stream.specs.declared.refusal.StreamRefusal.TheVariants.{Common, Unnamed, SharedInput, FormatWord}
 use Rattle.kpn_command_stream.specs.Words.{stream_words_of}
-use Rattle.kpn_command_stream.specs.Causes.{AreWordsRefused, EndWords, IsDeviceRefusal, IsUnplaced, IsUnplacedBy, IsUnstreamed, OfCommon, end_words_of}
+use Rattle.kpn_command_stream.specs.Causes.{AreWordsRefused, EndWords, IsDeviceRefusal, IsUnnamed, IsUnplaced, IsUnplacedBy, IsUnstreamed, OfCommon, end_words_of}
 use Rattle.kpn_command_stream.specs.Command.{end_words_in}
+use Rattle.kpn_command_stream.specs.EndPlaces.{name_for}
+use Rattle.kpn_text_names.specs.Names.{name_at}
 use Rattle.kpn_command_stream.specs.declared.command.Words.{Words}
 use Rattle.kpn_command_base.specs.declared.sources.EndKind.TheVariants.{Sources, Sinks}
 use Rattle.kpn_command_stream.specs.Formats.{SaysFormat}
@@ -33,14 +35,26 @@ module _ (may_alias : Aliases) (request : StreamRequest) where
 -- by the ends that options name
 pub unplaced : (ends : EndKind) (d : Document) (names formats : List (List ℕ)) (named : List NamedEnd)
     → ends_named ends d names ≡ Ok (map (λ end. end.number) named) → (r : StreamRefusal)
-    → IsUnplacedBy ends named (length (end_numbers (is_end ends) d.tables)) formats r
+    → IsUnplacedBy ends d named (end_numbers (is_end ends) d.tables) formats r
     → IsUnplaced ends d names formats r
 unplaced ends d names formats named numbers (Common refusal.NoMemory) cause = tt
 unplaced ends d names formats named numbers (Common other) cause = absurd cause
 unplaced ends d names formats named numbers (Unnamed these name) cause =
-    (cause.0, record { named = named; numbers = numbers; number = cause.1; none = cause.2 })
+    (cause.0, record { named = named; numbers = numbers; left_out = cause.1 })
 unplaced ends d names formats named numbers FormatWord cause = cause
 unplaced ends d names formats named numbers SharedInput cause = absurd cause
+
+-- an end without a name is one that is left out
+pub unnamed : (ends : EndKind) (d : Document) (named : List NamedEnd) (channels : List ℕ) (formats : List (List ℕ))
+    (name : List ℕ) (number : ℕ) → number < length channels → name_for named number (length channels) ≡ None
+    → name ≡ name_at d.names.channels (get_or channels number 0) → (r : StreamRefusal) → IsUnnamed ends name r
+    → IsUnplacedBy ends d named channels formats r
+unnamed ends d named channels formats name number there none called (Common refusal.NoMemory) is = tt
+unnamed ends d named channels formats name number there none called (Common other) is = absurd is
+unnamed ends d named channels formats name number there none called (Unnamed these own) is =
+    (is.0, record { number = number; there = there; none = none; called = is.1 ∙ called })
+unnamed ends d named channels formats name number there none called FormatWord is = absurd is
+unnamed ends d named channels formats name number there none called SharedInput is = absurd is
 
 apart : Sources ≡ Sinks → ⊥
 apart same = cc

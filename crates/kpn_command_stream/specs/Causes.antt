@@ -1,6 +1,8 @@
 -- Why a stream is not begun.
-use Rattle.std.specs.Prelude.{◌≡◌, ◌≢◌, ◌⊎◌, ℕ, List, map, length, All, IfSome, Some, None, Err, Ok, codes, ⊤}
+use Rattle.std.specs.Prelude.{◌≡◌, ◌≢◌, ◌⊎◌, ℕ, ◌<◌, List, map, length, get_or, All, IfSome, Some, None, Err, Ok, codes, ⊤}
 use Rattle.std.specs.List.{Any}
+use Rattle.std.specs.String.{string_bytes}
+use Rattle.kpn_text_names.specs.Names.{name_at}
 use Rattle.kpn_text.specs.Document.{Document}
 use Rattle.kpn_shelf.specs.Shelf.{Loads, Aliases}
 use Rattle.kpn_command_base.specs.declared.refusal.Refusal.{Refusal}
@@ -34,19 +36,25 @@ AreWordsRefused may_alias request other = ⊥
 
 -- ---- the places
 
--- no option names an end, and it is not the only one
-pub record LacksName (ends : EndKind) (d : Document) (names : List (List ℕ)) : Type 0 where
+-- one of these channels has this name; no option names it, and it is not the only one
+pub record IsLeftOut (d : Document) (named : List NamedEnd) (channels : List ℕ) (name : List ℕ) : Type 0 where
+  pub number : ℕ
+  pub there : number < length channels
+  pub none : name_for named number (length channels) ≡ None
+  pub called : name ≡ name_at d.names.channels (get_or channels number 0)
+
+-- so is one of the ends
+pub record LacksName (ends : EndKind) (d : Document) (names : List (List ℕ)) (name : List ℕ) : Type 0 where
   pub named : List NamedEnd
   pub numbers : ends_named ends d names ≡ Ok (map (λ end. end.number) named)
-  pub number : ℕ
-  pub none : name_for named number (length (end_numbers (is_end ends) d.tables)) ≡ None
+  pub left_out : IsLeftOut d named (end_numbers (is_end ends) d.tables) name
 
 -- such ends have no places: a name is no such end, or was named before; or an end lacks one; or a word says no format
 abbrev pub IsUnplaced : EndKind → Document → (names formats : List (List ℕ)) → StreamRefusal → Type 0
 IsUnplaced ends d names formats (Common (refusal.Names fault)) = ends_named ends d names ≡ Err fault
 IsUnplaced ends d names formats (Common refusal.NoMemory) = ⊤
 IsUnplaced ends d names formats (Common other) = ⊥
-IsUnplaced ends d names formats (Unnamed these name) = (these ≡ ends) × LacksName ends d names
+IsUnplaced ends d names formats (Unnamed these name) = (these ≡ ends) × LacksName ends d names (string_bytes name)
 IsUnplaced ends d names formats FormatWord = ¬ All SaysFormat formats
 IsUnplaced ends d names formats SharedInput = ⊥
 
@@ -100,8 +108,8 @@ IsUnstreamed may_alias may_share d words (Common (refusal.Names fault)) =
 IsUnstreamed may_alias may_share d words (Common refusal.SinkWord) =
     (sinks : List EndPlace) × AreSinkPlaces d words sinks × MayWriteInto may_alias sinks
 IsUnstreamed may_alias may_share d words (Common other) = IsDeviceRefusal other
-IsUnstreamed may_alias may_share d words (Unnamed Sources name) = LacksName Sources d words.sources
-IsUnstreamed may_alias may_share d words (Unnamed Sinks name) = LacksName Sinks d words.sinks
+IsUnstreamed may_alias may_share d words (Unnamed Sources name) = LacksName Sources d words.sources (string_bytes name)
+IsUnstreamed may_alias may_share d words (Unnamed Sinks name) = LacksName Sinks d words.sinks (string_bytes name)
 IsUnstreamed may_alias may_share d words SharedInput =
     (sources : List EndPlace) × AreSourcePlaces d words sources × ShareAnInput may_share sources
 IsUnstreamed may_alias may_share d words FormatWord =
@@ -137,19 +145,20 @@ pub data IsUnbegun (may_give : Loads) (may_alias may_share : Aliases) (request :
 
 -- ---- scaffolding
 
--- such ends, so many of which these are named, have no places
-abbrev pub IsUnplacedBy : EndKind → List NamedEnd → (count : ℕ) → (formats : List (List ℕ)) → StreamRefusal → Type 0
-IsUnplacedBy ends named count formats (Common refusal.NoMemory) = ⊤
-IsUnplacedBy ends named count formats (Common other) = ⊥
-IsUnplacedBy ends named count formats (Unnamed these name) =
-    (these ≡ ends) × (number : ℕ) × (name_for named number count ≡ None)
-IsUnplacedBy ends named count formats FormatWord = ¬ All SaysFormat formats
-IsUnplacedBy ends named count formats SharedInput = ⊥
+-- such ends, of which these are named, have no places
+abbrev pub IsUnplacedBy : EndKind → Document → List NamedEnd → (channels : List ℕ) → (formats : List (List ℕ))
+    → StreamRefusal → Type 0
+IsUnplacedBy ends d named channels formats (Common refusal.NoMemory) = ⊤
+IsUnplacedBy ends d named channels formats (Common other) = ⊥
+IsUnplacedBy ends d named channels formats (Unnamed these name) =
+    (these ≡ ends) × IsLeftOut d named channels (string_bytes name)
+IsUnplacedBy ends d named channels formats FormatWord = ¬ All SaysFormat formats
+IsUnplacedBy ends d named channels formats SharedInput = ⊥
 
--- the end lacks a name, or there is no memory to say so
-abbrev pub IsUnnamed : EndKind → StreamRefusal → Type 0
-IsUnnamed ends (Common refusal.NoMemory) = ⊤
-IsUnnamed ends (Common other) = ⊥
-IsUnnamed ends (Unnamed these name) = these ≡ ends
-IsUnnamed ends FormatWord = ⊥
-IsUnnamed ends SharedInput = ⊥
+-- the end of this name lacks an option, or there is no memory to say so
+abbrev pub IsUnnamed : EndKind → (name : List ℕ) → StreamRefusal → Type 0
+IsUnnamed ends name (Common refusal.NoMemory) = ⊤
+IsUnnamed ends name (Common other) = ⊥
+IsUnnamed ends name (Unnamed these own) = (these ≡ ends) × (string_bytes own ≡ name)
+IsUnnamed ends name FormatWord = ⊥
+IsUnnamed ends name SharedInput = ⊥

@@ -68,8 +68,8 @@ fn places_by<'a>(
     ensures placed { IfOk result (λ places. AllPlaced document.now named.now
         (map (λ word. word.now) formats.now)
         (end_numbers (is_end ends) document.now.tables) places.items) }
-    ensures cause { IfErr result (IsUnplacedBy ends named.now
-        (length (end_numbers (is_end ends) document.now.tables))
+    ensures cause { IfErr result (IsUnplacedBy ends document.now named.now
+        (end_numbers (is_end ends) document.now.tables)
         (map (λ word. word.now) formats.now)) }
 {
     let numbers = end_numbers_of(alloc, document.network())?;
@@ -90,7 +90,7 @@ fn place_each<'a>(
 ) -> Result<Vec<EndPlace<'a>>, StreamRefusal>
     ensures placed { IfOk result (λ places. AllPlaced document.now named.now
         (map (λ word. word.now) formats.now) channels.now places.items) }
-    ensures cause { IfErr result (IsUnplacedBy ends named.now (length channels.now)
+    ensures cause { IfErr result (IsUnplacedBy ends document.now named.now channels.now
         (map (λ word. word.now) formats.now)) }
 {
     let mut places = Vec::new(alloc);
@@ -113,7 +113,7 @@ fn place_each<'a>(
 
 /// The refusal of a stream one of whose ends has no option.
 fn unnamed(alloc: Global, ends: EndKind, name: &str) -> StreamRefusal
-    ensures { IsUnnamed ends result }
+    ensures { IsUnnamed ends name.now result }
 {
     match String::from_str(alloc, name) {
         Ok(name) => StreamRefusal::Unnamed(ends, name),

@@ -4,6 +4,7 @@ use Rattle.kpn_stream_devices.specs.Formats.{NamesFormat}
 use Rattle.kpn_command_stream.specs.Formats.{format_word}
 use Rattle.kpn_command_stream.specs.EndPlaces.{ArePlaced}
 use Rattle.kpn_command_stream.specs.declared.places.EndPlace.{EndPlace}
+use Rattle.kpn_command_stream.proofs.Refusing.{unnamed}
 use Rattle.kpn_command_stream.proofs.Worded.{placed_more, says_none}
 use Rattle.kpn_command_stream.proofs.places.place_each.Goals as goal
 
@@ -18,6 +19,13 @@ loop-number-preserved c =
     (sym c.name_for.ensures ∙ ap (option_map (λ (name : Bor (List ℕ)). name.now)) c.in-Some.is)
     (subst (λ (name : List ℕ). NamesFormat (format_word words name) c.in-Some-format_for.format)
     c.channel_name-in-loop-number.ensures c.in-Some-format_for.ensures))
+
+pub returns-in_default-clause-cause : goal.returns-in_default-clause-cause
+returns-in_default-clause-cause c =
+    unnamed c.args.ends c.args.document.now c.args.named.now c.args.channels.now
+    (map (λ (word : Bor (List ℕ)). word.now) c.args.formats.now) _ c.loop-number.number c.loop-number-test.true
+    (sym c.name_for.ensures ∙ ap (option_map (λ (name : Bor (List ℕ)). name.now)) c.in_default.is)
+    c.channel_name.ensures _ c.unnamed.ensures
 
 pub returns-in_default-format_for-clause-cause : goal.returns-in_default-format_for-clause-cause
 returns-in_default-format_for-clause-cause c = says_none _ _ c.in_default-format_for.ensures

@@ -1,5 +1,5 @@
 -- The places of all ends by what the options name.
-use Rattle.std.proofs.Common.{List, length, map, subst}
+use Rattle.std.proofs.Common.{List, map, subst}
 use Rattle.std.specs.Prelude.{IfErr}
 use Rattle.std.proofs.lemmas.Result.{IfOk-weaker, IfErr-weaker}
 use Rattle.kpn_command_base.specs.declared.sources.NamedEnd.{NamedEnd}
@@ -32,6 +32,6 @@ returns-clause-cause c =
     (subst
     (λ (named : List NamedEnd).
     IfErr c.places_by.result
-    (IsUnplacedBy c.args.ends named (length (end_numbers (is_end c.args.ends) c.args.document.now.tables))
+    (IsUnplacedBy c.args.ends c.args.document.now named (end_numbers (is_end c.args.ends) c.args.document.now.tables)
     (map (λ word. word.now) c.args.formats.now)))
     c.deref.ensures.value c.places_by.ensures.cause)
