@@ -251,7 +251,8 @@ class Tests:
             chance = random.Random(file.name)
             items = {name: [chance.randrange(-50, 50) for _ in range(40)] for name in declared('source', text)}
             for ranks in (1, 2, 4):
-                self.compare(text, items, ranks, None, 1024, lambda *words: self.over_ranks(ranks, *words))
+                self.compare(text, items, ranks, None, 1024, lambda *words: self.over_ranks(ranks, *words),
+                             certified=ranks > 1)
         self.told(f'examples, {len(files)} descriptions on 1, 2 and 4 ranks')
 
     # ---- what goes wrong
