@@ -135,11 +135,7 @@ fn read_in_turn<S: Sources>(
 }
 
 /// Reads source `c` on while its items are at hand, if it was read.
-fn read_on<S: Sources>(
-    book: &mut Book<'_>,
-    sources: &mut S,
-    c: usize,
-) -> Option<StreamEnding>
+fn read_on<S: Sources>(book: &mut Book<'_>, sources: &mut S, c: usize) -> Option<StreamEnding>
     requires { WasRead c 1 book.old }
     ensures { ReadsInTurn S.gives S.looks S.at_hand c book.old sources.old result book.new sources.new }
 {
