@@ -4,7 +4,7 @@ use Rattle.std.proofs.lemmas.Bool.{false≢true}
 use Rattle.kpn_lang.proofs.Prefixes.{IsPrefix-refl}
 use Rattle.kpn_lang.specs.Prefix.{IsPrefix}
 use Rattle.kpn_net.specs.Tables.{channel_at, is_source, is_sink}
-use Rattle.kpn_history.specs.Channels.{written_on, read_on, is_closed}
+use Rattle.kpn_history.specs.Channels.{written_on, read_on, is_closed, is_left}
 use Rattle.kpn_book.specs.declared.outcome.Limits.{Limits}
 use Rattle.kpn_book.specs.Book.{Book, held_count}
 use Rattle.kpn_book.specs.InARow.{IsStepInRow, StepsUncommitted}
@@ -49,6 +49,7 @@ later_still : (before after : Book) → IsSameRun before after → IsLater befor
 later_still before after same = record {
   tables = same.tables;
   history = subst (IsPrefix before.history) (sym same.history) (IsPrefix-refl before.history);
+  stays = λ c stays. ap (λ H. is_left H c) same.history ∙ stays;
   keeps = same.keeps;
 }
 

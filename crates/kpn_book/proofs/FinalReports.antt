@@ -17,13 +17,13 @@ use Rattle.kpn_history.proofs.Journals.{reads_begin_writes}
 use Rattle.kpn_history.proofs.Stops.{one_verdict}
 use Rattle.kpn_history.proofs.OneEnd.{made_no_more, end_alike}
 use Rattle.kpn_history.proofs.SameEnds.{same_verdict}
-use Rattle.kpn_history.proofs.SameViews.{same_journals, same_caps, same_states, same_counts, same_view}
+use Rattle.kpn_history.proofs.SameViews.{same_view}
 use Rattle.kpn_book.specs.declared.outcome.Limits.{Limits}
 use Rattle.kpn_book.specs.declared.outcome.Outcome.{Outcome}
 use Rattle.kpn_book.specs.declared.outcome.Outcome.TheVariants.{Ended, Clogged, Jammed, Enough, Stopped}
 use Rattle.kpn_book.specs.declared.report.Report.{Report}
 use Rattle.kpn_book.specs.Outcomes.{IsEnough, IsOutcome, verdict_of}
-use Rattle.kpn_book.specs.Reports.{events_of, sink_numbers, AreSupplied, IsReport, ReportsAgree}
+use Rattle.kpn_book.specs.Reports.{events_of, sink_numbers, AreSupplied, IsReport}
 use Rattle.kpn_book.proofs.Agreement.{fed_begins}
 use Rattle.kpn_book.proofs.Completing.{fed_from}
 
@@ -122,34 +122,13 @@ module _ (t : Tables) (network : IsNetwork t) (lists : List (List ℤ)) where
         (same_verdict t (events_of report) (events_of other) alike second.settled v here) there in
         outcome_is report.outcome v e ∙ ap outcome_from (e ∙ one ∙ sym f) ∙ sym (outcome_is other.outcome w f)
 
-    pub reports_agree : ReportsAgree report other
+    pub reports_agree : (report.outcome ≡ other.outcome) × (report.view ≡ other.view) × (report.taken ≡ other.taken)
     reports_agree =
-        let stopped = first.settled.processes in
-        record {
-          outcome = same_outcome;
-          journals =
-              same_journals t (events_of report) (events_of other) is.legal alike stopped report.view other.view is.view
-              also.view;
-          caps =
-              same_caps t (events_of report) (events_of other) is.legal alike stopped report.view other.view is.view
-              also.view;
-          states =
-              same_states t (events_of report) (events_of other) is.legal alike stopped report.view other.view is.view
-              also.view;
-          counts =
-              same_counts t (events_of report) (events_of other) is.legal alike stopped report.view other.view is.view
-              also.view;
-        }
-
-    -- where no sink was left
-    pub same_reports : ((c : ℕ) → is_left (events_of report) c ≡ false)
-        → ((c : ℕ) → is_left (events_of other) c ≡ false)
-        → (report.view ≡ other.view) × (report.taken ≡ other.taken)
-    same_reports stays remains =
         let reads : read_on (events_of report) ≡ read_on (events_of other) =
-        λ i c. alike.read c (stays c) (remains c) i in (
+        λ i c. alike.read c (is.stays c) (also.stays c) i in (
+          same_outcome,
           same_view t (events_of report) (events_of other) is.legal alike first.settled.processes report.view other.view
-              is.view also.view stays remains,
+              is.view also.view is.stays also.stays,
           is.taken ∙ ap (λ h. map h (sink_numbers t)) reads ∙ sym also.taken,
         )
 
@@ -158,13 +137,13 @@ module _ (t : Tables) (network : IsNetwork t) (lists : List (List ℤ)) where
   -- a verdict and enough do not go together, if as many items were wanted
   not_both : (limits others : Limits) (report other : Report) → IsReport t lists limits report
       → IsReport t lists others other → AreSupplied t lists (events_of other) → limits.take ≡ others.take
-      → ((c : ℕ) → is_left (events_of report) c ≡ false) → (v : Verdict) → verdict_of report.outcome ≡ Some v
+      → (v : Verdict) → verdict_of report.outcome ≡ Some v
       → ¬ IsEnough t (events_of report) limits.take → other.outcome ≡ Enough → ⊥
-  not_both limits others report other is also supplied same stays v e lacking enough =
+  not_both limits others report other is also supplied same v e lacking enough =
       lacking
       (enough_too (events_of other) (events_of report)
       (record { legal = also.legal; fed = fed_from t network lists others other also supplied })
-      (final_run limits report is v e) stays limits.take
+      (final_run limits report is v e) is.stays limits.take
       (subst (IsEnough t (events_of other)) (sym same)
       (subst (λ o. IsOutcome t (events_of other) other.commits others (Some o)) enough also.outcome)))
 
@@ -195,10 +174,9 @@ module _ (t : Tables) (network : IsNetwork t) (lists : List (List ℤ)) where
 
   pub outcomes_agree : (limits others : Limits) (report other : Report) → IsReport t lists limits report
       → IsReport t lists others other → AreSupplied t lists (events_of report) → AreSupplied t lists (events_of other)
-      → limits.take ≡ others.take → ((c : ℕ) → is_left (events_of report) c ≡ false)
-      → ((c : ℕ) → is_left (events_of other) c ≡ false) → report.outcome ≢ Stopped → other.outcome ≢ Stopped
+      → limits.take ≡ others.take → report.outcome ≢ Stopped → other.outcome ≢ Stopped
       → report.outcome ≡ other.outcome
-  outcomes_agree limits others report other is also supplied given same stays remains goes_on continues =
+  outcomes_agree limits others report other is also supplied given same goes_on continues =
       by_kinds (kind_of report.outcome) (kind_of other.outcome)
     where
       by_kinds : Kind report.outcome → Kind other.outcome → report.outcome ≡ other.outcome
@@ -206,12 +184,12 @@ module _ (t : Tables) (network : IsNetwork t) (lists : List (List ℤ)) where
       by_kinds kind (is_stopped f) = absurd (continues f)
       by_kinds (is_enough e) (is_enough f) = e ∙ sym f
       by_kinds (is_verdict v e) (is_verdict w f) =
-          (reports_agree limits others report other is also v w e f).outcome
+          (reports_agree limits others report other is also v w e f).0
       by_kinds (is_verdict v e) (is_enough f) =
           absurd
-          (not_both limits others report other is also given same stays v e
+          (not_both limits others report other is also given same v e
           (lacking limits report is report.outcome refl v e) f)
       by_kinds (is_enough e) (is_verdict w f) =
           absurd
-          (not_both others limits other report also is supplied (sym same) remains w f
+          (not_both others limits other report also is supplied (sym same) w f
           (lacking others other also other.outcome refl w f) e)

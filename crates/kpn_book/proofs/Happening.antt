@@ -5,10 +5,10 @@ use Rattle.kpn_lang.specs.Prefix.{IsPrefix}
 use Rattle.kpn_lang.proofs.Prefixes.{IsPrefix-append}
 use Rattle.kpn_history.specs.declared.event.Event.{Event}
 use Rattle.kpn_history.specs.declared.event.Event.TheVariants.{Grow}
-use Rattle.kpn_history.specs.Channels.{written_on, read_on, is_closed}
+use Rattle.kpn_history.specs.Channels.{written_on, read_on, is_leave_of, is_closed, is_left}
 use Rattle.kpn_history.specs.Stops.{OwesNothing}
 use Rattle.kpn_history.proofs.Events.{written_on-same, read_on-same}
-use Rattle.kpn_history.proofs.AfterEvent.{is_closed-next}
+use Rattle.kpn_history.proofs.AfterEvent.{is_closed-next, is_left-next}
 use Rattle.kpn_book.specs.Book.{Book}
 use Rattle.kpn_book.specs.Kept.{IsBook}
 use Rattle.kpn_book.specs.Appending.{Appends, AppendsAll, IsGrowthOwed, Happens, AllHappen}
@@ -53,6 +53,19 @@ module _ (e : Event) (before after : Book) (is : Happens e before after) where
       or_nothing : (b : Bool) → (b || false) ≡ b
       or_nothing true = refl
       or_nothing false = refl
+
+-- an event that is no leave leaves no sink
+pub happens_left : (c : ℕ) (e : Event) → is_leave_of c e ≡ false → (before after : Book) → Happens e before after
+    → is_left before.history c ≡ false → is_left after.history c ≡ false
+happens_left c e none before after is stays =
+    happens_seen e before after is (λ H. is_left H c)
+    (λ B p d n. is_left-next B (Grow p d n) c ∙ or_nothing (is_left B c))
+    ∙ is_left-next before.history e c
+    ∙ rw (stays, none) refl
+  where
+    or_nothing : (b : Bool) → (b || false) ≡ b
+    or_nothing true = refl
+    or_nothing false = refl
 
 -- an event that leads to a book, which owes nothing, happens without a growth
 pub happens_alone : (e : Event) (before after : Book) → IsBook after → Appends e before after → Happens e before after

@@ -1,13 +1,15 @@
 -- What a step of a process does to the sinks, and what a take does then.
 use Rattle.std.proofs.Common.{◌≡◌, ◌↔◌, ℕ, ◌+◌, ◌<◌, ◌≤◌, max, Bool, true, false, cond, IsTrue, ℤ, List, [], ◌∷◌, ◌++◌, length, drop, slice_get, Option, Some, None, refl, sym, ap, ◌∙◌, subst, inl, inr, arith, length-append, length-drop}
 use Rattle.std.proofs.lemmas.Bool.{cases_eq, both_ways, false≢true}
+use Rattle.std.specs.List.{list_any}
+use Rattle.std.proofs.lemmas.List.Folds.{list_any-append}
 use Rattle.kpn_lang.specs.Prefix.{IsPrefix}
 use Rattle.kpn_lang.proofs.Prefixes.{IsPrefix-append, IsPrefix-trans, IsPrefix-refl}
 use Rattle.kpn_net.specs.Tables.{Tables, channel_at, is_source, is_sink}
 use Rattle.kpn_net.specs.Faults.{IsNetwork}
 use Rattle.kpn_history.specs.declared.event.Event.{Event}
 use Rattle.kpn_history.specs.declared.event.Event.TheVariants as event
-use Rattle.kpn_history.specs.Channels.{written_in, read_in, written_on, read_on, unread_on}
+use Rattle.kpn_history.specs.Channels.{written_in, read_in, written_on, read_on, unread_on, is_leave_of, is_left}
 use Rattle.kpn_history.specs.Legal.{Legal, growth_after}
 use Rattle.kpn_history.proofs.Ownership.{IsOwn-last}
 use Rattle.kpn_history.proofs.Journals.{no_sink, none_elsewhere}
@@ -33,7 +35,7 @@ use Rattle.kpn_book.specs.RunHere.{takes_of, takes_from_sinks}
 use Rattle.kpn_book.proofs.Held.{held_after_step, held_after_take}
 use Rattle.kpn_book.specs.Remembering.{RemembersAsMuch}
 use Rattle.kpn_book.proofs.Remembered.{same_much, much-trans, happens_much, steps_much}
-use Rattle.kpn_book.proofs.Happening.{happens_tables, happens_prefix, happens_commits, happens_written, happens_read, one}
+use Rattle.kpn_book.proofs.Happening.{happens_left, happens_tables, happens_prefix, happens_commits, happens_written, happens_read, one}
 use Rattle.kpn_book.proofs.Turning.{nothing_lies, takes_nothing, takes_there, the_one, front_stepped}
 
 -- ---- what was read
@@ -49,20 +51,31 @@ enough_same t G H same (Some items) enough =
 -- ---- the same run, later
 
 pub IsLater-refl : (b : Book) → IsLater b b
-IsLater-refl b = record { tables = refl; history = IsPrefix-refl b.history; keeps = λ keeping is. is }
+IsLater-refl b =
+    record {
+      tables = refl;
+      history = IsPrefix-refl b.history;
+      stays = λ c stays. stays;
+      keeps = λ keeping is. is;
+    }
 
 pub IsLater-trans : (a b c : Book) → IsLater a b → IsLater b c → IsLater a c
 IsLater-trans a b c first second = record {
   tables = second.tables ∙ first.tables;
   history = IsPrefix-trans a.history b.history c.history first.history second.history;
+  stays = λ d stays. second.stays d (first.stays d stays);
   keeps = much-trans a b c first.keeps second.keeps;
 }
 
 pub IsLater-events : (before after : Book) (es : List Event) → after.tables ≡ before.tables
-    → after.history ≡ before.history ++ es → RemembersAsMuch before after → IsLater before after
-IsLater-events before after es tables history much = record {
+    → after.history ≡ before.history ++ es → ((c : ℕ) → list_any (is_leave_of c) es ≡ false)
+    → RemembersAsMuch before after → IsLater before after
+IsLater-events before after es tables history none much = record {
   tables = tables;
   history = subst (IsPrefix before.history) (sym history) (IsPrefix-append before.history es);
+  stays = λ c stays.
+      ap (λ H. is_left H c) history ∙ list_any-append (is_leave_of c) before.history es
+      ∙ rw (stays, none c) refl;
   keeps = much;
 }
 
@@ -110,6 +123,35 @@ growth_reads : (t : Tables) (H growth : List Event) → IsGrowthOwed t H growth 
 growth_reads t H [] owed c = tt
 growth_reads t H (event.Grow p d n ∷ []) owed c = (refl, tt)
 growth_reads t H growth owed c = absurd owed
+
+-- and leave no sink
+wait_leaves : (b : Book) (p : ℕ) (s : Stop) (wait : Event) → HasToWait b p s wait → (c : ℕ)
+    → is_leave_of c wait ≡ false
+wait_leaves b p s wait waits c =
+    elim waits [
+      | inl empty ↦ ap (is_leave_of c) empty.is
+      | inr full ↦ ap (is_leave_of c) full.is
+    ]
+
+growth_leaves : (t : Tables) (H growth : List Event) → IsGrowthOwed t H growth → (c : ℕ)
+    → list_any (is_leave_of c) growth ≡ false
+growth_leaves t H [] owed c = refl
+growth_leaves t H (event.Grow p d n ∷ []) owed c = refl
+growth_leaves t H growth owed c = absurd owed
+
+answer_leaves : (b : Book) (p : ℕ) (s : Stop) (answer : Done) (es : List Event) → IsAnswer b p s answer es → (c : ℕ)
+    → list_any (is_leave_of c) es ≡ false
+answer_leaves b p s (done.Got v) es got c = ap (list_any (is_leave_of c)) got.appends
+answer_leaves b p s done.Put es put c = ap (list_any (is_leave_of c)) put.appends
+answer_leaves b p s done.Blocked es blocked c =
+    ap (list_any (is_leave_of c)) blocked.appends
+    ∙ rw (wait_leaves b p s blocked.wait blocked.waits c) refl
+answer_leaves b p s (done.Grew d) es grew c =
+    ap (list_any (is_leave_of c)) grew.appends ∙ rw (wait_leaves b p s grew.wait grew.waits c) refl
+answer_leaves b p s done.Ended es ended c =
+    ap (list_any (is_leave_of c)) ended.appends
+    ∙ growth_leaves b.tables (b.history ++ event.Ended p ended.how ∷ []) ended.growth ended.owed c
+answer_leaves b p s done.Paused es paused c = ap (list_any (is_leave_of c)) paused.appends
 
 -- a process reads no sink
 got_elsewhere : (t : Tables) → IsNetwork t → (B : List Event) (p c : ℕ) (v : ℤ)
@@ -180,6 +222,8 @@ stepped quota (Some answer) before after was is held some steps = (
   record {
     later = IsLater-events before after (events quota answer before after steps)
         (step_tables quota answer before after steps) (step_history quota answer before after steps)
+        (answer_leaves (stood quota answer before after steps) steps.process steps.advance.stop answer
+        (events quota answer before after steps) steps.commits.handles.answers)
         (steps_much quota answer before after steps);
     commits = step_commits quota answer before after steps;
     nobody_held = held_after_step quota answer before after was steps ∙ held;
@@ -268,6 +312,7 @@ module _ (before now : Book) (p c : ℕ) (v : ℤ) (put : now.history ≡ before
 pub record IsTaken (before after : Book) (c : ℕ) : Type 0 where
   pub tables : after.tables ≡ before.tables
   pub history : IsPrefix before.history after.history
+  pub stays : (d : ℕ) → is_left before.history d ≡ false → is_left after.history d ≡ false
   pub keeps : RemembersAsMuch before after
   pub commits : after.commits ≡ before.commits
   pub written : (d : ℕ) → written_on after.history d ≡ written_on before.history d
@@ -296,6 +341,7 @@ taken c item before after book takes = by item takes.takes
     by None same = record {
       tables = ap (λ b. b.tables) same.1;
       history = subst (λ b. IsPrefix before.history b.history) (sym same.1) (IsPrefix-refl before.history);
+      stays = λ d stays. ap (λ b. is_left b.history d) same.1 ∙ stays;
       keeps = same_much before after same.1;
       commits = ap (λ b. b.commits) same.1;
       written = λ d. ap (λ b. written_on b.history d) same.1;
@@ -316,6 +362,7 @@ taken c item before after book takes = by item takes.takes
         record {
           tables = happens_tables e before after is;
           history = happens_prefix e before after is;
+          stays = λ d. happens_left d e refl before after is;
           keeps = happens_much e before after is;
           commits = happens_commits e before after is;
           written = λ d. happens_written e before after is d ∙ written_on-same before.history e d refl;
@@ -418,7 +465,7 @@ module _ (limits : Limits) (before now after : Book) (to_itself : IsLeftToItself
     turn = λ is. record { answer = (front is).0; stepped = now; steps = (front is).1; takes = put_takes };
     later =
         IsLater-trans before now after committed.later
-        (record { tables = took.tables; history = took.history; keeps = took.keeps });
+        (record { tables = took.tables; history = took.history; stays = took.stays; keeps = took.keeps });
     commits = took.commits ∙ committed.commits;
     to_itself = record {
       nobody_held = held_after_take now book c item after takes ∙ committed.nobody_held;

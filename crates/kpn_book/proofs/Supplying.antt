@@ -4,7 +4,7 @@ use Rattle.std.proofs.lemmas.Bool.{cases_eq, both_ways}
 use Rattle.kpn_net.specs.Tables.{Tables, channel_at, is_source, is_sink}
 use Rattle.kpn_net.specs.Process.{Family}
 use Rattle.kpn_history.specs.declared.event.Event.TheVariants.{Feed, Close}
-use Rattle.kpn_history.specs.Channels.{written_on, is_closed, is_close_of}
+use Rattle.kpn_history.specs.Channels.{written_on, is_closed, is_close_of, is_left}
 use Rattle.kpn_history.specs.Views.{is_held}
 use Rattle.kpn_history.proofs.Events.{written_on-push, written_on-same}
 use Rattle.kpn_history.proofs.AfterEvent.{is_closed-next}
@@ -21,7 +21,7 @@ use Rattle.std.proofs.lemmas.Bool.{eq-eqb, or_right}
 use Rattle.kpn_book.specs.Running.{IsSupplied, IsFedBelow, IsLeftToItself}
 use Rattle.kpn_book.proofs.Committing.{source_there}
 use Rattle.kpn_book.proofs.Ends.{sink_is_no_source, closed_next}
-use Rattle.kpn_book.proofs.Happening.{happens_tables, happens_commits, happens_written, happens_closed}
+use Rattle.kpn_book.proofs.Happening.{happens_left, happens_tables, happens_commits, happens_written, happens_closed}
 use Rattle.kpn_book.proofs.Held.{held_after_feed, held_after_close}
 use Rattle.kpn_book.proofs.Turning.{open_elsewhere}
 
@@ -94,6 +94,16 @@ closes_open c before after book closes unclosed =
     subst (λ b. closes_by b c before after)
     (book.kept.in_step.run.leads.closed c (source_there before.tables c closes.source) ∙ unclosed) closes.closes
 
+-- what is fed and closed leaves no sink
+supply_leaves : (c k : ℕ) (items : List ℤ) (before after : Book)
+    → AllHappen (map (Feed k) items ++ Close k ∷ []) before after → is_left before.history c ≡ false
+    → is_left after.history c ≡ false
+supply_leaves c k [] before after happen stays =
+    ap (λ b. is_left b.history c) happen.2 ∙ happens_left c (Close k) refl before happen.0 happen.1 stays
+supply_leaves c k (item ∷ items) before after happen stays =
+    supply_leaves c k items happen.0 after happen.2
+    (happens_left c (Feed k item) refl before happen.0 happen.1 stays)
+
 -- ---- one source after the other
 
 module _ (t : Tables) (given : Family) where
@@ -108,6 +118,7 @@ module _ (t : Tables) (given : Family) where
     later = λ c past. ap (λ H. written_on H c) history;
     not_closed = λ c past. ap (λ H. is_closed H c) history;
     others = λ c other. ap (λ H. written_on H c) history;
+    stays = λ c. ap (λ H. is_left H c) history;
     commits = commits;
   }
 
@@ -121,6 +132,7 @@ module _ (t : Tables) (given : Family) where
     later = λ c past. so_far.later c (omega arith);
     not_closed = λ c past. so_far.not_closed c (omega arith);
     others = so_far.others;
+    stays = so_far.stays;
     commits = so_far.commits;
   }
     where
@@ -156,6 +168,7 @@ module _ (t : Tables) (given : Family) where
         (λ same.
         both_ways (is_source (channel_at t c)) other (subst (λ x. is_source (channel_at t x) ≡ true) (sym same) is))
         ∙ so_far.others c other;
+    stays = λ c. supply_leaves c k (given k) before after appends (so_far.stays c);
     commits = supplied.commits ∙ so_far.commits;
   }
 

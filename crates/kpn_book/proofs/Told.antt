@@ -1,5 +1,5 @@
 -- The report of a run that was left to itself has what a report promises.
-use Rattle.std.proofs.Common.{◌≡◌, ℕ, ◌+◌, ◌<◌, ◌≤◌, max, Bool, ℤ, List, length, Some, refl, sym, ap, ◌∙◌, subst, arith, [], ◌∷◌, ◌++◌, take, map, get_or, zero, suc, slice_get, IfSome, None, Option, true, count_by}
+use Rattle.std.proofs.Common.{◌≡◌, ℕ, ◌+◌, ◌<◌, ◌≤◌, max, Bool, ℤ, List, length, Some, refl, sym, ap, ◌∙◌, subst, arith, [], ◌∷◌, ◌++◌, take, map, get_or, zero, suc, slice_get, IfSome, None, Option, true, false, count_by}
 use Rattle.std.proofs.lemmas.List.{take_all}
 use Rattle.std.proofs.lemmas.List.FromFn.{length-map-range_with_len, get_or-map-range_with_len}
 use Rattle.kpn_lang.proofs.Prefixes.{IsPrefix-same, length_of_prefix}
@@ -8,7 +8,7 @@ use Rattle.kpn_net.specs.Tables.{Tables, channel_at, is_source}
 use Rattle.kpn_net.specs.Iteration.{given_by, IsPrefixOnSources, AgreeOnSources}
 use Rattle.kpn_net.proofs.RoundLemmas.{list_of}
 use Rattle.kpn_net.specs.Faults.{IsNetwork}
-use Rattle.kpn_history.specs.Channels.{written_on, read_on, is_closed}
+use Rattle.kpn_history.specs.Channels.{written_on, read_on, is_closed, is_left}
 use Rattle.kpn_history.specs.Legal.{Legal, HasNumbers}
 use Rattle.kpn_history.specs.Stops.{OwesNothing}
 use Rattle.kpn_history.specs.Talks.{process_events}
@@ -104,11 +104,12 @@ module _ (t : Tables) (b : Book) (tables : b.tables ≡ t) (book : IsBook b) (ou
 
   pub IsReport-of : (lists : List (List ℤ)) (limits : Limits) → held_count b ≡ 0
       → IsOutcome b.tables b.history b.commits limits (Some outcome)
+      → ((c : ℕ) → is_left b.history c ≡ false)
       → IsPrefixOnSources t (written_on (events_of report)) (given_by t lists)
       → ((verdict : Verdict) → verdict_of report.outcome ≡ Some verdict
       → AgreeOnSources t (written_on (events_of report)) (given_by t lists))
       → IsReport t lists limits report
-  IsReport-of lists limits none_held comes_to fed all_fed = record {
+  IsReport-of lists limits none_held comes_to stays fed all_fed = record {
     legal = told_legal;
     nothing_owed =
         subst (OwesNothing t) same (subst (λ t. OwesNothing t b.history) tables book.kept.nothing_owed);
@@ -117,6 +118,7 @@ module _ (t : Tables) (b : Book) (tables : b.tables ≡ t) (book : IsBook b) (ou
     fed = fed;
     all_fed = all_fed;
     taken = tells.taken ∙ ap (λ t. read_of_sinks t b.history) tables ∙ ap (read_of_sinks t) same;
+    stays = λ c. ap (λ H. is_left H c) tells.history ∙ stays c;
     committed =
         subst (λ H. process_events H ≤ report.commits) same
         (subst (λ n. process_events b.history ≤ n) (sym tells.commits) book.kept.committed);
@@ -196,6 +198,7 @@ module _ (t : Tables) (network : IsNetwork t) (lists : List (List ℤ)) (limits 
       → written_on (events_of report) c ≡ given_by t lists c =
       λ c source. ap (λ H. written_on H c) tells.history ∙ whole_list c source in
       IsReport-of t after same_tables book outcome report tells lists limits comes.nobody_held comes.comes_to
+      (λ c. comes.later.stays c (sources.stays c))
       (record {
         each = λ c source.
             IsPrefix-same (written_on (events_of report) c) (given_by t lists c) (whole c source);

@@ -1,5 +1,5 @@
 -- What a report of a run promises, whatever the schedule of the run was.
-use Rattle.std.specs.Prelude.{◌≡◌, ◌↔◌, ℕ, ◌≤◌, Bool, true, ⊤, ℤ, List, [], ◌∷◌, map, slice_index_or, Some}
+use Rattle.std.specs.Prelude.{◌≡◌, ◌↔◌, ℕ, ◌≤◌, Bool, true, false, ⊤, ℤ, List, [], ◌∷◌, map, slice_index_or, Some}
 use Rattle.std.specs.List.{filter}
 use Rattle.kpn_net.specs.Tables.{Tables, channel_at, is_source, is_sink}
 use Rattle.kpn_net.specs.Faults.{channel_numbers}
@@ -7,7 +7,7 @@ use Rattle.kpn_net.specs.Iteration.{IsPrefixOnSources, AgreeOnSources, given_by}
 use Rattle.kpn_history.specs.declared.event.Event.{Event}
 use Rattle.kpn_history.specs.declared.state.Verdict.{Verdict}
 use Rattle.kpn_history.specs.Talks.{process_events}
-use Rattle.kpn_history.specs.Channels.{written_on, read_on, is_closed}
+use Rattle.kpn_history.specs.Channels.{written_on, read_on, is_closed, is_left}
 use Rattle.kpn_history.specs.Legal.{Legal}
 use Rattle.kpn_history.specs.Stops.{OwesNothing}
 use Rattle.kpn_history.specs.Views.{Agrees}
@@ -70,8 +70,8 @@ pub record AreSupplied (t : Tables) (lists : List (List ℤ)) (H : List Event) :
 
 -- a report of a run of the network on these lists, one for each source in order of channel number. The history is legal
 -- and owes no growth. The view is that of the history, and nobody is held. Each source was fed what its list begins
--- with, and under a verdict all of it. What was taken is what was read of the sinks. Each event of a process was
--- committed. The outcome is that of the history under the limits
+-- with, and under a verdict all of it. What was taken is what was read of the sinks, and none was left. Each event of a
+-- process was committed. The outcome is that of the history under the limits
 pub record IsReport (t : Tables) (lists : List (List ℤ)) (limits : Limits) (report : Report) : Type 0 where
   pub legal : Legal t (events_of report)
   pub nothing_owed : OwesNothing t (events_of report)
@@ -81,16 +81,6 @@ pub record IsReport (t : Tables) (lists : List (List ℤ)) (limits : Limits) (re
   pub all_fed : (verdict : Verdict) → verdict_of report.outcome ≡ Some verdict
       → AgreeOnSources t (written_on (events_of report)) (given_by t lists)
   pub taken : report.taken ≡ read_of_sinks t (events_of report)
+  pub stays : (c : ℕ) → is_left (events_of report) c ≡ false
   pub committed : process_events (events_of report) ≤ report.commits
   pub outcome : IsOutcome t (events_of report) report.commits limits (Some report.outcome)
-
--- ---- two reports
-
--- two reports agree: the outcome, the journals, the capacities, the states of the processes and their counts are the
--- same
-pub record ReportsAgree (report other : Report) : Type 0 where
-  pub outcome : report.outcome ≡ other.outcome
-  pub journals : report.view.journals ≡ other.view.journals
-  pub caps : report.view.caps ≡ other.view.caps
-  pub states : report.view.states ≡ other.view.states
-  pub counts : report.view.counts ≡ other.view.counts

@@ -6,7 +6,7 @@ use Rattle.kpn_net.specs.Process.{Family}
 use Rattle.kpn_history.specs.declared.event.Event.{Event}
 use Rattle.kpn_history.specs.declared.event.Event.TheVariants as event
 use Rattle.kpn_history.specs.declared.state.View.{View}
-use Rattle.kpn_history.specs.Channels.{written_on, read_on, is_closed}
+use Rattle.kpn_history.specs.Channels.{written_on, read_on, is_closed, is_left}
 use Rattle.kpn_book.specs.declared.answers.Done.{Done}
 use Rattle.kpn_book.specs.declared.answers.Done.TheVariants as done
 use Rattle.kpn_book.specs.Book.{Book, held_count}
@@ -28,7 +28,8 @@ pub record IsSupplied (c : ℕ) (items : List ℤ) (before after : Book) : Type 
   pub closed : (d : ℕ) → is_closed before.history d ≡ true → is_closed after.history d ≡ true
   pub commits : after.commits ≡ before.commits
 
--- the sources with a number below k were fed their lists and are closed, and nothing else was written or committed
+-- the sources with a number below k were fed their lists and are closed, and nothing else was written or committed, and
+-- no sink left
 pub record IsFedBelow (t : Tables) (given : Family) (k : ℕ) (b : Book) : Type 0 where
   pub tables : b.tables ≡ t
   pub nobody_held : held_count b ≡ 0
@@ -37,6 +38,7 @@ pub record IsFedBelow (t : Tables) (given : Family) (k : ℕ) (b : Book) : Type 
   pub later : (c : ℕ) → k ≤ c → written_on b.history c ≡ []
   pub not_closed : (c : ℕ) → k ≤ c → is_closed b.history c ≡ false
   pub others : (c : ℕ) → is_source (channel_at t c) ≡ false → written_on b.history c ≡ []
+  pub stays : (c : ℕ) → is_left b.history c ≡ false
   pub commits : b.commits ≡ 0
 
 -- ---- the processes are stepped
@@ -52,10 +54,11 @@ pub record IsLeftToItself (b : Book) : Type 0 where
 abbrev pub IsFrontStepped : (quota : ℕ) → (before after : Book) → Type 0
 IsFrontStepped quota before after = (answer : Done) × StepsNext quota answer before after
 
--- the same run, later, of which as much is kept
+-- the same run, later, of which as much is kept; no sink was left
 pub record IsLater (before after : Book) : Type 0 where
   pub tables : after.tables ≡ before.tables
   pub history : IsPrefix before.history after.history
+  pub stays : (c : ℕ) → is_left before.history c ≡ false → is_left after.history c ≡ false
   pub keeps : RemembersAsMuch before after
 
 -- a step that answers so has put an item

@@ -1,6 +1,6 @@
 //! What holds of every report, as contracts of functions that do nothing: Kahn's theorem on reports, whatever the
 //! schedules of the runs and however many workers stepped the processes.
-ghost use Rattle.std.specs.Prelude.{◌≡◌, ◌≢◌, ℕ, ◌<◌, ◌≤◌, ◌⊎◌, false, ℤ, List, length, take, Option, Some};
+ghost use Rattle.std.specs.Prelude.{◌≡◌, ◌≢◌, ℕ, ◌<◌, ◌≤◌, ◌⊎◌, ℤ, List, length, take, Option, Some};
 ghost use Rattle.kpn_net.specs.declared.tables.Policy.TheVariants.{All};
 ghost use Rattle.kpn_net.specs.declared.wait.Wait.TheVariants.{Full};
 ghost use Rattle.kpn_net.specs.Tables.{Tables};
@@ -8,7 +8,7 @@ ghost use Rattle.kpn_net.specs.Faults.{IsNetwork};
 ghost use Rattle.kpn_net.specs.Iteration.{iterate, given_by, lists_of, IsBelowLeast, IsLeast};
 ghost use Rattle.kpn_history.specs.declared.event.Event.{Event};
 ghost use Rattle.kpn_history.specs.declared.state.Verdict.{Verdict};
-ghost use Rattle.kpn_history.specs.Channels.{is_left, capacity_after};
+ghost use Rattle.kpn_history.specs.Channels.{capacity_after};
 ghost use Rattle.kpn_history.specs.Ends.{WaitsOnFull, IsQuiet};
 ghost use Rattle.kpn_history.specs.Stops.{IsJammedAtLimit, WaitsForBlocked};
 ghost use Rattle.kpn_history.specs.Waiting.{wait_of, HasFullCycle};
@@ -17,7 +17,7 @@ ghost use Rattle.kpn_book.specs.declared.outcome.Outcome.{Outcome};
 ghost use Rattle.kpn_book.specs.declared.outcome.Outcome.TheVariants.{Ended, Clogged, Jammed, Enough, Stopped};
 ghost use Rattle.kpn_book.specs.declared.report.Report.{Report};
 ghost use Rattle.kpn_book.specs.Outcomes.{IsOutcome, verdict_of};
-ghost use Rattle.kpn_book.specs.Reports.{events_of, journal_of, taken_of, AreSupplied, IsReport, ReportsAgree};
+ghost use Rattle.kpn_book.specs.Reports.{events_of, journal_of, taken_of, AreSupplied, IsReport};
 ghost use Rattle.kpn_book.specs.RunHere.{IsReportHere};
 
 // ---- Kahn's theorem on reports
@@ -51,33 +51,24 @@ pub fn ended_reports_agree()
         × (other.view.journals ≡ lists_of t (iterate t (given_by t lists) n))) }
 {}
 
-/// Two reports of the same network and lists with a verdict have the same verdict, journals, capacities and states of
-/// processes, whatever the schedules were. If no sink was left, all that they say is the same, but for the number of
-/// commits and the order of events.
+/// Two reports of the same network and lists with a verdict say the same, whatever the schedules were, but for the number
+/// of commits and the order of events: the same verdict, the same view and the same items taken from the sinks.
 pub fn verdict_reports_agree()
-    ensures alike { (t : Tables) → IsNetwork t → (lists : List (List ℤ)) (limits more : Limits)
-        (report other : Report) → IsReport t lists limits report → IsReport t lists more other
-        → (verdict another : Verdict) → verdict_of report.outcome ≡ Some verdict
-        → verdict_of other.outcome ≡ Some another → ReportsAgree report other }
-    ensures same { (t : Tables) → IsNetwork t → (lists : List (List ℤ)) (limits more : Limits)
+    ensures { (t : Tables) → IsNetwork t → (lists : List (List ℤ)) (limits more : Limits)
         (report other : Report) → IsReport t lists limits report → IsReport t lists more other
         → (verdict another : Verdict) → verdict_of report.outcome ≡ Some verdict
         → verdict_of other.outcome ≡ Some another
-        → ((c : ℕ) → is_left (events_of report) c ≡ false)
-        → ((c : ℕ) → is_left (events_of other) c ≡ false)
-        → (report.view ≡ other.view) × (report.taken ≡ other.taken) }
+        → (report.outcome ≡ other.outcome) × (report.view ≡ other.view)
+        × (report.taken ≡ other.taken) }
 {}
 
 /// Two reports of the same network and lists of which as many items were wanted have the same outcome, unless the limit
-/// of commits has stopped one, if no sink was left: the same verdict, or both have enough.
+/// of commits has stopped one: the same verdict, or both have enough.
 pub fn outcomes_agree()
     ensures { (t : Tables) → IsNetwork t → (lists : List (List ℤ)) (limits more : Limits)
         (report other : Report) → IsReport t lists limits report → IsReport t lists more other
         → AreSupplied t lists (events_of report) → AreSupplied t lists (events_of other)
-        → limits.take ≡ more.take
-        → ((c : ℕ) → is_left (events_of report) c ≡ false)
-        → ((c : ℕ) → is_left (events_of other) c ≡ false)
-        → report.outcome ≢ Stopped → other.outcome ≢ Stopped
+        → limits.take ≡ more.take → report.outcome ≢ Stopped → other.outcome ≢ Stopped
         → report.outcome ≡ other.outcome }
 {}
 

@@ -31,6 +31,7 @@ same_report t lists processes limits report other is = record {
   fed = is.fed;
   all_fed = is.all_fed;
   taken = is.taken;
+  stays = is.stays;
   committed = is.committed;
   outcome = same_outcome t (events_of report) report.commits processes limits report.outcome other is.outcome;
 }

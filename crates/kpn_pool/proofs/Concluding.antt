@@ -1,11 +1,20 @@
 -- What is known of a run is what a report promises, if the journals of its sources are their lists.
-use Rattle.std.proofs.Common.{◌≡◌, ℕ, ◌<◌, true, ℤ, List, [], length, get_or, Some, sym, subst, ◌∙◌}
-use Rattle.kpn_net.specs.Tables.{Tables}
+use Rattle.std.proofs.Common.{◌≡◌, ℕ, ◌<◌, Bool, true, false, not, ℤ, List, [], length, get_or, Some, refl, sym, ap, subst, ◌∙◌, inl, inr}
+use Rattle.std.proofs.lemmas.Bool.{cases_Bool, both_ways, ne_eqb}
+use Rattle.kpn_net.specs.Tables.{Tables, channel_at, is_sink}
+use Rattle.kpn_net.specs.Faults.{IsNetwork}
 use Rattle.kpn_net.specs.Iteration.{AgreeOnSources, given_by}
 use Rattle.kpn_net.proofs.Monotone.{IsPrefixOnSources-agree}
-use Rattle.kpn_net.proofs.Networks.{source_there}
+use Rattle.kpn_net.proofs.Networks.{source_there, sink_there, reader_of-sink}
 use Rattle.kpn_net.proofs.RoundLemmas.{list_of}
-use Rattle.kpn_history.specs.Channels.{written_on, is_closed}
+use Rattle.kpn_history.specs.declared.event.Event.{Event}
+use Rattle.kpn_history.specs.declared.event.Event.TheVariants.{Leave}
+use Rattle.kpn_history.specs.Channels.{written_on, is_closed, is_leave_of, is_left, lives}
+use Rattle.kpn_history.specs.Legal.{Legal}
+use Rattle.kpn_history.specs.OneMore.{IsOwn}
+use Rattle.kpn_history.proofs.AfterEvent.{is_left-next}
+use Rattle.kpn_history.proofs.Legality.{by_events}
+use Rattle.kpn_history.proofs.Ownership.{IsOwn-last}
 use Rattle.kpn_book.specs.Book.{Book, held_count}
 use Rattle.kpn_book.specs.Kept.{IsBook}
 use Rattle.kpn_book.specs.declared.outcome.Limits.{Limits}
@@ -14,7 +23,38 @@ use Rattle.kpn_book.specs.declared.report.Report.{Report}
 use Rattle.kpn_book.specs.Outcomes.{IsOutcome}
 use Rattle.kpn_book.specs.Reports.{events_of, IsWrittenFrom, AreSupplied, IsReport}
 use Rattle.kpn_book.proofs.Told.{journals_there, told_legal, told_view, IsReport-of}
-use Rattle.kpn_pool.specs.Fed.{AreFedBelow, AreSourcesClosedBelow}
+use Rattle.kpn_pool.specs.Fed.{AreFedBelow, AreSourcesClosedBelow, AreSinksKeptBelow}
+
+-- only sinks are left
+left_is_sink : (t : Tables) → IsNetwork t → (c : ℕ) → is_sink (channel_at t c) ≡ false → (H : List Event) → Legal t H
+    → is_left H c ≡ false
+left_is_sink t network c other =
+    by_events t (λ H. is_left H c ≡ false) refl
+    (λ B e legal h. is_left-next B e c ∙ rw (h, by_event e (IsOwn-last t network B e legal)) refl)
+  where
+    by_event : (e : Event) → IsOwn t e → is_leave_of c e ≡ false
+    by_event (Leave d) own =
+        ne_eqb d c
+        (λ same. both_ways (is_sink (channel_at t c)) other (subst (λ x. is_sink (channel_at t x) ≡ true) same own))
+    by_event event own = refl
+
+no_sink_is_left : (b : Book) → IsBook b → AreSinksKeptBelow b (length b.tables.channels) → (c : ℕ)
+    → is_left b.history c ≡ false
+no_sink_is_left b book kept c =
+    elim (cases_Bool (is_sink (channel_at b.tables c))) [
+      | inr other ↦ left_is_sink b.tables book.network c other b.history book.kept.in_step.run.legal
+      | inl sink ↦
+          let there = sink_there b.tables c sink in
+          let shown = (book.kept.in_step.run.leads.channels c there).retired in
+          let lives : not (not (is_left b.history c)) ≡ false =
+          ap (λ end. not (lives b.history c end)) (sym (reader_of-sink b.tables c sink)) ∙ sym shown
+          ∙ kept c there sink in
+          twice (is_left b.history c) lives
+    ]
+  where
+    twice : (x : Bool) → not (not x) ≡ false → x ≡ false
+    twice true is = is
+    twice false is = refl
 
 module _ (t : Tables) (b : Book) (tables : b.tables ≡ t) (book : IsBook b) (outcome : Outcome) (report : Report)
     (tells : IsWrittenFrom b outcome report) where
@@ -44,7 +84,8 @@ module _ (t : Tables) (b : Book) (tables : b.tables ≡ t) (book : IsBook b) (ou
     }
 
     pub IsReport-concluded : (limits : Limits) → held_count b ≡ 0
-        → IsOutcome b.tables b.history b.commits limits (Some outcome) → IsReport t lists limits report
-    IsReport-concluded limits none_held comes_to =
-        IsReport-of t b tables book outcome report tells lists limits none_held comes_to
+        → IsOutcome b.tables b.history b.commits limits (Some outcome)
+        → AreSinksKeptBelow b (length b.tables.channels) → IsReport t lists limits report
+    IsReport-concluded limits none_held comes_to kept =
+        IsReport-of t b tables book outcome report tells lists limits none_held comes_to (no_sink_is_left b book kept)
         (IsPrefixOnSources-agree t (written_on (events_of report)) (given_by t lists) are_fed) (λ verdict is. are_fed)

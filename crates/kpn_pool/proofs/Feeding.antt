@@ -1,13 +1,15 @@
 -- The sources are looked at, one after the other.
 use Rattle.std.proofs.Common.{◌≡◌, ℕ, ◌+◌, true, false, ℤ, List, inl, inr, subst, sym, arith}
 use Rattle.std.proofs.lemmas.Bool.{cases_eq, both_ways}
-use Rattle.kpn_net.specs.Tables.{Tables, channel_at, is_source}
+use Rattle.kpn_net.specs.Tables.{Tables, channel_at, is_source, is_sink}
 use Rattle.kpn_net.specs.Iteration.{given_by}
 use Rattle.kpn_history.specs.declared.state.View.{View}
 use Rattle.kpn_book.specs.Snapshot.{shown_on}
 use Rattle.kpn_history.specs.declared.event.Event.{Event}
 use Rattle.kpn_history.specs.Channels.{is_closed}
-use Rattle.kpn_pool.specs.Fed.{AreFedBelow, AreSourcesClosedBelow}
+use Rattle.kpn_machine.specs.Machine.{channel_in}
+use Rattle.kpn_book.specs.Book.{Book}
+use Rattle.kpn_pool.specs.Fed.{AreFedBelow, AreSourcesClosedBelow, AreSinksKeptBelow}
 
 module _ {A : Type 0} (t : Tables) (lists : List (List ℤ)) (view : View A) where
   pub none_fed : AreFedBelow t lists view 0
@@ -43,4 +45,16 @@ module _ (t : Tables) (H : List Event) where
             let at_k = subst (λ x. is_source (channel_at t x) ≡ true) same source in
             subst (λ x. is_closed H x ≡ true) (sym same) (is at_k)
         | inr other ↦ so_far c (omega arith) source
+      ]
+
+module _ (b : Book) where
+  -- the next channel is no sink, or its reader is there
+  pub kept_more : (k : ℕ) → (is_sink (channel_at b.tables k) ≡ true → (channel_in b.machine k).is_retired ≡ false)
+      → AreSinksKeptBelow b k → AreSinksKeptBelow b (k + 1)
+  kept_more k is so_far c below sink =
+      elim (cases_eq c k) [
+        | inl same ↦
+            let at_k = subst (λ x. is_sink (channel_at b.tables x) ≡ true) same sink in
+            subst (λ x. (channel_in b.machine x).is_retired ≡ false) (sym same) (is at_k)
+        | inr other ↦ so_far c (omega arith) sink
       ]

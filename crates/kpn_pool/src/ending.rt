@@ -9,7 +9,7 @@ ghost use Rattle.kpn_book.specs.Reports.{AreSupplied, IsReport, events_of};
 ghost use Rattle.kpn_pool.specs.Ending.{KeepsHeld};
 
 use crate::fault::RunFault;
-use crate::fed::{are_closed, were_fed};
+use crate::fed::{are_closed, are_kept, were_fed};
 use kpn_book::{Book, Limits, Report, outcome_of, put_back_held, report_of};
 use kpn_lang::Sequence;
 use kpn_pool_desk::Refused;
@@ -50,11 +50,12 @@ pub(crate) fn conclude(
     book.known();
     let network = book.network();
     let are_closed = are_closed(&book);
+    let are_kept = are_kept(&book);
     let Ok(report) = report_of(alloc, book, outcome) else {
         return Err(RunFault::NoMemory);
     };
     let are_fed = were_fed(network, lists, &report.view);
-    if !are_fed || !are_closed || served.is_err() || emptied.is_err() {
+    if !are_fed || !are_closed || !are_kept || served.is_err() || emptied.is_err() {
         return Err(RunFault::Foreign);
     }
     Ok(report)

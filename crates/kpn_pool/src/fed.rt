@@ -1,7 +1,7 @@
-//! Whether the sources of a run were fed their lists and closed, as the end of the run shows them.
+//! Whether the sources of a run were fed their lists and closed, and no sink left, as the end of the run shows them.
 ghost use Rattle.std.specs.Prelude.{◌≡◌, length, IsTrue};
 ghost use Rattle.kpn_net.specs.Iteration.{sources};
-ghost use Rattle.kpn_pool.specs.Fed.{AreFedBelow, AreSourcesClosedBelow};
+ghost use Rattle.kpn_pool.specs.Fed.{AreFedBelow, AreSourcesClosedBelow, AreSinksKeptBelow};
 
 use kpn_book::Book;
 use kpn_history::View;
@@ -37,6 +37,19 @@ pub(crate) fn are_closed(book: &Book<'_>) -> bool
 {
     'channels: for c in 0..book.network().channels() {
         if book.network().is_source(c) && !book.is_closed(c) {
+            return false;
+        }
+    }
+    true
+}
+
+/// Whether no sink is left.
+pub(crate) fn are_kept(book: &Book<'_>) -> bool
+    ensures { let t = book.now.tables in
+        IsTrue result → AreSinksKeptBelow book.now (length t.channels) }
+{
+    'channels: for c in 0..book.network().channels() {
+        if book.network().is_sink(c) && book.is_left(c) {
             return false;
         }
     }

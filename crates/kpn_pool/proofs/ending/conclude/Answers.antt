@@ -27,7 +27,8 @@ returns c =
       report =
           IsReport-concluded t c.empty_sinks-emptied.new.book same c.known.ensures c.in-Some.outcome report
           c.in-Ok.ensures c.args.lists.now fed c.args.limits.now
-          (c.empty_sinks-emptied.ensures.held ∙ c.put_back_held.ensures.none) c.in-Some.ensures;
+          (c.empty_sinks-emptied.ensures.held ∙ c.put_back_held.ensures.none) c.in-Some.ensures
+          (c.are_kept-are_kept.ensures c.if-not-are_kept.false);
       supplied =
           are_supplied t c.empty_sinks-emptied.new.book same c.known.ensures c.in-Some.outcome report
           c.in-Ok.ensures c.args.lists.now fed closed;
