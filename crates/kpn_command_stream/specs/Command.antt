@@ -1,5 +1,5 @@
 -- What `kpn stream` does.
-use Rattle.std.specs.Prelude.{◌≡◌, ◌≢◌, ℕ, ◌-◌, ◌≤◌, ◌^◌, Bool, true, false, List, [], ◌∷◌, ◌++◌, map, All, Option, Some, None}
+use Rattle.std.specs.Prelude.{◌≡◌, ◌≢◌, ℕ, ◌-◌, ◌≤◌, ◌^◌, if◌then◌else◌, Bool, true, false, List, [], ◌∷◌, ◌++◌, map, All, Option, Some, None}
 use Rattle.std.specs.Prelude.{⊤, unwrap_or, IfOk, IfSome, Result, Ok, Err}
 use Rattle.std.specs.List.{AllZip}
 use Rattle.std.specs.Global.{Vec}
@@ -122,10 +122,15 @@ IsEmptied holds_in output = IfSome output.file (λ file. IfSome (holds_in file) 
 
 -- ---- the run
 
+-- the limit of commits of a stream that was given none: no stream comes to it. Without any, a stream keeps no order of
+-- its turns, and the tables of `--stats` would tell of another one
+abbrev pub most_commits : (stats : Bool) → ℕ
+most_commits stats = if stats then 2 ^ 64 - 2 else 2 ^ 64 - 1
+
 -- a stream has the limits that are asked for, and no end of its own
 abbrev pub stream_limits_of : StreamRequest → Limits
 stream_limits_of request = record {
-  commits = unwrap_or request.commits (2 ^ 64 - 1);
+  commits = unwrap_or request.commits (most_commits request.stats);
   take = request.take;
   quota = 1000;
 }

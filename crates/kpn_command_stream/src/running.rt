@@ -2,7 +2,7 @@
 ghost use Rattle.std.specs.Prelude.{◌≡◌, ◌≤◌, ◌<◌, ◌++◌, [], length, vec_capacity, IfOk, IfErr, OnErr};
 ghost use Rattle.kpn_book.specs.Remembering.{Remembers};
 ghost use Rattle.kpn_command_stream.specs.Causes.{IsDeviceRefusal};
-ghost use Rattle.kpn_command_stream.specs.Command.{HandedOn, RanOverFiles, RanAt, RanOver, flushes_of, keeping_for, known_of, stream_limits_of, losses, names_of, sinks_of};
+ghost use Rattle.kpn_command_stream.specs.Command.{HandedOn, RanOverFiles, RanAt, RanOver, flushes_of, keeping_for, known_of, most_commits, stream_limits_of, losses, names_of, sinks_of};
 
 use crate::devices::{empty_outputs, open_inputs, open_outputs};
 use crate::places::EndPlaces;
@@ -20,10 +20,18 @@ pub(crate) fn limits_of(request: &StreamRequest<'_>) -> Limits
     ensures { result ≡ stream_limits_of request.now }
 {
     Limits {
-        commits: request.commits.unwrap_or(u64::MAX),
+        commits: request.commits.unwrap_or(most_commits(request.stats)),
         take: request.take,
         quota: QUOTA,
     }
+}
+
+/// The limit of commits of a stream that was given none. No stream comes to it, but one that has a limit keeps the order
+/// of its turns, of which the tables of `--stats` tell.
+fn most_commits(stats: bool) -> u64
+    ensures { result ≡ most_commits stats }
+{
+    if stats { u64::MAX - 1 } else { u64::MAX }
 }
 
 /// What is kept of a stream: only a trace reads what has happened.
