@@ -365,6 +365,9 @@ class Streams(WithFolder):
             done = subprocess.run([*program, *words], cwd=self.folder, input=given, capture_output=True, timeout=60)
             out = (self.folder / 'out').read_bytes() if (self.folder / 'out').exists() else None
             told = done.stderr.replace(b'kpn: compiled: nothing is proved of the program that runs here\n', b'')
+            if b'\nat --sink ' in told:
+                # how far processes are then depends on the order of turns
+                told = re.sub(rb'(?m)^waits .*\n', b'', told)
             answers.append((done.returncode, done.stdout, told, out))
         self.assertEqual(*answers, words)
 
