@@ -137,7 +137,7 @@ pub deep_looks : {Y : Type 0} {end p : ℕ} {May : List Token → Type 0} (call 
     → Looks end May (λ ls. Err (fault.TooDeep p)) call
 deep_looks call = record { at = λ ls. nests }
 
-joined : {X Y : Type 0} (r : Read X) (x : X × List Lexeme) (one : X → List Lexeme → Read Y) (y : Read Y) → r ≡ Ok x
+pub joined : {X Y : Type 0} (r : Read X) (x : X × List Lexeme) (one : X → List Lexeme → Read Y) (y : Read Y) → r ≡ Ok x
     → one x.0 x.1 ≡ y → and_then r (λ x. one x.0 x.1) ≡ y
 unfolding and_then
 joined r x one y e h = rw e h

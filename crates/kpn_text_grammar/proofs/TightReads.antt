@@ -18,7 +18,7 @@ use Rattle.kpn_text_grammar.specs.Spelling.{kinds, term_level, spell_term, spell
 use Rattle.kpn_text_tokens.specs.Results.{and_then}
 use Rattle.kpn_text_grammar.specs.TokenTests.{is_mark}
 use Rattle.kpn_text_grammar.specs.Reading.{Read, next, mark, read_as, token_operator, operator, begins_expression, level_fault, first_is, operator_fits, goes_further, unless_full, sides_behind, behind_name, binary_behind, conditional_behind, is_second, inside_behind, tight_operand, tight_over, tight}
-use Rattle.kpn_text_grammar.proofs.Lookahead.{lower, Anything, Fills, Near, Look, returns, nests, Looks, Starts, Meets, bind_fills, fills_as, first_looks, first_reads, in_turn as look_in_turn, passed, start_fills, starts_on}
+use Rattle.kpn_text_grammar.proofs.Lookahead.{lower, Anything, Fills, Near, Look, returns, nests, Looks, Starts, Meets, bind_fills, fills_as, first_looks, first_reads, in_turn as look_in_turn, joined, passed, start_fills, starts_on}
 use Rattle.kpn_text_grammar.proofs.Steps.{bind_ok, bound, by_test, first_is_one, moved, no_value, ok_is, second_is_two, token_operator_is}
 use Rattle.kpn_text_grammar.proofs.Readers.{this_mark, RowLaws, Seen, Row, ReaderBy, as_seen, begins, given, narrow, done, behind, value, bind, bind_by, mapped, guarded, an_operator, either, spell_either, Either, choose, choice_seen, passed_fills, optional, Arm, arm, no_arm, first_token}
 use Rattle.kpn_text_grammar.proofs.TightLaws.{operator_takes, is_index, no_question, some_loosest, below_loosest, below_operand, right_below, left_below, left_is_tight, right_is_tighter, is_tight, first_tightness, at_bracket, at_close, at_question, at_colon, operator_first, no_index, looser_first, stops_first, Fits, fits_of, goes_of}
@@ -45,15 +45,25 @@ module _ (s : Scope) (side : ℕ → List Lexeme → Read ExpressionNode) (level
       (λ right. same_steps i j (tightness o.0) (binary o.0 left right.0) right.1 (omega (arith, a)) (omega (arith, b)) x))))
       (Ok (left, ls))
 
-  one_step : (i bound : ℕ) (left : ExpressionNode) (ls : List Lexeme) (o : Op) (after : List Lexeme) (b : ExpressionNode)
-      (rest : List Lexeme) → first_is (goes_further n bound) ls ≡ true → term_level left < levels
-      → operator s ls ≡ Ok (o, after) → side (right_side o) after ≡ Ok (b, rest)
-      → sides_behind s side levels n (suc i) bound left ls
-      ≡ sides_behind s side levels n i (tightness o) (binary o left b) rest
+  -- an operator that goes further, and what is read behind it
+  abbrev pub sign_behind : (i : ℕ) → ExpressionNode → Op → List Lexeme → Read ExpressionNode
+  sign_behind i left o ls =
+      and_then (side (right_side o) ls)
+      (λ right. sides_behind s side levels n i (tightness o) (binary o left right.0) right.1)
+
+  one_sign : (i bound : ℕ) (left : ExpressionNode) (ls : List Lexeme) (o : Op) (after : List Lexeme)
+      → first_is (goes_further n bound) ls ≡ true → nat_le levels (term_level left) ≡ false
+      → operator s ls ≡ Ok (o, after) → sides_behind s side levels n (suc i) bound left ls ≡ sign_behind i left o after
   unfolding sides_behind and_then
-  one_step i bound left ls o after b rest goes room sign right =
-      let some : nat_le levels (term_level left) ≡ false = lt-leb levels (term_level left) room in
-      rw (goes, some, sign, right) refl
+  one_sign i bound left ls o after goes some sign = rw (goes, some, sign) refl
+
+  -- the left side has all levels
+  pub full_sign : (i bound : ℕ) (left : ExpressionNode) (ls : List Lexeme) → first_is (goes_further n bound) ls ≡ true
+      → nat_le levels (term_level left) ≡ true
+      → sides_behind s side levels n i bound left ls ≡ Err (fault.TooDeep s.process)
+  unfolding sides_behind
+  full_sign zero bound left ls goes full = rw goes refl
+  full_sign (suc i) bound left ls goes full = rw (goes, full) refl
 
   -- an operator that goes further, and its right side
   pub one_side : (bound : ℕ) (left : ExpressionNode) (ls : List Lexeme) (o : Op) (after : List Lexeme) (b : ExpressionNode)
@@ -63,7 +73,9 @@ module _ (s : Scope) (side : ℕ → List Lexeme → Read ExpressionNode) (level
       ≡ sides_behind s side levels n levels (tightness o) (binary o left b) rest
   one_side bound left ls o after b rest goes room sign right =
       same_steps levels (suc levels) bound left ls (omega arith) (omega arith)
-      ∙ one_step levels bound left ls o after b rest goes room sign right
+      ∙ one_sign levels bound left ls o after goes (lt-leb levels (term_level left) room) sign
+      ∙ joined (side (right_side o) after) (b, rest)
+      (λ c ts. sides_behind s side levels n levels (tightness o) (binary o left c) ts) _ right refl
 
   no_step : (i bound : ℕ) (left : ExpressionNode) (ls : List Lexeme) → first_is (goes_further n bound) ls ≡ false
       → sides_behind s side levels n i bound left ls ≡ Ok (left, ls)
@@ -691,30 +703,6 @@ module _ (s : Scope) (low_side side : ℕ → List Lexeme → Read ExpressionNod
   abbrev all_sides : (steps bound : ℕ) → ExpressionNode → List Lexeme → Read ExpressionNode
   all_sides = sides_behind s side levels n
 
-  -- behind an operator
-  abbrev right_side_of : (t : Scope) (side : ℕ → List Lexeme → Read ExpressionNode) (levels steps : ℕ) → ExpressionNode
-      → Op
-      → List Lexeme → Read ExpressionNode
-  right_side_of t side levels steps left o ls =
-      and_then (side (right_side o) ls)
-      (λ right. sides_behind t side levels n steps (tightness o) (binary o left right.0) right.1)
-
-  one_sign : (t : Scope) (side : ℕ → List Lexeme → Read ExpressionNode) (levels steps bound : ℕ) (left : ExpressionNode)
-      (l : Lexeme) (ls : List Lexeme) (o : Op) → goes_further n bound l.token ≡ true → token_operator l.token ≡ Some o
-      → nat_le levels (term_level left) ≡ false
-      → sides_behind t side levels n (suc steps) bound left (l ∷ ls) ≡ right_side_of t side levels steps left o ls
-  unfolding sides_behind and_then
-  one_sign t side levels steps bound left l ls o goes found room =
-      let first : first_is (goes_further n bound) (l ∷ ls) ≡ true = goes in
-      let sign = operator_at t l ls o found in
-      rw (first, room, sign) refl
-
-  full_sign : (steps bound : ℕ) (left : ExpressionNode) (ls : List Lexeme) → first_is (goes_further n bound) ls ≡ true
-      → nat_le low_levels (term_level left) ≡ true → low_sides steps bound left ls ≡ Err (fault.TooDeep s.process)
-  unfolding sides_behind
-  full_sign zero bound left ls goes full = rw goes refl
-  full_sign (suc steps) bound left ls goes full = rw (goes, full) refl
-
   no_steps : (bound : ℕ) (left : ExpressionNode) (ls : List Lexeme) → first_is (goes_further n bound) ls ≡ true
       → low_sides 0 bound left ls ≡ Err (fault.TooDeep s.process)
   unfolding sides_behind
@@ -738,8 +726,8 @@ module _ (s : Scope) (low_side side : ℕ → List Lexeme → Read ExpressionNod
         kept other (inr may) = no_step s side levels n steps bound left other (stops_first n bound other may)
 
   right_look : (i j : ℕ) (left : ExpressionNode) (o : Op) → Goes i j → n ≤ tightness o → (ls : List Lexeme)
-      → Look s.end (Looser n) (right_side_of s side levels j left o) ls
-      (right_side_of (lower s) low_side low_levels i left o ls)
+      → Look s.end (Looser n) (sign_behind s side levels n j left o) ls
+      (sign_behind (lower s) low_side low_levels n i left o ls)
   right_look i j left o goes small ls =
       look_in_turn (side (right_side o)) (λ b. all_sides j (tightness o) (binary o left b)) meets
       (λ before f. bind_fills (λ ts. side (right_side o) (before ++ ts))
@@ -761,15 +749,17 @@ module _ (s : Scope) (low_side side : ℕ → List Lexeme → Read ExpressionNod
       → Look s.end (Looser n) (all_sides (suc j) under left) ls (low_sides (suc i) under left ls)
   by_room i j under left below ls goes true e =
       subst (Look s.end (Looser n) (all_sides (suc j) under left) ls)
-      (sym (full_sign (suc i) under left ls goes e)) nests
+      (sym (full_sign (lower s) low_side low_levels n (suc i) under left ls goes e)) nests
   by_room i j under left below ls goes false e =
       let sign = sign_of n under ls goes in
       let room = lt-leb levels (term_level left) (omega (arith, higher, leb-false low_levels (term_level left) e)) in
       subst (λ ts. Look s.end (Looser n) (all_sides (suc j) under left) ts (low_sides (suc i) under left ts))
       (sym sign.whole)
       (subst (Look s.end (Looser n) (all_sides (suc j) under left) (sign.lexeme ∷ sign.rest))
-      (sym (one_sign (lower s) low_side low_levels i under left sign.lexeme sign.rest sign.op sign.goes sign.found e))
-      (passed sign.lexeme (λ ts. one_sign s side levels j under left sign.lexeme ts sign.op sign.goes sign.found room)
+      (sym (one_sign (lower s) low_side low_levels n i under left (sign.lexeme ∷ sign.rest) sign.op sign.rest sign.goes e
+      (operator_at (lower s) sign.lexeme sign.rest sign.op sign.found)))
+      (passed sign.lexeme (λ ts. one_sign s side levels n j under left (sign.lexeme ∷ ts) sign.op ts sign.goes room
+      (operator_at s sign.lexeme ts sign.op sign.found))
       (right_look i j left sign.op below sign.fits.tight_enough sign.rest)))
 
   by_sign : (i j under : ℕ) (left : ExpressionNode) → Goes i j → (ls : List Lexeme) (b : Bool)

@@ -13,7 +13,7 @@ use Rattle.kpn_text_grammar.specs.Spelling.{term_level}
 use Rattle.kpn_text_tokens.specs.Results.{and_then}
 use Rattle.kpn_text_grammar.specs.Reading.{Read, ReadingFails, next, operator, level_fault, first_is, goes_further, sides_behind, tight_operand, tight_over, tight}
 use Rattle.kpn_text_grammar.proofs.Readers.{kinds_length}
-use Rattle.kpn_text_grammar.proofs.TightReads.{no_side, one_side, tight_longer, tight_takes}
+use Rattle.kpn_text_grammar.proofs.TightReads.{full_sign, no_side, one_side, tight_longer, tight_takes}
 use Rattle.kpn_text_grammar.proofs.TightLaws.{operator_takes}
 
 -- How far the loop is: its left side has so many levels, no more than there are.
@@ -98,18 +98,12 @@ tight_ends s (suc depth) (suc levels) n ls (fault.TooDeep p) h = rw h refl
 
 module _ (s : Scope) (depth levels n bound left_levels : ℕ) (left : ExpressionNode) (ls : List Lexeme) (total : Read ExpressionNode)
     (stands : GoesOn s depth levels n bound left_levels left ls total) where
-  full_step : (i : ℕ) → first_is (goes_further n bound) ls ≡ true → levels ≤ left_levels
-      → sides_behind s (tight s depth (levels - 1)) levels n i bound left ls ≡ Err (fault.TooDeep s.process)
-  unfolding sides_behind
-  full_step zero goes full = rw goes refl
-  full_step (suc i) goes full =
-      let all = le-leb levels (term_level left) (omega (arith, full, stands.counted)) in
-      rw (goes, all) refl
-
   -- the left side has all levels
   pub full_turn : first_is (goes_further n bound) ls ≡ true → levels ≤ left_levels
       → total ≡ Err (fault.TooDeep s.process)
-  full_turn goes full = sym stands.whole ∙ full_step levels goes full
+  full_turn goes full =
+      sym stands.whole ∙ full_sign s (tight s depth (levels - 1)) levels n levels bound left ls goes
+      (le-leb levels (term_level left) (omega (arith, full, stands.counted)))
 
   sign_step : (f : GrammarFault) (i : ℕ) → 0 < i → first_is (goes_further n bound) ls ≡ true → left_levels < levels
       → operator s ls ≡ Err f → sides_behind s (tight s depth (levels - 1)) levels n i bound left ls ≡ Err f
