@@ -3,7 +3,7 @@ use Rattle.std.proofs.Common.{◌≡◌, ℕ, suc, ◌≤◌, Bool, true, false,
 use Rattle.std.specs.Prelude.{nat_lt, All}
 use Rattle.std.proofs.lemmas.Bool.Decides.{nat_tests}
 use Rattle.std.proofs.lemmas.List.Elements.{All-nil, All-cons, All-head, All-tail}
-use Rattle.kpn_limits.specs.declared.TheConstants.{MAX_TEXT_BYTES}
+use Rattle.kpn_limits.specs.declared.TheConstants.{MAX_TEXT_BYTES, MAX_LEVELS}
 use Rattle.kpn_lang.specs.Parts as lang
 use Rattle.kpn_lang.specs.Parts.{Parts, IsProgram}
 use Rattle.kpn_lang.specs.declared.program.ProgramFault.{ProgramFault}
@@ -151,7 +151,8 @@ spelled_reads text d s =
     let spelled : IsDescription l (kinds found.lexemes) s.tree =
     subst (λ (ts : List Token). IsDescription l ts s.tree) found.are s.spelled in
     let g : description_of l (length text) found.lexemes ≡ Ok s.tree =
-    description_again (record { end = length text; process = 0; language = l }) found.lexemes s.tree spelled in
+    description_again (record { end = length text; process = 0; language = l; levels = MAX_LEVELS }) found.lexemes s.tree
+    (omega arith) spelled in
     let tables : s.named.tables ≡ d.tables = ap (λ (x : Document). x.tables) s.is in
     let sound : tables_cause s.named.tables ≡ None = ap tables_cause tables ∙ network_sound d.tables s.keeps in
     ap (λ k. document_in k text) s.language
@@ -176,7 +177,8 @@ read_spelled text ls tree n is keeps =
       tokens = kinds ls;
       read = t.read;
       tree = tree;
-      spelled = description_takes (record { end = length text; process = 0; language = l }) ls tree is.grammar;
+      spelled = description_takes (record { end = length text; process = 0; language = l; levels = MAX_LEVELS }) ls tree
+          (omega arith) is.grammar;
       named = n;
       resolved = is.names;
       is = refl;
