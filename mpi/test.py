@@ -13,9 +13,9 @@ usage: mpi/test.py [simulator] [ranks] [examples] [faults] [certificates] [--net
 - `certificates`: what --certify refuses, also of N random networks (60) by each of some wrong bodies of kpn-mpi.
 
 Without a word it does all. Half of the runs have --certify. It takes kpn-mpi and kpn-mpi-simulator from FOLDER, by
-default out/mpi (`make -C mpi`), libkpn from out/c, and `kpn` from KPN_PROGRAM or the repository. Where a run of `kpn` is
-stopped by `--max-commits` there is nothing to compare on several ranks, since each counts its own commits. On one rank
-the trace is that of `kpn run`.
+default out/mpi (`make -C mpi`), libkpn from out/c, and `kpn` from KPN_PROGRAM or the repository. Where a run of `kpn`
+is stopped by `--max-commits` there is nothing to compare on several ranks, since each counts its own commits. On one
+rank the trace is that of `kpn run`.
 """
 import argparse
 import collections

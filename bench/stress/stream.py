@@ -6,8 +6,9 @@ random lengths. If that is the only source, both have to write the same trace; o
 answer comes first. Each trace has to be legal for the auditor and for tools/histories.py, and each sink's file has to
 have what the trace takes there. What two streams, or a stream and a run, put on a sink has to be the same where both
 are complete, and else one begins the other. A stream that came to a verdict is made again without a trace and a limit,
-from files and by standard input in pieces, and has to write and tell the same. It is no part of the gate. Words: for how many networks, by default 3,000;
-where the random numbers begin, else by chance; and the program, if another one than that of `kpn`.
+from files and by standard input in pieces, and has to write and tell the same. It is no part of the gate. Words: for
+how many networks, by default 3,000; where the random numbers begin, else by chance; and the program, if another one
+than that of `kpn`.
 """
 import collections
 import pathlib

@@ -44,8 +44,8 @@ class Names:
 
 
 class Layout(NamedTuple):
-    """The text of a network, the names in it, its policy and its limit. `begins` has where its processes begin, `writers` and
-    `readers` the instance at each end of a channel, and `processes` the process of each instance."""
+    """The text of a network, the names in it, its policy and its limit. `begins` has where its processes begin,
+    `writers` and `readers` the instance at each end of a channel, and `processes` the process of each instance."""
 
     text: str
     begins: List[Tuple[int, Process]]

@@ -50,7 +50,8 @@ def growing_of(result: Result) -> List[str]:
     ended = {row['process'] for row in stats.processes if row['end'] in ENDS}
     left = {str(row['channel']): int(row['left']) for row in stats.channels
             if int(row['left']) >= LEAST_LEFT and 4 * int(row['left']) >= 3 * int(row['most'])
-            and row['channel'] in able and int(row['cap_first']) < layout.limit and layout.readers[str(row['channel'])] not in ended}
+            and row['channel'] in able and int(row['cap_first']) < layout.limit
+            and layout.readers[str(row['channel'])] not in ended}
     if not left:
         return []
     moves = sum(int(row['gets']) + int(row['puts']) for row in stats.processes)

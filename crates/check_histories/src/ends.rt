@@ -1,5 +1,6 @@
-//! In what two runs differ of which one is not final, or is fed less, or leaves a sink, as contracts of functions that do
-//! nothing. All final runs from the same lists end alike (`one_end` of `kpn_history`), and these show what that needs.
+//! In what two runs differ of which one is not final, or is fed less, or leaves a sink, as contracts of functions that
+//! do nothing. All final runs from the same lists end alike (`one_end` of `kpn_history`), and these show what that
+//! needs.
 ghost use Rattle.std.specs.Prelude.{◌≡◌, pos, [], ◌∷◌, take};
 ghost use Rattle.kpn_net.specs.Iteration.{IsPrefixOnSources};
 ghost use Rattle.kpn_history.specs.Channels.{written_on, read_on, fed};

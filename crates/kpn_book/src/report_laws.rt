@@ -51,8 +51,8 @@ pub fn ended_reports_agree()
         × (other.view.journals ≡ lists_of t (iterate t (given_by t lists) n))) }
 {}
 
-/// Two reports of the same network and lists with a verdict say the same, whatever the schedules were, but for the number
-/// of commits and the order of events: the same verdict, the same view and the same items taken from the sinks.
+/// Two reports of the same network and lists with a verdict say the same, whatever the schedules were, but for the
+/// number of commits and the order of events: the same verdict, the same view and the same items taken from the sinks.
 pub fn verdict_reports_agree()
     ensures { (t : Tables) → IsNetwork t → (lists : List (List ℤ)) (limits more : Limits)
         (report other : Report) → IsReport t lists limits report → IsReport t lists more other

@@ -92,8 +92,8 @@ fn second_place(
     }
 }
 
-// What is wrong: of the name at the place if it has one, with the limit that is passed, the numbers that differ, or with
-// what may stand there.
+// What is wrong: of the name at the place if it has one, with the limit that is passed, the numbers that differ, or
+// with what may stand there.
 fn push_sentence<'a>(
     alloc: Global,
     told: &mut Vec<u8>,

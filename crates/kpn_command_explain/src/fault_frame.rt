@@ -1,5 +1,5 @@
-//! A process makes its statements once more, with the items that it got, up to the fault that has ended it. So the fault
-//! has an expression, and the names in it have values. Rows show the words.
+//! A process makes its statements once more, with the items that it got, up to the fault that has ended it. So the
+//! fault has an expression, and the names in it have values. Rows show the words.
 
 use crate::fault_values::{missing, start_of, valued};
 use kpn_lang::{Expr, Op, eval, index_in};
@@ -53,8 +53,8 @@ struct InPort<'t> {
     read: usize,
 }
 
-/// How far a process has come once more. Of its fault there is the byte where the expression begins, and what is said of
-/// this.
+/// How far a process has come once more. Of its fault there is the byte where the expression begins, and what is said
+/// of this.
 #[derive(Drop)]
 pub(crate) struct FaultFrame<'t> {
     alloc: Global,

@@ -1,4 +1,5 @@
-//! Where a fault has ended a process, and with which values: what its statements come to once more. Rows show the words.
+//! Where a fault has ended a process, and with which values: what its statements come to once more. Rows show the
+//! words.
 ghost use Rattle.std.specs.Prelude.{◌<◌, length};
 
 use crate::excerpt::{push_excerpt, push_where};

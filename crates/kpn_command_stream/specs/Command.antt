@@ -280,8 +280,8 @@ pub record AreAskedFor (request : StreamRequest) (d : Document) (places : EndPla
   pub sinks : AreSinkPlaces d (end_words_of request) places.sinks.items
   pub formats : AreForEnds d request.formats
 
--- A stream of this network. Given are the shelf, standard input and output, and the place for faults, each as it was and
--- as it is afterwards.
+-- A stream of this network. Given are the shelf, standard input and output, and the place for faults, each as it was
+-- and as it is afterwards.
 pub record IsStreamedOf {S I F O G E : Type 0} (may_give : S → Loads) (names : DeviceNames S F G)
     (known : KnownOfDevices I F O G) (tells : E → Option (List ℕ)) (request : StreamRequest) (d : Document)
     (shelf kept : S) (input read : I) (out written : O) (err told : E) (status : ℕ) : Type 0 where

@@ -26,8 +26,8 @@ pub(crate) fn limits_of(request: &StreamRequest<'_>) -> Limits
     }
 }
 
-/// The limit of commits of a stream that was given none. No stream comes to it, but one that has a limit keeps the order
-/// of its turns, of which the tables of `--stats` tell.
+/// The limit of commits of a stream that was given none. No stream comes to it, but one that has a limit keeps the
+/// order of its turns, of which the tables of `--stats` tell.
 fn most_commits(stats: bool) -> u64
     ensures { result ≡ most_commits stats }
 {

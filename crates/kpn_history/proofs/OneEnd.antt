@@ -1,6 +1,6 @@
 -- What a final run has made, no other run from the same lists passes, whatever the order in which their processes went.
--- The proof is two inductions over events, without diamonds of steps. First: of the processes for which a growth is owed
--- in one run, no other run makes more before that growth. Then: event by event, a run stays within a final one.
+-- The proof is two inductions over events, without diamonds of steps. First: of the processes for which a growth is
+-- owed in one run, no other run makes more before that growth. Then: event by event, a run stays within a final one.
 use Rattle.std.specs.Prelude.{Contains}
 use Rattle.std.specs.List.{range_with_len}
 use Rattle.std.proofs.Common.{◌≡◌, ℕ, ◌+◌, ◌<◌, ◌≤◌, ◌⊎◌, Bool, true, false, cond, List, [], ◌∷◌, ◌++◌, length, map, refl, sym, ap, ◌∙◌, subst, inl, inr, arith}

@@ -1,7 +1,7 @@
--- What a final run says of all other runs from the same lists, whatever the order in which their processes went: they have
--- made no more. So all final runs end alike. In Kahn 1974 this holds of the journals of runs that no channel stops. Here
--- it also holds of runs that full channels stop, with capacities as in Parks 1995, which grow by a rule after Geilen and
--- Basten 2003.
+-- What a final run says of all other runs from the same lists, whatever the order in which their processes went: they
+-- have made no more. So all final runs end alike. In Kahn 1974 this holds of the journals of runs that no channel
+-- stops. Here it also holds of runs that full channels stop, with capacities as in Parks 1995, which grow by a rule
+-- after Geilen and Basten 2003.
 use Rattle.std.specs.Prelude.{◌≡◌, ◌↔◌, ℕ, ◌<◌, ◌≤◌, false, List, length, count_by, Contains}
 use Rattle.kpn_lang.specs.Prefix.{IsPrefix}
 use Rattle.kpn_net.specs.declared.tables.End.TheVariants.{Process}

@@ -37,8 +37,8 @@ pub fn one_end()
         → (c : ℕ) → capacity_after t H c ≡ capacity_after t G c }
 {}
 
-/// The views of two final runs from the same lists have the same journals, capacities, states and counts. If no sink was
-/// left, they are the same.
+/// The views of two final runs from the same lists have the same journals, capacities, states and counts. If no sink
+/// was left, they are the same.
 pub fn final_views_agree<A: Allocator>()
     ensures alike { (t : Tables) → IsNetwork t → (given : Family) (H G : List Event)
         → IsFinalRun t given H → IsFinalRun t given G

@@ -38,8 +38,8 @@ pub trait Sources {
     fn is_at_hand(&self, source: usize) -> bool
         ensures { IsTrue result → at_hand self.now source };
 
-    /// The next item of a source, if it is at hand and no fault. It never waits, and leaves the end of the input and faults
-    /// to `next`.
+    /// The next item of a source, if it is at hand and no fault. It never waits, and leaves the end of the input and
+    /// faults to `next`.
     fn next_at_hand(&mut self, source: usize) -> Option<i64>
         ensures item { IfSome result (λ item. gives self.old source (Ok (Some item)) self.new) }
         ensures at_hand { IfSome result (λ item. at_hand self.old source) }

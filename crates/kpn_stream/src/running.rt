@@ -22,11 +22,11 @@ use std::alloc::{AllocError, Global};
 /// Runs a network over devices until there is an ending. The book keeps what it is told to keep.
 ///
 /// In each turn the processes make steps until none is ready, or a stretch of 1,000 commits is over. Then the devices
-/// of the sinks take what has come. If the run has no outcome yet, and still no process is ready, the least open
-/// source is read for whose item a process waits. So nobody reads ahead of need. Before a read that has to wait, the
-/// devices of the sinks hand on all that they took. If the book keeps no events and the commits have no limit, nobody
-/// sees the order: then the processes make steps in any, and up to 64 items that are at hand are read at once. If several sources are awaited and the answer of the least is not
-/// at hand, that one is read whose answer comes first.
+/// of the sinks take what has come. If the run has no outcome yet, and still no process is ready, the least open source
+/// is read for whose item a process waits. So nobody reads ahead of need. Before a read that has to wait, the devices
+/// of the sinks hand on all that they took. If the book keeps no events and the commits have no limit, nobody sees the
+/// order: then the processes make steps in any, and up to 64 items that are at hand are read at once. If several
+/// sources are awaited and the answer of the least is not at hand, that one is read whose answer comes first.
 ///
 /// At the end of a stretch with processes ready, the devices of the sinks hand on what they took, and each awaited
 /// source is read once whose answer is at hand. No source is waited for while a process is ready.

@@ -52,7 +52,8 @@ fn step_row(book: &mut Book<'_>, limits: &Limits, goal: u64) -> Result<Option<us
     book.go_on(limits.quota.max(1), most)
 }
 
-/// Whether somebody sees in which order the processes make steps: the book keeps its events, or the commits are limited.
+/// Whether somebody sees in which order the processes make steps: the book keeps its events, or the commits are
+/// limited.
 pub(crate) fn is_order_seen(book: &Book<'_>, limits: &Limits) -> bool {
     limits.commits < u64::MAX || book.history().is_kept()
 }

@@ -72,8 +72,8 @@ pub fn a_float_is_read_again()
         → IsSome (float_item power (float_bits power item)) }
 {}
 
-/// A sample that was written for an item is read again as this item, if whole samples hold it, or if it has so few places
-/// that a float is not rounded.
+/// A sample that was written for an item is read again as this item, if whole samples hold it, or if it has so few
+/// places that a float is not rounded.
 pub fn a_sample_is_read_again()
     ensures { (sample : SampleFormat) (item : ℤ) (more : List ℕ)
         → FormatHolds (Samples sample) item → IsExact sample item

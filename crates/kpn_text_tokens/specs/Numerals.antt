@@ -7,8 +7,8 @@ use Rattle.kpn_text_tokens.specs.declared.tokens.TheConstants.{MAX_NUMBER}
 use Rattle.kpn_text_tokens.specs.declared.tokens.Language.{Language}
 use Rattle.kpn_text_tokens.specs.Spelling.{is_two}
 
--- One more byte behind digits of this value: a digit of the base, or `_`, which stands for nothing. The value is at most
--- 2 ^ 63 - 1 (MAX_NUMBER).
+-- One more byte behind digits of this value: a digit of the base, or `_`, which stands for nothing. The value is at
+-- most 2 ^ 63 - 1 (MAX_NUMBER).
 abbrev pub with_digit : (base value : ℕ) → ℕ → Option ℕ
 with_digit base value b =
     if b == 95 then Some value

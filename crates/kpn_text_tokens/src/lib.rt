@@ -3,8 +3,8 @@
 //! A description is a text: names, numbers, marks and reserved words, with white space and comments between them. This
 //! crate cuts the text into its tokens, or returns the first byte at which that fails. What the tokens mean together is
 //! a matter for the grammar above. Of two languages the second has more marks, more reserved words and more ways to
-//! write a number. `tokens` says what a token is and how it is spelled, `numerals` what those numbers are, `opening` tells
-//! the language of a text, `lexer` cuts a text, and `laws` states what layers above rely on.
+//! write a number. `tokens` says what a token is and how it is spelled, `numerals` what those numbers are, `opening`
+//! tells the language of a text, `lexer` cuts a text, and `laws` states what layers above rely on.
 #![tactic(auto)]
 
 mod laws;
