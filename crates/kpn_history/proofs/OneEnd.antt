@@ -44,16 +44,16 @@ use Rattle.kpn_history.proofs.OwedSets.{OwedTo, owed_stand, all_stand, cycle_sta
 
 -- ---- growths after one more event
 
-growths_of-push : (B : List Event) (e : Event) (c : ℕ)
+pub growths_of-push : (B : List Event) (e : Event) (c : ℕ)
     → growths_of (B ++ e ∷ []) c ≡ growths_of B c + cond (is_growth_of c e) 1 0
 growths_of-push B e c = sum_by_push (λ x. cond (is_growth_of c x) 1 0) B e
 
 -- a growth of a channel was owed
-record WasOwed (t : Tables) (B : List Event) (c : ℕ) : Type 0 where
-  process : ℕ
-  owed : OwesGrowth t B process c
+pub record WasOwed (t : Tables) (B : List Event) (c : ℕ) : Type 0 where
+  pub process : ℕ
+  pub owed : OwesGrowth t B process c
 
-was_owed : (t : Tables) (B : List Event) (e : Event) → Legal t (B ++ e ∷ []) → (c : ℕ) → is_growth_of c e ≡ true
+pub was_owed : (t : Tables) (B : List Event) (e : Event) → Legal t (B ++ e ∷ []) → (c : ℕ) → is_growth_of c e ≡ true
     → WasOwed t B c
 was_owed t B (Grow p d n) legal c is =
     record {
@@ -63,7 +63,7 @@ was_owed t B (Grow p d n) legal c is =
 was_owed t B e legal c is = absurd (false≢true is)
 
 -- by whether the event is a growth of the channel: if it is one, the channel may not have grown as often before
-grown_with : (t : Tables) (B G : List Event) (e : Event) → Legal t (B ++ e ∷ []) → (c : ℕ)
+pub grown_with : (t : Tables) (B G : List Event) (e : Event) → Legal t (B ++ e ∷ []) → (c : ℕ)
     → growths_of B c ≤ growths_of G c
     → (WasOwed t B c → is_growth_of c e ≡ true → growths_of B c ≡ growths_of G c → ⊥)
     → growths_of (B ++ e ∷ []) c ≤ growths_of G c
