@@ -1,13 +1,14 @@
 -- How many commits the run on one thread needs to make what another history has made: for each event of a process one
 -- round of the queue, and one more for each pause before it.
-use Rattle.std.specs.Prelude.{◌≡◌, ◌≢◌, ℕ, ◌+◌, ◌*◌, ◌<◌, true, false, List, [], ◌∷◌, ◌++◌}
+use Rattle.std.specs.Prelude.{◌≡◌, ◌≢◌, ℕ, ◌+◌, ◌*◌, ◌≤◌, true, false, List, [], ◌∷◌, ◌++◌, Some}
 use Rattle.kpn_lang.specs.declared.talk.Said.{Said}
 use Rattle.kpn_lang.specs.declared.talk.Said.TheVariants.{Got, Put}
 use Rattle.kpn_net.specs.Tables.{Tables, instance_at, program_of}
 use Rattle.kpn_step.specs.Frame.{Frame, start_frame}
-use Rattle.kpn_step.specs.Step.{Goes, Steps, step_of}
+use Rattle.kpn_step.specs.Step.{Step, Stops, Faults, Goes, Steps, step_of}
 use Rattle.kpn_history.specs.declared.event.Event.{Event}
-use Rattle.kpn_history.specs.Talks.{is_of, is_of_process, talk_of}
+use Rattle.kpn_history.specs.Talks.{is_of, is_of_process, talk_of, last_event}
+use Rattle.kpn_history.specs.Progress.{IsHalt}
 use Rattle.kpn_machine.specs.Changes.{PassesRead, PassesWrite}
 
 -- process p says this on its way from one frame to the next
@@ -26,22 +27,40 @@ Says t p (said ∷ talk) f g =
 abbrev pub ComesAfter : Tables → (p : ℕ) → List Said → Frame → Type 0
 ComesAfter t p talk f = Says t p talk (start_frame (program_of t p) (instance_at t p).pars) f
 
--- after this talk process p pauses at most so often before it stops, if it may make so many steps at once
-pub record PausesAtMost (t : Tables) (quota p : ℕ) (talk : List Said) (pauses : ℕ) : Type 0 where
-  pub from : Frame
-  pub after : ComesAfter t p talk from
+-- the steps that are tried at a stop: one that would fault
+abbrev pub tried_at : Step → ℕ
+tried_at (Stops s) = 0
+tried_at (Faults fault) = 1
+tried_at (Goes next) = 1
+
+-- from this frame process p comes to a stop, and pauses at most so often on the way, if it makes so many steps at once
+pub record PausesFrom (t : Tables) (quota p : ℕ) (from : Frame) (pauses : ℕ) : Type 0 where
   pub to : Frame
   pub steps : ℕ
   pub stepped : Steps (program_of t p).blocks steps from to
   pub stops : (next : Frame) → step_of (program_of t p).blocks to ≢ Goes next
-  pub few : steps < quota * (pauses + 1)
+  pub few : steps + tried_at (step_of (program_of t p).blocks to) ≤ quota * (pauses + 1)
 
--- with so many rounds of the queue a history is made, event by event. An event of a process takes one round, and one
--- more for each pause on the way from what the process said last
+-- the same after this talk
+pub record PausesAfter (t : Tables) (quota p : ℕ) (talk : List Said) (pauses : ℕ) : Type 0 where
+  pub from : Frame
+  pub after : ComesAfter t p talk from
+  pub on : PausesFrom t quota p from pauses
+
+-- process p has made a wait or its end last
+pub record HasJustHalted (H : List Event) (p : ℕ) : Type 0 where
+  pub event : Event
+  pub last : last_event H p ≡ Some event
+  pub halts : IsHalt event
+
+-- a history takes so many rounds of the queue. An event of a process takes one, and one more for each pause since its
+-- last get or put; after a wait there is none. The other events take none
 pub data TakesRounds (t : Tables) (quota : ℕ) : List Event → ℕ → Type 0 where
   no_event : TakesRounds t quota [] 0
   of_process : {rounds : ℕ} (B : List Event) (e : Event) (p pauses : ℕ) → TakesRounds t quota B rounds
-      → is_of p e ≡ true → PausesAtMost t quota p (talk_of B p) pauses
+      → is_of p e ≡ true → PausesAfter t quota p (talk_of B p) pauses
       → TakesRounds t quota (B ++ e ∷ []) (rounds + (pauses + 1))
+  after_wait : {rounds : ℕ} (B : List Event) (e : Event) (p : ℕ) → TakesRounds t quota B rounds
+      → is_of p e ≡ true → HasJustHalted B p → TakesRounds t quota (B ++ e ∷ []) (rounds + 1)
   of_nobody : {rounds : ℕ} (B : List Event) (e : Event) → TakesRounds t quota B rounds → is_of_process e ≡ false
       → TakesRounds t quota (B ++ e ∷ []) rounds

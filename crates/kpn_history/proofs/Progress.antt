@@ -27,7 +27,7 @@ use Rattle.kpn_history.specs.Waiting.{wait_of}
 use Rattle.kpn_history.specs.Legal.{OwesGrowth, Legal}
 use Rattle.kpn_history.specs.Stops.{OwesNothing}
 use Rattle.kpn_history.specs.Ends.{HasStopped, IsSettled}
-use Rattle.kpn_history.specs.OneEnd.{growths_of, IsRunFrom}
+use Rattle.kpn_history.specs.OneEnd.{growths_of, IsRunFrom, HasMadeNoMore}
 use Rattle.kpn_history.specs.Progress.{IsHalt, HasHalted, HasMade, IsServed, HasGone, HadStopped, HasHadTurn}
 use Rattle.kpn_history.proofs.Legality.{Legal-last, Legal-before, onward}
 use Rattle.kpn_history.proofs.Events.{Some-event, last_event-own, last_event-other, talk_of-push, talk_of-grows, talk_of-other, read_on-same, written_on-same}
@@ -43,7 +43,7 @@ use Rattle.kpn_history.proofs.Stops.{is_filled}
 use Rattle.kpn_history.proofs.Rests.{Rests, IsRest, rest_waits, rest_halts, ends_last, ended_if_last, rests_if_stopped, same_halt, says_within, talks_comparable}
 use Rattle.kpn_history.proofs.Standing.{StandsAmong, Stand, AwaitsAmong, AreWithin, run_before, written_there, full_too, says_no_more_there}
 use Rattle.kpn_history.proofs.OwedSets.{OwedTo, owed_stand, cycle_carried, same_capacity}
-use Rattle.kpn_history.proofs.OneEnd.{WasOwed, growths_of-push, grown_with, limits_of}
+use Rattle.kpn_history.proofs.OneEnd.{WasOwed, growths_of-push, grown_with, limits_of, no_more_within}
 
 -- ---- events of a process
 
@@ -90,7 +90,7 @@ own_grows_nothing p c (WaitFull r d) own = refl
 own_grows_nothing p c (Ended r how) own = refl
 own_grows_nothing p c e own = absurd (false≢true own)
 
-own_below : (t : Tables) (p : ℕ) (B : List Event) (e : Event) → Legal t (B ++ e ∷ []) → is_of p e ≡ true
+pub own_below : (t : Tables) (p : ℕ) (B : List Event) (e : Event) → Legal t (B ++ e ∷ []) → is_of p e ≡ true
     → p < length t.instances
 own_below t p B (Get r d v) legal own =
     subst (λ x. x < length t.instances) (eqb-true r p own) (Legal-last t B (Get r d v) legal).numbers.0
@@ -217,30 +217,38 @@ module _ (t : Tables) (network : IsNetwork t) (X : List Event) (legal : Legal t 
       by_event (WaitFull q c) is owns = full_for_process c is (reader_of t c) refl
       by_event e is owns = tt
 
+-- of what it has made there is no more
+within_all : (t : Tables) → IsNetwork t → (given : Family) (B X : List Event) → IsRunFrom t given B
+    → IsRunFrom t given X → HasMade t B X → AreWithin t B X (All t)
+within_all t network given B X before run h =
+    record {
+      said = λ p there. h.said p there;
+      ended = λ p there ended.
+          let last = ends_last t p B before.legal ended in
+          elim (h.halted p (Ended p last.0) there last.1 tt) [
+            | inr same ↦ ended_if_last t p X run.legal p last.0 same
+            | inl longer ↦
+                let rests : Rests t B p (Ended p last.0) = record { last = last.1; is = tt } in
+                let most = length_of_prefix (talk_of X p) (talk_of B p)
+                (says_within t network given X B run.legal before.legal run.fed.begun before.fed.begun p there
+                (Ended p last.0) rests tt) in
+                absurd (omega arith)
+          ];
+      grown = λ p c there waits. h.grown c;
+    }
+
+pub no_more_if_made : (t : Tables) → IsNetwork t → (given : Family) (H G : List Event) → IsRunFrom t given H
+    → IsRunFrom t given G → ((c : ℕ) → is_source (channel_at t c) ≡ true → is_closed G c ≡ true) → HasMade t H G
+    → HasMadeNoMore t H G
+no_more_if_made t network given H G run run-G closed h =
+    no_more_within t network given H G run run-G closed (within_all t network given H G run run-G h) h.grown
+
 -- ---- one more event of a process
 
 module _ (t : Tables) (network : IsNetwork t) (given : Family) (B : List Event) (e : Event)
     (more : IsRunFrom t given (B ++ e ∷ [])) where
   before : IsRunFrom t given B
   before = run_before t network given B e more
-
-  within_all : (X : List Event) → IsRunFrom t given X → HasMade t B X → AreWithin t B X (All t)
-  within_all X run h =
-      record {
-        said = λ p there. h.said p there;
-        ended = λ p there ended.
-            let last = ends_last t p B before.legal ended in
-            elim (h.halted p (Ended p last.0) there last.1 tt) [
-              | inr same ↦ ended_if_last t p X run.legal p last.0 same
-              | inl longer ↦
-                  let rests : Rests t B p (Ended p last.0) = record { last = last.1; is = tt } in
-                  let most = length_of_prefix (talk_of X p) (talk_of B p)
-                  (says_within t network given X B run.legal before.legal run.fed.begun before.fed.begun p there
-                  (Ended p last.0) rests tt) in
-                  absurd (omega arith)
-            ];
-        grown = λ p c there waits. h.grown c;
-      }
 
   module _ (p : ℕ) (own : is_of p e ≡ true) where
     below : p < length t.instances
@@ -296,45 +304,41 @@ module _ (t : Tables) (network : IsNetwork t) (given : Family) (B : List Event) 
       where
         says : IsPrefix (talk_of (B ++ e ∷ []) p) (talk_of X p)
         says =
-            says_no_more_there t network given X run (All t) B e more (within_all X run h) p below
+            says_no_more_there t network given X run (All t) B e more 
+            (within_all t network given B X before run h) p below
             (stands_at_rest t network X run.legal served p below f rests)
 
-    -- if the process has said one thing more
-    has_said : (C : List Event) (f : Event) → IsRunFrom t given (C ++ f ∷ []) → HasMade t B C
-        → length (said_in p f) ≡ 1 → IsMadeIn (C ++ f ∷ [])
-    has_said C f run h one = by_kind (own_kind p e own)
+    -- if the process has said more
+    ahead : (X : List Event) → IsRunFrom t given X → HasMade t B X → length (talk_of B p) < length (talk_of X p)
+        → IsMadeIn X
+    ahead X run h longer = by_kind (own_kind p e own)
       where
-        begins : length (talk_of B p) ≤ length (talk_of C p)
-        begins = length_of_prefix (talk_of B p) (talk_of C p) (h.said p below)
-
-        longer : length (talk_of (C ++ f ∷ []) p) ≡ length (talk_of C p) + 1
-        longer =
-            ap length (talk_of-push C f p) ∙ length-append (talk_of C p) (said_in p f)
-            ∙ ap (λ n. length (talk_of C p) + n) one
-
         next : length (talk_of (B ++ e ∷ []) p) ≡ length (talk_of B p) + length (said_in p e)
         next = ap length (talk_of-push B e p) ∙ length-append (talk_of B p) (said_in p e)
 
-        said_so : length (said_in p e) ≤ 1 → IsPrefix (talk_of (B ++ e ∷ []) p) (talk_of (C ++ f ∷ []) p)
+        said_so : length (said_in p e) ≤ 1 → IsPrefix (talk_of (B ++ e ∷ []) p) (talk_of X p)
         said_so few =
-            elim (talks_comparable t network given (B ++ e ∷ []) (C ++ f ∷ []) more.legal run.legal more.fed.begun
-            run.fed.begun p below) [
+            elim (talks_comparable t network given (B ++ e ∷ []) X more.legal run.legal more.fed.begun run.fed.begun p
+            below) [
               | inl is ↦ is
               | inr is ↦
                   IsPrefix-same _ _
-                  (sym (same_from_prefix (talk_of (C ++ f ∷ []) p) (talk_of (B ++ e ∷ []) p) is
-                  (omega (arith, begins, longer, next, few))))
+                  (sym (same_from_prefix (talk_of X p) (talk_of (B ++ e ∷ []) p) is (omega (arith, longer, next, few))))
             ]
 
-        by_kind : IsHalt e ⊎ (length (said_in p e) ≡ 1) → IsMadeIn (C ++ f ∷ [])
+        by_kind : IsHalt e ⊎ (length (said_in p e) ≡ 1) → IsMadeIn X
         by_kind (inl halts) =
             let none = ap length (silent p e halts) in
-            record { said = said_so (omega (arith, none)); halted = λ _. inl (omega (arith, begins, longer, next, none)) }
+            record { said = said_so (omega (arith, none)); halted = λ _. inl (omega (arith, longer, next, none)) }
         by_kind (inr says) =
             record {
               said = said_so (omega (arith, says));
               halted = λ halts. let none = ap length (silent p e halts) in absurd (omega (arith, says, none));
             }
+
+    pub ahead_is_made : (X : List Event) → IsRunFrom t given X → HasMade t B X
+        → length (talk_of B p) < length (talk_of X p) → HasMade t (B ++ e ∷ []) X
+    ahead_is_made X run h longer = and_others X h (ahead X run h longer)
 
     has_gone : (C : List Event) (f : Event) → IsRunFrom t given (C ++ f ∷ []) → IsServed t C → HasMade t B C
         → is_of p f ≡ true → HasMade t (B ++ e ∷ []) (C ++ f ∷ [])
@@ -342,7 +346,10 @@ module _ (t : Tables) (network : IsNetwork t) (given : Family) (B : List Event) 
         and_others (C ++ f ∷ []) (stays_made t network B C f run.legal h) (by_kind (own_kind p f its))
       where
         by_kind : IsHalt f ⊎ (length (said_in p f) ≡ 1) → IsMadeIn (C ++ f ∷ [])
-        by_kind (inr one) = has_said C f run h one
+        by_kind (inr one) =
+            let begins = length_of_prefix (talk_of B p) (talk_of C p) (h.said p below) in
+            let says = ap length (talk_of-push C f p) ∙ length-append (talk_of C p) (said_in p f) in
+            ahead (C ++ f ∷ []) run (stays_made t network B C f run.legal h) (omega (arith, begins, says, one))
         by_kind (inl halts) =
             at_rest (C ++ f ∷ []) run
             (record {

@@ -1,13 +1,14 @@
 //! Progress: what has to come in a history so that it has made the next event of another one from the same lists. These
 //! are contracts of functions that do nothing. The layers above cite them.
 ghost use Rattle.std.specs.Prelude.{◌≡◌, ℕ, true, false, List, [], ◌∷◌, ◌++◌};
-ghost use Rattle.kpn_net.specs.Tables.{Tables};
+ghost use Rattle.kpn_net.specs.Tables.{Tables, channel_at, is_source};
 ghost use Rattle.kpn_net.specs.Faults.{IsNetwork};
 ghost use Rattle.kpn_net.specs.Process.{Family};
 ghost use Rattle.kpn_history.specs.declared.event.Event.{Event};
 ghost use Rattle.kpn_history.specs.Talks.{is_of, is_of_process};
+ghost use Rattle.kpn_history.specs.Channels.{is_closed};
 ghost use Rattle.kpn_history.specs.Stops.{OwesNothing};
-ghost use Rattle.kpn_history.specs.OneEnd.{IsRunFrom};
+ghost use Rattle.kpn_history.specs.OneEnd.{IsRunFrom, HasMadeNoMore};
 ghost use Rattle.kpn_history.specs.Progress.{HasMade, IsServed, HasHadTurn};
 
 /// What a history needs to make one more event of another one. For an event of a process: the process has its turn, in
@@ -22,4 +23,13 @@ pub fn one_more_is_made()
         → IsRunFrom t given (B ++ e ∷ []) → (G : List Event) → IsRunFrom t given G
         → IsServed t G → OwesNothing t G → HasMade t B G → is_of_process e ≡ false
         → HasMade t (B ++ e ∷ []) G }
+{}
+
+/// A history that has made all that another one has made has every item of it on each channel, if each of its sources is
+/// closed, and each process has read as much.
+pub fn what_is_made()
+    ensures { (t : Tables) → IsNetwork t → (given : Family) (H G : List Event)
+        → IsRunFrom t given H → IsRunFrom t given G
+        → ((c : ℕ) → is_source (channel_at t c) ≡ true → is_closed G c ≡ true) → HasMade t H G
+        → HasMadeNoMore t H G }
 {}
