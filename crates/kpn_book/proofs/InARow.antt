@@ -121,8 +121,7 @@ module _ (limits : Limits) (quota : ℕ) (is_quota : quota ≡ max limits.quota 
       went_on limits quota is_quota None before after so_far.to_itself so_far.few step within in
       record {
         made = λ f k turns.
-            let made = so_far.made f k turns in
-            (
+            let made = so_far.made f k turns in (
               made.0 + 1,
               one_turn_more before after made.1 (before_turn before step.was so_far.to_itself) goes_on (one.turn refl),
             );
@@ -191,8 +190,7 @@ module _ (limits : Limits) (quota : ℕ) (is_quota : quota ≡ max limits.quota 
           went_on limits quota is_quota (Some sink) runs.last now so_far.to_itself so_far.few runs.ends within in
           record {
             made = λ _ f k turns.
-                let made = so_far.made f k turns in
-                (
+                let made = so_far.made f k turns in (
                   made.0 + 1,
                   one_turn_more runs.last after made.1 (before_turn runs.last runs.ends.was so_far.to_itself) goes_on
                       (is.turn refl),

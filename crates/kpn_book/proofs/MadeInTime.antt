@@ -1,7 +1,6 @@
 -- In so many rounds of the queue the run on one thread has made what another history has made.
-use Rattle.std.specs.Prelude.{Contains}
-use Rattle.std.proofs.Common.{◌≡◌, ◌≢◌, ℕ, zero, suc, ◌+◌, ◌*◌, ◌-◌, ◌<◌, ◌≤◌, ◌⊎◌, max, Bool, true, false, List, [], ◌∷◌, ◌++◌, length, Some, refl, sym, ap, ◌∙◌, subst, inl, inr, arith, length-append}
-use Rattle.std.proofs.lemmas.Bool.{cases_Bool, cases_lt, false≢true}
+use Rattle.std.proofs.Common.{◌≡◌, ◌≢◌, ℕ, zero, suc, ◌+◌, ◌*◌, ◌-◌, ◌<◌, ◌≤◌, ◌⊎◌, max, true, false, List, [], ◌∷◌, ◌++◌, length, refl, sym, ap, ◌∙◌, subst, inl, inr, arith, length-append}
+use Rattle.std.proofs.lemmas.Bool.{cases_Bool, cases_lt}
 use Rattle.std.proofs.lemmas.List.Sums.{count_by-le-length}
 use Rattle.kpn_lang.specs.Prefix.{IsPrefix}
 use Rattle.kpn_lang.proofs.Prefixes.{IsPrefix-refl, IsPrefix-trans, IsPrefix-after, same_from_prefix}
@@ -17,11 +16,11 @@ use Rattle.kpn_history.specs.declared.event.Event.{Event}
 use Rattle.kpn_history.specs.declared.state.State.{State}
 use Rattle.kpn_history.specs.declared.state.State.TheVariants.{Ready, Held, WaitsEmpty, WaitsFull, Ended}
 use Rattle.kpn_history.specs.Talks.{is_of, talk_of}
-use Rattle.kpn_history.specs.Views.{IsStateOf, is_ready, is_held, is_stopped}
+use Rattle.kpn_history.specs.Views.{is_ready, is_held, is_stopped}
 use Rattle.kpn_history.specs.Ends.{HasStopped}
 use Rattle.kpn_history.specs.Stops.{OwesNothing}
 use Rattle.kpn_history.specs.OneEnd.{IsRunFrom}
-use Rattle.kpn_history.specs.Progress.{HasMade, IsServed, HasGone, HasHadTurn}
+use Rattle.kpn_history.specs.Progress.{HasMade, IsCaughtUp, HasGone}
 use Rattle.kpn_history.proofs.States.{stopped_state}
 use Rattle.kpn_history.proofs.Standing.{run_before}
 use Rattle.kpn_history.proofs.Progress.{own_below, run_begun, made_later, ahead_is_made, next_is_made, others_are_made}
@@ -29,13 +28,13 @@ use Rattle.kpn_machine.specs.Machine.{frame_in}
 use Rattle.kpn_book.specs.Schedule.{state_at}
 use Rattle.kpn_book.specs.Book.{Book, standing_at}
 use Rattle.kpn_book.specs.declared.outcome.Limits.{Limits}
-use Rattle.kpn_book.specs.RunHere.{IsTurn, IsBeforeTurn, Turns}
+use Rattle.kpn_book.specs.RunHere.{IsBeforeTurn, Turns}
 use Rattle.kpn_book.specs.Progress.{ComesAfter, tried_at, PausesFrom, PausesAfter, HasJustHalted, TakesRounds, no_event, of_process, after_wait, of_nobody}
 use Rattle.kpn_book.proofs.Tallies.{not_counted}
 use Rattle.kpn_book.proofs.Standing.{states_now}
 use Rattle.kpn_book.proofs.Stepped.{step_history}
 use Rattle.kpn_book.proofs.Progress.{pauses_before, says_one, IsOnWay, AreOnWay}
-use Rattle.kpn_book.proofs.RoundOfQueue.{split, begins_ready, ready_if_some, BeginsWithOwn, own_or_pause, stepped_later, paused_frame, steps_own, stands_between, HasTurn, WaitsForTurn, turn_tables, turn_prefix, turns_tables, turns_prefix, turns_on_way, comes_to_turn, apart}
+use Rattle.kpn_book.proofs.RoundOfQueue.{split, begins_ready, ready_if_some, BeginsWithOwn, own_or_pause, stepped_later, paused_frame, steps_own, stands_between, HasTurn, turn_tables, turn_prefix, turns_tables, turns_prefix, turns_on_way, comes_to_turn, apart}
 
 -- ---- where a process is before a turn
 
@@ -105,7 +104,7 @@ module _ (limits : Limits) (t : Tables) (network : IsNetwork t) (given : Family)
         own = subst (λ q. is_of q begins.event ≡ true) turn.its begins.own;
         later = turns_prefix limits b turn.so_far;
         served =
-            subst (λ t. IsServed t turn.before.history) (turns_tables limits b turn.so_far ∙ tables)
+            subst (λ t. IsCaughtUp t turn.before.history) (turns_tables limits b turn.so_far ∙ tables)
             turn.ready.served;
         within =
             IsPrefix-trans (turn.before.history ++ begins.event ∷ []) step.stepped.history c.history
@@ -188,7 +187,7 @@ module _ (limits : Limits) (t : Tables) (network : IsNetwork t) (given : Family)
                   (record {
                     then = b.history;
                     later = IsPrefix-refl b.history;
-                    served = subst (λ t. IsServed t b.history) tables ready.served;
+                    served = subst (λ t. IsCaughtUp t b.history) tables ready.served;
                     stopped = subst (λ t. HasStopped t b.history p) tables stops;
                     within = later;
                   }))
@@ -336,7 +335,7 @@ module _ (limits : Limits) (first : Book) (begins : AreOnWay first) (network : I
       let earlier = run_before t network given B e run in
       let tables = turns_tables limits first turns in
       others_are_made t network given B b.history earlier run_b
-      (subst (λ t. IsServed t b.history) tables ready.served)
+      (subst (λ t. IsCaughtUp t b.history) tables ready.served)
       (subst (λ t. OwesNothing t b.history) tables ready.book.kept.nothing_owed)
       (made_in_time takes earlier turns ready run_b enough) e run.legal no_process
   made_in_time (of_process {rounds} B e p pauses takes own at_most) run {n} {b} turns ready run_b enough =

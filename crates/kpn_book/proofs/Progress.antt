@@ -1,26 +1,18 @@
 -- Turn by turn, the run on one thread makes what another history has made. The next event of that is of a process that
 -- is in the queue, if it has not come: within a round the process has its turn. Then it makes its next event, or it
 -- pauses on the way to it.
-use Rattle.std.specs.Prelude.{Contains}
 use Rattle.std.specs.List.{flat_map}
-use Rattle.std.specs.Option.{option_to_list}
-use Rattle.std.proofs.Common.{◌≡◌, ◌≢◌, ℕ, zero, suc, ◌+◌, ◌*◌, ◌-◌, ◌<◌, ◌≤◌, ◌⊎◌, max, Bool, true, false, cond, eqb, eq-eqb, ℤ, List, [], ◌∷◌, ◌++◌, length, map, get_or, set, Option, Some, None, refl, sym, ap, ◌∙◌, subst, inl, inr, arith, append_assoc, append-nil, length-append}
-use Rattle.std.proofs.lemmas.Bool.{cases_Bool, cases_eq, cases_lt, both_ways, eqb-true, ne_eqb, false≢true}
-use Rattle.std.proofs.lemmas.List.{length-set, get_or-set_same, get_or-set_other}
-use Rattle.std.proofs.lemmas.List.Sums.{count_by-le-length}
+use Rattle.std.proofs.Common.{◌≡◌, ◌≢◌, ℕ, zero, suc, ◌+◌, ◌-◌, ◌<◌, ◌≤◌, Bool, true, false, cond, eqb, eq-eqb, ℤ, List, [], ◌∷◌, ◌++◌, length, map, Some, refl, sym, ap, ◌∙◌, subst, inl, inr, arith, append_assoc, append-nil}
+use Rattle.std.proofs.lemmas.Bool.{cases_Bool, cases_eq, eqb-true, ne_eqb, false≢true}
 use Rattle.kpn_lang.specs.declared.talk.Said.{Said}
 use Rattle.kpn_lang.specs.declared.talk.Said.TheVariants as said
 use Rattle.kpn_lang.specs.Syntax.{Statement}
-use Rattle.kpn_lang.specs.Prefix.{IsPrefix}
-use Rattle.kpn_lang.proofs.Prefixes.{IsPrefix-refl, IsPrefix-trans, IsPrefix-append, IsPrefix-after, IsPrefix-same}
 use Rattle.kpn_net.specs.Tables.{Tables, channel_at, is_source, is_sink, instance_at, program_of}
 use Rattle.kpn_net.specs.Faults.{channel_numbers}
 use Rattle.kpn_net.specs.Process.{Family}
-use Rattle.kpn_net.proofs.Cycles.{Contains-none, Contains-cases}
-use Rattle.kpn_step.specs.declared.stop.Stop.{Stop}
 use Rattle.kpn_step.specs.declared.stop.Stop.TheVariants as stop
-use Rattle.kpn_step.specs.Frame.{Frame, start_frame, passed, passed_with}
-use Rattle.kpn_step.specs.Step.{Step, Stops, Faults, Goes, Steps, step_on, step_of, statement_due}
+use Rattle.kpn_step.specs.Frame.{Frame, start_frame}
+use Rattle.kpn_step.specs.Step.{Step, Stops, Faults, Goes, Steps, step_on, step_of}
 use Rattle.kpn_step.specs.Stops.{IsBetween}
 use Rattle.kpn_history.specs.declared.event.Event.{Event}
 use Rattle.kpn_history.specs.declared.event.Event.TheVariants as event
@@ -28,22 +20,13 @@ use Rattle.kpn_history.specs.Talks.{is_of, said_in, talk_of, last_event}
 use Rattle.kpn_history.specs.Progress.{IsHalt}
 use Rattle.kpn_history.specs.Channels.{unread_on}
 use Rattle.kpn_history.proofs.Events.{Some-event, talk_of-push, last_event-own, last_event-other}
-use Rattle.kpn_machine.specs.Machine.{Machine, frame_in, with_frame, no_frame}
-use Rattle.kpn_machine.specs.Changes.{IsFrameAfter, PassesRead, PassesWrite}
+use Rattle.kpn_machine.specs.Machine.{frame_in}
+use Rattle.kpn_machine.specs.Changes.{IsFrameAfter}
 use Rattle.kpn_book.specs.Schedule.{Schedule, made_ready}
-use Rattle.kpn_book.specs.declared.answers.Done.{Done}
-use Rattle.kpn_book.specs.declared.answers.Done.TheVariants as done
-use Rattle.kpn_book.specs.Book.{Book, standing_at, with_one_commit}
-use Rattle.kpn_book.specs.Kept.{IsBook}
-use Rattle.kpn_book.specs.Appending.{own_part, all_made_ready, schedule_after, woken_by, Appends, AppendsAll, IsGrowthOwed, Happens, AllHappen}
-use Rattle.kpn_book.specs.Commits.{IsAnswer, ready_if_paused, HasToWait}
-use Rattle.kpn_book.specs.Stepping.{StepsNext}
-use Rattle.kpn_book.specs.declared.outcome.Limits.{Limits}
+use Rattle.kpn_book.specs.Book.{Book}
+use Rattle.kpn_book.specs.Appending.{own_part, all_made_ready, woken_by, Appends, AppendsAll, IsGrowthOwed, AllHappen}
 use Rattle.kpn_book.specs.RunHere.{supply_of, supplies, takes_of, takes_from_sinks}
-use Rattle.kpn_book.specs.Progress.{Passes, Says, ComesAfter, tried_at}
-use Rattle.kpn_book.proofs.Appended.{tables_stay, history_then}
-use Rattle.kpn_book.proofs.Happening.{happens_tables, happens_prefix}
-use Rattle.kpn_book.proofs.Stepped.{step_tables, step_history}
+use Rattle.kpn_book.specs.Progress.{PassesStop, Says, ComesAfter, tried_at}
 
 -- ---- steps of one process
 
@@ -90,7 +73,7 @@ module _ (t : Tables) (p : ℕ) where
   abbrev blocks : List (List Statement)
   blocks = (program_of t p).blocks
 
-  stops_there : (x : Said) (f g : Frame) → Passes t p x f g → (next : Frame) → step_of blocks f ≢ Goes next
+  stops_there : (x : Said) (f g : Frame) → PassesStop t p x f g → (next : Frame) → step_of blocks f ≢ Goes next
   stops_there (said.Got c v) f g passes next goes =
       let stands : step_of blocks f ≡ Stops (stop.WantRead passes.port) =
       ap (step_on f) passes.stood.1.statement in
@@ -99,7 +82,7 @@ module _ (t : Tables) (p : ℕ) where
   stops_there (said.Put c v) f g passes next goes =
       let both : Stops (stop.WantWrite passes.port v) ≡ Goes next = sym passes.stood.step ∙ goes in absurd cc
 
-  passes_one : (x : Said) (f g h : Frame) → Passes t p x f g → Passes t p x f h → g ≡ h
+  passes_one : (x : Said) (f g h : Frame) → PassesStop t p x f g → PassesStop t p x f h → g ≡ h
   passes_one (said.Got c v) f g h one other =
       one.passes one.port one.stood.0 one.stood.1.statement
       ∙ sym (other.passes one.port one.stood.0 one.stood.1.statement)
@@ -111,11 +94,11 @@ module _ (t : Tables) (p : ℕ) where
   says_one (x ∷ talk) f g h (k, a, b, steps, passes, rest) (n, d, e, also, too, more) =
       let stop : a ≡ d =
       one_stop blocks k n f a d steps also (stops_there x a b passes) (stops_there x d e too) in
-      let next : b ≡ e = passes_one x a b e passes (subst (λ z. Passes t p x z e) (sym stop) too) in
+      let next : b ≡ e = passes_one x a b e passes (subst (λ z. PassesStop t p x z e) (sym stop) too) in
       says_one talk b g h rest (subst (λ z. Says t p talk z h) (sym next) more)
 
   says_more : (talk : List Said) (x : Said) (n : ℕ) (f g stop next : Frame) → Says t p talk f g
-      → Steps blocks n g stop → Passes t p x stop next → Says t p (talk ++ x ∷ []) f next
+      → Steps blocks n g stop → PassesStop t p x stop next → Says t p (talk ++ x ∷ []) f next
   says_more [] x n f g stop next says steps passes =
       (n, stop, next, subst (λ z. Steps blocks n z stop) says steps, passes, refl)
   says_more (y ∷ talk) x n f g stop next (k, a, b, made, passes, rest) steps then =
@@ -151,7 +134,7 @@ module _ (t : Tables) (p : ℕ) (H : List Event) (f g : Frame) (is : IsOnWay t p
   }
 
   says_one_thing : (e : Event) (x : Said) → said_in p e ≡ x ∷ [] → is_of p e ≡ true → (IsHalt e → ⊥)
-      → Passes t p x f g → IsOnWay t p (H ++ e ∷ []) g
+      → PassesStop t p x f g → IsOnWay t p (H ++ e ∷ []) g
   says_one_thing e x one own goes passes = record {
     from = g;
     after =

@@ -1,10 +1,9 @@
 -- What the report of a run on one thread has made, if its limit of commits allows as many rounds as another history
 -- takes.
-use Rattle.std.proofs.Common.{◌≡◌, ◌≢◌, ℕ, ◌+◌, ◌*◌, ◌<◌, ◌≤◌, max, true, ℤ, List, [], length, Option, Some, None, refl, sym, ap, ◌∙◌, subst, arith}
-use Rattle.std.proofs.lemmas.Bool.{both_ways}
+use Rattle.std.proofs.Common.{◌≡◌, ◌≢◌, ℕ, ◌+◌, ◌*◌, ◌<◌, ◌≤◌, max, true, ℤ, List, length, Option, Some, None, refl, sym, ap, ◌∙◌, subst, arith}
 use Rattle.kpn_lang.specs.Prefix.{IsPrefix}
 use Rattle.kpn_lang.proofs.Prefixes.{length_of_prefix}
-use Rattle.kpn_net.specs.Tables.{Tables, channel_at, is_source, is_sink, instance_at, program_of}
+use Rattle.kpn_net.specs.Tables.{Tables, channel_at, is_sink, instance_at, program_of}
 use Rattle.kpn_net.specs.Faults.{IsNetwork}
 use Rattle.kpn_net.specs.Process.{Family}
 use Rattle.kpn_net.specs.Iteration.{given_by}
@@ -12,7 +11,7 @@ use Rattle.kpn_step.specs.Frame.{start_frame}
 use Rattle.kpn_history.specs.declared.event.Event.{Event}
 use Rattle.kpn_history.specs.Channels.{written_on, read_on}
 use Rattle.kpn_history.specs.OneEnd.{IsRunFrom, HasMadeNoMore}
-use Rattle.kpn_history.specs.Progress.{HasMade, IsServed}
+use Rattle.kpn_history.specs.Progress.{HasMade, IsCaughtUp}
 use Rattle.kpn_history.proofs.Above.{all_read}
 use Rattle.kpn_history.proofs.Journals.{reads_begin_writes}
 use Rattle.kpn_history.proofs.OneEnd.{made_no_more}
@@ -121,8 +120,8 @@ module _ (t : Tables) (network : IsNetwork t) (lists : List (List ℤ)) (limits 
     before_tables : last.before.tables ≡ t
     before_tables = turns_tables limits here.runs.fed last.so_far ∙ fed_tables
 
-    served : IsServed t last.before.history
-    served = subst (λ x. IsServed x last.before.history) before_tables last.ready.served
+    served : IsCaughtUp t last.before.history
+    served = subst (λ x. IsCaughtUp x last.before.history) before_tables last.ready.served
 
     -- before the last turn there was not enough
     not_enough : ¬ IsEnough t last.before.history limits.take

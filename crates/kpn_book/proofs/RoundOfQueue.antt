@@ -2,11 +2,11 @@
 -- Until then it stays where it is in its program.
 use Rattle.std.specs.Prelude.{Contains}
 use Rattle.std.specs.List.{flat_map}
-use Rattle.std.proofs.Common.{◌≡◌, ◌≢◌, nat_eq, ℕ, zero, suc, ◌+◌, ◌<◌, ◌≤◌, ◌⊎◌, max, Bool, true, false, cond, eqb, eq-eqb, ℤ, List, [], ◌∷◌, ◌++◌, length, map, None, refl, sym, ap, ◌∙◌, subst, inl, inr, arith, append_assoc}
-use Rattle.std.proofs.lemmas.Bool.{cases_eq, eqb-true, false≢true}
+use Rattle.std.proofs.Common.{◌≡◌, ◌≢◌, nat_eq, ℕ, zero, suc, ◌+◌, ◌<◌, ◌⊎◌, max, Bool, true, false, cond, eq-eqb, ℤ, List, [], ◌∷◌, ◌++◌, length, map, None, refl, sym, ap, ◌∙◌, subst, inl, inr, arith, append_assoc}
+use Rattle.std.proofs.lemmas.Bool.{cases_eq}
 use Rattle.std.proofs.lemmas.List.{get_or-set_same, get_or-set_other}
 use Rattle.kpn_lang.specs.Prefix.{IsPrefix}
-use Rattle.kpn_lang.proofs.Prefixes.{IsPrefix-refl, IsPrefix-trans, IsPrefix-append, IsPrefix-after}
+use Rattle.kpn_lang.proofs.Prefixes.{IsPrefix-refl, IsPrefix-trans, IsPrefix-append}
 use Rattle.kpn_net.specs.Tables.{Tables, channel_at, is_sink, program_of}
 use Rattle.kpn_net.specs.Faults.{channel_numbers}
 use Rattle.kpn_net.proofs.Cycles.{Contains-none, Contains-cases}
@@ -23,16 +23,15 @@ use Rattle.kpn_history.specs.declared.event.How.{How}
 use Rattle.kpn_history.specs.declared.event.How.TheVariants as how
 use Rattle.kpn_history.specs.Legal.{growth_after}
 use Rattle.kpn_history.specs.Talks.{is_of}
+use Rattle.kpn_history.proofs.Progress.{one_process}
 use Rattle.kpn_machine.specs.Due.{stop_of}
 use Rattle.kpn_history.specs.Channels.{unread_on}
-use Rattle.kpn_machine.specs.Machine.{Machine, frame_in, with_frame, no_frame}
-use Rattle.kpn_machine.specs.Changes.{IsFrameAfter}
+use Rattle.kpn_machine.specs.Machine.{frame_in, no_frame}
 use Rattle.kpn_book.specs.declared.answers.Done.{Done}
 use Rattle.kpn_book.specs.declared.answers.Done.TheVariants as done
-use Rattle.kpn_book.specs.Book.{Book, put_back, standing_at, with_one_commit}
-use Rattle.kpn_book.specs.Appending.{Appends, AppendsAll, IsGrowthOwed, Happens, AllHappen}
+use Rattle.kpn_book.specs.Book.{Book, standing_at, with_one_commit}
+use Rattle.kpn_book.specs.Appending.{AppendsAll, IsGrowthOwed, AllHappen}
 use Rattle.kpn_book.specs.Commits.{IsAnswer, ready_if_paused, HasToWait}
-use Rattle.kpn_book.specs.Stepping.{StepsNext}
 use Rattle.kpn_book.specs.declared.outcome.Limits.{Limits}
 use Rattle.kpn_book.specs.Outcomes.{IsOutcome}
 use Rattle.kpn_book.specs.RunHere.{takes_of, takes_from_sinks, IsTurn, IsBeforeTurn, Turns, no_turn, one_turn_more}
@@ -148,14 +147,6 @@ pub record BeginsWithOwn (p : ℕ) (s : Stop) (events : List Event) : Type 0 whe
   pub is : events ≡ event ∷ rest
   pub others : HaltNobody rest
   pub stops : s ≢ stop.Paused
-
-one_process : (p q : ℕ) (e : Event) → is_of p e ≡ true → is_of q e ≡ true → p ≡ q
-one_process p q (event.Get r c v) one other = sym (eqb-true r p one) ∙ eqb-true r q other
-one_process p q (event.Put r c v) one other = sym (eqb-true r p one) ∙ eqb-true r q other
-one_process p q (event.WaitEmpty r c) one other = sym (eqb-true r p one) ∙ eqb-true r q other
-one_process p q (event.WaitFull r c) one other = sym (eqb-true r p one) ∙ eqb-true r q other
-one_process p q (event.Ended r how) one other = sym (eqb-true r p one) ∙ eqb-true r q other
-one_process p q e one other = absurd (false≢true one)
 
 wait_own : (b : Book) (p : ℕ) (s : Stop) (wait : Event) → HasToWait b p s wait → is_of p wait ≡ true
 wait_own b p s wait (inl empty) = ap (is_of p) empty.is ∙ eq-eqb p p refl

@@ -12,15 +12,15 @@ use Rattle.kpn_history.specs.Progress.{IsHalt}
 use Rattle.kpn_machine.specs.Changes.{PassesRead, PassesWrite}
 
 -- process p says this on its way from one frame to the next
-abbrev pub Passes : Tables → (p : ℕ) → Said → Frame → Frame → Type 0
-Passes t p (Got c v) before after = PassesRead t p c v before after
-Passes t p (Put c v) before after = PassesWrite t p c v before after
+abbrev pub PassesStop : Tables → (p : ℕ) → Said → Frame → Frame → Type 0
+PassesStop t p (Got c v) before after = PassesRead t p c v before after
+PassesStop t p (Put c v) before after = PassesWrite t p c v before after
 
 -- process p comes from one frame to the other by saying this, and makes no step after it
 abbrev pub Says : Tables → (p : ℕ) → List Said → Frame → Frame → Type 0
 Says t p [] f g = g ≡ f
 Says t p (said ∷ talk) f g =
-    (steps : ℕ) × (stop next : Frame) × Steps (program_of t p).blocks steps f stop × Passes t p said stop next
+    (steps : ℕ) × (stop next : Frame) × Steps (program_of t p).blocks steps f stop × PassesStop t p said stop next
     × Says t p talk next g
 
 -- process p is at this frame directly after this talk

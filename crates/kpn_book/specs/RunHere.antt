@@ -10,7 +10,7 @@ use Rattle.kpn_step.specs.Frame.{start_frame}
 use Rattle.kpn_history.specs.declared.event.Event.{Event}
 use Rattle.kpn_history.specs.declared.event.Event.TheVariants.{Feed, Close, Take}
 use Rattle.kpn_history.specs.Channels.{unread_on}
-use Rattle.kpn_history.specs.Progress.{IsServed}
+use Rattle.kpn_history.specs.Progress.{IsCaughtUp}
 use Rattle.kpn_machine.specs.Machine.{frame_in}
 use Rattle.kpn_book.specs.Schedule.{all_ready}
 use Rattle.kpn_book.specs.declared.answers.Done.{Done}
@@ -56,7 +56,7 @@ pub record IsTurn (quota : ℕ) (before after : Book) : Type 0 where
 pub record IsBeforeTurn (b : Book) : Type 0 where
   pub book : IsBook b
   pub nobody_held : held_count b ≡ 0
-  pub served : IsServed b.tables b.history
+  pub served : IsCaughtUp b.tables b.history
 
 -- so many turns lead from the first book to this one, and before each of them there was no outcome
 pub data Turns (limits : Limits) (first : Book) : ℕ → Book → Type 0 where

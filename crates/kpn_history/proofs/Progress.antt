@@ -2,37 +2,36 @@
 -- made once the process has had its turn there. Any other event is made already: a growth that was owed is owed there
 -- too, unless it has come.
 use Rattle.std.specs.Prelude.{Contains}
-use Rattle.std.proofs.Common.{◌≡◌, ℕ, ◌+◌, ◌<◌, ◌≤◌, ◌⊎◌, Bool, true, false, cond, eq-eqb, List, [], ◌∷◌, ◌++◌, length, Some, append_assoc, refl, sym, ap, ◌∙◌, subst, inl, inr, arith, length-append, append-nil}
+use Rattle.std.proofs.Common.{◌≡◌, ℕ, ◌+◌, ◌<◌, ◌≤◌, ◌⊎◌, true, false, cond, eq-eqb, List, [], ◌∷◌, ◌++◌, length, Some, append_assoc, refl, sym, ap, ◌∙◌, subst, inl, inr, arith, length-append, append-nil}
 use Rattle.std.specs.Option.{unwrap_or}
 use Rattle.std.proofs.lemmas.Bool.{cases_Bool, cases_lt, both_ways, eqb-true, false≢true, false_from_ne_true, or_left}
 use Rattle.kpn_lang.specs.declared.talk.Said.TheVariants as said
 use Rattle.kpn_lang.specs.Prefix.{IsPrefix}
 use Rattle.kpn_lang.specs.Alone.{got_at, put_at}
-use Rattle.kpn_lang.proofs.Prefixes.{IsPrefix-trans, IsPrefix-same, IsPrefix-append, length_of_prefix, rest_of_prefix, same_from_prefix}
+use Rattle.kpn_lang.proofs.Prefixes.{IsPrefix-trans, IsPrefix-same, length_of_prefix, rest_of_prefix, same_from_prefix}
 use Rattle.kpn_lang.proofs.Talks.{got_at-prefix, put_at-prefix}
 use Rattle.kpn_net.specs.declared.tables.End.{End}
 use Rattle.kpn_net.specs.declared.tables.End.TheVariants.{Process, Source, Sink}
-use Rattle.kpn_net.specs.declared.wait.Wait.TheVariants.{Empty, Full}
-use Rattle.kpn_net.specs.Tables.{Tables, channel_at, is_source, is_sink, writer_of, reader_of}
+use Rattle.kpn_net.specs.Tables.{Tables, channel_at, is_source, writer_of, reader_of}
 use Rattle.kpn_net.specs.Faults.{IsNetwork}
 use Rattle.kpn_net.specs.Process.{Family}
-use Rattle.kpn_net.proofs.Networks.{Reads, Writes, Reads-below, Writes-below, writer_of-Writes, reader_of-Reads, Writes-writer_of, Reads-reader_of, source-writer_of, sink-reader_of, writer_is_no_sink, reader_is_no_source}
+use Rattle.kpn_net.proofs.Networks.{Reads-below, writer_of-Writes, reader_of-Reads, Writes-writer_of, Reads-reader_of, source-writer_of, sink-reader_of, writer_is_no_sink, reader_is_no_source}
 use Rattle.kpn_history.specs.declared.event.Event.{Event}
 use Rattle.kpn_history.specs.declared.event.Event.TheVariants.{Get, Put, WaitEmpty, WaitFull, Ended}
-use Rattle.kpn_history.specs.Talks.{is_of, is_of_process, said_in, talk_of, last_event, has_ended}
+use Rattle.kpn_history.specs.Talks.{is_of, is_of_process, said_in, talk_of}
 use Rattle.kpn_history.specs.AfterEvent.{takes_end}
 use Rattle.kpn_history.specs.Complete.{PutsNoMore}
-use Rattle.kpn_history.specs.Channels.{written_in, read_in, written_on, read_on, unread_on, is_growth_of, is_close_of, is_closed, is_empty, is_full, capacity_or_zero}
+use Rattle.kpn_history.specs.Channels.{written_in, read_in, written_on, unread_on, is_growth_of, is_close_of, is_closed, is_empty, is_full, capacity_or_zero}
 use Rattle.kpn_history.specs.Waiting.{wait_of}
 use Rattle.kpn_history.specs.Legal.{OwesGrowth, Legal}
 use Rattle.kpn_history.specs.Stops.{OwesNothing}
 use Rattle.kpn_history.specs.Ends.{HasStopped, IsSettled}
 use Rattle.kpn_history.specs.OneEnd.{growths_of, IsRunFrom, HasMadeNoMore}
-use Rattle.kpn_history.specs.Progress.{IsHalt, HasHalted, HasMade, IsServed, HasGone, HadStopped, HasHadTurn}
+use Rattle.kpn_history.specs.Progress.{IsHalt, HasHalted, HasMade, IsCaughtUp, HasHadTurn}
 use Rattle.kpn_history.proofs.Legality.{Legal-last, Legal-before, onward}
-use Rattle.kpn_history.proofs.Events.{Some-event, last_event-own, last_event-other, talk_of-push, talk_of-grows, talk_of-other, read_on-same, written_on-same}
+use Rattle.kpn_history.proofs.Events.{Some-event, last_event-own, last_event-other, talk_of-push, talk_of-grows, talk_of-other}
 use Rattle.kpn_history.proofs.AfterEvent.{of_process, is_closed-next}
-use Rattle.kpn_history.proofs.Journals.{written_on-put, read_on-got, reads_begin_writes}
+use Rattle.kpn_history.proofs.Journals.{written_on-put, read_on-got}
 use Rattle.kpn_history.proofs.Above.{all_read}
 use Rattle.kpn_history.proofs.OneMore.{unread_length}
 use Rattle.kpn_history.proofs.Ownership.{Owns}
@@ -74,7 +73,7 @@ halt_reads c (WaitFull q d) halts = refl
 halt_reads c (Ended q how) halts = refl
 halt_reads c e halts = absurd halts
 
-one_process : (p q : ℕ) (e : Event) → is_of p e ≡ true → is_of q e ≡ true → p ≡ q
+pub one_process : (p q : ℕ) (e : Event) → is_of p e ≡ true → is_of q e ≡ true → p ≡ q
 one_process p q (Get r c v) one other = sym (eqb-true r p one) ∙ eqb-true r q other
 one_process p q (Put r c v) one other = sym (eqb-true r p one) ∙ eqb-true r q other
 one_process p q (WaitEmpty r c) one other = sym (eqb-true r p one) ∙ eqb-true r q other
@@ -184,7 +183,7 @@ module _ (t : Tables) (network : IsNetwork t) where
 abbrev All : Tables → ℕ → Type 0
 All t p = p < length t.instances
 
-module _ (t : Tables) (network : IsNetwork t) (X : List Event) (legal : Legal t X) (served : IsServed t X) where
+module _ (t : Tables) (network : IsNetwork t) (X : List Event) (legal : Legal t X) (served : IsCaughtUp t X) where
   puts_no_more : (c : ℕ) → c < length t.channels → (writer : End) → writer_of t c ≡ writer
       → PutsNoMore (All t) X c writer
   puts_no_more c there (Process q) w = (Writes-writer_of t q c w).process
@@ -287,7 +286,7 @@ module _ (t : Tables) (network : IsNetwork t) (given : Family) (B : List Event) 
               omega arith;
         }
 
-    at_rest : (X : List Event) → IsRunFrom t given X → IsServed t X → HasMade t B X → (f : Event) → Rests t X p f
+    at_rest : (X : List Event) → IsRunFrom t given X → IsCaughtUp t X → HasMade t B X → (f : Event) → Rests t X p f
         → IsMadeIn X
     at_rest X run served h f rests =
         record {
@@ -304,7 +303,7 @@ module _ (t : Tables) (network : IsNetwork t) (given : Family) (B : List Event) 
       where
         says : IsPrefix (talk_of (B ++ e ∷ []) p) (talk_of X p)
         says =
-            says_no_more_there t network given X run (All t) B e more 
+            says_no_more_there t network given X run (All t) B e more
             (within_all t network given B X before run h) p below
             (stands_at_rest t network X run.legal served p below f rests)
 
@@ -340,7 +339,7 @@ module _ (t : Tables) (network : IsNetwork t) (given : Family) (B : List Event) 
         → length (talk_of B p) < length (talk_of X p) → HasMade t (B ++ e ∷ []) X
     ahead_is_made X run h longer = and_others X h (ahead X run h longer)
 
-    has_gone : (C : List Event) (f : Event) → IsRunFrom t given (C ++ f ∷ []) → IsServed t C → HasMade t B C
+    has_gone : (C : List Event) (f : Event) → IsRunFrom t given (C ++ f ∷ []) → IsCaughtUp t C → HasMade t B C
         → is_of p f ≡ true → HasMade t (B ++ e ∷ []) (C ++ f ∷ [])
     has_gone C f run served h its =
         and_others (C ++ f ∷ []) (stays_made t network B C f run.legal h) (by_kind (own_kind p f its))
@@ -378,7 +377,7 @@ module _ (t : Tables) (network : IsNetwork t) (given : Family) (B : List Event) 
 -- ---- an event of no process
 
 module _ (t : Tables) (network : IsNetwork t) (given : Family) (B G : List Event) (run-B : IsRunFrom t given B)
-    (run-G : IsRunFrom t given G) (served : IsServed t G) (nothing_owed : OwesNothing t G) (h : HasMade t B G) where
+    (run-G : IsRunFrom t given G) (served : IsCaughtUp t G) (nothing_owed : OwesNothing t G) (h : HasMade t B G) where
   -- a process for which a growth is owed, and that has made no more, rests as it does there
   rests_alike : (Z : ℕ → Type 0) → Stand t B Z → AreWithin t G B Z → (p : ℕ) → Z p → (s : StandsAmong t B Z p)
       → Rests t G p s.event

@@ -29,8 +29,8 @@ pub record HasMade (t : Tables) (B G : List Event) : Type 0 where
   pub halted : (p : ℕ) (e : Event) → p < length t.instances → last_event B p ≡ Some e → IsHalt e → HasHalted B G p e
   pub grown : (c : ℕ) → growths_of B c ≤ growths_of G c
 
--- the outside has nothing to do: each source is closed, and each sink is empty
-pub record IsServed (t : Tables) (H : List Event) : Type 0 where
+-- the caller has caught up: each source is closed, and each sink is empty
+pub record IsCaughtUp (t : Tables) (H : List Event) : Type 0 where
   pub closed : (c : ℕ) → is_source (channel_at t c) ≡ true → is_closed H c ≡ true
   pub taken : (c : ℕ) → is_sink (channel_at t c) ≡ true → is_empty H c ≡ true
 
@@ -40,14 +40,14 @@ pub record HasGone (t : Tables) (G now : List Event) (p : ℕ) : Type 0 where
   pub event : Event
   pub own : is_of p event ≡ true
   pub later : IsPrefix G before
-  pub served : IsServed t before
+  pub served : IsCaughtUp t before
   pub within : IsPrefix (before ++ event ∷ []) now
 
 -- between the first history and the second one process p had stopped, and the outside had nothing to do
 pub record HadStopped (t : Tables) (G now : List Event) (p : ℕ) : Type 0 where
   pub then : List Event
   pub later : IsPrefix G then
-  pub served : IsServed t then
+  pub served : IsCaughtUp t then
   pub stopped : HasStopped t then p
   pub within : IsPrefix then now
 

@@ -9,7 +9,7 @@ ghost use Rattle.kpn_history.specs.Talks.{is_of, is_of_process};
 ghost use Rattle.kpn_history.specs.Channels.{is_closed};
 ghost use Rattle.kpn_history.specs.Stops.{OwesNothing};
 ghost use Rattle.kpn_history.specs.OneEnd.{IsRunFrom, HasMadeNoMore};
-ghost use Rattle.kpn_history.specs.Progress.{HasMade, IsServed, HasHadTurn};
+ghost use Rattle.kpn_history.specs.Progress.{HasMade, IsCaughtUp, HasHadTurn};
 
 /// What a history needs to make one more event of another one. For an event of a process: the process has its turn, in
 /// which it makes an event or has stopped. For any other event: nothing, if no growth is owed and the outside has
@@ -21,7 +21,7 @@ pub fn one_more_is_made()
         → HasMade t (B ++ e ∷ []) now }
     ensures others { (t : Tables) → IsNetwork t → (given : Family) (B : List Event) (e : Event)
         → IsRunFrom t given (B ++ e ∷ []) → (G : List Event) → IsRunFrom t given G
-        → IsServed t G → OwesNothing t G → HasMade t B G → is_of_process e ≡ false
+        → IsCaughtUp t G → OwesNothing t G → HasMade t B G → is_of_process e ≡ false
         → HasMade t (B ++ e ∷ []) G }
 {}
 
