@@ -29,7 +29,7 @@ use Rattle.kpn_book.specs.Schedule.{state_at}
 use Rattle.kpn_book.specs.Book.{Book, standing_at}
 use Rattle.kpn_book.specs.declared.outcome.Limits.{Limits}
 use Rattle.kpn_book.specs.RunHere.{IsBeforeTurn, Turns}
-use Rattle.kpn_book.specs.Progress.{ComesAfter, tried_at, PausesFrom, PausesAfter, HasJustHalted, TakesRounds, no_event, of_process, after_wait, of_nobody}
+use Rattle.kpn_book.specs.Progress.{ComesAfter, tried_at, PausesFrom, PausesAfter, HasJustHalted, PausesAtMost, TakesRounds, no_event, of_process, of_nobody}
 use Rattle.kpn_book.proofs.Tallies.{not_counted}
 use Rattle.kpn_book.proofs.Standing.{states_now}
 use Rattle.kpn_book.proofs.Stepped.{step_history}
@@ -322,6 +322,11 @@ module _ (limits : Limits) (first : Book) (begins : AreOnWay first) (network : I
               (omega (arith, enough))
         ]
 
+    next_event : (pauses : ℕ) → PausesAtMost t (max limits.quota 1) B p pauses
+        → (pauses + 1) * length t.instances ≤ j → HasMade t (B ++ e ∷ []) b.history
+    next_event pauses (inl at_most) enough = after_pauses pauses at_most enough
+    next_event pauses (inr halted) enough = after_halt halted (omega (arith, enough))
+
   pub made_in_time : {H : List Event} {rounds : ℕ} → TakesRounds t (max limits.quota 1) H rounds
       → IsRunFrom t given H → {n : ℕ} {b : Book} → Turns limits first n b → IsBeforeTurn b
       → IsRunFrom t given b.history → rounds * length t.instances ≤ n → HasMade t H b.history
@@ -348,15 +353,5 @@ module _ (limits : Limits) (first : Book) (begins : AreOnWay first) (network : I
       let run_mid = run_begun t network given s.mid.history b.history (turns_prefix limits s.mid s.from_mid) run_b in
       let so_far = made_in_time takes (run_before t network given B e run) s.to_mid ready_mid run_mid
       (omega (arith, is_before, enough)) in
-      after_pauses B e run p own s.mid s.to_mid ready_mid so_far s.from_mid run_b pauses at_most
+      next_event B e run p own s.mid s.to_mid ready_mid so_far s.from_mid run_b pauses at_most
       (omega (arith, is_after))
-  made_in_time (after_wait {rounds} B e p takes own halted) run {n} {b} turns ready run_b enough =
-      let few : length t.instances ≤ n = omega (arith, enough) in
-      let s = split limits first (n - length t.instances) (length t.instances) turns (omega (arith, few)) in
-      let is_before = s.is_before in
-      let is_after = s.is_after in
-      let ready_mid = begins_ready limits s.mid s.from_mid ready in
-      let run_mid = run_begun t network given s.mid.history b.history (turns_prefix limits s.mid s.from_mid) run_b in
-      let so_far = made_in_time takes (run_before t network given B e run) s.to_mid ready_mid run_mid
-      (omega (arith, is_before, enough)) in
-      after_halt B e run p own s.mid s.to_mid ready_mid so_far s.from_mid run_b halted (omega (arith, is_after))

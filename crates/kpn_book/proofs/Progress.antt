@@ -2,8 +2,8 @@
 -- is in the queue, if it has not come: within a round the process has its turn. Then it makes its next event, or it
 -- pauses on the way to it.
 use Rattle.std.specs.List.{flat_map}
-use Rattle.std.proofs.Common.{◌≡◌, ◌≢◌, ℕ, zero, suc, ◌+◌, ◌-◌, ◌<◌, ◌≤◌, Bool, true, false, cond, eqb, eq-eqb, ℤ, List, [], ◌∷◌, ◌++◌, length, map, Some, refl, sym, ap, ◌∙◌, subst, inl, inr, arith, append_assoc, append-nil}
-use Rattle.std.proofs.lemmas.Bool.{cases_Bool, cases_eq, eqb-true, ne_eqb, false≢true}
+use Rattle.std.proofs.Common.{◌≡◌, ◌≢◌, ℕ, zero, suc, ◌+◌, ◌<◌, ◌≤◌, Bool, true, false, cond, eqb, eq-eqb, ℤ, List, [], ◌∷◌, ◌++◌, length, map, Some, refl, sym, ap, ◌∙◌, subst, inl, inr, arith, append_assoc, append-nil}
+use Rattle.std.proofs.lemmas.Bool.{cases_Bool, cases_eq, both_ways, eqb-true, ne_eqb, false≢true}
 use Rattle.kpn_lang.specs.declared.talk.Said.{Said}
 use Rattle.kpn_lang.specs.declared.talk.Said.TheVariants as said
 use Rattle.kpn_lang.specs.Syntax.{Statement}
@@ -16,7 +16,7 @@ use Rattle.kpn_step.specs.Step.{Step, Stops, Faults, Goes, Steps, step_on, step_
 use Rattle.kpn_step.specs.Stops.{IsBetween}
 use Rattle.kpn_history.specs.declared.event.Event.{Event}
 use Rattle.kpn_history.specs.declared.event.Event.TheVariants as event
-use Rattle.kpn_history.specs.Talks.{is_of, said_in, talk_of, last_event}
+use Rattle.kpn_history.specs.Talks.{is_of, is_of_process, said_in, talk_of, last_event}
 use Rattle.kpn_history.specs.Progress.{IsHalt}
 use Rattle.kpn_history.specs.Channels.{unread_on}
 use Rattle.kpn_history.proofs.Events.{Some-event, talk_of-push, last_event-own, last_event-other}
@@ -201,61 +201,69 @@ on_way_appended e before after stops is so_far p there =
     (on_way_then before.tables p before.history (frame_in before.machine p) (frame_in after.machine p)
     (so_far p below) e (stops p) (is.machine.frames p below)))
 
--- no event is a wait or an end
-abbrev pub HaltNobody : List Event → Type 0
-HaltNobody [] = Unit {0}
-HaltNobody (e ∷ es) = (IsHalt e → ⊥) × HaltNobody es
+-- no event is of a process
+abbrev pub AreOfNobody : List Event → Type 0
+AreOfNobody [] = Unit {0}
+AreOfNobody (e ∷ es) = (is_of_process e ≡ false) × AreOfNobody es
 
-pub all_on_way : (es : List Event) → HaltNobody es → (before after : Book) → AppendsAll es before after
+of_a_process : (e : Event) → IsHalt e → is_of_process e ≡ true
+of_a_process (event.WaitEmpty p c) halt = refl
+of_a_process (event.WaitFull p c) halt = refl
+of_a_process (event.Ended p how) halt = refl
+of_a_process e halt = absurd halt
+
+pub all_on_way : (es : List Event) → AreOfNobody es → (before after : Book) → AppendsAll es before after
     → AreOnWay before → AreOnWay after
 all_on_way [] none before after is so_far = subst AreOnWay (sym is) so_far
 all_on_way (e ∷ es) none before after is so_far =
     all_on_way es none.1 is.0 after is.2
-    (on_way_appended e before is.0 (λ p own halt. absurd (none.0 halt)) is.1 so_far)
+    (on_way_appended e before is.0
+    (λ p own halt. absurd (both_ways (is_of_process e) none.0 (of_a_process e halt))) is.1 so_far)
 
-pub growth_halts_nobody : (t : Tables) (H growth : List Event) → IsGrowthOwed t H growth → HaltNobody growth
-growth_halts_nobody t H [] owed = tt
-growth_halts_nobody t H (event.Grow q d n ∷ []) owed = (λ halt. halt, tt)
-growth_halts_nobody t H growth owed = absurd owed
+pub growth_of_nobody : (t : Tables) (H growth : List Event) → IsGrowthOwed t H growth → AreOfNobody growth
+growth_of_nobody t H [] owed = tt
+growth_of_nobody t H (event.Grow q d n ∷ []) owed = (refl, tt)
+growth_of_nobody t H growth owed = absurd owed
 
-pub happening_on_way : (es : List Event) → HaltNobody es → (before after : Book) → AllHappen es before after
+pub happening_on_way : (es : List Event) → AreOfNobody es → (before after : Book) → AllHappen es before after
     → AreOnWay before → AreOnWay after
 happening_on_way [] none before after is so_far = subst AreOnWay (sym is) so_far
 happening_on_way (e ∷ es) none before after is so_far =
     happening_on_way es none.1 is.0 after is.2
     (all_on_way (e ∷ is.1.growth)
-    (none.0, growth_halts_nobody before.tables (before.history ++ e ∷ []) is.1.growth is.1.owed) before is.0
+    (none.0, growth_of_nobody before.tables (before.history ++ e ∷ []) is.1.growth is.1.owed) before is.0
     is.1.appends so_far)
 
-halt_append : (es fs : List Event) → HaltNobody es → HaltNobody fs → HaltNobody (es ++ fs)
-halt_append [] fs one other = other
-halt_append (e ∷ es) fs one other = (one.0, halt_append es fs one.1 other)
+-- what the outside does
 
-halt_map : (f : ℤ → Event) → ((v : ℤ) → IsHalt (f v) → ⊥) → (items : List ℤ) → HaltNobody (map f items)
-halt_map f none [] = tt
-halt_map f none (v ∷ items) = (none v, halt_map f none items)
+nobody_append : (es fs : List Event) → AreOfNobody es → AreOfNobody fs → AreOfNobody (es ++ fs)
+nobody_append [] fs one other = other
+nobody_append (e ∷ es) fs one other = (one.0, nobody_append es fs one.1 other)
 
-halt_flat : (f : ℕ → List Event) → ((c : ℕ) → HaltNobody (f c)) → (cs : List ℕ) → HaltNobody (flat_map f cs)
-halt_flat f none [] = tt
-halt_flat f none (c ∷ cs) = halt_append (f c) (flat_map f cs) (none c) (halt_flat f none cs)
+nobody_map : (f : ℤ → Event) → ((v : ℤ) → is_of_process (f v) ≡ false) → (items : List ℤ) → AreOfNobody (map f items)
+nobody_map f none [] = tt
+nobody_map f none (v ∷ items) = (none v, nobody_map f none items)
 
-pub takes_halt_nobody : (t : Tables) (H : List Event) → HaltNobody (takes_from_sinks t H)
-takes_halt_nobody t H =
-    halt_flat (takes_of t H) (λ c. by_sink c (is_sink (channel_at t c))) (channel_numbers t)
+nobody_flat : (f : ℕ → List Event) → ((c : ℕ) → AreOfNobody (f c)) → (cs : List ℕ) → AreOfNobody (flat_map f cs)
+nobody_flat f none [] = tt
+nobody_flat f none (c ∷ cs) = nobody_append (f c) (flat_map f cs) (none c) (nobody_flat f none cs)
+
+pub takes_of_nobody : (t : Tables) (H : List Event) → AreOfNobody (takes_from_sinks t H)
+takes_of_nobody t H =
+    nobody_flat (takes_of t H) (λ c. by_sink c (is_sink (channel_at t c))) (channel_numbers t)
   where
-    by_sink : (c : ℕ) (b : Bool) → HaltNobody (cond b (map (event.Take c) (unread_on H c)) [])
-    by_sink c true = halt_map (event.Take c) (λ v halt. halt) (unread_on H c)
+    by_sink : (c : ℕ) (b : Bool) → AreOfNobody (cond b (map (event.Take c) (unread_on H c)) [])
+    by_sink c true = nobody_map (event.Take c) (λ v. refl) (unread_on H c)
     by_sink c false = tt
 
-pub supplies_halt_nobody : (t : Tables) (given : Family) → HaltNobody (supplies t given)
-supplies_halt_nobody t given =
-    halt_flat (supply_of t given) (λ c. by_source c (is_source (channel_at t c))) (channel_numbers t)
+pub supplies_of_nobody : (t : Tables) (given : Family) → AreOfNobody (supplies t given)
+supplies_of_nobody t given =
+    nobody_flat (supply_of t given) (λ c. by_source c (is_source (channel_at t c))) (channel_numbers t)
   where
-    by_source : (c : ℕ) (b : Bool)
-        → HaltNobody (cond b (map (event.Feed c) (given c) ++ event.Close c ∷ []) [])
+    by_source : (c : ℕ) (b : Bool) → AreOfNobody (cond b (map (event.Feed c) (given c) ++ event.Close c ∷ []) [])
     by_source c true =
-        halt_append (map (event.Feed c) (given c)) (event.Close c ∷ [])
-        (halt_map (event.Feed c) (λ v halt. halt) (given c)) (λ halt. halt, tt)
+        nobody_append (map (event.Feed c) (given c)) (event.Close c ∷ [])
+        (nobody_map (event.Feed c) (λ v. refl) (given c)) (refl, tt)
     by_source c false = tt
 
 -- ---- what was appended to the queue

@@ -28,7 +28,7 @@ use Rattle.kpn_book.specs.Progress.{TakesRounds}
 use Rattle.kpn_book.proofs.Completing.{fed_from}
 use Rattle.kpn_book.proofs.FinalReports.{final_run, enough_too, lacking, Kind, is_verdict, is_enough, is_stopped, kind_of}
 use Rattle.kpn_book.proofs.Told.{turns_to_limit}
-use Rattle.kpn_book.proofs.Progress.{IsOnWay, AreOnWay, happening_on_way, supplies_halt_nobody}
+use Rattle.kpn_book.proofs.Progress.{IsOnWay, AreOnWay, happening_on_way, supplies_of_nobody}
 use Rattle.kpn_book.proofs.RoundOfQueue.{all_tables, turn_prefix, turns_tables}
 use Rattle.kpn_book.proofs.MadeInTime.{made_in_time}
 
@@ -86,7 +86,7 @@ module _ (t : Tables) (network : IsNetwork t) (lists : List (List ℤ)) (limits 
 
   fed_on_way : AreOnWay here.runs.fed
   fed_on_way =
-      happening_on_way (supplies t given) (supplies_halt_nobody t given) here.runs.first here.runs.fed here.runs.supplied
+      happening_on_way (supplies t given) (supplies_of_nobody t given) here.runs.first here.runs.fed here.runs.supplied
       (new_on_way t here.runs.first here.runs.begins)
 
   module _ (stopped : report.outcome ≡ Stopped) where

@@ -1,14 +1,12 @@
 -- One round of the queue: a process at some place of the queue has its turn once those before it have had theirs.
 -- Until then it stays where it is in its program.
 use Rattle.std.specs.Prelude.{Contains}
-use Rattle.std.specs.List.{flat_map}
-use Rattle.std.proofs.Common.{◌≡◌, ◌≢◌, nat_eq, ℕ, zero, suc, ◌+◌, ◌<◌, ◌⊎◌, max, Bool, true, false, cond, eq-eqb, ℤ, List, [], ◌∷◌, ◌++◌, length, map, None, refl, sym, ap, ◌∙◌, subst, inl, inr, arith, append_assoc}
-use Rattle.std.proofs.lemmas.Bool.{cases_eq}
+use Rattle.std.proofs.Common.{◌≡◌, ◌≢◌, nat_eq, ℕ, zero, suc, ◌+◌, ◌<◌, ◌⊎◌, max, true, eq-eqb, List, [], ◌∷◌, ◌++◌, length, None, refl, sym, ap, ◌∙◌, subst, inl, inr, arith, append_assoc}
+use Rattle.std.proofs.lemmas.Bool.{cases_eq, both_ways, false_from_ne_true}
 use Rattle.std.proofs.lemmas.List.{get_or-set_same, get_or-set_other}
 use Rattle.kpn_lang.specs.Prefix.{IsPrefix}
 use Rattle.kpn_lang.proofs.Prefixes.{IsPrefix-refl, IsPrefix-trans, IsPrefix-append}
-use Rattle.kpn_net.specs.Tables.{Tables, channel_at, is_sink, program_of}
-use Rattle.kpn_net.specs.Faults.{channel_numbers}
+use Rattle.kpn_net.specs.Tables.{program_of}
 use Rattle.kpn_net.proofs.Cycles.{Contains-none, Contains-cases}
 use Rattle.kpn_step.specs.declared.stop.Stop.{Stop}
 use Rattle.kpn_step.specs.declared.stop.Stop.TheVariants as stop
@@ -22,24 +20,24 @@ use Rattle.kpn_history.specs.declared.event.Event.TheVariants as event
 use Rattle.kpn_history.specs.declared.event.How.{How}
 use Rattle.kpn_history.specs.declared.event.How.TheVariants as how
 use Rattle.kpn_history.specs.Legal.{growth_after}
-use Rattle.kpn_history.specs.Talks.{is_of}
+use Rattle.kpn_history.specs.Talks.{is_of, is_of_process}
+use Rattle.kpn_history.proofs.AfterEvent.{of_process}
 use Rattle.kpn_history.proofs.Progress.{one_process}
 use Rattle.kpn_machine.specs.Due.{stop_of}
-use Rattle.kpn_history.specs.Channels.{unread_on}
 use Rattle.kpn_machine.specs.Machine.{frame_in, no_frame}
 use Rattle.kpn_book.specs.declared.answers.Done.{Done}
 use Rattle.kpn_book.specs.declared.answers.Done.TheVariants as done
 use Rattle.kpn_book.specs.Book.{Book, standing_at, with_one_commit}
-use Rattle.kpn_book.specs.Appending.{AppendsAll, IsGrowthOwed, AllHappen}
+use Rattle.kpn_book.specs.Appending.{AppendsAll, AllHappen}
 use Rattle.kpn_book.specs.Commits.{IsAnswer, ready_if_paused, HasToWait}
 use Rattle.kpn_book.specs.declared.outcome.Limits.{Limits}
 use Rattle.kpn_book.specs.Outcomes.{IsOutcome}
-use Rattle.kpn_book.specs.RunHere.{takes_of, takes_from_sinks, IsTurn, IsBeforeTurn, Turns, no_turn, one_turn_more}
+use Rattle.kpn_book.specs.RunHere.{takes_from_sinks, IsTurn, IsBeforeTurn, Turns, no_turn, one_turn_more}
 use Rattle.kpn_book.proofs.Appended.{base_tables, base_history}
 use Rattle.kpn_book.proofs.Happening.{happens_tables, happens_prefix}
 use Rattle.kpn_book.proofs.Stepped.{step_tables, step_history}
 use Rattle.kpn_book.proofs.Settling.{AreOfOthers, frames_stay, commit_elsewhere}
-use Rattle.kpn_book.proofs.Progress.{IsOnWay, AreOnWay, on_way_appended, HaltNobody, all_on_way, growth_halts_nobody, happening_on_way, takes_halt_nobody, GrowsBy, grows-refl, grows-trans, appended_grows, happening_grows}
+use Rattle.kpn_book.proofs.Progress.{IsOnWay, AreOnWay, on_way_appended, AreOfNobody, all_on_way, growth_of_nobody, happening_on_way, takes_of_nobody, GrowsBy, grows-refl, grows-trans, appended_grows, happening_grows}
 
 -- ---- turns in a row
 
@@ -105,39 +103,24 @@ all_prefix (e ∷ es) before after is =
     IsPrefix-trans before.history is.0.history after.history (happens_prefix e before is.0 is.1)
     (all_prefix es is.0 after is.2)
 
--- events of the outside and growths leave each frame as it is
+-- events of no process leave each frame as it is
 module _ (p : ℕ) where
-  growth_of_others : (t : Tables) (H growth : List Event) → IsGrowthOwed t H growth → AreOfOthers p growth
-  growth_of_others t H [] owed = tt
-  growth_of_others t H (event.Grow q d n ∷ []) owed = (refl, tt)
-  growth_of_others t H growth owed = absurd owed
+  of_others : (es : List Event) → AreOfNobody es → AreOfOthers p es
+  of_others [] none = tt
+  of_others (e ∷ es) none = (
+    false_from_ne_true (is_of p e) (λ its. both_ways (is_of_process e) none.0 ((of_process e).1 (p, its))),
+    of_others es none.1,
+  )
 
-  others_append : (es fs : List Event) → AreOfOthers p es → AreOfOthers p fs → AreOfOthers p (es ++ fs)
-  others_append [] fs one other = other
-  others_append (e ∷ es) fs one other = (one.0, others_append es fs one.1 other)
-
-  takes_of_one : (c : ℕ) (items : List ℤ) → AreOfOthers p (map (event.Take c) items)
-  takes_of_one c [] = tt
-  takes_of_one c (v ∷ items) = (refl, takes_of_one c items)
-
-  takes_of_all : (t : Tables) (H : List Event) (cs : List ℕ) → AreOfOthers p (flat_map (takes_of t H) cs)
-  takes_of_all t H [] = tt
-  takes_of_all t H (c ∷ cs) =
-      others_append (takes_of t H c) (flat_map (takes_of t H) cs) (by_sink (is_sink (channel_at t c)))
-      (takes_of_all t H cs)
-    where
-      by_sink : (b : Bool) → AreOfOthers p (cond b (map (event.Take c) (unread_on H c)) [])
-      by_sink true = takes_of_one c (unread_on H c)
-      by_sink false = tt
-
-  happening_frames : (es : List Event) → AreOfOthers p es → (before after : Book) → AllHappen es before after
+  happening_frames : (es : List Event) → AreOfNobody es → (before after : Book) → AllHappen es before after
       → p < length before.tables.instances → frame_in after.machine p ≡ frame_in before.machine p
-  happening_frames [] others before after is there = ap (λ b. frame_in b.machine p) is
-  happening_frames (e ∷ es) others before after is there =
-      happening_frames es others.1 is.0 after is.2
+  happening_frames [] none before after is there = ap (λ b. frame_in b.machine p) is
+  happening_frames (e ∷ es) none before after is there =
+      happening_frames es none.1 is.0 after is.2
       (subst (λ t. p < length t.instances) (sym (happens_tables e before is.0 is.1)) there)
       ∙ frames_stay p (e ∷ is.1.growth) before is.0 is.1.appends
-      (others.0, growth_of_others before.tables (before.history ++ e ∷ []) is.1.growth is.1.owed) there
+      (of_others (e ∷ is.1.growth)
+      (none.0, growth_of_nobody before.tables (before.history ++ e ∷ []) is.1.growth is.1.owed)) there
 
 -- the events of an answer that is no pause begin with one of the process, and the others are growths
 pub record BeginsWithOwn (p : ℕ) (s : Stop) (events : List Event) : Type 0 where
@@ -145,7 +128,7 @@ pub record BeginsWithOwn (p : ℕ) (s : Stop) (events : List Event) : Type 0 whe
   pub own : is_of p event ≡ true
   pub rest : List Event
   pub is : events ≡ event ∷ rest
-  pub others : HaltNobody rest
+  pub others : AreOfNobody rest
   pub stops : s ≢ stop.Paused
 
 wait_own : (b : Book) (p : ℕ) (s : Stop) (wait : Event) → HasToWait b p s wait → is_of p wait ≡ true
@@ -202,7 +185,7 @@ own_or_pause b p s (done.Grew d) events grew =
       own = wait_own b p s grew.wait grew.waits;
       rest = growth_after b.tables (b.history ++ grew.wait ∷ []) grew.grower d ∷ [];
       is = grew.appends;
-      others = (λ halt. halt, tt);
+      others = (refl, tt);
       stops = wait_stops b p s grew.wait grew.waits;
     })
 own_or_pause b p s done.Ended events ended =
@@ -213,7 +196,7 @@ own_or_pause b p s done.Ended events ended =
       rest = ended.growth;
       is = ended.appends;
       others =
-          growth_halts_nobody b.tables (b.history ++ event.Ended p ended.how ∷ []) ended.growth ended.owed;
+          growth_of_nobody b.tables (b.history ++ event.Ended p ended.how ∷ []) ended.growth ended.owed;
       stops = λ pauses. end_stops ended.how (sym ended.asks ∙ pauses);
     })
 own_or_pause b p s done.Paused events paused = inr (paused.asks, paused.appends)
@@ -377,7 +360,7 @@ module _ (quota : ℕ) (before after : Book) (ready : IsBeforeTurn before) (turn
   turn_on_way so_far =
       let handles = turn.steps.commits.handles in
       happening_on_way (takes_from_sinks turn.stepped.tables turn.stepped.history)
-      (takes_halt_nobody turn.stepped.tables turn.stepped.history) turn.stepped after turn.takes
+      (takes_of_nobody turn.stepped.tables turn.stepped.history) turn.stepped after turn.takes
       (events_on_way handles.events handles.appends
       (own_or_pause (standing_at q turn.steps.advance.to turn.steps.between) q turn.steps.advance.stop turn.answer
       handles.events handles.answers)
@@ -396,8 +379,7 @@ module _ (quota : ℕ) (before after : Book) (ready : IsBeforeTurn before) (turn
       → frame_in after.machine p ≡ frame_in turn.stepped.machine p
   taken_frames p there =
       happening_frames p (takes_from_sinks turn.stepped.tables turn.stepped.history)
-      (takes_of_all p turn.stepped.tables turn.stepped.history (channel_numbers turn.stepped.tables)) turn.stepped
-      after turn.takes
+      (takes_of_nobody turn.stepped.tables turn.stepped.history) turn.stepped after turn.takes
       (subst (λ t. p < length t.instances)
       (sym (step_tables (max quota 1) turn.answer before turn.stepped turn.steps)) there)
 

@@ -1,6 +1,6 @@
 -- How many commits the run on one thread needs to make what another history has made: for each event of a process one
 -- round of the queue, and one more for each pause before it.
-use Rattle.std.specs.Prelude.{◌≡◌, ◌≢◌, ℕ, ◌+◌, ◌*◌, ◌≤◌, true, false, List, [], ◌∷◌, ◌++◌, Some}
+use Rattle.std.specs.Prelude.{◌≡◌, ◌≢◌, ℕ, ◌+◌, ◌*◌, ◌≤◌, ◌⊎◌, true, false, List, [], ◌∷◌, ◌++◌, Some}
 use Rattle.kpn_lang.specs.declared.talk.Said.{Said}
 use Rattle.kpn_lang.specs.declared.talk.Said.TheVariants.{Got, Put}
 use Rattle.kpn_net.specs.Tables.{Tables, instance_at, program_of}
@@ -53,14 +53,14 @@ pub record HasJustHalted (H : List Event) (p : ℕ) : Type 0 where
   pub last : last_event H p ≡ Some event
   pub halts : IsHalt event
 
--- a history takes so many rounds of the queue. An event of a process takes one, and one more for each pause since its
--- last get or put; after a wait there is none. The other events take none
+-- before its next event process p pauses at most so often: not at all after a wait
+abbrev pub PausesAtMost : Tables → (quota : ℕ) → List Event → (p pauses : ℕ) → Type 0
+PausesAtMost t quota H p pauses = PausesAfter t quota p (talk_of H p) pauses ⊎ HasJustHalted H p
+
+-- a history takes so many rounds of the queue: one for each event of a process, and one for each pause before it
 pub data TakesRounds (t : Tables) (quota : ℕ) : List Event → ℕ → Type 0 where
   no_event : TakesRounds t quota [] 0
   of_process : {rounds : ℕ} (B : List Event) (e : Event) (p pauses : ℕ) → TakesRounds t quota B rounds
-      → is_of p e ≡ true → PausesAfter t quota p (talk_of B p) pauses
-      → TakesRounds t quota (B ++ e ∷ []) (rounds + (pauses + 1))
-  after_wait : {rounds : ℕ} (B : List Event) (e : Event) (p : ℕ) → TakesRounds t quota B rounds
-      → is_of p e ≡ true → HasJustHalted B p → TakesRounds t quota (B ++ e ∷ []) (rounds + 1)
+      → is_of p e ≡ true → PausesAtMost t quota B p pauses → TakesRounds t quota (B ++ e ∷ []) (rounds + (pauses + 1))
   of_nobody : {rounds : ℕ} (B : List Event) (e : Event) → TakesRounds t quota B rounds → is_of_process e ≡ false
       → TakesRounds t quota (B ++ e ∷ []) rounds
