@@ -69,6 +69,20 @@ network {
 TWO = COPIES.replace('  sink y cap 1;', '  sink y cap 1;\n  source v;\n  sink z cap 1;').replace(
     '  a = ', '  d = copy(v; z);\n  a = ')
 
+# Numbers that are no decimal digits, and braces and a mark of comments in quotes.
+NUMBERS = '''language 2;
+table t = '{', 0x10;
+process p(in i; out o) { while 1 { read i x; if x == '#' { write o '}'; } write o t[x & 1]; } }
+network {
+  limit 0x20;
+  source s;
+  channel c cap 0x10;
+  sink z cap 1_0;
+  a = p(s; c);
+  b = p(c; z);
+}
+'''
+
 
 def declared(kind, text):
     return re.findall(rf'^\s*{kind} (\w+)', text, re.M)
@@ -136,7 +150,8 @@ class Tests:
         return words, ['--cut', 'chosen'] if cut else []
 
     def raised(self, text, ranks, room, cut_words):
-        """The text at the capacities that the plan tells."""
+        """The text at the capacities that the plan tells: the canonical one if it is right, with all capacities."""
+        text = self.call(self.kpn, 'print', 'net.kpn')[1] or text
         planned = self.call(self.simulator, 'plan', 'net.kpn', '--ranks', ranks, '--room', room, *cut_words)[1]
         for name, capacity in re.findall(r'^cut (\w+) cap (\d+)', planned, re.M):
             text = re.sub(rf'(channel\s+{name}\s+cap\s+)\d+', rf'\g<1>{capacity}', text)
@@ -227,6 +242,8 @@ class Tests:
         return text, items, cut, room, take
 
     def over_simulator(self, networks, seed):
+        self.compare(NUMBERS, {'s': [1, 35, 0]}, 2, {'a': 0, 'b': 1}, 1, lambda *words: self.simulated(2, 0, *words),
+                     certified=True)
         for number in range(networks):
             chance = random.Random(f'{seed} {number}')
             ranks = chance.randrange(1, 6)
@@ -280,6 +297,9 @@ class Tests:
             same(f'{words}', (2, ''), self.over_ranks(2, 'net.kpn', *words)[:2])
         for words in ([], ['--ranks', '2', '--seed', '1'], ['--ranks', '2', '--take', '1']):
             same(f'plan {words}', (2, ''), self.call(self.mpi, 'plan', 'net.kpn', *words)[:2])
+        (self.room / 'numbers').write_text(NUMBERS)
+        status, out, error = self.call('env', 'KPN_PROGRAM=/nothing', self.mpi, 'plan', 'numbers', '--ranks', '2')
+        same('no program kpn', (1, '', True), (status, out, 'is read by `kpn print`, which has failed' in error))
         with open('/dev/full', 'w') as full:
             done = subprocess.run([self.mpi, 'plan', 'net.kpn', '--ranks', '2'], cwd=self.room, stdout=full,
                                   stderr=subprocess.PIPE, env=ENVIRONMENT)
