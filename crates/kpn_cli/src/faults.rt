@@ -3,7 +3,8 @@
 ghost use Rattle.std.specs.Prelude.{◌<◌, length};
 
 use crate::pieces::{file_in, has_name, is_of, push, push_name};
-use crate::stopped::is_short;
+use crate::stopped::are_short;
+use crate::words::Evidence;
 use kpn_book::{Limits, run_here};
 use kpn_command_base::{EndKind, QUOTA, load_inputs};
 use kpn_command_explain::{GottenItems, fault_text};
@@ -27,11 +28,9 @@ pub(crate) struct FedFiles<'r, 'a> {
 /// Where it was is told if there are these inputs.
 pub(crate) fn push_faults<R: Files, S: Shelf>(
     text: &mut Vec<u8>,
-    alloc: Global,
     report: &str,
     inputs: Option<FedFiles<'_, '_>>,
-    shelf: &S,
-    rt: &R,
+    evidence: &Evidence<'_, R, S>,
 ) -> Result<(), AllocError> {
     let mut has_fault = false;
     for (cause, said) in &FAULTS {
@@ -43,7 +42,7 @@ pub(crate) fn push_faults<R: Files, S: Shelf>(
         return Ok(());
     }
     if let Some(inputs) = inputs {
-        push_places(text, alloc, report, inputs, shelf, rt)?;
+        push_places(text, report, inputs, evidence)?;
     }
     push(text, FAULTED)
 }
@@ -70,19 +69,17 @@ pub(crate) fn lines_of_stream<'r, 'a>(
 // Adds the place of each fault that a report tells.
 fn push_places<R: Files, S: Shelf>(
     text: &mut Vec<u8>,
-    alloc: Global,
     report: &str,
     inputs: FedFiles<'_, '_>,
-    shelf: &S,
-    rt: &R,
+    evidence: &Evidence<'_, R, S>,
 ) -> Result<(), AllocError> {
-    let FedFiles { file, sources } = inputs;
-    if !sources.iter().all(|source| is_short(rt, file_in(source))) {
+    let (alloc, FedFiles { file, sources }) = (evidence.alloc, inputs);
+    if !are_short(evidence.rt, sources) {
         return Ok(());
     }
     let (Ok(loaded), Ok(bytes)) = (
-        load_inputs(alloc, shelf, file, sources),
-        shelf.load(alloc, file),
+        load_inputs(alloc, evidence.shelf, file, sources),
+        evidence.shelf.load(alloc, file),
     ) else {
         return Ok(());
     };
