@@ -19,11 +19,6 @@ module _ (f : Frame) (base size : ℕ) (i e : Term) where
   pub no_index : (fault : Fault) → value i f.variables ≡ Err fault → step_on f (Some (Set base size i e)) ≡ Faults fault
   no_index fault h = ap (λ r. tested (r >>= index_in size) from_index) h
 
-  pub past_index : (v : ℤ) → value i f.variables ≡ Ok v → is_index size v ≡ false →
-      step_on f (Some (Set base size i e)) ≡ Faults Index
-  past_index v h none =
-      ap (λ r. tested (r >>= index_in size) from_index) h ∙ ap (λ r. tested r from_index) (index_past size v none)
-
   module _ (v : ℤ) (k : ℕ) (h : value i f.variables ≡ Ok v) (same : v ≡ pos k) (less : k < size) where
     at_index : step_on f (Some (Set base size i e)) ≡ from_index (pos k)
     at_index =
@@ -33,7 +28,3 @@ module _ (f : Frame) (base size : ℕ) (i e : Term) where
     pub no_value : (fault : Fault) → value e f.variables ≡ Err fault →
         step_on f (Some (Set base size i e)) ≡ Faults fault
     no_value fault g = at_index ∙ ap (λ r. tested r (from_value (pos k))) g
-
-    pub changed_there : (w : ℤ) → value e f.variables ≡ Ok w →
-        step_on f (Some (Set base size i e)) ≡ Goes (passed_with f (base + k) w)
-    changed_there w g = at_index ∙ ap (λ r. tested r (from_value (pos k))) g
