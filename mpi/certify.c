@@ -12,7 +12,7 @@
 
 /* The file of the description, and then of each rank those of its part and its trace. */
 enum { OF_RANK = 2, MOST_FILES = 1 + OF_RANK * MOST_RANKS, LONGEST_LINE = 128, PAUSE_IN_MILLISECONDS = 100 };
-enum { LONGEST_TRACE = 268435456 };
+enum { LONGEST_TRACE = 268435456, PIECE = 65536 };
 
 /* What the judge is asked. */
 struct question {
@@ -146,4 +146,28 @@ int kpn_certify(const struct kpn_rank *of, const struct kpn_text *description) {
   }
   drop(asked);
   return status;
+}
+
+bool kpn_make_canonical(struct kpn_text *description) {
+  const int file = kpn_store_nameless(description->at, description->length);
+  char name[KPN_NAMELESS];
+  char *words[] = {judging_program(), "print", kpn_name_nameless(file, name), NULL};
+  struct kpn_text printed = {0};
+  pid_t child;
+  FILE *from = file < 0 ? NULL : kpn_start_judge(words, &child);
+  for (size_t count = from != NULL; count;) {
+    count = fread(kpn_extend_text(&printed, PIECE), 1, PIECE, from);
+    printed.length -= PIECE - count;
+  }
+  const bool works = from && !kpn_finish_judge(from, child) && printed.length;
+  kpn_close_nameless(file);
+  if (works) {
+    struct kpn_text old = *description;
+    *description = printed;
+    printed = old;
+  } else {
+    fputs("kpn-mpi: language 2 is read by `kpn print`, which has failed: name `kpn` by KPN_PROGRAM\n", stderr);
+  }
+  kpn_free_text(&printed);
+  return works;
 }

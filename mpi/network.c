@@ -1,4 +1,5 @@
-/* Reads a description into tables. `kpn_check` has taken the text before, so nothing is wrong in it. */
+/* Reads a description into tables. `kpn_check` has taken the text before, so nothing is wrong in it. One of language 2 is
+   canonical, so its numbers are decimal, and it has none of the forms that stand for others. */
 #include "network.h"
 
 #include <ctype.h>
@@ -171,6 +172,12 @@ static void read_opening(struct reader *in, struct kpn_network *net) {
     next(in);
   } while (is(in, "table"));
   net->opening = (struct kpn_span){start, (size_t)(end - start)};
+}
+
+bool kpn_is_second(const char *text, size_t length) {
+  struct reader in = {.at = text, .end = text + length};
+  next(&in);
+  return is(&in, "language");
 }
 
 void kpn_read_network(struct kpn_network *net, const char *text, size_t length) {

@@ -46,7 +46,10 @@ struct kpn_network {
   bool grows_at_stops, doubles; /* `policy all`, `grow double` */
 };
 
-/* Reads a text that `kpn_check` takes. The network points into it. */
+/* Whether a text that `kpn_check` takes is of language 2. */
+bool kpn_is_second(const char *text, size_t length);
+
+/* Reads a text that `kpn_check` takes; of language 2 the canonical one. The network points into it. */
 void kpn_read_network(struct kpn_network *net, const char *text, size_t length);
 
 /* The number of the channel, or of the instance, with this name; -1 if there is none. */

@@ -65,6 +65,9 @@ int kpn_load_plan(struct kpn_plan *into, const struct kpn_options *given) {
   if (refused.number) {
     return kpn_tell_refusal(refused);
   }
+  if (kpn_is_second(into->description.at, into->description.length) && !kpn_make_canonical(&into->description)) {
+    return STATUS_REFUSED;
+  }
   kpn_read_network(&into->net, into->description.at, into->description.length);
   refused = look_up(&into->net, given->sources, given->source_count, SOURCE);
   if (!refused.number) {

@@ -136,7 +136,8 @@ class Tests:
         return words, ['--cut', 'chosen'] if cut else []
 
     def raised(self, text, ranks, room, cut_words):
-        """The text at the capacities that the plan tells."""
+        """The text at the capacities that the plan tells: the canonical one if it is right, with all capacities."""
+        text = self.call(self.kpn, 'print', 'net.kpn')[1] or text
         planned = self.call(self.simulator, 'plan', 'net.kpn', '--ranks', ranks, '--room', room, *cut_words)[1]
         for name, capacity in re.findall(r'^cut (\w+) cap (\d+)', planned, re.M):
             text = re.sub(rf'(channel\s+{name}\s+cap\s+)\d+', rf'\g<1>{capacity}', text)

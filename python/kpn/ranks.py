@@ -4,7 +4,7 @@ from __future__ import annotations
 import os
 import pathlib
 import shutil
-from typing import List, Optional, Tuple
+from typing import List, Tuple
 
 from .errors import KpnError, whole
 
@@ -29,11 +29,10 @@ def find_mpi_program() -> str:
                    f'it by {VARIABLE}')
 
 
-def runner_of(ranks: int, text: str, judge: Optional[str] = None) -> Tuple[str, List[str]]:
-    """What runs a text over so many ranks, with the path of `kpn` if it judges them: a program and its first words."""
+def runner_of(ranks: int, text: str, program: str) -> Tuple[str, List[str]]:
+    """What runs a text over so many ranks, with the path of `kpn`: a program and its first words."""
     count = whole('`ranks`', ranks, 1, MOST_RANKS)
     env = shutil.which('env')
     if not env or not shutil.which('mpirun'):
         raise KpnError('there is no program `mpirun`: install Open MPI or MPICH')
-    judged = [f'KPN_PROGRAM={judge}'] if judge else []
-    return env, [*judged, 'mpirun', '-n', str(count), find_mpi_program(), text]
+    return env, [f'KPN_PROGRAM={program}', 'mpirun', '-n', str(count), find_mpi_program(), text]

@@ -85,8 +85,7 @@ class Options:
 
     def call(self, words: List[str], folder: str) -> subprocess.CompletedProcess[str]:
         """Calls the program that runs the network with these words besides."""
-        judge = find_program(self.program) if self.certify else None
-        runner = runner_of(self.ranks, TEXT, judge) if self.ranks is not None else self.runner
+        runner = runner_of(self.ranks, TEXT, find_program(self.program)) if self.ranks is not None else self.runner
         called, first = runner or (self.program, ['run', TEXT])
         return call([*first, *self.words(), *words], called, folder, seconds(self.timeout), not runner)
 

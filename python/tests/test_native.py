@@ -313,6 +313,19 @@ class Words(WithFolder):
         wanted = self.call(PROGRAM, 'audit', 'net.kpn', 'trace')[1]
         self.assertTrue(wanted.startswith('legal\nexact yes\n'), wanted)
 
+    def test_quiet_and_strict(self):
+        """What is left out of a report, and what the status tells, is as by `kpn run`."""
+        for name, source in (('fault', ['--source', f'signal={TOP}/examples/signal']), ('deadlock', []), ('two', [])):
+            text = (TOP / f'examples/{name}.kpn').read_text()
+            self.build(text)
+            sink = re.search(r'sink (\w+)', text)
+            stored = ['--sink', f'{sink[1]}=stored'] if sink else []
+            for words in ([], ['--strict'], ['--quiet'], ['--quiet', *stored], ['--strict', *stored, '--quiet']):
+                wanted, found = (self.call(*first, *source, *words) for first in ((PROGRAM, 'run', 'net.kpn'),
+                                                                                  ('./prog', 'run')))
+                self.assertEqual(found[:2], wanted[:2], (name, words))
+        self.assertEqual(self.call('./prog', 'stream', '--strict')[0], 2)
+
     def test_full_device(self):
         with open('/dev/full', 'w') as full:
             done = subprocess.run(['./prog', 'run'], cwd=self.folder, stdout=full, stderr=subprocess.PIPE, text=True)

@@ -142,7 +142,7 @@ class Ranks(unittest.TestCase):
         self.assertEqual(kpn.running.Options(trace='traces', ranks=2).words()[-2:],
                          ['--traces', os.path.abspath('traces')])
         with mock.patch.dict(os.environ, {'PATH': ''}), self.assertRaisesRegex(kpn.KpnError, '`mpirun`'):
-            ranks.runner_of(2, 'net.kpn')
+            ranks.runner_of(2, 'net.kpn', PROGRAM)
 
     def test_a_wrong_variable_is_refused(self):
         for path in (str(self.folder), str(self.folder / 'nothing'), __file__):

@@ -4,7 +4,7 @@ from __future__ import annotations
 from typing import Dict, Iterator, List
 
 from ..language import LARGEST_CAPACITY, Description, Entry
-from .c_text import WAYS, Function, Kind
+from .c_text import WAYS, Function, Kind, turn_of
 from .lock_text import lock_of
 from .paths import rows_of
 from .region_text import RegionText
@@ -102,9 +102,9 @@ class NetworkText:
         values: List[str] = []
         rows = []
         for p, (name, entry) in enumerate(self.description.instances):
-            number = self.kinds[self.of_instance[p]]
+            turn = turn_of(self.kinds[self.of_instance[p]], entry.process)
             ports = f'ports_{p}' if entry.ins or entry.outs else 'NULL'
-            turns = ', '.join(f'{self.ways[it][0]}_turn_{number}' for it in (0, -1))
+            turns = ', '.join(f'{self.ways[it][0]}_{turn}' for it in (0, -1))
             rows.append(f'  {{"{name}", {turns}, {ports}, {len(entry.ins)}, {len(entry.outs)}, {self.starts[p]}}},')
             values += [f'[{self.starts[p] + place}] = {it}' for place, it in enumerate(entry.values) if it]
         if rows:

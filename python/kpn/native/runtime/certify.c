@@ -218,7 +218,7 @@ int kpn_compare_runs(struct kpn_run *run) {
     return kpn_refuse(KPN_NOT_CERTIFIED,
                       "not checked: its items cannot be stored in TMPDIR, or `kpn` cannot be started");
   }
-  kpn_report(run, compare, &comparison);
+  kpn_report(run, false, compare, &comparison);
   comparison.is_same = comparison.is_same && getc_unlocked(comparison.from) == EOF;
   kpn_finish_judge(comparison.from, child);
   if (!comparison.is_same) {

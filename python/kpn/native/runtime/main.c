@@ -10,7 +10,7 @@
 
 static const char HELP[] =
     "usage: PROGRAM run [--source NAME=FILE].. [--sink NAME=OUT].. [--take K] [--max-commits N] [--trace OUT]\n"
-    "                   [--certify] [--events N] [--check items]\n"
+    "                   [--quiet] [--strict] [--certify] [--events N] [--check items]\n"
     "       PROGRAM stream [--source NAME=IN].. [--sink NAME=OUT].. [--format F].. [--format NAME=F].. [--clip]\n"
     "                   [--rate N] [--channels N] [--take K] [--max-commits N] [--trace OUT] [--quiet] [--stats]\n"
     "                   [--check items] [--sound]\n"
@@ -45,7 +45,7 @@ static int run_words(struct kpn_run *run, const struct kpn_plan *plan, bool is_s
   if (!kpn_make_network(&run->network, plan)) {
     return kpn_refuse(KPN_LACKS_MEMORY, "42 NoMemory");
   }
-  if (!run->words.is_quiet) {
+  if (!is_stream || !run->words.is_quiet) {
     kpn_refuse(0, "compiled: nothing is proved of the program that runs here");
   }
   int status = is_stream ? kpn_command_stream(run) : kpn_commands(run);

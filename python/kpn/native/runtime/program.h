@@ -36,7 +36,7 @@ struct kpn_words {
   struct kpn_format_word *formats;
   size_t source_count, sink_count, format_count;
   const char *trace;
-  bool has_take, is_certified, is_checked, has_most_commits, is_quiet, clips, has_stats, is_sound;
+  bool has_take, is_certified, is_checked, has_most_commits, is_quiet, is_strict, clips, has_stats, is_sound;
   uint64_t take, most_commits, events, rate, channels;
 };
 
@@ -98,15 +98,15 @@ unsigned kpn_run_on(struct kpn_run *run, uint64_t most);
 /* Frees what lies between the sources and the sinks. */
 void kpn_end_run(struct kpn_run *run);
 
-/* Writes the report of a run. */
-bool kpn_report(const struct kpn_run *run, kpn_writer *writer, void *to);
+/* Writes the report of a run, or one without the lists of the sinks that have a file. */
+bool kpn_report(const struct kpn_run *run, bool is_quiet, kpn_writer *writer, void *to);
 
 /* Writes which processes have faulted or wait, as a stream has it also each ring of them, and the outcome if there is
    one. Under `enough` processes may be ahead of what was asked for, so it says nothing of them. */
 bool kpn_report_end(const struct kpn_run *run, bool has_rings, kpn_writer *writer, void *to);
 
-/* Whether this process has the least number in a ring: each waits for an item of the next, and the last one of it. */
-bool kpn_begins_ring(const struct kpn_network *network, unsigned p);
+/* The status for a process that has faulted, or else for a ring; 0 without one. */
+int kpn_strict_status(const struct kpn_network *network);
 
 /* Has `kpn audit` judge the history, or `kpn run` give the same report. 0, or the status with which the run fails. */
 int kpn_certify(struct kpn_run *run);

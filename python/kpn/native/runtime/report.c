@@ -36,10 +36,10 @@ static void add_item(struct text *text, int64_t item) {
   text->length = (size_t)(kpn_digits(text->buffer + text->length, item) - text->buffer);
 }
 
-static void add_sinks(struct text *text, const struct kpn_run *run) {
+static void add_sinks(struct text *text, const struct kpn_run *run, bool is_quiet) {
   const struct kpn_plan *plan = run->network.plan;
   for (size_t c = 0; c < plan->channel_count; c++) {
-    if (plan->channels[c].kind == KPN_SINK) {
+    if (plan->channels[c].kind == KPN_SINK && !(is_quiet && run->files[c].name)) {
       add(text, "sink ");
       add(text, plan->channels[c].name);
       add(text, ":");
@@ -51,10 +51,14 @@ static void add_sinks(struct text *text, const struct kpn_run *run) {
   }
 }
 
+static bool has_faulted(const struct kpn_process *process) {
+  return process->being == KPN_OVER && process->why != KPN_DONE;
+}
+
 static void add_faults(struct text *text, const struct kpn_network *network) {
   for (size_t p = 0; p < network->plan->process_count; p++) {
     const struct kpn_process *process = &network->processes[p];
-    if (process->being == KPN_OVER && process->why != KPN_DONE) {
+    if (has_faulted(process)) {
       add(text, "fault ");
       add(text, network->plan->processes[p].name);
       add(text, " ");
@@ -84,7 +88,8 @@ static unsigned awaited(const struct kpn_network *network, unsigned p) {
   return is_waiting && process->why == KPN_EMPTY ? network->channels[process->channel].writer : KPN_OUTSIDE;
 }
 
-bool kpn_begins_ring(const struct kpn_network *network, unsigned p) {
+/* Whether this process has the least number in a ring: each waits for an item of the next, and the last one of it. */
+static bool begins_ring(const struct kpn_network *network, unsigned p) {
   unsigned at = awaited(network, p);
   for (size_t k = 0; k < network->plan->process_count && at > p && at != KPN_OUTSIDE; k++) {
     at = awaited(network, at);
@@ -94,7 +99,7 @@ bool kpn_begins_ring(const struct kpn_network *network, unsigned p) {
 
 static void add_rings(struct text *text, const struct kpn_network *network) {
   for (unsigned p = 0; p < network->plan->process_count; p++) {
-    if (!kpn_begins_ring(network, p)) {
+    if (!begins_ring(network, p)) {
       continue;
     }
     unsigned at = p;
@@ -106,6 +111,17 @@ static void add_rings(struct text *text, const struct kpn_network *network) {
     } while (at != p);
     add(text, "\n");
   }
+}
+
+int kpn_strict_status(const struct kpn_network *network) {
+  int status = 0;
+  for (unsigned p = 0; p < network->plan->process_count; p++) {
+    if (has_faulted(&network->processes[p])) {
+      return KPN_FAULTED;
+    }
+    status = begins_ring(network, p) ? KPN_HAS_RING : status;
+  }
+  return status;
 }
 
 static void begin(struct text *text, kpn_writer *writer, void *to) {
@@ -123,11 +139,11 @@ static void add_outcome(struct text *text, unsigned outcome) {
   flush(text);
 }
 
-bool kpn_report(const struct kpn_run *run, kpn_writer *writer, void *to) {
+bool kpn_report(const struct kpn_run *run, bool is_quiet, kpn_writer *writer, void *to) {
   struct text text;
   begin(&text, writer, to);
   if (run->outcome == KPN_ENDED || run->outcome == KPN_ENOUGH) {
-    add_sinks(&text, run);
+    add_sinks(&text, run, is_quiet);
   }
   if (run->outcome != KPN_ENOUGH && run->outcome != KPN_STOPPED) {
     add_faults(&text, &run->network);

@@ -201,10 +201,11 @@ static int answer(struct kpn_run *run) {
   if (status) {
     return status;
   }
-  if (!store(run) || !kpn_report(run, write_out, &out)) {
+  if (!store(run) || !kpn_report(run, run->words.is_quiet, write_out, &out)) {
     return kpn_refuse(KPN_REFUSED, "27 Write");
   }
-  return run->outcome == KPN_ENDED || run->outcome == KPN_ENOUGH ? 0 : statuses[run->outcome];
+  status = run->words.is_strict ? kpn_strict_status(&run->network) : 0;
+  return status || run->outcome == KPN_ENDED || run->outcome == KPN_ENOUGH ? status : statuses[run->outcome];
 }
 
 /* The run itself, once its inputs are there and its outputs ready. */

@@ -290,24 +290,6 @@ static void go(struct stream *stream) {
 
 /* ---- the end */
 
-static bool has_fault(const struct kpn_network *network) {
-  for (size_t p = 0; p < network->plan->process_count; p++) {
-    if (network->processes[p].being == KPN_OVER && network->processes[p].why != KPN_DONE) {
-      return true;
-    }
-  }
-  return false;
-}
-
-static bool has_ring(const struct kpn_network *network) {
-  for (unsigned p = 0; p < network->plan->process_count; p++) {
-    if (kpn_begins_ring(network, p)) {
-      return true;
-    }
-  }
-  return false;
-}
-
 static bool write_told(void *to, const char *text, size_t length) {
   (void)to;
   return kpn_write_all(STDERR_FILENO, text, length);
@@ -351,11 +333,9 @@ static int conclude(struct stream *stream) {
   if (stream->most) {
     kpn_tell_stats(stream);
   }
-  if (run->outcome != KPN_ENOUGH && has_fault(&run->network)) {
-    return KPN_FAULTED;
-  }
-  if (run->outcome != KPN_ENOUGH && has_ring(&run->network)) {
-    return KPN_HAS_RING;
+  int status = run->outcome == KPN_ENOUGH ? 0 : kpn_strict_status(&run->network);
+  if (status) {
+    return status;
   }
   return (has_sink && are_all) || run->outcome < KPN_CLOGGED || run->outcome == KPN_ENOUGH ? 0 : statuses[run->outcome];
 }

@@ -116,16 +116,18 @@ static bool read_format(struct kpn_words *words, char *text) {
 
 /* What an option without a value sets, or null if it is none. */
 static bool *flag_of(struct kpn_words *words, bool is_stream, const char *option) {
-  if (!is_stream) {
-    return strcmp(option, "--certify") == 0 ? &words->is_certified : NULL;
+  const struct {
+    const char *name;
+    bool is_of_stream, is_of_run, *flag;
+  } flags[] = {{"--quiet", true, true, &words->is_quiet}, {"--certify", false, true, &words->is_certified},
+               {"--strict", false, true, &words->is_strict}, {"--stats", true, false, &words->has_stats},
+               {"--sound", true, false, &words->is_sound}, {"--clip", true, false, &words->clips}};
+  for (size_t k = 0; k < sizeof flags / sizeof *flags; k++) {
+    if (strcmp(option, flags[k].name) == 0 && (is_stream ? flags[k].is_of_stream : flags[k].is_of_run)) {
+      return flags[k].flag;
+    }
   }
-  if (strcmp(option, "--stats") == 0) {
-    return &words->has_stats;
-  }
-  if (strcmp(option, "--sound") == 0) {
-    return &words->is_sound;
-  }
-  return strcmp(option, "--clip") == 0 ? &words->clips : strcmp(option, "--quiet") == 0 ? &words->is_quiet : NULL;
+  return NULL;
 }
 
 /* The options with a value; the first of them may be repeated. */
