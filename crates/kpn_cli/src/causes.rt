@@ -55,7 +55,12 @@ fn push_wrong_description<R: Files, S: Shelf>(
     named: &NamedFiles<'_, '_>,
     evidence: &Evidence<'_, R, S>,
 ) -> Result<bool, AllocError> {
-    let Evidence { alloc, shelf, rt, .. } = *evidence;
+    let Evidence {
+        alloc,
+        shelf,
+        rt,
+        ..
+    } = *evidence;
     Ok(
         push_unread(text, rt, named.file, MOST_FILE_BYTES)?
             || !is_plain(rt, named.file)

@@ -81,8 +81,8 @@ const WENT_ON: &str = " went on to the end.\n";
 /// Whether the files of these options are plain and have few bytes.
 pub(crate) fn are_short<R: Files>(rt: &R, options: &[&str]) -> bool {
     options.iter().all(|option| {
-        fs::metadata(rt, file_in(option))
-            .is_ok_and(|found| found.is_file() && found.len() <= MOST_SOURCE_BYTES)
+        fs::metadata(rt, file_in(option)).is_ok_and(|found| found.is_file()
+            && found.len() <= MOST_SOURCE_BYTES)
     })
 }
 
