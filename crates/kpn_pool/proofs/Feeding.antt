@@ -12,7 +12,6 @@ use Rattle.kpn_book.specs.Book.{Book}
 use Rattle.kpn_pool.specs.Fed.{AreFedBelow, AreSourcesClosedBelow, AreSinksKeptBelow}
 
 module _ {A : Type 0} (t : Tables) (lists : List (List ℤ)) (view : View A) where
-
   pub fed_skip : (k : ℕ) → is_source (channel_at t k) ≡ false → AreFedBelow t lists view k
       → AreFedBelow t lists view (k + 1)
   fed_skip k none so_far c below source =

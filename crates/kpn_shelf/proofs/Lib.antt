@@ -1,2 +1,1 @@
 -- Lemmas: tries that would have had to wait.
-pub mod Waiting

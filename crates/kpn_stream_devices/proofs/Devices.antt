@@ -183,8 +183,6 @@ module _ {I F : Type 0} (left : I → Option (List ℕ)) (left_in : F → Option
   reads_more first between read (Some file) (Some then) None one two = absurd two
   reads_more first between read (Some file) (Some then) (Some after) one two = two ∙ one
 
-  }
-
   module _ (first : I) (input : SourceInput F) where
     -- So far bytes have moved from the device to the window, and none if the answer was at hand.
     pub at_start : IsInputAsked left left_in first input first input
