@@ -69,6 +69,20 @@ network {
 TWO = COPIES.replace('  sink y cap 1;', '  sink y cap 1;\n  source v;\n  sink z cap 1;').replace(
     '  a = ', '  d = copy(v; z);\n  a = ')
 
+# Numbers that are no decimal digits, and braces and a mark of comments in quotes.
+NUMBERS = '''language 2;
+table t = '{', 0x10;
+process p(in i; out o) { while 1 { read i x; if x == '#' { write o '}'; } write o t[x & 1]; } }
+network {
+  limit 0x20;
+  source s;
+  channel c cap 0x10;
+  sink z cap 1_0;
+  a = p(s; c);
+  b = p(c; z);
+}
+'''
+
 
 def declared(kind, text):
     return re.findall(rf'^\s*{kind} (\w+)', text, re.M)
@@ -228,6 +242,8 @@ class Tests:
         return text, items, cut, room, take
 
     def over_simulator(self, networks, seed):
+        self.compare(NUMBERS, {'s': [1, 35, 0]}, 2, {'a': 0, 'b': 1}, 1, lambda *words: self.simulated(2, 0, *words),
+                     certified=True)
         for number in range(networks):
             chance = random.Random(f'{seed} {number}')
             ranks = chance.randrange(1, 6)
