@@ -4,7 +4,7 @@ use crate::devices::{Failure, Input, NONE, Output};
 use crate::files::bytes_of;
 use crate::shelf::{Call, Troubled};
 use anyhow::{Result, bail};
-use kpn_cli::{Ports, SeenBytes, System, command, words_for};
+use kpn_cli::{Ports, SeenBytes, Speaker, System, command, words_for};
 use std::alloc::Global;
 use std::io::{ErrorKind, Write};
 use std::sync::Wait;

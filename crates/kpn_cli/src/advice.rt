@@ -1,7 +1,7 @@
 //! What to do about an outcome: about a ring of processes or a fault, about a run that is clogged, jammed or stopped,
 //! and about a source without items.
 
-use crate::faults::{FedFiles, lines_of_stream, push_faults};
+use crate::faults::{FedFiles, lines_of_stream, push_faults, unsaid_faults};
 use crate::pieces::{file_in, has_name, has_one, is_of, is_plain, push, push_name, text_of};
 use crate::room::push_room;
 use crate::sounds::push_sounds;
@@ -136,7 +136,7 @@ fn push_run<R: Files, S: Shelf>(
     }
     let report = text_of(known.written);
     let waits = waits_in(alloc, document, report)?;
-    waits.push_rings(text, document)?;
+    waits.push_rings(text, document, &[])?;
     let inputs = FedFiles {
         file: run.file,
         sources: &run.sources,
@@ -170,7 +170,7 @@ const DASH: &str = "\
 The file `-` was written: a run has no other meaning for this name. Give it `/dev/stdout`, or use `kpn stream`.
 ";
 
-// Adds what the summary of a stream means.
+// Adds what the summary of a stream means, but for what was said while it ran.
 fn push_stream<R: Files, S: Shelf>(
     text: &mut Vec<u8>,
     alloc: Global,
@@ -187,9 +187,10 @@ fn push_stream<R: Files, S: Shelf>(
         known.told
     });
     let waits = waits_in(alloc, document, summary)?;
-    waits.push_rings(text, document)?;
+    waits.push_rings(text, document, known.said)?;
     let inputs = lines_of_stream(stream.file, &stream.sources, &stream.formats, document);
-    push_faults(text, alloc, summary, inputs, shelf, rt)?;
+    let faults = unsaid_faults(alloc, summary, known.said)?;
+    push_faults(text, alloc, text_of(&faults), inputs, shelf, rt)?;
     match status {
         3 | 4 => push_room(text, alloc, document, stream.file, &waits, status, shelf),
         5 => push_others(text, document, &waits),
