@@ -32,6 +32,11 @@ impl<W: Drop> EndKeeper<W> {
         }
     }
 
+    /// The writer.
+    pub fn into_inner(self) -> W {
+        self.inner
+    }
+
     /// The end of what was written.
     pub fn kept(&self) -> &[u8] {
         &self.kept

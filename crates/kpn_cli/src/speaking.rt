@@ -51,6 +51,11 @@ impl<'s, R, W: Drop> Speaker<'s, R, W> {
         self.err.kept()
     }
 
+    /// The place for faults.
+    pub fn into_inner(self) -> W {
+        self.err.into_inner()
+    }
+
     /// What it has said, as lines of a report or of words.
     pub fn said(&self) -> &[u8] {
         &self.said

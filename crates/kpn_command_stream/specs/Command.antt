@@ -1,6 +1,6 @@
 -- What `kpn stream` does.
 use Rattle.std.specs.Prelude.{◌≡◌, ◌≢◌, ℕ, ◌-◌, ◌≤◌, ◌^◌, if◌then◌else◌, Bool, true, false, List, [], ◌∷◌, ◌++◌, map, All, Option, Some, None}
-use Rattle.std.specs.Prelude.{⊤, unwrap_or, IfOk, IfSome, Result, Ok, Err}
+use Rattle.std.specs.Prelude.{⊤, unwrap_or, IfOk, OnOk, IfSome, Result, Ok, Err}
 use Rattle.std.specs.List.{AllZip}
 use Rattle.std.specs.Global.{Vec}
 use Rattle.kpn_net.specs.Tables.{Tables}
@@ -15,7 +15,7 @@ use Rattle.kpn_history.specs.declared.keeping.Keeping.TheVariants as keeping
 use Rattle.kpn_book.specs.declared.outcome.Limits.{Limits}
 use Rattle.kpn_command_base.specs.StreamRequest.{StreamRequest}
 use Rattle.kpn_command_base.specs.declared.refusal.Refusal.{Refusal}
-use Rattle.kpn_command_base.specs.Stored.{Stores}
+use Rattle.kpn_command_base.specs.Stored.{IsReadable, Stores}
 use Rattle.kpn_shelf.specs.Shelf.{Loads, Aliases}
 use Rattle.kpn_command_base.specs.Description.{IsDescribed}
 use Rattle.kpn_stream.specs.declared.faults.SinkFault.{SinkFault}
@@ -222,13 +222,15 @@ pub record RanAt {S I F O G : Type 0} (may_give : Loads) (names : DeviceNames S 
 
 -- ---- the end
 
--- The trace is stored, if one is asked for, or it is not, for this cause. No other file changes.
+-- The trace is stored, if one is asked for, or it is not, for this cause. No other file changes. One that is stored has
+-- no more bytes than are read of a file.
 abbrev pub IsTraceKept : {S : Type 0} → (may_give : S → Loads) (trace : Option (List ℕ)) → Tables → Over
     → (shelf kept : S) → Result (Unit {0}) Refusal → Type 0
 IsTraceKept may_give None t over shelf kept stored = (kept ≡ shelf) × (stored ≡ Ok tt)
 IsTraceKept may_give (Some name) t over shelf kept stored =
     Stores may_give
     (record { name = name; bytes = trace_text version.Two t.policy t.growth over.history.events }) shelf kept stored
+    × OnOk stored (IsReadable (trace_text version.Two t.policy t.growth over.history.events))
 
 -- The status at the end: that of the first fault that is told. They are told in this order: what has ended the stream,
 -- what outputs have lost, the trace that could not be stored, the summary if there was no memory for it. Without a
