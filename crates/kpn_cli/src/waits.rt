@@ -85,7 +85,7 @@ impl NetworkWaits {
     ) -> Result<(), AllocError> {
         for start in 0..self.of.len() {
             if self.begins_ring(document, start) {
-                let mut line = Vec::new(text.allocator());
+                let mut line = Vec::new(*text.allocator());
                 self.push_ring(&mut line, document, start)?;
                 if !is_said(said, text_of(&line)) {
                     text.extend_from_slice(&line)?;
