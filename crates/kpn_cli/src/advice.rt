@@ -1,7 +1,7 @@
 //! What to do about an outcome: about a ring of processes or a fault, about a run that is clogged, jammed or stopped,
 //! and about a source without items.
 
-use crate::faults::{FedFiles, lines_of_stream, push_faults};
+use crate::faults::{FedFiles, lines_of_stream, push_faults, unsaid_faults};
 use crate::pieces::{file_in, has_name, has_one, is_of, is_plain, push, push_name, text_of};
 use crate::room::push_room;
 use crate::sounds::push_sounds;
@@ -115,7 +115,7 @@ fn push_run<R: Files, S: Shelf>(
     }
     let report = text_of(evidence.known.written);
     let waits = waits_in(evidence.alloc, document, report)?;
-    waits.push_rings(text, document)?;
+    waits.push_rings(text, document, &[])?;
     let inputs = FedFiles {
         file: run.file,
         sources: &run.sources,
@@ -149,7 +149,7 @@ const DASH: &str = "\
 The file `-` was written: a run has no other meaning for this name. Give it `/dev/stdout`, or use `kpn stream`.
 ";
 
-// Adds what the summary of a stream means.
+// Adds what the summary of a stream means, but for what was said while it ran.
 fn push_stream<R: Files, S: Shelf>(
     text: &mut Vec<u8>,
     stream: &StreamRequest<'_>,
@@ -163,9 +163,10 @@ fn push_stream<R: Files, S: Shelf>(
         evidence.known.told
     });
     let waits = waits_in(evidence.alloc, document, summary)?;
-    waits.push_rings(text, document)?;
+    waits.push_rings(text, document, evidence.known.said)?;
     let inputs = lines_of_stream(stream.file, &stream.sources, &stream.formats, document);
-    push_faults(text, summary, inputs, evidence)?;
+    let faults = unsaid_faults(evidence.alloc, summary, evidence.known.said)?;
+    push_faults(text, text_of(&faults), inputs, evidence)?;
     match status {
         3 | 4 => push_room(text, document, stream.file, &waits, status, evidence),
         5 => push_others(text, document, &waits),

@@ -2,7 +2,7 @@
 //! The network is run once more for that, and so are these processes, if what it read are plain files.
 ghost use Rattle.std.specs.Prelude.{◌<◌, length};
 
-use crate::pieces::{file_in, has_name, is_of, push, push_name};
+use crate::pieces::{file_in, has_name, is_of, is_said, push, push_name};
 use crate::stopped::are_short;
 use crate::words::Evidence;
 use kpn_book::{Limits, run_here};
@@ -45,6 +45,22 @@ pub(crate) fn push_faults<R: Files, S: Shelf>(
         push_places(text, report, inputs, evidence)?;
     }
     push(text, FAULTED)
+}
+
+/// The lines of a report that tell faults which were not said.
+pub(crate) fn unsaid_faults(
+    alloc: Global,
+    report: &str,
+    said: &[u8],
+) -> Result<Vec<u8>, AllocError> {
+    let mut unsaid = Vec::new(alloc);
+    for line in report.lines() {
+        if fault_in(line).is_some() && !is_said(said, line) {
+            push(&mut unsaid, line)?;
+            push(&mut unsaid, "\n")?;
+        }
+    }
+    Ok(unsaid)
 }
 
 /// The inputs of a stream, if they can be read as those of a run: lines of plain files.

@@ -50,7 +50,7 @@ pub(crate) fn push_looks<R: Files, S: Shelf>(
     let commits = run.commits.min(MOST_COMMITS);
     let first = look(alloc, network, &inputs.given, run.take, commits / 2)?;
     let last = look(alloc, network, &inputs.given, run.take, commits)?;
-    waits_among(alloc, last.states.as_slice())?.push_rings(text, document)?;
+    waits_among(alloc, last.states.as_slice())?.push_rings(text, document, &[])?;
     let turns = TURNS_OF_LOOP.saturating_mul(network.instances() as u64);
     let can_tell = turns <= commits / 2;
     if can_tell && push_ready(text, document, &first, &last, Some(true))? {

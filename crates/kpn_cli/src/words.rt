@@ -63,6 +63,8 @@ pub struct SeenBytes<'k> {
     pub written: &'k [u8],
     /// The end of what it told where faults go.
     pub told: &'k [u8],
+    /// What was said of a stream while it ran.
+    pub said: &'k [u8],
     /// What a quiet stream would have told of its end.
     pub unsaid: &'k [u8],
     /// The beginning of what it read of standard input, and how many bytes it read there.

@@ -68,6 +68,8 @@ pub(crate) const STATS: &str = "STATS";
 
 pub(crate) const STRICT: &str = "STRICT";
 
+pub(crate) const STOP_ON_FAULT: &str = "STOP_ON_FAULT";
+
 pub(crate) const ACROSS: &str = "ACROSS";
 
 // The commands and their words.
@@ -404,8 +406,10 @@ fn stream_words<'a>(alloc: Global) -> Result<Command<'a>, AllocError>
         count(alloc, MAX_COMMITS, "max-commits", "N", commits),
     );
     let words = and(words, option(alloc, TRACE, "trace", "OUT", trace));
+    let stop = "Ends the stream once a process has faulted, before another item is read";
     let words = and(words, flag(alloc, QUIET, "quiet", quiet));
-    and(words, stats_word(alloc))
+    let words = and(words, stats_word(alloc));
+    and(words, flag(alloc, STOP_ON_FAULT, "stop-on-fault", stop))
 }
 
 // The `--format` options of `kpn stream`.

@@ -1,4 +1,5 @@
 use Rattle.kpn_stream.proofs.Going.{goes_on-refl, serves_goes_on, serves_taken}
+use Rattle.kpn_stream.proofs.Seeing.{stepless-refl, stepless_serves}
 use Rattle.kpn_stream.proofs.running.come_to_read.Goals as goal
 
 pub returns-then-limits-commits-clause-goes_on : goal.returns-then-limits-commits-clause-goes_on
@@ -21,3 +22,11 @@ returns-then-limits-commits-clause-taken g c =
 
 pub returns-then-commits-goal-clause-taken : goal.returns-then-commits-goal-clause-taken
 returns-then-commits-goal-clause-taken g c = c.requires.taken
+
+pub returns-then-limits-commits-clause-stepless : goal.returns-then-limits-commits-clause-stepless
+returns-then-limits-commits-clause-stepless g c =
+    stepless_serves g.K.Sinks.takes g.K.Sinks.flushes c.args.limits.now c.come_to_outcome.result c.args.book.now
+    c.come_to_outcome.new.book c.args.sinks.now c.come_to_outcome.new.sinks c.come_to_outcome.ensures
+
+pub returns-then-commits-goal-clause-stepless : goal.returns-then-commits-goal-clause-stepless
+returns-then-commits-goal-clause-stepless g c = stepless-refl c.args.book.now

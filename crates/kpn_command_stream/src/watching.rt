@@ -1,0 +1,50 @@
+//! What watches a stream: it tells of it while it runs, and ends it after a fault if that is asked for.
+ghost use Rattle.std.specs.Prelude.{◌≡◌, true, false, length};
+ghost use Rattle.kpn_command_stream.specs.Watching.{HasFaulted, HaveNotFaulted};
+
+use kpn_book::Book;
+use kpn_command_base::{Teller, is_faulted};
+use kpn_stream::Watcher;
+use kpn_text::Document;
+
+/// The watcher of a stream. It lends the place for faults, so that the lender has it as the last look left it.
+#[derive(Drop)]
+pub(crate) struct StreamWatcher<'w, E> {
+    pub(crate) document: &'w Document,
+    pub(crate) err: &'w mut E,
+    /// How many processes had ended at its last look.
+    pub(crate) ended: usize,
+    /// Whether a fault ends the stream.
+    pub(crate) stops: bool,
+}
+
+impl<E: Teller> Watcher for StreamWatcher<'_, E> {
+    ghost use Rattle.kpn_command_stream.specs.Watching.{KnowsEnded, LooksAt};
+
+    ghost knows = { KnowsEnded };
+
+    ghost sees = { LooksAt E.tells };
+
+    fn has_news(&self, book: &Book<'_>) -> bool {
+        book.counts().ended != self.ended
+    }
+
+    fn look(&mut self, book: &Book<'_>) -> bool {
+        self.ended = book.counts().ended;
+        self.err.tell(self.document, book);
+        self.stops && has_faulted(book)
+    }
+}
+
+/// Whether a process has ended by a fault.
+fn has_faulted(book: &Book<'_>) -> bool
+    ensures faulted { result ≡ true → HasFaulted book.now }
+    ensures none { result ≡ false → HaveNotFaulted (length book.now.tables.instances) book.now }
+{
+    for p in 0..book.network().instances() {
+        if is_faulted(book.state(p)) {
+            return true;
+        }
+    }
+    false
+}
