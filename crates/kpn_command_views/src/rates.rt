@@ -100,9 +100,8 @@ impl Courses {
         audit: &Audit,
     ) -> Result<Courses, AllocError> {
         let mut courses = timed(alloc, network, clocks, events)?;
-        for p in 0..courses.len() {
-            let wait = audit.waits.as_slice().get(p).copied();
-            courses[p].find_period(alloc, wait.unwrap_or(Wait::Nobody))?;
+        for (course, wait) in courses.iter_mut().zip(audit.waits.as_slice()) {
+            course.find_period(alloc, *wait)?;
         }
         Ok(Courses { courses })
     }
