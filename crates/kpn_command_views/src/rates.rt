@@ -41,7 +41,11 @@ impl Course {
 
     fn add(&mut self, channel: usize, is_put: bool, tick: usize) -> Result<(), AllocError> {
         let gap = tick.saturating_sub(self.last);
-        self.moves.push(TimedMove { channel, is_put, gap })?;
+        self.moves.push(TimedMove {
+            channel,
+            is_put,
+            gap,
+        })?;
         self.last = tick;
         Ok(())
     }

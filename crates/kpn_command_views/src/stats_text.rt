@@ -81,7 +81,14 @@ impl Told<'_> {
         let (shares, steps) = (times.shares.as_slice(), self.measured.steps.as_slice());
         self.push_lengths(text)?;
         self.push_rates(alloc, text)?;
-        push_shares(alloc, text, self.document, TICKS, shares, times.bounded.last())?;
+        push_shares(
+            alloc,
+            text,
+            self.document,
+            TICKS,
+            shares,
+            times.bounded.last(),
+        )?;
         push_shares(alloc, text, self.document, STEPS, steps, sum_of(steps))?;
         self.push_rings(alloc, text)
     }
@@ -157,7 +164,11 @@ impl Told<'_> {
         row.add_number(Some(figures.waits_empty))?;
         row.add_number(Some(figures.waits_full))?;
         let complete = self.audit.complete.as_slice();
-        row.add(if complete.get(c).copied().unwrap_or(false) { "yes" } else { "no" })?;
+        row.add(if complete.get(c).copied().unwrap_or(false) {
+            "yes"
+        } else {
+            "no"
+        })?;
         row.add_number(first.map(|_| self.measured.times.free.capacity_needed(c)))?;
         Ok(row)
     }
@@ -270,7 +281,10 @@ fn push_rate(text: &mut String, name: &str, rate: Option<Rate>, ticks: &[usize])
         }
         _ => {
             let (items, last) = (ticks.len(), ticks.last().copied().unwrap_or(0));
-            write!(text, "{name} has {items} items by tick {last}, without a period\n")
+            write!(
+                text,
+                "{name} has {items} items by tick {last}, without a period\n"
+            )
         }
     }
 }
