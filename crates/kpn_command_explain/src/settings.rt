@@ -1,7 +1,8 @@
 //! The lines of a description on which its network begins, and on which a setting stands.
 
+use crate::explained::tokens_of;
 use crate::lines::place_at;
-use kpn_text_tokens::{Keyword, LexFault, Token, language_of, lexemes};
+use kpn_text_tokens::{Keyword, Token};
 use std::alloc::{AllocError, Global};
 
 /// On which lines of a description the words `network`, `limit` and `policy` stand, if they do.
@@ -19,12 +20,8 @@ pub fn setting_lines(alloc: Global, text: &[u8]) -> Result<SettingLines, AllocEr
         limit: None,
         policy: None,
     };
-    let tokens = match lexemes(alloc, language_of(text), text) {
-        Ok(tokens) => tokens,
-        Err(LexFault::NoMemory) => return Err(AllocError),
-        Err(_) => return Ok(found),
-    };
-    for lexeme in tokens.as_slice() {
+    let tokens = tokens_of(alloc, text)?;
+    for lexeme in &tokens {
         let line = match &lexeme.token {
             Token::Keyword(Keyword::Network) => &mut found.network,
             Token::Keyword(Keyword::Limit) => &mut found.limit,
