@@ -1,0 +1,3 @@
+-- The lemmas. Other crates may cite the public ones.
+mod Steps
+pub mod Plain
