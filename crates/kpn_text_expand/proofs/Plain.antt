@@ -1,5 +1,6 @@
 -- Tokens without a short form stand for themselves.
-use Rattle.std.proofs.Common.{◌≡◌, ℕ, ◌⊎◌, inl, inr, Bool, true, false, nat_le, if◌then◌else◌, List, [], ◌∷◌, ◌++◌, Some, None, Result, Ok, refl, sym, ap, ◌∙◌, subst, append_assoc, append-nil}
+use Rattle.std.proofs.Common.{◌≡◌, ℕ, ◌⊎◌, inl, inr, Bool, true, false, ◌-◌, if◌then◌else◌, List, [], ◌∷◌, ◌++◌, Some, None, Result, Ok, refl, sym, ap, ◌∙◌, subst, append_assoc, append-nil}
+use Rattle.std.specs.Prelude.{◌==◌}
 use Rattle.kpn_text_tokens.specs.declared.tokens.Keyword.TheVariants as keyword
 use Rattle.kpn_text_tokens.specs.declared.tokens.Language.{Language}
 use Rattle.kpn_text_tokens.specs.declared.tokens.Language.TheVariants as language
@@ -63,7 +64,7 @@ behind_idle (token.Name x) s shared own = record { shared = shared; own = own; o
 behind_idle (token.Number n) s shared own = record { shared = shared; own = own; outside = inr refl }
 behind_idle (token.Mark mark.LeftBrace) s shared own = record { shared = shared; own = own; outside = inl refl }
 behind_idle (token.Mark mark.RightBrace) s shared own =
-    record { shared = shared; own = none_or (nat_le s.depth 1) s.own own; outside = inl refl }
+    record { shared = shared; own = none_or (s.depth - 1 == 0) s.own own; outside = inl refl }
 behind_idle (token.Mark mark.Semicolon) s shared own = record { shared = shared; own = own; outside = inl refl }
 behind_idle (token.Mark _) s shared own = record { shared = shared; own = own; outside = inr refl }
 behind_idle (token.Keyword k) s shared own = record { shared = shared; own = own; outside = inr refl }

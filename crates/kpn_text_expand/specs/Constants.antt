@@ -1,6 +1,6 @@
 -- Constants. The tokens go by one after the other: a declaration is taken out, and each name of a constant behind it is
 -- replaced by its number.
-use Rattle.std.specs.Prelude.{ℕ, ◌+◌, ◌-◌, ◌==◌, min, Bool, nat_le, if◌then◌else◌, List, [], ◌∷◌, ◌++◌, Option, Some, None, Result, Ok, Err, option_map}
+use Rattle.std.specs.Prelude.{ℕ, ◌+◌, ◌-◌, ◌==◌, min, Bool, if◌then◌else◌, List, [], ◌∷◌, ◌++◌, Option, Some, None, Result, Ok, Err, option_map}
 use Rattle.std.specs.List.{find}
 use Rattle.std.specs.Str.{bytes_eq}
 use Rattle.kpn_text_tokens.specs.declared.tokens.Keyword.TheVariants as keyword
@@ -62,7 +62,7 @@ one_more n = min (n + 1) 18446744073709551615
 abbrev pub behind : Token → Constants → Constants
 behind (token.Mark mark.LeftBrace) s = record s { depth = one_more s.depth; place = place.Front }
 behind (token.Mark mark.RightBrace) s = record s {
-  own = if nat_le s.depth 1 then [] else s.own;
+  own = if s.depth - 1 == 0 then [] else s.own;
   depth = s.depth - 1;
   place = place.Front;
 }

@@ -65,8 +65,8 @@ start_of stop [] = stop
 start_of stop (l ∷ ls) = l.start
 
 -- the value that all these tokens are
-unfoldable pub value : (stop : ℕ) → List Lexeme → Result Value ExpandFault
-value stop ls = do
+unfoldable pub number : (stop : ℕ) → List Lexeme → Result Value ExpandFault
+number stop ls = do
   nothing ← without_names ls
   e ← tree (start_of stop ls) stop ls
   computed (start_of stop ls) e
@@ -75,9 +75,9 @@ abbrev pub named : Lexeme → List Lexeme → Token → Result (NameBytes × Lis
 named l ls (token.Name x) = Ok (x, ls)
 named l ls _ = Err (fault.Grammar l.start)
 
-abbrev pub name : (stop : ℕ) → List Lexeme → Result (NameBytes × List Lexeme) ExpandFault
-name stop [] = Err (fault.Grammar stop)
-name stop (l ∷ ls) = named l ls l.token
+abbrev pub first_name : (stop : ℕ) → List Lexeme → Result (NameBytes × List Lexeme) ExpandFault
+first_name stop [] = Err (fault.Grammar stop)
+first_name stop (l ∷ ls) = named l ls l.token
 
 abbrev pub assigned : Lexeme → List Lexeme → Token → Result (List Lexeme) ExpandFault
 assigned l ls (token.Mark mark.Assign) = Ok ls
@@ -90,7 +90,7 @@ behind_assign stop (l ∷ ls) = assigned l ls l.token
 -- the constant that the tokens between `const` and `;` declare
 unfoldable pub declared : (stop : ℕ) → List Lexeme → Result Constant ExpandFault
 declared stop ls = do
-  x ← name stop ls
+  x ← first_name stop ls
   rest ← behind_assign stop x.1
-  v ← value stop rest
+  v ← number stop rest
   Ok (record { name = x.0; value = v })

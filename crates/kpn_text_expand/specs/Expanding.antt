@@ -8,8 +8,8 @@ use Rattle.kpn_text_expand.specs.declared.fault.ExpandFault.{ExpandFault}
 use Rattle.kpn_text_expand.specs.Constants.{at_first, steps, without_constants}
 
 -- all tokens have gone by
-abbrev pub constants : List Lexeme → Result Constants ExpandFault
-constants ls = steps at_first ls
+abbrev pub all_steps : List Lexeme → Result Constants ExpandFault
+all_steps ls = steps at_first ls
 
 -- in language 1 they stand for themselves, and in language 2 for what constants leave of them
 abbrev pub expanded : Language → (end : ℕ) → List Lexeme → Result (List Lexeme) ExpandFault

@@ -1,7 +1,7 @@
 //! Constants. The tokens go by one after the other: a declaration is taken out, and each name of a constant behind it is
 //! replaced by its number.
 
-ghost use Rattle.std.specs.Prelude.{◌≡◌, [], ◌∷◌, ◌++◌, OnOk, IfErr, option_copied};
+ghost use Rattle.std.specs.Prelude.{◌≡◌, [], ◌∷◌, ◌++◌, Ok, OnOk, IfErr};
 ghost use Rattle.kpn_text_expand.specs.Constants as spec;
 ghost use Rattle.kpn_text_expand.specs.Results.{Gives};
 
@@ -54,7 +54,7 @@ fn add<'a>(
     token: Token<'a>,
     start: usize,
 ) -> Result<(), ExpandFault>
-    ensures added { OnOk result (tokens.new ≡ tokens.old ++ spec.lexeme token start ∷ []) }
+    ensures added { OnOk result (tokens.new ≡ tokens.old ++ spec.lexeme token.entry start ∷ []) }
     ensures only { IfErr result (λ fault. fault ≡ ExpandFault.NoMemory) }
 {
     tokens.push(Lexeme { token, start })?;
@@ -129,11 +129,11 @@ impl<'a> Constants<'a> {
                 self.place = Place::Front;
             }
             Token::Mark(Mark::RightBrace) => {
-                if self.depth <= 1 {
-                    self.own = Sequence::new(alloc);
-                }
                 self.depth = self.depth.saturating_sub(1);
                 self.place = Place::Front;
+                if self.depth == 0 {
+                    self.own = Sequence::new(alloc);
+                }
             }
             Token::Mark(Mark::Semicolon) => self.place = Place::Front,
             _ => self.place = Place::Inside,
@@ -158,19 +158,27 @@ impl<'a> Constants<'a> {
         add_meant(&mut self.declaration, lexeme, value)
     }
 
-    /// The `;` behind a declaration.
-    fn declare(&mut self, alloc: Global, stop: usize) -> Result<(), ExpandFault>
-        ensures { Gives (λ _. self.new) result (spec.with_declaration stop self.old) }
+    /// Adds a constant, and goes on behind its declaration.
+    fn add_constant(&mut self, alloc: Global, constant: Constant<'a>) -> Result<(), ExpandFault>
+        ensures { Gives (λ _. self.new) result (Ok (spec.with_constant self.old constant.entry)) }
     {
-        let constant = declared(alloc, self.declaration.as_slice(), stop)?;
+        self.declaration = Sequence::new(alloc);
+        self.place = Place::Front;
         if self.depth == 0 {
             self.shared.push(constant)?;
         } else {
             self.own.push(constant)?;
         }
-        self.declaration = Sequence::new(alloc);
-        self.place = Place::Front;
         Ok(())
+    }
+
+    /// The `;` behind a declaration.
+    #[tactic(auto, unfolding(kpn_text_tokens::specs::Results::and_then))]
+    fn declare(&mut self, alloc: Global, stop: usize) -> Result<(), ExpandFault>
+        ensures { Gives (λ _. self.new) result (spec.with_declaration stop self.old) }
+    {
+        let constant = declared(alloc, self.declaration.as_slice(), stop)?;
+        self.add_constant(alloc, constant)
     }
 
     /// The next token.
@@ -189,8 +197,9 @@ impl<'a> Constants<'a> {
     }
 
     /// The tokens that are left behind the last one.
+    #[tactic(auto, unfolding(kpn_text_tokens::specs::Results::and_then))]
     pub(crate) fn finish(self, alloc: Global, end: usize) -> Result<Sequence<Lexeme<'a>>, ExpandFault>
-        ensures { Gives (λ left. left) result (spec.finished end self) }
+        ensures { Gives (λ left. left) result (spec.finished end self.entry) }
     {
         let Constants {
             left,

@@ -39,17 +39,26 @@ fn written(value: i64) -> Option<Value>
     })
 }
 
+/// A value as it is written, or the fault of an expression that begins at this byte.
+fn or_no_number(value: Option<i64>, start: usize) -> Result<Value, ExpandFault>
+    ensures { Gives (λ v. v) result (spec.or_no_number start (spec.written_if value)) }
+{
+    let Some(value) = value else {
+        return Err(ExpandFault::Token(start));
+    };
+    match written(value) {
+        Some(value) => Ok(value),
+        None => Err(ExpandFault::Token(start)),
+    }
+}
+
 /// The value of an expression that begins at this byte.
 fn computed(alloc: Global, expression: &Expression<'_>, start: usize) -> Result<Value, ExpandFault>
     ensures { Gives (λ v. v) result (spec.computed start (term expression.now)) }
 {
-    let found = match constant_value(alloc, expression) {
-        Ok(found) => found,
-        Err(_) => return Err(ExpandFault::NoMemory),
-    };
-    match found.and_then(written) {
-        Some(value) => Ok(value),
-        None => Err(ExpandFault::Token(start)),
+    match constant_value(alloc, expression) {
+        Ok(found) => or_no_number(found, start),
+        Err(_) => Err(ExpandFault::NoMemory),
     }
 }
 
@@ -97,9 +106,9 @@ fn start_of(tokens: &[Lexeme<'_>], stop: usize) -> usize
 }
 
 /// The value that all these tokens are. What follows them is at the byte `stop`.
-#[tactic(auto, unfolding(crate::specs::Declaration::value, kpn_text_tokens::specs::Results::and_then))]
-fn value(alloc: Global, tokens: &[Lexeme<'_>], stop: usize) -> Result<Value, ExpandFault>
-    ensures { Gives (λ v. v) result (spec.value stop tokens.now) }
+#[tactic(auto, unfolding(crate::specs::Declaration::number, kpn_text_tokens::specs::Results::and_then))]
+fn number(alloc: Global, tokens: &[Lexeme<'_>], stop: usize) -> Result<Value, ExpandFault>
+    ensures { Gives (λ v. v) result (spec.number stop tokens.now) }
 {
     without_names(tokens)?;
     let start = start_of(tokens, stop);
@@ -108,11 +117,11 @@ fn value(alloc: Global, tokens: &[Lexeme<'_>], stop: usize) -> Result<Value, Exp
 }
 
 /// The name at the front, and the tokens after it.
-fn name<'t, 'a>(
+fn first_name<'t, 'a>(
     tokens: &'t [Lexeme<'a>],
     stop: usize,
 ) -> Result<(Name<'a>, &'t [Lexeme<'a>]), ExpandFault>
-    ensures { Gives (λ x. (x.0, x.1.now)) result (spec.name stop tokens.now) }
+    ensures { Gives (λ x. (x.0, x.1.now)) result (spec.first_name stop tokens.now) }
 {
     match tokens.split_first() {
         Some((first, rest)) => match &first.token {
@@ -148,8 +157,8 @@ pub(crate) fn declared<'a>(
 ) -> Result<Constant<'a>, ExpandFault>
     ensures { Gives (λ c. c) result (spec.declared stop tokens.now) }
 {
-    let (name, tokens) = name(tokens, stop)?;
+    let (name, tokens) = first_name(tokens, stop)?;
     let tokens = behind_assign(tokens, stop)?;
-    let value = value(alloc, tokens, stop)?;
+    let value = number(alloc, tokens, stop)?;
     Ok(Constant { name, value })
 }

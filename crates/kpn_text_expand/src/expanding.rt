@@ -11,8 +11,8 @@ use kpn_text_tokens::{Language, Lexeme};
 use std::alloc::Global;
 
 /// All tokens of a text have gone by.
-fn constants<'a>(alloc: Global, tokens: &[Lexeme<'a>]) -> Result<Constants<'a>, ExpandFault>
-    ensures { Gives (λ s. s) result (spec.constants tokens.now) }
+fn all_steps<'a>(alloc: Global, tokens: &[Lexeme<'a>]) -> Result<Constants<'a>, ExpandFault>
+    ensures { Gives (λ s. s) result (spec.all_steps tokens.now) }
 {
     let mut constants = Constants::new(alloc);
     for lexeme in tokens {
@@ -30,7 +30,7 @@ fn without_constants<'a>(
 ) -> Result<Sequence<Lexeme<'a>>, ExpandFault>
     ensures { Gives (λ left. left) result (without_constants end tokens.now) }
 {
-    let constants = constants(alloc, tokens)?;
+    let constants = all_steps(alloc, tokens)?;
     constants.finish(alloc, end)
 }
 
@@ -52,7 +52,7 @@ pub fn expanded<'a>(
     tokens: Vec<Lexeme<'a>>,
     end: usize,
 ) -> Result<Vec<Lexeme<'a>>, ExpandFault>
-    ensures { Gives (λ found. found.items) result (spec.expanded language end tokens.items) }
+    ensures { Gives (λ found. found.items) result (spec.expanded language end tokens.entry.items) }
 {
     match language {
         Language::One => Ok(tokens),

@@ -2,7 +2,7 @@
 use Rattle.std.proofs.Common.{◌≡◌, drop}
 use Rattle.kpn_text_expand.specs.Constants.{steps}
 use Rattle.kpn_text_expand.specs.Expanding as spec
-use Rattle.kpn_text_expand.proofs.expanding.constants.Given as goal
+use Rattle.kpn_text_expand.proofs.expanding.all_steps.Given as goal
 
 abbrev pub invariant-loop-lexeme : goal.invariant-loop-lexeme
-invariant-loop-lexeme l = steps l.constants (drop l.lexeme-index l.tokens) ≡ spec.constants l.tokens
+invariant-loop-lexeme l = steps l.constants (drop l.lexeme-index l.tokens) ≡ spec.all_steps l.tokens

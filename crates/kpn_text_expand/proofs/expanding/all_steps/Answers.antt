@@ -2,7 +2,7 @@
 use Rattle.std.proofs.Common.{sym, ◌∙◌, arith, refl}
 use Rattle.std.proofs.lemmas.Result.{err_from_is_err_and}
 use Rattle.kpn_text_expand.proofs.Steps.{goes, fails, ends}
-use Rattle.kpn_text_expand.proofs.expanding.constants.Goals as goal
+use Rattle.kpn_text_expand.proofs.expanding.all_steps.Goals as goal
 
 pub returns-in_err-step : goal.returns-in_err-step
 returns-in_err-step c =
