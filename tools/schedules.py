@@ -10,8 +10,8 @@ events of processes. It checks of each network:
 - One end. In two states in which every process has ended or waits, and the caller has done the same (fed as many items,
   closed the same sources, taken as many items of each sink, left the same sinks), everything is the same: journals,
   reads, ends, waits, capacities.
-- Progress. What C events of processes have led to, the run in order on one thread has made after (C + 1) * P commits,
-  for P processes. Each pause on the way to an event counts as an event too. That run feeds all lists, closes the
+- Progress. What C events of processes have led to, the run in order on one thread has made after C * P commits, for P
+  processes. Each pause on the way to an event counts as an event too. That run feeds all lists, closes the
   sources, and takes what comes.
 
 With `--diamonds` it also checks why that is so, in each state. A move is an event with the growth that it owes. Two
@@ -283,7 +283,7 @@ class Search:
 
     def look(self, state: State) -> None:
         """Checks one end and progress of a state."""
-        bound = (self.count + 1) * len(state.places)
+        bound = self.count * len(state.places)
         needed = self.in_order.needed(state, bound)
         if needed > bound:
             raise Different(f'{needed} commits in order for {bound}\n{self.trace(state)}')

@@ -60,7 +60,7 @@ outcome_is Stopped v is = absurd cc
 -- ---- two reports
 
 module _ (t : Tables) (network : IsNetwork t) (lists : List (List ℤ)) where
-  final_run : (limits : Limits) (report : Report) → IsReport t lists limits report → (v : Verdict)
+  pub final_run : (limits : Limits) (report : Report) → IsReport t lists limits report → (v : Verdict)
       → verdict_of report.outcome ≡ Some v → IsFinalRun t (given_by t lists) (events_of report)
   final_run limits report is v e =
       record {
@@ -93,7 +93,7 @@ module _ (t : Tables) (network : IsNetwork t) (lists : List (List ℤ)) where
       ]
 
   -- so if it has read enough, this one has too
-  enough_too : (H G : List Event) → IsRunFrom t (given_by t lists) H → IsFinalRun t (given_by t lists) G
+  pub enough_too : (H G : List Event) → IsRunFrom t (given_by t lists) H → IsFinalRun t (given_by t lists) G
       → ((c : ℕ) → is_left G c ≡ false) → (wanted : Option ℕ) → IsEnough t H wanted → IsEnough t G wanted
   enough_too H G run final stays None enough = enough
   enough_too H G run final stays (Some items) enough = λ c there sink.
@@ -148,7 +148,7 @@ module _ (t : Tables) (network : IsNetwork t) (lists : List (List ℤ)) where
       (subst (λ o. IsOutcome t (events_of other) other.commits others (Some o)) enough also.outcome)))
 
   -- what was wanted was not read, if there is a verdict
-  lacking : (limits : Limits) (report : Report) → IsReport t lists limits report → (o : Outcome) → report.outcome ≡ o
+  pub lacking : (limits : Limits) (report : Report) → IsReport t lists limits report → (o : Outcome) → report.outcome ≡ o
       → (v : Verdict) → verdict_of o ≡ Some v → ¬ IsEnough t (events_of report) limits.take
   lacking limits report is Ended e v f =
       (subst (λ o. IsOutcome t (events_of report) report.commits limits (Some o)) e is.outcome).0
@@ -160,12 +160,12 @@ module _ (t : Tables) (network : IsNetwork t) (lists : List (List ℤ)) where
   lacking limits report is Stopped e v f = absurd cc
 
   -- an outcome is a verdict, enough or stopped
-  data Kind (outcome : Outcome) : Type 0 where
+  pub data Kind (outcome : Outcome) : Type 0 where
     is_verdict : (v : Verdict) → verdict_of outcome ≡ Some v → Kind outcome
     is_enough : outcome ≡ Enough → Kind outcome
     is_stopped : outcome ≡ Stopped → Kind outcome
 
-  kind_of : (outcome : Outcome) → Kind outcome
+  pub kind_of : (outcome : Outcome) → Kind outcome
   kind_of Ended = is_verdict verdict.Ended refl
   kind_of Clogged = is_verdict verdict.Clogged refl
   kind_of Jammed = is_verdict verdict.Jammed refl

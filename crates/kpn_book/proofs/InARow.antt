@@ -1,5 +1,5 @@
 -- Turns in a row: each of them goes on where the one before it has led.
-use Rattle.std.proofs.Common.{◌≡◌, ℕ, ◌+◌, ◌-◌, ◌<◌, ◌≤◌, max, Bool, true, false, [], ◌∷◌, Option, Some, None, refl, sym, ap, ◌∙◌, subst, inl, inr, arith}
+use Rattle.std.proofs.Common.{◌≡◌, ℕ, ◌+◌, ◌-◌, ◌<◌, ◌≤◌, max, Bool, true, false, [], ◌∷◌, Option, Some, None, refl, sym, ap, ◌∙◌, subst, inl, inr, arith, length, eq-eqb}
 use Rattle.std.proofs.lemmas.Bool.{false≢true}
 use Rattle.kpn_history.specs.Views.{is_stopped}
 use Rattle.kpn_book.specs.declared.answers.Done.{Done}
@@ -10,7 +10,10 @@ use Rattle.kpn_book.specs.InARow.{PutsOnNoSink, IsStepInRow, StepsInRow, no_step
 use Rattle.kpn_book.proofs.Seen.{not_settled}
 use Rattle.kpn_book.specs.declared.outcome.Limits.{Limits}
 use Rattle.kpn_book.specs.Outcomes.{IsEnough, IsOutcome}
-use Rattle.kpn_book.specs.RunHere.{Turns, one_turn_more}
+use Rattle.kpn_history.specs.Channels.{unread_on}
+use Rattle.kpn_history.proofs.OneMore.{unread_length}
+use Rattle.kpn_book.specs.Kept.{IsBook}
+use Rattle.kpn_book.specs.RunHere.{IsBeforeTurn, Turns, one_turn_more}
 use Rattle.kpn_book.specs.Running.{IsLeftToItself, IsLater, IsFrontStepped, IsCommitted, HasPutOn, sinks_after, has_put, IsStepped, AreStepped}
 use Rattle.kpn_book.proofs.Stepped.{IsLater-refl, IsLater-trans, turned, not_put, put_inside_stepped, step_commits}
 
@@ -79,6 +82,21 @@ module _ (limits : Limits) (in_order : Bool) (quota : ℕ) (is_quota : quota ≡
 
 -- ---- a row of turns
 
+-- the outside has nothing to do
+before_turn : (b : Book) → IsBook b → IsLeftToItself b → IsBeforeTurn b
+before_turn b book to_itself = record {
+  book = book;
+  nobody_held = to_itself.nobody_held;
+  served = record {
+    closed = to_itself.closed;
+    taken = λ c sink.
+        let all = to_itself.all_read c sink in
+        let unread = unread_length b.history c in
+        let none : length (unread_on b.history c) ≡ 0 = omega arith in
+        eq-eqb (length (unread_on b.history c)) 0 none;
+  };
+}
+
 -- turns that have put nothing on a sink
 record IsRow (limits : Limits) (before after : Book) : Type 0 where
   pub made : (first : Book) (n : ℕ) → Turns limits first n before → (m : ℕ) × Turns limits first m after
@@ -103,8 +121,10 @@ module _ (limits : Limits) (quota : ℕ) (is_quota : quota ≡ max limits.quota 
       went_on limits quota is_quota None before after so_far.to_itself so_far.few step within in
       record {
         made = λ f k turns.
-            let made = so_far.made f k turns in
-            (made.0 + 1, one_turn_more before after made.1 goes_on (one.turn refl));
+            let made = so_far.made f k turns in (
+              made.0 + 1,
+              one_turn_more before after made.1 (before_turn before step.was so_far.to_itself) goes_on (one.turn refl),
+            );
         later = IsLater-trans first before after so_far.later one.later;
         to_itself = one.to_itself;
         few = λ enough. false≢true (one.decides.1 enough);
@@ -170,8 +190,11 @@ module _ (limits : Limits) (quota : ℕ) (is_quota : quota ≡ max limits.quota 
           went_on limits quota is_quota (Some sink) runs.last now so_far.to_itself so_far.few runs.ends within in
           record {
             made = λ _ f k turns.
-                let made = so_far.made f k turns in
-                (made.0 + 1, one_turn_more runs.last after made.1 goes_on (is.turn refl));
+                let made = so_far.made f k turns in (
+                  made.0 + 1,
+                  one_turn_more runs.last after made.1 (before_turn runs.last runs.ends.was so_far.to_itself) goes_on
+                      (is.turn refl),
+                );
             later = IsLater-trans first runs.last after so_far.later is.later;
             further = omega (arith, further, more, one);
             within = omega (arith, within, more, one);

@@ -40,4 +40,8 @@ pub mod Turning
 pub mod Completing
 pub mod Remembered
 pub mod Settled
+pub mod Progress
+pub mod RoundOfQueue
+pub mod MadeInTime
+pub mod ReportsInTime
 mod Release

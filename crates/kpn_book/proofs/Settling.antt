@@ -61,11 +61,11 @@ same_frame_after (event.Leave c) a b q other is = is
 same_frame_after (event.Grow p c n) a b q other is = is
 
 -- none of these events is of process q
-abbrev AreOfOthers : (q : ℕ) → List Event → Type 0
+abbrev pub AreOfOthers : (q : ℕ) → List Event → Type 0
 AreOfOthers q [] = Unit {0}
 AreOfOthers q (e ∷ events) = (is_of q e ≡ false) × AreOfOthers q events
 
-frames_stay : (q : ℕ) (events : List Event) (b a : Book) → AppendsAll events b a → AreOfOthers q events
+pub frames_stay : (q : ℕ) (events : List Event) (b a : Book) → AppendsAll events b a → AreOfOthers q events
     → q < length b.tables.instances → frame_in a.machine q ≡ frame_in b.machine q
 frames_stay q [] b a appends others there = ap (λ x. frame_in x.machine q) appends
 frames_stay q (e ∷ events) b a appends others there =
@@ -104,7 +104,7 @@ module _ (p q : ℕ) (apart : q ≡ p → ⊥) where
   base_frame done.Paused b = refl
   base_frame other b = refl
 
-  commit_elsewhere : (answer : Done) (s : Stop) (b a : Book) → q < length b.tables.instances
+  pub commit_elsewhere : (answer : Done) (s : Stop) (b a : Book) → q < length b.tables.instances
       → HandlesStop p s answer b a → frame_in a.machine q ≡ frame_in b.machine q
   commit_elsewhere answer s b a there is =
       frames_stay q is.events (ready_if_paused p answer (with_one_commit b)) a is.appends

@@ -140,7 +140,7 @@ turn_commits quota before after turn =
 pub commits_are_turns : (limits : Limits) (first : Book) {n : ℕ} {last : Book} → Turns limits first n last
     → last.commits ≡ first.commits + n
 commits_are_turns limits first no_turn = omega arith
-commits_are_turns limits first (one_turn_more before after so_far goes_on turn) =
+commits_are_turns limits first (one_turn_more before after so_far is goes_on turn) =
     let more = turn_commits limits.quota before after turn in
     let same = commits_are_turns limits first so_far in
     omega arith
@@ -149,7 +149,7 @@ commits_are_turns limits first (one_turn_more before after so_far goes_on turn) 
 turns_below : (limits : Limits) (first : Book) → first.commits ≡ 0 → {n : ℕ} {last : Book} → Turns limits first n last
     → n ≤ limits.commits
 turns_below limits first none no_turn = omega arith
-turns_below limits first none (one_turn_more before after so_far goes_on turn) =
+turns_below limits first none (one_turn_more before after so_far is goes_on turn) =
     let below = goes_on.2 in
     let same = commits_are_turns limits first so_far in
     omega arith

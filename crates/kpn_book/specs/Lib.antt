@@ -22,5 +22,6 @@ pub mod Outcomes
 pub mod Reports
 pub mod Running
 pub mod RunHere
+pub mod Progress
 pub mod Releasing
 pub mod Remembering

@@ -10,10 +10,11 @@ use Rattle.kpn_step.specs.Frame.{start_frame}
 use Rattle.kpn_history.specs.declared.event.Event.{Event}
 use Rattle.kpn_history.specs.declared.event.Event.TheVariants.{Feed, Close, Take}
 use Rattle.kpn_history.specs.Channels.{unread_on}
+use Rattle.kpn_history.specs.Progress.{IsCaughtUp}
 use Rattle.kpn_machine.specs.Machine.{frame_in}
 use Rattle.kpn_book.specs.Schedule.{all_ready}
 use Rattle.kpn_book.specs.declared.answers.Done.{Done}
-use Rattle.kpn_book.specs.Book.{Book}
+use Rattle.kpn_book.specs.Book.{Book, held_count}
 use Rattle.kpn_book.specs.Kept.{IsBook}
 use Rattle.kpn_book.specs.Appending.{AllHappen}
 use Rattle.kpn_book.specs.Stepping.{StepsNext}
@@ -51,10 +52,16 @@ pub record IsTurn (quota : ℕ) (before after : Book) : Type 0 where
   pub steps : StepsNext (max quota 1) answer before stepped
   pub takes : AllHappen (takes_from_sinks stepped.tables stepped.history) stepped after
 
+-- a book before a turn: nobody is held, and the outside has nothing to do
+pub record IsBeforeTurn (b : Book) : Type 0 where
+  pub book : IsBook b
+  pub nobody_held : held_count b ≡ 0
+  pub served : IsCaughtUp b.tables b.history
+
 -- so many turns lead from the first book to this one, and before each of them there was no outcome
 pub data Turns (limits : Limits) (first : Book) : ℕ → Book → Type 0 where
   no_turn : Turns limits first 0 first
-  one_turn_more : {n : ℕ} (before after : Book) → Turns limits first n before
+  one_turn_more : {n : ℕ} (before after : Book) → Turns limits first n before → IsBeforeTurn before
       → IsOutcome before.tables before.history before.commits limits None → IsTurn limits.quota before after
       → Turns limits first (n + 1) after
 

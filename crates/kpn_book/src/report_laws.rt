@@ -1,6 +1,6 @@
 //! What holds of every report, as contracts of functions that do nothing: Kahn's theorem on reports, whatever the
 //! schedules of the runs and however many workers stepped the processes.
-ghost use Rattle.std.specs.Prelude.{◌≡◌, ◌≢◌, ℕ, ◌<◌, ◌≤◌, ◌⊎◌, ℤ, List, length, take, Option, Some};
+ghost use Rattle.std.specs.Prelude.{◌≡◌, ◌≢◌, ℕ, ◌*◌, ◌<◌, ◌≤◌, ◌⊎◌, max, ℤ, List, length, take, Option, Some};
 ghost use Rattle.kpn_net.specs.declared.tables.Policy.TheVariants.{All};
 ghost use Rattle.kpn_net.specs.declared.wait.Wait.TheVariants.{Full};
 ghost use Rattle.kpn_net.specs.Tables.{Tables};
@@ -12,13 +12,15 @@ ghost use Rattle.kpn_history.specs.Channels.{capacity_after};
 ghost use Rattle.kpn_history.specs.Ends.{WaitsOnFull, IsQuiet};
 ghost use Rattle.kpn_history.specs.Stops.{IsJammedAtLimit, WaitsForBlocked};
 ghost use Rattle.kpn_history.specs.Waiting.{wait_of, HasFullCycle};
+ghost use Rattle.kpn_history.specs.OneEnd.{IsRunFrom, HasMadeNoMore};
 ghost use Rattle.kpn_book.specs.declared.outcome.Limits.{Limits};
 ghost use Rattle.kpn_book.specs.declared.outcome.Outcome.{Outcome};
 ghost use Rattle.kpn_book.specs.declared.outcome.Outcome.TheVariants.{Ended, Clogged, Jammed, Enough, Stopped};
 ghost use Rattle.kpn_book.specs.declared.report.Report.{Report};
-ghost use Rattle.kpn_book.specs.Outcomes.{IsOutcome, verdict_of};
+ghost use Rattle.kpn_book.specs.Outcomes.{IsEnough, IsOutcome, verdict_of};
 ghost use Rattle.kpn_book.specs.Reports.{events_of, journal_of, taken_of, AreSupplied, IsReport};
 ghost use Rattle.kpn_book.specs.RunHere.{IsReportHere};
+ghost use Rattle.kpn_book.specs.Progress.{TakesRounds};
 
 // ---- Kahn's theorem on reports
 
@@ -132,4 +134,22 @@ pub fn turns_of_a_run_here()
     ensures stopped { (t : Tables) (lists : List (List ℤ)) (limits : Limits) (report : Report)
         → IsReportHere t lists limits report → report.outcome ≡ Stopped
         → report.commits ≡ limits.commits }
+{}
+
+/// What any history from the same lists makes, the run on one thread makes too, if its limit of commits allows a round of
+/// the queue for each event of a process there, and for each pause before it. Unless it has enough before, it has all of
+/// it: the same items at least on each channel, read by the same processes. If that history has enough, so has the run.
+pub fn what_is_made_in_time()
+    ensures made { (t : Tables) → IsNetwork t → (lists : List (List ℤ)) (limits : Limits)
+        (report : Report) → IsReport t lists limits report → IsReportHere t lists limits report
+        → AreSupplied t lists (events_of report) → report.outcome ≢ Enough
+        → (H : List Event) → IsRunFrom t (given_by t lists) H
+        → (rounds : ℕ) → TakesRounds t (max limits.quota 1) H rounds
+        → rounds * length t.instances < limits.commits → HasMadeNoMore t H (events_of report) }
+    ensures enough { (t : Tables) → IsNetwork t → (lists : List (List ℤ)) (limits : Limits)
+        (report : Report) → IsReport t lists limits report → IsReportHere t lists limits report
+        → AreSupplied t lists (events_of report)
+        → (H : List Event) → IsRunFrom t (given_by t lists) H → IsEnough t H limits.take
+        → (rounds : ℕ) → TakesRounds t (max limits.quota 1) H rounds
+        → rounds * length t.instances < limits.commits → report.outcome ≡ Enough }
 {}

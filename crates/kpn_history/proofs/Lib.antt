@@ -30,5 +30,6 @@ pub mod Rests
 pub mod Standing
 pub mod OwedSets
 pub mod OneEnd
+pub mod Progress
 pub mod SameEnds
 pub mod SameViews

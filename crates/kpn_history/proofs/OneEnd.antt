@@ -14,7 +14,7 @@ use Rattle.kpn_lang.proofs.Talks.{got_at-prefix, put_at-prefix}
 use Rattle.kpn_net.specs.declared.wait.Wait.TheVariants.{Full}
 use Rattle.kpn_net.specs.declared.tables.End.{End}
 use Rattle.kpn_net.specs.declared.tables.End.TheVariants.{Process, Source, Sink}
-use Rattle.kpn_net.specs.Tables.{Tables, writer_of, reader_of}
+use Rattle.kpn_net.specs.Tables.{Tables, channel_at, is_source, writer_of, reader_of}
 use Rattle.kpn_net.specs.Faults.{IsNetwork}
 use Rattle.kpn_net.specs.Process.{Family}
 use Rattle.kpn_net.proofs.Awaited.{in_range}
@@ -24,7 +24,7 @@ use Rattle.kpn_history.specs.declared.event.How.{How}
 use Rattle.kpn_history.specs.declared.event.Event.{Event}
 use Rattle.kpn_history.specs.declared.event.Event.TheVariants.{Put, Feed, Ended, Grow}
 use Rattle.kpn_history.specs.Talks.{talk_of}
-use Rattle.kpn_history.specs.Channels.{written_in, written_on, read_on, fed, is_left, is_growth_of, capacity_or_zero}
+use Rattle.kpn_history.specs.Channels.{written_in, written_on, read_on, fed, is_closed, is_left, is_growth_of, capacity_or_zero}
 use Rattle.kpn_history.specs.Waiting.{wait_of}
 use Rattle.kpn_history.specs.Legal.{OwesGrowth, Legal}
 use Rattle.kpn_history.specs.OneEnd.{growths_of, IsRunFrom, IsFinalRun, HasMadeNoMore, EndAlike}
@@ -44,16 +44,16 @@ use Rattle.kpn_history.proofs.OwedSets.{OwedTo, owed_stand, all_stand, cycle_sta
 
 -- ---- growths after one more event
 
-growths_of-push : (B : List Event) (e : Event) (c : ℕ)
+pub growths_of-push : (B : List Event) (e : Event) (c : ℕ)
     → growths_of (B ++ e ∷ []) c ≡ growths_of B c + cond (is_growth_of c e) 1 0
 growths_of-push B e c = sum_by_push (λ x. cond (is_growth_of c x) 1 0) B e
 
 -- a growth of a channel was owed
-record WasOwed (t : Tables) (B : List Event) (c : ℕ) : Type 0 where
-  process : ℕ
-  owed : OwesGrowth t B process c
+pub record WasOwed (t : Tables) (B : List Event) (c : ℕ) : Type 0 where
+  pub process : ℕ
+  pub owed : OwesGrowth t B process c
 
-was_owed : (t : Tables) (B : List Event) (e : Event) → Legal t (B ++ e ∷ []) → (c : ℕ) → is_growth_of c e ≡ true
+pub was_owed : (t : Tables) (B : List Event) (e : Event) → Legal t (B ++ e ∷ []) → (c : ℕ) → is_growth_of c e ≡ true
     → WasOwed t B c
 was_owed t B (Grow p d n) legal c is =
     record {
@@ -63,7 +63,7 @@ was_owed t B (Grow p d n) legal c is =
 was_owed t B e legal c is = absurd (false≢true is)
 
 -- by whether the event is a growth of the channel: if it is one, the channel may not have grown as often before
-grown_with : (t : Tables) (B G : List Event) (e : Event) → Legal t (B ++ e ∷ []) → (c : ℕ)
+pub grown_with : (t : Tables) (B G : List Event) (e : Event) → Legal t (B ++ e ∷ []) → (c : ℕ)
     → growths_of B c ≤ growths_of G c
     → (WasOwed t B c → is_growth_of c e ≡ true → growths_of B c ≡ growths_of G c → ⊥)
     → growths_of (B ++ e ∷ []) c ≤ growths_of G c
@@ -163,8 +163,6 @@ module _ (t : Tables) (network : IsNetwork t) (given : Family) where
   pub limits_of : (H G : List Event) → IsRunFrom t given H → IsRunFrom t given G → Limits H G
   limits_of H G run-H run-G = (limit_each_other H run-H.legal G run-G.legal run-H run-G).0
 
--- ---- a run beside a final one
-
 -- nothing is written on a channel that nobody writes
 unwritten : (t : Tables) → IsNetwork t → (c : ℕ) → writer_of t c ≡ Sink → (H : List Event) → Legal t H
     → written_on H c ≡ []
@@ -186,6 +184,63 @@ unwritten t network c none =
         subst (λ x. writer_of t x ≡ Source) same (writer_of-source t d owns) in
         absurd cc)
     by_event event owns = refl
+
+-- ---- what was made of all processes
+
+-- if each source is closed, nothing more was made at all
+module _ (t : Tables) (network : IsNetwork t) (given : Family) (H G : List Event) (run : IsRunFrom t given H)
+    (run-G : IsRunFrom t given G) (closed : (c : ℕ) → is_source (channel_at t c) ≡ true → is_closed G c ≡ true)
+    (within : AreWithin t H G (λ p. p < length t.instances)) (grown : (c : ℕ) → growths_of H c ≤ growths_of G c) where
+  ended_so : (p : ℕ) (how : How) → Contains H (Ended p how) → Contains G (Ended p how)
+  ended_so p how h =
+      let last = last_if_ended t p how H run.legal h in
+      let there : p < length t.instances = (last_is_own t network p H run.legal (Ended p how) last).owns in
+      let end = end_among G p (within.ended p there (ended_by H p how h)) in
+      let rests : Rests t H p (Ended p how) = record { last = last; is = tt } in
+      let stays : Rests t G p (Ended p end.0) =
+      record { last = last_if_ended t p end.0 G run-G.legal end.1; is = tt } in
+      let same : talk_of H p ≡ talk_of G p =
+      IsPrefix-antisym (talk_of H p) (talk_of G p) (within.said p there)
+      (says_within t network given G H run-G.legal run.legal run-G.fed.begun run.fed.begun p there
+      (Ended p how) rests tt) in
+      subst (Contains G)
+      (sym
+      (same_rest t network H G run.legal run-G.legal p there same (Ended p how) (Ended p end.0) rests stays))
+      end.1
+
+  written_so : (c : ℕ) (writer : End) → writer_of t c ≡ writer → IsPrefix (written_on H c) (written_on G c)
+  written_so c (Process q) w =
+      IsPrefix-trans (written_on H c) (put_at (talk_of H q) c) (written_on G c)
+      (IsPrefix-same _ _ (written_on-put t network c q w H run.legal))
+      (IsPrefix-trans (put_at (talk_of H q) c) (put_at (talk_of G q) c) (written_on G c)
+      (put_at-prefix (talk_of H q) (talk_of G q) c (within.said q (Writes-writer_of t q c w).process))
+      (IsPrefix-same _ _ (sym (written_on-put t network c q w G run-G.legal))))
+  written_so c Source w =
+      let source = source-writer_of t c w in
+      IsPrefix-trans (written_on H c) (fed t H c) (written_on G c)
+      (IsPrefix-same _ _ (sym (fed-source t H c source)))
+      (IsPrefix-trans (fed t H c) (given c) (written_on G c) (run.fed.begun.each c source)
+      (IsPrefix-same _ _
+      (sym (run-G.fed.whole c source (closed c source)))))
+  written_so c Sink w = subst (λ xs. IsPrefix xs (written_on G c)) (sym (unwritten t network c w H run.legal)) tt
+
+  pub no_more_within : HasMadeNoMore t H G
+  no_more_within =
+      record {
+        said = within.said;
+        ended = ended_so;
+        written = λ c. written_so c (writer_of t c) refl;
+        read = λ c p reader.
+            IsPrefix-trans (read_on H c) (got_at (talk_of H p) c) (read_on G c)
+            (IsPrefix-same _ _ (read_on-got t network c p reader H run.legal))
+            (IsPrefix-trans (got_at (talk_of H p) c) (got_at (talk_of G p) c) (read_on G c)
+            (got_at-prefix (talk_of H p) (talk_of G p) c
+            (within.said p (Reads-reader_of t p c reader).process))
+            (IsPrefix-same _ _ (sym (read_on-got t network c p reader G run-G.legal))));
+        grown = grown;
+      }
+
+-- ---- a run beside a final one
 
 module _ (t : Tables) (network : IsNetwork t) (given : Family) (G : List Event) (over : IsFinalRun t given G) where
   stand : Stand t G (λ p. p < length t.instances)
@@ -253,58 +308,11 @@ module _ (t : Tables) (network : IsNetwork t) (given : Family) (G : List Event) 
         grown = grown;
       })
 
-  module _ (H : List Event) (run : IsRunFrom t given H) where
-    below : StaysWithin H
-    below = stays_within H run.legal run
-
-    ended_so : (p : ℕ) (how : How) → Contains H (Ended p how) → Contains G (Ended p how)
-    ended_so p how h =
-        let last = last_if_ended t p how H run.legal h in
-        let there : p < length t.instances = (last_is_own t network p H run.legal (Ended p how) last).owns in
-        let end = end_among G p (below.within.ended p there (ended_by H p how h)) in
-        let rests : Rests t H p (Ended p how) = record { last = last; is = tt } in
-        let stays : Rests t G p (Ended p end.0) =
-        record { last = last_if_ended t p end.0 G over.run.legal end.1; is = tt } in
-        let same : talk_of H p ≡ talk_of G p =
-        IsPrefix-antisym (talk_of H p) (talk_of G p) (below.within.said p there)
-        (says_within t network given G H over.run.legal run.legal over.run.fed.begun run.fed.begun p there
-        (Ended p how) rests tt) in
-        subst (Contains G)
-        (sym
-        (same_rest t network H G run.legal over.run.legal p there same (Ended p how) (Ended p end.0) rests stays))
-        end.1
-
-    written_so : (c : ℕ) (writer : End) → writer_of t c ≡ writer → IsPrefix (written_on H c) (written_on G c)
-    written_so c (Process q) w =
-        IsPrefix-trans (written_on H c) (put_at (talk_of H q) c) (written_on G c)
-        (IsPrefix-same _ _ (written_on-put t network c q w H run.legal))
-        (IsPrefix-trans (put_at (talk_of H q) c) (put_at (talk_of G q) c) (written_on G c)
-        (put_at-prefix (talk_of H q) (talk_of G q) c (below.within.said q (Writes-writer_of t q c w).process))
-        (IsPrefix-same _ _ (sym (written_on-put t network c q w G over.run.legal))))
-    written_so c Source w =
-        let source = source-writer_of t c w in
-        IsPrefix-trans (written_on H c) (fed t H c) (written_on G c)
-        (IsPrefix-same _ _ (sym (fed-source t H c source)))
-        (IsPrefix-trans (fed t H c) (given c) (written_on G c) (run.fed.begun.each c source)
-        (IsPrefix-same _ _
-        (sym (over.run.fed.whole c source (over.settled.sources c (source_there t c source) source)))))
-    written_so c Sink w = subst (λ xs. IsPrefix xs (written_on G c)) (sym (unwritten t network c w H run.legal)) tt
-
-    pub made_no_more : HasMadeNoMore t H G
-    made_no_more =
-        record {
-          said = below.within.said;
-          ended = ended_so;
-          written = λ c. written_so c (writer_of t c) refl;
-          read = λ c p reader.
-              IsPrefix-trans (read_on H c) (got_at (talk_of H p) c) (read_on G c)
-              (IsPrefix-same _ _ (read_on-got t network c p reader H run.legal))
-              (IsPrefix-trans (got_at (talk_of H p) c) (got_at (talk_of G p) c) (read_on G c)
-              (got_at-prefix (talk_of H p) (talk_of G p) c
-              (below.within.said p (Reads-reader_of t p c reader).process))
-              (IsPrefix-same _ _ (sym (read_on-got t network c p reader G over.run.legal))));
-          grown = below.grown;
-        }
+  pub made_no_more : (H : List Event) → IsRunFrom t given H → HasMadeNoMore t H G
+  made_no_more H run =
+      let below = stays_within H run.legal run in
+      no_more_within t network given H G run over.run
+      (λ c source. over.settled.sources c (source_there t c source) source) below.within below.grown
 
 -- ---- two final runs
 

@@ -1,7 +1,7 @@
 -- Where a process rests: on its end, or on a wait that lasts. What it said by then bounds what it says in other
 -- histories on the same lists, and in two histories in which it said the same it rests alike.
 use Rattle.std.specs.Prelude.{Contains}
-use Rattle.std.proofs.Common.{◌≡◌, ℕ, ◌<◌, ◌≤◌, max, ℤ, true, cond, eq-eqb, List, [], ◌∷◌, ◌++◌, length, map, Some, refl, sym, ap, ◌∙◌, subst, inl, inr, arith, length-append}
+use Rattle.std.proofs.Common.{◌≡◌, ℕ, ◌<◌, ◌≤◌, ◌⊎◌, max, ℤ, true, cond, eq-eqb, List, [], ◌∷◌, ◌++◌, length, map, Some, refl, sym, ap, ◌∙◌, subst, inl, inr, arith, length-append}
 use Rattle.std.proofs.lemmas.Bool.{cases_Bool, both_ways, eqb-true, or_left, or_right}
 use Rattle.std.proofs.lemmas.List.{get_or_default}
 use Rattle.std.proofs.lemmas.List.Elements.{Contains-push_cases}
@@ -34,6 +34,7 @@ use Rattle.kpn_history.specs.Waiting.{wait_of_last, wait_of}
 use Rattle.kpn_history.specs.WaitsAfter.{wait_made}
 use Rattle.kpn_history.specs.Legal.{ending_of, Legal}
 use Rattle.kpn_history.specs.Ends.{HasStopped}
+use Rattle.kpn_history.specs.Progress.{IsHalt}
 use Rattle.kpn_history.proofs.Events.{Some-event, last_event-own, last_event-other, flat_map-same, said_in-other, read_on-same}
 use Rattle.kpn_history.proofs.Legality.{Legal-last, Legal-consistent, by_events}
 use Rattle.kpn_history.proofs.AfterEvent.{has_ended-next}
@@ -60,6 +61,13 @@ IsRest t H event = ⊥
 pub record Rests (t : Tables) (H : List Event) (p : ℕ) (e : Event) : Type 0 where
   pub last : last_event H p ≡ Some e
   pub is : IsRest t H e
+
+-- it is a wait or an end
+pub rest_halts : (t : Tables) (H : List Event) (e : Event) → IsRest t H e → IsHalt e
+rest_halts t H (WaitEmpty p c) is = tt
+rest_halts t H (WaitFull p c) is = tt
+rest_halts t H (Ended p how) is = tt
+rest_halts t H event is = absurd is
 
 -- what it waits for then
 pub rest_waits : (t : Tables) (H : List Event) (p : ℕ) (e : Event) → Rests t H p e → wait_of t H p ≡ wait_made e
@@ -259,48 +267,49 @@ writes_one t p X talk c d v w h k =
 starved_at_one : (c d : ℕ) → ending.Starved c ≡ ending.Starved d → c ≡ d
 starved_at_one c d e = cc
 
--- on one family and after one talk a process comes to rest in one way
-rest_unique : (t : Tables) (p : ℕ) (X : Family) (talk : List Said) (H G : List Event) (e f : Event)
-    → is_of p e ≡ true → is_of p f ≡ true → IsRest t H e → IsRest t G f → ComesToRest t p X talk e
+-- on one family and after one talk a process halts in one way
+rest_unique : (t : Tables) (p : ℕ) (X : Family) (talk : List Said) (e f : Event)
+    → is_of p e ≡ true → is_of p f ≡ true → IsHalt e → IsHalt f → ComesToRest t p X talk e
     → ComesToRest t p X talk f → e ≡ f
-rest_unique t p X talk H G (WaitEmpty q c) (WaitEmpty r d) own its rests stays h k =
+rest_unique t p X talk (WaitEmpty q c) (WaitEmpty r d) own its rests stays h k =
     ap (λ x. WaitEmpty x c) (eqb-true q p own ∙ sym (eqb-true r p its))
     ∙ ap (WaitEmpty r) (starved_at_one c d (comes_to_one t p X (ending.Starved c) (ending.Starved d) talk talk h k))
-rest_unique t p X talk H G (WaitEmpty q c) (WaitFull r d) own its rests stays h k =
+rest_unique t p X talk (WaitEmpty q c) (WaitFull r d) own its rests stays h k =
     absurd (says_no_more t p X (ending.Starved c) talk (said.Put d k.0) h k.1)
-rest_unique t p X talk H G (WaitEmpty q c) (Ended r way) own its rests stays h k =
+rest_unique t p X talk (WaitEmpty q c) (Ended r way) own its rests stays h k =
     absurd (never_starved way c (comes_to_one t p X (ending.Starved c) (ending_of way) talk talk h k))
-rest_unique t p X talk H G (WaitFull q c) (WaitEmpty r d) own its rests stays h k =
+rest_unique t p X talk (WaitFull q c) (WaitEmpty r d) own its rests stays h k =
     absurd (says_no_more t p X (ending.Starved d) talk (said.Put c h.0) k h.1)
-rest_unique t p X talk H G (WaitFull q c) (WaitFull r d) own its rests stays h k =
+rest_unique t p X talk (WaitFull q c) (WaitFull r d) own its rests stays h k =
     ap (λ x. WaitFull x c) (eqb-true q p own ∙ sym (eqb-true r p its))
     ∙ ap (WaitFull r) (writes_one t p X talk c d h.0 k.0 h.1 k.1)
-rest_unique t p X talk H G (WaitFull q c) (Ended r way) own its rests stays h k =
+rest_unique t p X talk (WaitFull q c) (Ended r way) own its rests stays h k =
     absurd (says_no_more t p X (ending_of way) talk (said.Put c h.0) k h.1)
-rest_unique t p X talk H G (Ended q way) (WaitEmpty r d) own its rests stays h k =
+rest_unique t p X talk (Ended q way) (WaitEmpty r d) own its rests stays h k =
     absurd (never_starved way d (comes_to_one t p X (ending.Starved d) (ending_of way) talk talk k h))
-rest_unique t p X talk H G (Ended q way) (WaitFull r d) own its rests stays h k =
+rest_unique t p X talk (Ended q way) (WaitFull r d) own its rests stays h k =
     absurd (says_no_more t p X (ending_of way) talk (said.Put d k.0) h k.1)
-rest_unique t p X talk H G (Ended q way) (Ended r other) own its rests stays h k =
+rest_unique t p X talk (Ended q way) (Ended r other) own its rests stays h k =
     ap (λ x. Ended x way) (eqb-true q p own ∙ sym (eqb-true r p its))
     ∙ ap (Ended r) (one_way_to_end way other (comes_to_one t p X (ending_of way) (ending_of other) talk talk h k))
-rest_unique t p X talk H G (WaitEmpty q c) f own its rests stays h k = absurd stays
-rest_unique t p X talk H G (WaitFull q c) f own its rests stays h k = absurd stays
-rest_unique t p X talk H G (Ended q way) f own its rests stays h k = absurd stays
-rest_unique t p X talk H G e f own its rests stays h k = absurd rests
+rest_unique t p X talk (WaitEmpty q c) f own its rests stays h k = absurd stays
+rest_unique t p X talk (WaitFull q c) f own its rests stays h k = absurd stays
+rest_unique t p X talk (Ended q way) f own its rests stays h k = absurd stays
+rest_unique t p X talk e f own its rests stays h k = absurd rests
 
 -- ---- two histories
 
--- a process that said the same in two histories, and rests in both, rests on the same event
-pub same_rest : (t : Tables) (network : IsNetwork t) (H G : List Event) → Legal t H → Legal t G → (p : ℕ)
-    → p < length t.instances → talk_of H p ≡ talk_of G p → (e f : Event) → Rests t H p e → Rests t G p f → e ≡ f
-same_rest t network H G legal-H legal-G p below same e f rests stays =
-    rest_unique t p (read_on G) (talk_of G p) H G e f (last_is_own t network p H legal-H e rests.last).its
-    (last_is_own t network p G legal-G f stays.last).its rests.is stays.is
+-- a process that said the same in two histories, and made a wait or its end last in both, made the same event last
+pub same_halt : (t : Tables) (network : IsNetwork t) (H G : List Event) → Legal t H → Legal t G → (p : ℕ)
+    → p < length t.instances → talk_of H p ≡ talk_of G p → (e f : Event) → last_event H p ≡ Some e
+    → last_event G p ≡ Some f → IsHalt e → IsHalt f → e ≡ f
+same_halt t network H G legal-H legal-G p below same e f last other halts stays =
+    rest_unique t p (read_on G) (talk_of G p) e f (last_is_own t network p H legal-H e last).its
+    (last_is_own t network p G legal-G f other).its halts stays
     (subst (λ talk. ComesToRest t p (read_on G) talk e) same
     (rest-own_ins t p (read_on H) (read_on G) reads (talk_of H p) e
-    (came_to_rest t network p below H legal-H e rests.last)))
-    (came_to_rest t network p below G legal-G f stays.last)
+    (came_to_rest t network p below H legal-H e last)))
+    (came_to_rest t network p below G legal-G f other)
   where
     reads : AgreeOnIns t p (read_on H) (read_on G)
     reads = record {
@@ -310,6 +319,13 @@ same_rest t network H G legal-H legal-G p below same e f rests stays =
           ∙ ap (λ talk. got_at talk c) same
           ∙ sym (read_on-got t network c p reader G legal-G);
     }
+
+-- a process that said the same in two histories, and rests in both, rests on the same event
+pub same_rest : (t : Tables) (network : IsNetwork t) (H G : List Event) → Legal t H → Legal t G → (p : ℕ)
+    → p < length t.instances → talk_of H p ≡ talk_of G p → (e f : Event) → Rests t H p e → Rests t G p f → e ≡ f
+same_rest t network H G legal-H legal-G p below same e f rests stays =
+    same_halt t network H G legal-H legal-G p below same e f rests.last stays.last (rest_halts t H e rests.is)
+    (rest_halts t G f stays.is)
 
 -- in the first history no more was read, or written, on the channel on which a process waits in the second one
 abbrev pub IsBounded : List Event → List Event → Event → Type 0
@@ -347,6 +363,13 @@ module _ (t : Tables) (network : IsNetwork t) (given : Family) (H G : List Event
   said_on : (Y : Family) → IsFamilyPrefix (read_on H) Y → ProcessCanSay t p Y (talk_of H p)
   said_on Y longer =
       CanSay-longer t p (read_on H) Y longer (talk_of H p) ((Legal-consistent t H legal-H).said p below)
+
+  -- one of its two talks begins the other
+  pub talks_comparable : IsPrefix (talk_of H p) (talk_of G p) ⊎ IsPrefix (talk_of G p) (talk_of H p)
+  talks_comparable =
+      let Y = iterate t given are_below.turns in
+      CanSay-comparable t p Y (talk_of H p) (talk_of G p) (said_on Y are_below.first)
+      (CanSay-longer t p (read_on G) Y are_below.second (talk_of G p) ((Legal-consistent t G legal-G).said p below))
 
   -- if it would have put one more item there in the first history
   puts_more : (q c : ℕ) (v : ℤ) → writer_of t c ≡ Process p → length (written_on H c) ≤ length (written_on G c)

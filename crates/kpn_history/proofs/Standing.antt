@@ -147,16 +147,12 @@ read_late t B e legal c =
     IsPrefix-trans _ (written_on (B ++ e ∷ []) c) (written_on B c) (reads_begin_writes t (B ++ e ∷ []) legal c)
     (IsPrefix-same _ _ (written_on-same B e c refl))
 
--- ---- one more event
+-- ---- a history that has made no more
 
 module _ (t : Tables) (network : IsNetwork t) (given : Family) (G : List Event) (run : IsRunFrom t given G)
-    (Z : ℕ → Type 0) (stand : Stand t G Z) (B : List Event) (e : Event)
-    (more : IsRunFrom t given (B ++ e ∷ [])) (within : AreWithin t B G Z) where
-  before : IsRunFrom t given B
-  before = run_before t network given B e more
-
+    (Z : ℕ → Type 0) (B : List Event) (before : IsRunFrom t given B) (within : AreWithin t B G Z) where
   -- what was written where one of them waits for an item
-  written_there : (c : ℕ) (writer : End) → writer_of t c ≡ writer → PutsNoMore Z G c writer
+  pub written_there : (c : ℕ) (writer : End) → writer_of t c ≡ writer → PutsNoMore Z G c writer
       → IsPrefix (written_on B c) (written_on G c)
   written_there c (Process q) w no_more =
       IsPrefix-trans (written_on B c) (put_at (talk_of B q) c) (written_on G c)
@@ -173,7 +169,7 @@ module _ (t : Tables) (network : IsNetwork t) (given : Family) (G : List Event) 
   written_there c Sink w no_more = absurd no_more
 
   -- a channel that is full where one of them waits is full with as many items
-  full_too : (p c q : ℕ) → Z p → wait_of t G p ≡ Full c → is_full t G c ≡ true → reader_of t c ≡ Process q → Z q
+  pub full_too : (p c q : ℕ) → Z p → wait_of t G p ≡ Full c → is_full t G c ≡ true → reader_of t c ≡ Process q → Z q
       → length (written_on G c) ≤ length (written_on B c) → is_full t B c ≡ true
   full_too p c q of_p waits full reader of_q as_many =
       let f = is_filled t network G run.legal c full in
@@ -197,13 +193,21 @@ module _ (t : Tables) (network : IsNetwork t) (given : Family) (G : List Event) 
       (ap (λ o. reaches o (length (unread_on B c))) small.is
       ∙ le-leb small.before (length (unread_on B c)) (omega arith))
 
+-- ---- one more event
+
+module _ (t : Tables) (network : IsNetwork t) (given : Family) (G : List Event) (run : IsRunFrom t given G)
+    (Z : ℕ → Type 0) (B : List Event) (e : Event) (more : IsRunFrom t given (B ++ e ∷ []))
+    (within : AreWithin t B G Z) where
+  before : IsRunFrom t given B
+  before = run_before t network given B e more
+
   -- so nothing more is written there
   written_full : (p c q : ℕ) → Z p → writer_of t c ≡ Process p → wait_of t G p ≡ Full c → is_full t G c ≡ true
       → reader_of t c ≡ Process q → Z q → length (written_on (B ++ e ∷ []) c) ≤ length (written_on G c)
   written_full p c q of_p writer waits full reader of_q = by_event e more.legal
     where
       so_far : length (written_on B c) ≤ length (written_on G c)
-      so_far = length_of_prefix (written_on B c) (written_on G c) (written_there c (Process p) writer of_p)
+      so_far = length_of_prefix (written_on B c) (written_on G c) (written_there t network given G run Z B before within c (Process p) writer of_p)
 
       nothing : (f : Event) → written_in c f ≡ [] → length (written_on (B ++ f ∷ []) c) ≤ length (written_on G c)
       nothing f none = let same = ap length (written_on-same B f c none) in let bound = so_far in omega arith
@@ -222,7 +226,9 @@ module _ (t : Tables) (network : IsNetwork t) (given : Family) (G : List Event) 
                       ∙ length-append (written_on B c) (written_in c (Put r d v)) in
                       omega arith
                   | inr as_many ↦
-                      absurd (both_ways _ room (full_too p c q of_p waits full reader of_q as_many))
+                      absurd
+                      (both_ways _ room
+                      (full_too t network given G run Z B before within p c q of_p waits full reader of_q as_many))
                 ]
             | inr elsewhere ↦ nothing (Put r d v) (none_elsewhere d c v elsewhere)
           ]
@@ -238,7 +244,7 @@ module _ (t : Tables) (network : IsNetwork t) (given : Family) (G : List Event) 
       by_event (WaitEmpty r c) rests awaits =
           IsPrefix-trans (read_on (B ++ e ∷ []) c) (written_on B c) (read_on G c) (read_late t B e more.legal c)
           (IsPrefix-trans (written_on B c) (written_on G c) (read_on G c)
-          (written_there c (writer_of t c) refl awaits)
+          (written_there t network given G run Z B before within c (writer_of t c) refl awaits)
           (IsPrefix-same _ _ (sym (all_read t G run.legal c rests.is))))
       by_event (WaitFull r c) rests awaits =
           let own = last_is_own t network p G run.legal (WaitFull r c) rests.last in
@@ -250,11 +256,17 @@ module _ (t : Tables) (network : IsNetwork t) (given : Family) (G : List Event) 
           own_writes its owns = subst (λ x. Writes t x c) (eqb-true r p its) owns
       by_event event rests awaits = tt
 
-  pub says_no_more : (p : ℕ) → Z p → IsPrefix (talk_of (B ++ e ∷ []) p) (talk_of G p)
-  says_no_more p of_p =
-      let s = stand p of_p in
+  -- so one of them that stands still has said no more
+  pub says_no_more_there : (p : ℕ) → Z p → StandsAmong t G Z p → IsPrefix (talk_of (B ++ e ∷ []) p) (talk_of G p)
+  says_no_more_there p of_p s =
       says_within t network given (B ++ e ∷ []) G more.legal run.legal more.fed.begun run.fed.begun p s.there s.event
       s.rests (bounded p of_p s)
+
+module _ (t : Tables) (network : IsNetwork t) (given : Family) (G : List Event) (run : IsRunFrom t given G)
+    (Z : ℕ → Type 0) (stand : Stand t G Z) (B : List Event) (e : Event)
+    (more : IsRunFrom t given (B ++ e ∷ [])) (within : AreWithin t B G Z) where
+  pub says_no_more : (p : ℕ) → Z p → IsPrefix (talk_of (B ++ e ∷ []) p) (talk_of G p)
+  says_no_more p of_p = says_no_more_there t network given G run Z B e more within p of_p (stand p of_p)
 
   pub ends_no_more : (p : ℕ) → Z p → has_ended (B ++ e ∷ []) p ≡ true → has_ended G p ≡ true
   ends_no_more p of_p ended =

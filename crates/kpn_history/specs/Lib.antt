@@ -13,3 +13,4 @@ pub mod Views
 pub mod Stops
 pub mod Complete
 pub mod OneEnd
+pub mod Progress

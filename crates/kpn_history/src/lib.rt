@@ -10,6 +10,7 @@ pub mod growth_laws;
 mod history;
 mod keeping;
 pub mod laws;
+pub mod progress_laws;
 mod state;
 pub mod state_laws;
 mod stored;
