@@ -2,7 +2,7 @@
 //! The network is run once more for that, and so are these processes, if what it read are plain files.
 ghost use Rattle.std.specs.Prelude.{◌<◌, length};
 
-use crate::pieces::{file_in, has_name, is_of, is_said, push, push_name};
+use crate::pieces::{file_in, has_name, is_of, is_said, push, push_name, text_of};
 use crate::stopped::is_short;
 use kpn_book::{Limits, run_here};
 use kpn_command_base::{EndKind, QUOTA, load_inputs};
@@ -23,8 +23,8 @@ pub(crate) struct FedFiles<'r, 'a> {
     pub(crate) sources: &'r [&'a str],
 }
 
-/// Adds which processes have ended by a fault, as the lines `fault INSTANCE CAUSE` of a report tell, and what it means.
-/// Where it was is told if there are these inputs.
+/// Adds which processes have ended by a fault, as the lines `fault INSTANCE CAUSE` of a report tell. Where it was is told
+/// if there are these inputs. It returns whether there are some.
 pub(crate) fn push_faults<R: Files, S: Shelf>(
     text: &mut Vec<u8>,
     alloc: Global,
@@ -32,18 +32,25 @@ pub(crate) fn push_faults<R: Files, S: Shelf>(
     inputs: Option<FedFiles<'_, '_>>,
     shelf: &S,
     rt: &R,
-) -> Result<(), AllocError> {
+) -> Result<bool, AllocError> {
     let mut has_fault = false;
     for (cause, said) in &FAULTS {
         if push_faulted(text, report, cause, said)? {
             has_fault = true;
         }
     }
-    if !has_fault {
-        return Ok(());
+    if has_fault {
+        if let Some(inputs) = inputs {
+            push_places(text, alloc, report, inputs, shelf, rt)?;
+        }
     }
-    if let Some(inputs) = inputs {
-        push_places(text, alloc, report, inputs, shelf, rt)?;
+    Ok(has_fault)
+}
+
+/// Adds what a fault means, unless one was said before.
+pub(crate) fn push_meaning(text: &mut Vec<u8>, said: &[u8]) -> Result<(), AllocError> {
+    if text_of(said).lines().any(|line| fault_in(line).is_some()) {
+        return Ok(());
     }
     push(text, FAULTED)
 }

@@ -2,7 +2,7 @@
 //! process that never gets room.
 ghost use Rattle.std.specs.Prelude.{⊤};
 
-use crate::faults::{lines_of_stream, push_faults, unsaid_faults};
+use crate::faults::{lines_of_stream, push_faults, push_meaning, unsaid_faults};
 use crate::keeping::EndKeeper;
 use crate::pieces::{is_said, push, push_name, text_of};
 use crate::waits::{NetworkWaits, waits_among};
@@ -114,8 +114,10 @@ fn push_news<R: System + AllocGlobal + Threads>(
     let mut report = String::new(alloc);
     push_fault_lines(&mut report, document, &states)?;
     let faults = unsaid_faults(alloc, report.as_str(), said)?;
+    if push_news_of_faults(text, rt, words, document, text_of(&faults))? {
+        push_meaning(text, said)?;
+    }
     said.extend_from_slice(&faults)?;
-    push_news_of_faults(text, rt, words, document, text_of(&faults))?;
     let waits = waits_among(alloc, &states)?;
     let mut lines = Vec::new(alloc);
     waits.push_rings(&mut lines, document, said)?;
@@ -126,16 +128,16 @@ fn push_news<R: System + AllocGlobal + Threads>(
     text.extend_from_slice(&lines)
 }
 
-// Adds the words for lines of a report that tell faults, if there are some.
+// Adds the words for lines of a report that tell faults. It returns whether there are some.
 fn push_news_of_faults<R: System + AllocGlobal + Threads>(
     text: &mut Vec<u8>,
     rt: &R,
     words: &[String],
     document: &Document,
     faults: &str,
-) -> Result<(), AllocError> {
+) -> Result<bool, AllocError> {
     if faults.is_empty() {
-        return Ok(());
+        return Ok(false);
     }
     let alloc = rt.alloc();
     let shelf = FileShelf::new(rt);
@@ -145,7 +147,7 @@ fn push_news_of_faults<R: System + AllocGlobal + Threads>(
                 lines_of_stream(stream.file, &stream.sources, &stream.formats, document);
             push_faults(text, alloc, faults, inputs, &shelf, rt)
         }
-        _ => Ok(()),
+        _ => Ok(false),
     }
 }
 
