@@ -1,7 +1,7 @@
 //! What to do about an outcome: about a ring of processes or a fault, about a run that is clogged, jammed or stopped,
 //! and about a source without items.
 
-use crate::faults::{FedFiles, lines_of_stream, push_faults, unsaid_faults};
+use crate::faults::{FedFiles, lines_of_stream, push_faults, push_meaning, unsaid_faults};
 use crate::pieces::{file_in, has_name, has_one, is_of, is_plain, push, push_name, text_of};
 use crate::room::push_room;
 use crate::sounds::push_sounds;
@@ -120,7 +120,9 @@ fn push_run<R: Files, S: Shelf>(
         file: run.file,
         sources: &run.sources,
     };
-    push_faults(text, report, Some(inputs), evidence)?;
+    if push_faults(text, report, Some(inputs), evidence)? {
+        push_meaning(text, &[])?;
+    }
     if status != 3 && status != 4 {
         return Ok(());
     }
@@ -166,7 +168,9 @@ fn push_stream<R: Files, S: Shelf>(
     waits.push_rings(text, document, evidence.known.said)?;
     let inputs = lines_of_stream(stream.file, &stream.sources, &stream.formats, document);
     let faults = unsaid_faults(evidence.alloc, summary, evidence.known.said)?;
-    push_faults(text, text_of(&faults), inputs, evidence)?;
+    if push_faults(text, text_of(&faults), inputs, evidence)? {
+        push_meaning(text, evidence.known.said)?;
+    }
     match status {
         3 | 4 => push_room(text, document, stream.file, &waits, status, evidence),
         5 => push_others(text, document, &waits),

@@ -2,7 +2,7 @@
 //! The network is run once more for that, and so are these processes, if what it read are plain files.
 ghost use Rattle.std.specs.Prelude.{◌<◌, length};
 
-use crate::pieces::{file_in, has_name, is_of, is_said, push, push_name};
+use crate::pieces::{file_in, has_name, is_of, is_said, push, push_name, text_of};
 use crate::stopped::are_short;
 use crate::words::Evidence;
 use kpn_book::{Limits, run_here};
@@ -24,25 +24,32 @@ pub(crate) struct FedFiles<'r, 'a> {
     pub(crate) sources: &'r [&'a str],
 }
 
-/// Adds which processes have ended by a fault, as the lines `fault INSTANCE CAUSE` of a report tell, and what it means.
-/// Where it was is told if there are these inputs.
+/// Adds which processes have ended by a fault, as the lines `fault INSTANCE CAUSE` of a report tell. Where it was is told
+/// if there are these inputs. It returns whether there are some.
 pub(crate) fn push_faults<R: Files, S: Shelf>(
     text: &mut Vec<u8>,
     report: &str,
     inputs: Option<FedFiles<'_, '_>>,
     evidence: &Evidence<'_, R, S>,
-) -> Result<(), AllocError> {
+) -> Result<bool, AllocError> {
     let mut has_fault = false;
     for (cause, said) in &FAULTS {
         if push_faulted(text, report, cause, said)? {
             has_fault = true;
         }
     }
-    if !has_fault {
-        return Ok(());
+    if has_fault {
+        if let Some(inputs) = inputs {
+            push_places(text, report, inputs, evidence)?;
+        }
     }
-    if let Some(inputs) = inputs {
-        push_places(text, report, inputs, evidence)?;
+    Ok(has_fault)
+}
+
+/// Adds what a fault means, unless one was said before.
+pub(crate) fn push_meaning(text: &mut Vec<u8>, said: &[u8]) -> Result<(), AllocError> {
+    if text_of(said).lines().any(|line| fault_in(line).is_some()) {
+        return Ok(());
     }
     push(text, FAULTED)
 }

@@ -2,10 +2,11 @@
 //! process that never gets room.
 ghost use Rattle.std.specs.Prelude.{⊤};
 
-use crate::faults::{lines_of_stream, push_faults, unsaid_faults};
+use crate::faults::{lines_of_stream, push_faults, push_meaning, unsaid_faults};
 use crate::keeping::EndKeeper;
 use crate::pieces::{is_said, push, push_name, text_of};
 use crate::waits::{NetworkWaits, waits_among};
+use crate::words::{Evidence, SeenBytes};
 use kpn_book::Book;
 use kpn_command_base::{Teller, push_faults as push_fault_lines};
 use kpn_command_line::{Request, read_words};
@@ -114,45 +115,51 @@ fn push_news<R: System + AllocGlobal + Threads>(
     let mut report = String::new(alloc);
     push_fault_lines(&mut report, document, &states)?;
     let faults = unsaid_faults(alloc, report.as_str(), said)?;
+    if push_news_of_faults(text, rt, words, document, text_of(&faults))? {
+        push_meaning(text, said)?;
+    }
     said.extend_from_slice(&faults)?;
-    push_news_of_faults(text, rt, words, document, text_of(&faults))?;
     let waits = waits_among(alloc, &states)?;
     let mut lines = Vec::new(alloc);
     waits.push_rings(&mut lines, document, said)?;
     if book.network().policy() == Policy::Cycles {
-        push_clogged(&mut lines, alloc, document, book, &states, &waits, said)?;
+        push_clogged(&mut lines, document, book, &states, &waits, said)?;
     }
     said.extend_from_slice(&lines)?;
     text.extend_from_slice(&lines)
 }
 
-// Adds the words for lines of a report that tell faults, if there are some.
+// Adds the words for lines of a report that tell faults. It returns whether there are some.
 fn push_news_of_faults<R: System + AllocGlobal + Threads>(
     text: &mut Vec<u8>,
     rt: &R,
     words: &[String],
     document: &Document,
     faults: &str,
-) -> Result<(), AllocError> {
+) -> Result<bool, AllocError> {
     if faults.is_empty() {
-        return Ok(());
+        return Ok(false);
     }
-    let alloc = rt.alloc();
-    let shelf = FileShelf::new(rt);
-    match read_words(alloc, words) {
+    let (shelf, known) = (FileShelf::new(rt), SeenBytes::nothing());
+    let evidence = Evidence {
+        alloc: rt.alloc(),
+        rt,
+        shelf: &shelf,
+        known: &known,
+    };
+    match read_words(evidence.alloc, words) {
         Ok(Request::Stream(stream)) => {
             let inputs =
                 lines_of_stream(stream.file, &stream.sources, &stream.formats, document);
-            push_faults(text, alloc, faults, inputs, &shelf, rt)
+            push_faults(text, faults, inputs, &evidence)
         }
-        _ => Ok(()),
+        _ => Ok(false),
     }
 }
 
 // Adds each process that waits for room on a channel whose reader can never read again, if that was not said.
 fn push_clogged(
     text: &mut Vec<u8>,
-    alloc: Global,
     document: &Document,
     book: &Book<'_>,
     states: &[State],
@@ -168,12 +175,13 @@ fn push_clogged(
         };
         let is_first = !matches!(states.get(reader), Some(State::WaitsFull(_)));
         if is_first && is_stuck(document, book, states, waits, reader) {
-            let mut line = Vec::new(alloc);
-            push_name(&mut line, "clogged: ", document.instance_name(p), " waits for room on ")?;
-            push_name(&mut line, "", document.channel_name(channel), ", and ")?;
-            push_name(&mut line, "", document.instance_name(reader), NEVER)?;
-            if !is_said(said, text_of(&line)) {
-                text.extend_from_slice(&line)?;
+            let before = text.len();
+            push_name(text, "clogged: ", document.instance_name(p), " waits for room on ")?;
+            push_name(text, "", document.channel_name(channel), ", and ")?;
+            push_name(text, "", document.instance_name(reader), NEVER)?;
+            if is_said(said, text_of(text.get(before..).unwrap_or(&[]))) {
+                text.truncate(before);
+            } else {
                 push(text, "\n")?;
             }
         }

@@ -72,6 +72,20 @@ pub struct SeenBytes<'k> {
     pub count: u64,
 }
 
+impl SeenBytes<'static> {
+    /// Nothing is known.
+    pub(crate) fn nothing() -> SeenBytes<'static> {
+        SeenBytes {
+            written: &[],
+            told: &[],
+            said: &[],
+            unsaid: &[],
+            given: &[],
+            count: 0,
+        }
+    }
+}
+
 /// What words are found from: plain files, and what is known of the command.
 pub(crate) struct Evidence<'e, R, S> {
     pub(crate) alloc: Global,
@@ -116,10 +130,11 @@ fn push_words<R: System + AllocGlobal + Threads>(
     let Ok(request) = read_words(alloc, words) else {
         return push_unclear(text, alloc, words, known);
     };
+    let shelf = FileShelf::new(rt);
     let evidence = Evidence {
         alloc,
         rt,
-        shelf: &FileShelf::new(rt),
+        shelf: &shelf,
         known,
     };
     match (status, &request) {

@@ -1,6 +1,6 @@
 //! What watches a stream: it tells of it while it runs, and ends it after a fault if that is asked for.
 ghost use Rattle.std.specs.Prelude.{◌≡◌, true, false, length};
-ghost use Rattle.kpn_command_stream.specs.Watching.{HasFaulted, HaveNotFaulted};
+ghost use Rattle.kpn_command_stream.specs.Watching.{EndsAfterFault, HasFaulted, HaveNotFaulted};
 
 use kpn_book::Book;
 use kpn_command_base::{Teller, is_faulted};
@@ -32,8 +32,18 @@ impl<E: Teller> Watcher for StreamWatcher<'_, E> {
     fn look(&mut self, book: &Book<'_>) -> bool {
         self.ended = book.counts().ended;
         self.err.tell(self.document, book);
-        self.stops && has_faulted(book)
+        is_to_end(self.stops, book)
     }
+}
+
+/// Whether a look ends the stream, if a fault is to end it or not.
+fn is_to_end(stops: bool, book: &Book<'_>) -> bool
+    ensures { EndsAfterFault stops book.now result }
+{
+    if !stops {
+        return false;
+    }
+    has_faulted(book)
 }
 
 /// Whether a process has ended by a fault.

@@ -10,9 +10,9 @@ use Rattle.kpn_book.specs.declared.outcome.Limits.{Limits}
 use Rattle.kpn_stream.specs.declared.faults.SourceFault.{SourceFault}
 use Rattle.kpn_stream.specs.declared.faults.SinkFault.{SinkFault}
 use Rattle.kpn_stream.specs.declared.ending.StreamEnding.{StreamEnding}
-use Rattle.kpn_stream.specs.declared.ending.StreamEnding.TheVariants as ending
+use Rattle.kpn_stream.specs.declared.ending.StreamEnding.TheVariants.{Halted}
 use Rattle.kpn_stream.specs.Ending.{end_numbers, AreTaken, is_halted}
-use Rattle.kpn_stream.specs.Devices.{is_of_source, is_of_outside, is_elsewhere, is_of_process, is_no_growth, NoneIs, AreFlushed, IsAnswered, none_yet}
+use Rattle.kpn_stream.specs.Devices.{is_of_source, is_of_outside, is_elsewhere, is_of_process, is_no_growth, NoneIs, AreFlushed, answered, IsAnswered, none_yet}
 use Rattle.kpn_stream.specs.Streaming.{HappensBesides, IsStepless, MayEnd, MayFail, Serves, ServesOrHalts, serves_them, is_over, ReadsSource, ReadsInTurn, none_yet_read, once_more_read, ReadsAtHand, not_read, is_read, StreamGoesOn, StepsWithinLimits}
 use Rattle.kpn_stream.specs.Watching.{Watched, by_steps, by_reads, seen, Watches}
 use Rattle.kpn_stream.proofs.Going.{none_of, goes_on-trans, taken_then, serves_on, none_join, none_weaker, besides-refl, besides-trans, besides_sources, besides_elsewhere, serves_goes_on}
@@ -37,7 +37,7 @@ answer_stepless c answer events follows =
       | inr is ↦ subst (NoneIs is_of_process) (sym is) tt
     ]
   where
-    by : (answer : Result (Option ℤ) SourceFault) → NoneIs is_of_process (Rattle.kpn_stream.specs.Devices.answered c answer)
+    by : (answer : Result (Option ℤ) SourceFault) → NoneIs is_of_process (answered c answer)
     by (Ok (Some v)) = (refl, tt)
     by (Ok None) = (refl, tt)
     by (Err fault) = tt
@@ -45,8 +45,8 @@ answer_stepless c answer events follows =
 pub may_end_unhalted : (limits : Limits) (ended : Option StreamEnding) (b : Book) → MayEnd limits ended b
     → is_halted ended ≡ false
 may_end_unhalted limits None b may = refl
-may_end_unhalted limits (Some ending.Halted) b may = absurd may
-may_end_unhalted limits (Some ending) b may = refl
+may_end_unhalted limits (Some Halted) b may = absurd may
+may_end_unhalted limits (Some end) b may = refl
 
 may_fail_unhalted : (c : ℕ) (ended : Option StreamEnding) → MayFail c ended → is_halted ended ≡ false
 may_fail_unhalted c ended may = elim may [ inl on ↦ ap is_halted on | inr (fault, over) ↦ ap is_halted over ]

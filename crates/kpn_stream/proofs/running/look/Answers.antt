@@ -42,16 +42,16 @@ returns-then-look-clause-taken g c =
 pub returns-then-look-clause-watched : goal.returns-then-look-clause-watched
 returns-then-look-clause-watched g c =
     watches-trans g.W.Watcher.knows g.W.Watcher.sees c.args.book.now c.flush_all-ended.new.book c.flush_all-ended.new.book
-    c.args.watcher.now c.args.watcher.now c.look.new.watcher true c.flush_all-ended.ensures.serves.besides.tables
+    c.args.watcher.now c.args.watcher.now c.look.new.self true c.flush_all-ended.ensures.serves.besides.tables
     (watches_serves g.W.Watcher.knows g.W.Watcher.sees g.K.Sinks.takes g.K.Sinks.flushes c.args.limits.now None
     c.args.book.now c.flush_all-ended.new.book c.args.sinks.now c.flush_all-ended.new.sinks
     c.args.watcher.now
     (serves_on g.K.Sinks.takes g.K.Sinks.flushes c.args.limits.now c.flush_all-ended.result
     c.args.book.now c.flush_all-ended.new.book c.args.sinks.now c.flush_all-ended.new.sinks
     (sym c.is_some.ensures ∙ c.if-is_some.false) c.flush_all-ended.ensures.serves))
-    (watches_look g.W.Watcher.knows g.W.Watcher.sees c.flush_all-ended.new.book c.args.watcher.now c.look.new.watcher true
+    (watches_look g.W.Watcher.knows g.W.Watcher.sees c.flush_all-ended.new.book c.args.watcher.now c.look.new.self true
     c.known.ensures
-    (subst (λ h. g.W.Watcher.sees c.args.watcher.now c.flush_all-ended.new.book h c.look.new.watcher) c.if-look.true
+    (subst (λ h. g.W.Watcher.sees c.args.watcher.now c.flush_all-ended.new.book h c.look.new.self) c.if-look.true
     c.look.ensures.sees))
 
 pub returns-clause-serves : goal.returns-clause-serves
@@ -70,16 +70,16 @@ returns-clause-taken g c =
 pub returns-clause-watched : goal.returns-clause-watched
 returns-clause-watched g c =
     watches-trans g.W.Watcher.knows g.W.Watcher.sees c.args.book.now c.flush_all-ended.new.book c.flush_all-ended.new.book
-    c.args.watcher.now c.args.watcher.now c.look.new.watcher false c.flush_all-ended.ensures.serves.besides.tables
+    c.args.watcher.now c.args.watcher.now c.look.new.self false c.flush_all-ended.ensures.serves.besides.tables
     (watches_serves g.W.Watcher.knows g.W.Watcher.sees g.K.Sinks.takes g.K.Sinks.flushes c.args.limits.now None
     c.args.book.now c.flush_all-ended.new.book c.args.sinks.now c.flush_all-ended.new.sinks
     c.args.watcher.now
     (serves_on g.K.Sinks.takes g.K.Sinks.flushes c.args.limits.now c.flush_all-ended.result
     c.args.book.now c.flush_all-ended.new.book c.args.sinks.now c.flush_all-ended.new.sinks
     (sym c.is_some.ensures ∙ c.if-is_some.false) c.flush_all-ended.ensures.serves))
-    (watches_look g.W.Watcher.knows g.W.Watcher.sees c.flush_all-ended.new.book c.args.watcher.now c.look.new.watcher false
+    (watches_look g.W.Watcher.knows g.W.Watcher.sees c.flush_all-ended.new.book c.args.watcher.now c.look.new.self false
     c.known.ensures
-    (subst (λ h. g.W.Watcher.sees c.args.watcher.now c.flush_all-ended.new.book h c.look.new.watcher) c.if-look.false
+    (subst (λ h. g.W.Watcher.sees c.args.watcher.now c.flush_all-ended.new.book h c.look.new.self) c.if-look.false
     c.look.ensures.sees))
 
 pub returns-clause-known : goal.returns-clause-known
