@@ -318,11 +318,12 @@ fn refutes_always_pauses_in_place(rt: HostRuntime) -> Result<(), Fail> {
     let mut frame = start.copy();
     let (steps, stop) = frame.run(&program, 9);
     assert!(rt; steps == 1 && stop == Stop::WantRead(0));
-    let paused = advance(&program, start.copy(), 0);
-    assert!(rt; paused.stop() == Stop::Paused);
-    let made = advance(&program, start.copy(), 9);
-    assert!(rt; made.steps() == 1);
-    assert!(rt; *made.to() == frame);
+    let mut kept = advance(&program, start.copy(), 9);
+    kept.restart(&program, &start, 0);
+    assert!(rt; kept.stop() == Stop::Paused);
+    kept.restart(&program, &start, 9);
+    assert!(rt; kept.steps() == 1);
+    assert!(rt; *kept.to() == frame);
     frame.copy_from(&start);
     assert!(rt; frame == start);
     Ok(())

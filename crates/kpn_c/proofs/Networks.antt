@@ -29,6 +29,38 @@ all_tables [] before after same = ap (λ b. b.tables) same
 all_tables (e ∷ events) before after happen =
     all_tables events happen.0 after happen.2 ∙ happens_tables e before happen.0 happen.1
 
+pub feeds_tables : (source : ℕ) (items : List ℤ) (fed : FedCount) (before after : Book)
+    → FeedsEach source items fed before after → after.tables ≡ before.tables
+feeds_tables source items fed before after feeds =
+    all_tables (map (Feed source) (take fed.count items)) before after feeds.feeds
+
+pub take_tables : (sink : ℕ) (taken : Taken) (room kept : List ℤ) (before after : Book)
+    → TakesEach sink taken room kept before after → after.tables ≡ before.tables
+take_tables sink taken room kept before after takes =
+    all_tables (map (Take sink) (take taken.count kept)) before after takes.takes
+
+closes_tables : (was_closed : Bool) (c : ℕ) (before after : Book) → closes_by was_closed c before after
+    → after.tables ≡ before.tables
+closes_tables true c before after same = ap (λ b. b.tables) same
+closes_tables false c before after happens = happens_tables (Close c) before after happens
+
+pub close_tables : (c : ℕ) (closed : Result (Unit {0}) Refused) (before after : Book)
+    → OnOk closed (Closes c before after) → OnErr closed (after ≡ before) → after.tables ≡ before.tables
+close_tables c (Ok done) before after closes same =
+    closes_tables (closed_in before.machine c) c before after closes.closes
+close_tables c (Err cause) before after closes same = ap (λ b. b.tables) same
+
+leaves_tables : (was_left : Bool) (c : ℕ) (before after : Book) → leaves_by was_left c before after
+    → after.tables ≡ before.tables
+leaves_tables true c before after same = ap (λ b. b.tables) same
+leaves_tables false c before after happens = happens_tables (Leave c) before after happens
+
+pub leave_tables : (c : ℕ) (left : Result (Unit {0}) Refused) (before after : Book)
+    → OnOk left (Leaves c before after) → OnErr left (after ≡ before) → after.tables ≡ before.tables
+leave_tables c (Ok done) before after leaves same =
+    leaves_tables (channel_in before.machine c).is_retired c before after leaves.leaves
+leave_tables c (Err cause) before after leaves same = ap (λ b. b.tables) same
+
 step_tables : (quota : ℕ) (answer : Done) (before after : Book) → StepsNext quota answer before after
     → after.tables ≡ before.tables
 step_tables quota answer before after steps =

@@ -31,3 +31,10 @@ pub session_same : {keeps : Bool} (d : Document) (before : Detached) (opened : B
 session_same {keeps} d before opened after is same session view =
     ap (λ b. record { document = d; book = b; keeps = keeps })
     (detached_is d before opened opened after is refl same ∙ is) ∙ view
+
+-- a session is what it shows
+pub same_session : (before after : Session) → after.document ≡ before.document → after.keeps ≡ before.keeps
+    → after.book ≡ before.book → after ≡ before
+same_session before after document keeps book =
+    ap (λ d. record after { document = d }) document ∙ ap (λ b. record before { book = b; keeps = after.keeps }) book
+    ∙ ap (λ k. record before { keeps = k }) keeps

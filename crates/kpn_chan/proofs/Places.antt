@@ -162,6 +162,13 @@ bounded c is =
     let all = length-append c.past.items (items_of c) in
     omega (arith, all, many, is.few, is.last, is.count, is.bound, c.last.ok)
 
+-- and a chunk more
+pub bounded_with_chunk : {A : Type 0} (c : Chunks A) → IsChunks c → length (all_of c) + CHUNK < 2 ^ 64
+bounded_with_chunk c is =
+    let many = count_of c.full.items c.last.items is.full in
+    let all = length-append c.past.items (items_of c) in
+    omega (arith, all, many, is.few, is.last, is.count, is.bound, c.last.ok)
+
 -- if items go on past the last chunk and can be counted, there may be one more full chunk
 pub one_more_chunk : {A : Type 0} (c : Chunks A) → IsChunks c → (n : ℕ) → CHUNK < length c.last.items + n
     → length (all_of c) + n ≤ MOST_GONE → length c.full.items + 1 ≤ MAX_CHUNKS

@@ -15,6 +15,26 @@ either : (b : Bool) (x y most : ℕ) → x ≤ most → y ≤ most → (if b the
 either true x y most one other = one
 either false x y most one other = other
 
+width_is_small : (ticks : ℕ) → tick_width ticks ≤ 44
+width_is_small ticks =
+    either _ 44 _ 44 (omega arith)
+    (either _ 20 _ 44 (omega arith) (either _ 10 _ 44 (omega arith) (either _ 5 2 44 (omega arith) (omega arith))))
+
+one_more_room : (most length front : ℕ) → min most length - front ≤ 2000 → min most (length + 1) - front ≤ 2001
+one_more_room most length front few = omega (arith, few)
+
+pub is_drawable : (names : List (List ℕ)) (processes first last length : ℕ)
+    → ticks_in (scale_for names processes first last length) ≤ 2000
+    → IsDrawable (scale_for names processes first last length)
+is_drawable names processes first last length few =
+    let short = min-le_right (longest_below names processes) 32 in
+    record {
+      ticks = few;
+      room = one_more_room last length (first - 1) few;
+      left = omega (arith, short);
+      wide = width_is_small (min last length - (first - 1));
+    }
+
 otherwise : (b : Bool) (xs ys : List ℕ) → b ≡ false → ys ≡ if b then xs else ys
 otherwise true xs ys none = absurd cc
 otherwise false xs ys none = refl

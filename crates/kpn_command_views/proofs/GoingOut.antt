@@ -12,6 +12,9 @@ use Rattle.kpn_command_views.proofs.TimelineLines.{each_next}
 pub none_sent : (a : Option (List ℕ)) (x : List ℕ) → IsSentWhole a a x x
 none_sent a x = record { sent = []; grows = Appends-nil a; kept = refl }
 
+pub whole_sent : (a b : Option (List ℕ)) (x y : List ℕ) → Appends a b x → y ≡ [] → IsSentWhole a b y (x ++ [])
+whole_sent a b x y grows none = record { sent = x; grows = grows; kept = ap (λ r. x ++ r) none }
+
 pub none_sent_more : (a : Option (List ℕ)) (x : List ℕ) → IsSentWhole a a x (x ++ [])
 none_sent_more a x = subst (IsSentWhole a a x) (sym (append-nil x)) (none_sent a x)
 

@@ -46,6 +46,12 @@ module _ (d : Document) (t : Tables) (first last : ℕ) (waits : List Wait) (eve
         (subst (λ n. n ≤ 2000) (known_boxes boxes lasts are last_are) less),
   )
 
+-- a network has few processes
+pub few_rows : (t : Tables) → IsNetwork t → (processes : ℕ) → processes ≡ length t.instances → processes < 2 ^ 16
+few_rows t network processes is =
+    let few : length t.instances ≤ 256 = (sizes t network).instances in
+    omega (arith, few, is)
+
 -- a refusal of an audit is one of the picture
 pub of_audit : (may_give : Loads) (file trace : List ℕ) (steps first last : ℕ) (it : Refusal)
     → IsRefusalOfAudit may_give file trace it → IsRefusalOfPicture may_give file trace steps first last it

@@ -117,6 +117,18 @@ ended_if_last t p =
           ∙ or_left (has_ended B p) (is_end_of p e) (h q how (sym (last_event-other B e p other) ∙ is))
     ])
 
+-- a process that has ended or is blocked rests
+pub rests_if_stopped : (t : Tables) (H : List Event) → Legal t H → (p : ℕ) → HasStopped t H p
+    → (e : Event) × Rests t H p e
+rests_if_stopped t H legal p (inl ended) =
+    let r = ends_last t p H legal ended in (Ended p r.0, record { last = r.1; is = tt })
+rests_if_stopped t H legal p (inr (inl waits)) =
+    let w = empty_wait t H (last_event H p) waits.channel waits.blocked in
+    (WaitEmpty w.process waits.channel, record { last = w.is; is = w.empty })
+rests_if_stopped t H legal p (inr (inr waits)) =
+    let w = full_wait t H (last_event H p) waits.channel waits.blocked in
+    (WaitFull w.process waits.channel, record { last = w.is; is = w.full })
+
 -- ---- what it comes to there
 
 -- on these lists and after this talk, the process comes to this end or to this read without an item, or can write here

@@ -15,5 +15,6 @@ pub mod Remainders
 pub mod Remaining
 pub mod Rules
 pub mod Sequential
+pub mod Setting
 pub mod Spotted
 pub mod Talks

@@ -17,6 +17,28 @@ use Rattle.kpn_lang.specs.View.{statements_of, blocks_of}
 use Rattle.kpn_lang.specs.Parts.{Parts, nodes, depth, each_statement, inner_blocks, order_to, is_in_order, lacks_a_block, names_from}
 use Rattle.kpn_lang.specs.Counting.{count_through}
 
+-- an expression is at least one level deep
+pub no_depth_at_zero : (e : Term) → nat_le (depth e) 0 ≡ false
+no_depth_at_zero (Num z) = refl
+no_depth_at_zero (Var x) = refl
+no_depth_at_zero (Neg e) = grind (arith, nat_tests)
+no_depth_at_zero (Not e) = grind (arith, nat_tests)
+no_depth_at_zero (BitNot e) = grind (arith, nat_tests)
+no_depth_at_zero (Bin op a b) = grind (arith, nat_tests)
+no_depth_at_zero (Choice c a b) = grind (arith, nat_tests)
+no_depth_at_zero (Cell base size e) = grind (arith, nat_tests)
+
+-- and has at least one node
+pub some_node : (e : Term) → 0 < nodes e
+some_node (Num z) = omega arith
+some_node (Var x) = omega arith
+some_node (Neg e) = omega arith
+some_node (Not e) = omega arith
+some_node (BitNot e) = omega arith
+some_node (Bin op a b) = omega arith
+some_node (Choice c a b) = omega arith
+some_node (Cell base size e) = omega arith
+
 -- ---- a test of each statement that the code holds, block after block
 
 -- the statements of all blocks

@@ -40,6 +40,12 @@ module _ (t : Tables) (waits : List Wait) where
             (are.own r.member (cycle_below t waits p others cycle r.member r.among)) r.full,
       )
 
+  pub full_below : IsNetwork t → AreWaits t waits → (cap : ℕ → ℕ) (p c : ℕ) → IsSmallestOfCycle t waits cap p c
+      → c < length t.channels
+  full_below network are cap p c h =
+      let w = full_is_written are p h.others h.cycle c h.smallest.among in
+      written_below t network w.0 c w.1
+
   -- ---- one thing is found
 
   same_full : (p : ℕ) (others more : List ℕ) → IsCycle t waits p others → IsCycle t waits p more

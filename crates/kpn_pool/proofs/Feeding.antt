@@ -12,6 +12,9 @@ use Rattle.kpn_book.specs.Book.{Book}
 use Rattle.kpn_pool.specs.Fed.{AreFedBelow, AreSourcesClosedBelow, AreSinksKeptBelow}
 
 module _ {A : Type 0} (t : Tables) (lists : List (List ℤ)) (view : View A) where
+  pub none_fed : AreFedBelow t lists view 0
+  none_fed c below source = absurd (omega arith)
+
   pub fed_skip : (k : ℕ) → is_source (channel_at t k) ≡ false → AreFedBelow t lists view k
       → AreFedBelow t lists view (k + 1)
   fed_skip k none so_far c below source =

@@ -22,8 +22,21 @@ same_book b = record {
   channels = λ c. record { same = refl; reserved = λ is. is; roomy = λ is. is };
 }
 
+pub same_network : (before after : Book) → IsSameBook before after → after.tables ≡ before.tables
+same_network before after is = ap (λ (b : Book). b.tables) is.same
+
 pub same_commits : (before after : Book) → IsSameBook before after → after.commits ≡ before.commits
 same_commits before after is = ap (λ (b : Book). b.commits) is.same
+
+pub claimed_network : (of : _) (most : ℕ) (drains : Bool) (batch : Batch) (before after : Book)
+    → ClaimsRegion of most drains batch before after → after.tables ≡ before.tables
+claimed_network of most drains batch before after is =
+    ap (λ (b : Book). b.tables) is.held ∙ same_network before is.roomy is.same
+
+pub claimed_commits : (of : _) (most : ℕ) (drains : Bool) (batch : Batch) (before after : Book)
+    → ClaimsRegion of most drains batch before after → after.commits ≡ before.commits
+claimed_commits of most drains batch before after is =
+    ap (λ (b : Book). b.commits) is.held ∙ same_commits before is.roomy is.same
 
 -- ---- a commit
 

@@ -91,6 +91,30 @@ module _ (t : Tables) (b : Book) (same : b.tables ≡ t) (c : ℕ) where
       → is_end (channel_at t c) ≡ is
   there is_end is h = subst (λ u. is_end (channel_at u c) ≡ is) same h
 
+  pub feed_refused : (item : ℤ) (bound : ℕ) (cause : Refused) → RefusesFeed c item bound b cause
+      → MayRefuseFeed (is_source (channel_at t c)) item cause
+  feed_refused item bound NoSuchEnd h = there is_source false h
+  feed_refused item bound SourceClosed h = there is_source true h.0
+  feed_refused item bound (Full v) h = (there is_source true h.0.source, h.2)
+  feed_refused item bound NoMemory h = there is_source true h.0.source
+  feed_refused item bound other h = absurd h
+
+  pub close_refused : (cause : Refused) → RefusesClose c b cause → MayRefuseEnd (is_source (channel_at t c)) cause
+  close_refused NoSuchEnd h = there is_source false h
+  close_refused NoMemory h = there is_source true h.source
+  close_refused other h = absurd h
+
+  pub take_refused : (cause : Refused) → RefusesTake c b cause → MayRefuseTake (is_sink (channel_at t c)) cause
+  take_refused NoSuchEnd h = there is_sink false h
+  take_refused SinkLeft h = there is_sink true h.0
+  take_refused NoMemory h = there is_sink true h.0.sink
+  take_refused other h = absurd h
+
+  pub leave_refused : (cause : Refused) → RefusesLeave c b cause → MayRefuseEnd (is_sink (channel_at t c)) cause
+  leave_refused NoSuchEnd h = there is_sink false h
+  leave_refused NoMemory h = there is_sink true h.sink
+  leave_refused other h = absurd h
+
 -- ---- the lists of the seats
 
 -- a list and more begins with it

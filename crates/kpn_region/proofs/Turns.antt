@@ -230,3 +230,10 @@ module _ (t : Tables) (p c : ℕ) (v : ℤ) (f g : Frame) (sides : List SideStat
       put_and_taken then more passes put.room put.claimed put.taken put.drained put.takes
 
 -- ---- how many events there are
+
+pub few_events : (t : Tables) (p n : ℕ) (f g : Frame) (sides then : List SideState) (events more : List Event)
+    → MakesEvents t p n f sides events g then more → length more ≤ length events + 2 * n
+few_events t p n f g sides then events more goes =
+    let few = goes.few in
+    let long = ap length goes.events_are ∙ length-append events goes.more in
+    omega (arith, few, long)

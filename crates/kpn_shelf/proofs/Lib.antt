@@ -1,1 +1,2 @@
 -- Lemmas: tries that would have had to wait.
+pub mod Waiting

@@ -161,6 +161,11 @@ closed_along (e ∷ es) H c none =
     ∙ closed_along es (H ++ e ∷ []) c none.1
     ∙ closed_same H e c none.0
 
+pub open_besides : (a b : Book) (c : ℕ) → HappensBesides is_of_source a b → is_closed a.history c ≡ false
+    → is_closed b.history c ≡ false
+open_besides a b c is was =
+    ap (λ H. is_closed H c) is.history ∙ closed_along is.events a.history c is.none ∙ was
+
 -- ---- the devices of the sources
 
 module _ {S : Type 0} (gives : S → ℕ → Result (Option ℤ) SourceFault → S → Type 0) (looks : S → ℕ → S → Type 0)

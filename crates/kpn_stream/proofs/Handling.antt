@@ -156,6 +156,19 @@ is_there ch v = by ch.is_retired refl
     by true is next = absurd cc
     by false is next = is
 
+-- what is taken is the next item
+pub takes_next : (c : ℕ) (v w : ℤ) (before after : Book) → next_item (channel_in before.machine c) ≡ Some v
+    → Takes c (Some w) before after → Happens (event.Take c v) before after
+takes_next c v w before after next takes =
+    let is = takes.takes.0 in
+    let same : w ≡ v = cc in
+    subst (λ x. Happens (event.Take c x) before after) same takes.takes.1
+
+-- a sink that was not left is left now
+pub leaves_open : (c : ℕ) (before after : Book) → (channel_in before.machine c).is_retired ≡ false
+    → Leaves c before after → Happens (event.Leave c) before after
+leaves_open c before after not_left is = subst (λ b. leaves_by b c before after) not_left is.leaves
+
 -- ---- a sink
 
 module _ {K : Type 0} (takes : K → ℕ → ℤ → Result (Unit {0}) SinkFault → K → Type 0)

@@ -125,3 +125,10 @@ sample_told w sample within = (within, record { counted = counts w.used (sample_
         sample_gives sample (w.unused ++ ds) (drop (sample_width sample) w.unused ++ ds) (sample_value sample w.unused)
         (one_after w.used) (omega (arith, within, length-append w.unused ds))
         (sym (drop-append-le (sample_width sample) w.unused ds within)) (value_again sample w.unused ds within)
+
+pub sample_tells : (w : Window) (sample : SampleFormat) (item : Option ℤ) (width : ℕ) → width ≡ sample_width sample
+    → width ≤ length w.unused → item ≡ sample_value sample w.unused → IsRightOf (Samples sample) w (One item width w.wav)
+sample_tells w sample item width wide within value =
+    subst (λ (i : Option ℤ). IsRightOf (Samples sample) w (One i width w.wav)) (sym value)
+    (subst (λ (n : ℕ). IsRightOf (Samples sample) w (One (sample_value sample w.unused) n w.wav)) (sym wide)
+    (sample_told w sample (omega (arith, wide, within))))

@@ -220,3 +220,10 @@ module _ (w : Window) (count : ℕ) (wav : Wav) (head : head_at w.wav w.unused �
   pub few_tell : AllRead → min wav.left (length us) < sample_width wav.sample → IsRightOfWav w (Other (end_told wav us))
   few_tell all few =
       end_tells all (omega (arith, few, length-take wav.left us)) (ends_samples wav us) (same_end few)
+
+-- what the bytes of any WAV file tell
+pub any_tells : (result : Option Told) (format : ItemFormat) (written : WavFormat) (w : Window)
+    → format ≡ item_format.Wav written → IfSome result (IsRightOfWav w) → IfSome result (IsRightOf format w)
+any_tells None format written w is told = tt
+any_tells (Some found) format written w is told =
+    subst (λ (f : ItemFormat). IsRightOf f w found) (sym is) (told written)

@@ -174,6 +174,11 @@ module _ (l : Language) (level : ℕ) (names : ProcessNames) (parts : Parts) (pr
       ap (λ t. statements_named names t) (tree_of_block parts program b)
       ∙ ap (λ t. statements_named names (tree_over (tree_of parts.blocks) t)) e
 
+  -- an empty one
+  pub nothing_text : l ≡ language.Two → block_at parts.blocks b ≡ [] → (more : List ℕ)
+      → indented level (codes "}\n" ++ more) ≡ else_text l level (statements_named names (tree_of parts.blocks b)) more
+  nothing_text two e more = λ i. else_text (sym two i) level (sym (else_is [] e) i) more
+
   -- one `if`
   pub if_alone : (test : lang.Term) (first second : ℕ) → l ≡ language.Two
       → block_at parts.blocks b ≡ If test first second ∷ [] → (more : List ℕ)
@@ -254,3 +259,14 @@ braces_text r l level names parts program k has a b c d e h1 h2 h3 h4 =
     (λ rest. unindented_text l level block rest) more)
     (ap (λ t. statements_named names t) (sym (tree_of_block parts program k))) in
     same_prints r a e _ _ same (rw next (then_prints r a d e _ _ h h4))
+
+-- a block of several statements is long
+pub long_more : (s : Statement) (others : List Stmt) → false ≡ (length others == 0)
+    → IsLong (s ∷ statements_of others)
+long_more s [] some = absurd cc
+long_more (Assign x e) (t ∷ ts) some = tt
+long_more (Set base size i e) (t ∷ ts) some = tt
+long_more (Read i x) (t ∷ ts) some = tt
+long_more (Write o e) (t ∷ ts) some = tt
+long_more (If e a b) (t ∷ ts) some = tt
+long_more (While e a) (t ∷ ts) some = tt

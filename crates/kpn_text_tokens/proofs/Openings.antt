@@ -47,6 +47,12 @@ first_found text n t begins =
     let fits = begins_fits language.One text (piece.Token t n) begins in
     first_by text (piece.Token t n) begins ∙ ap (λ rest. Some (t, rest)) (rest_behind n text begins.some fits.0)
 
+pub first_none : (text : List ℕ) → BeginsWith language.One text piece.NoToken → first_token 0 text ≡ None
+first_none text begins = first_by text piece.NoToken begins
+
+pub first_long : (text : List ℕ) → BeginsWith language.One text piece.LongName → first_token 0 text ≡ None
+first_long text begins = first_by text piece.LongName begins
+
 -- ---- what the first bytes tell
 
 pub two_told : (rest : List ℕ) → language_of (codes "language 2;" ++ rest) ≡ language.Two
