@@ -202,8 +202,10 @@ impl<'t> FaultFrame<'t> {
                 return Ok(());
             }
         }
-        self.variables.push(Variable { name, value })?;
-        Ok(())
+        match self.variables.push(Variable { name, value }) {
+            Ok(()) => Ok(()),
+            Err(_) => Err(Stuck::Lost),
+        }
     }
 
     fn store(
