@@ -78,7 +78,7 @@ module _ (t : Tables) (network : IsNetwork t) (lists : List (List ℤ)) where
       }
 
   -- what another run has read of a sink that this one has not left
-  reads_as_much : (H G : List Event) → IsRunFrom t (given_by t lists) H → IsFinalRun t (given_by t lists) G → (c : ℕ)
+  pub reads_as_much : (H G : List Event) → IsRunFrom t (given_by t lists) H → IsFinalRun t (given_by t lists) G → (c : ℕ)
       → c < length t.channels → is_sink (channel_at t c) ≡ true → is_left G c ≡ false
       → length (read_on H c) ≤ length (read_on G c)
   reads_as_much H G run final c there sink stays =

@@ -1,15 +1,16 @@
 -- What the report of a run on one thread has made, if its limit of commits allows as many rounds as another history
 -- takes.
-use Rattle.std.proofs.Common.{◌≡◌, ◌≢◌, ℕ, ◌+◌, ◌*◌, ◌<◌, ◌≤◌, max, true, ℤ, List, length, Option, Some, None, refl, sym, ap, ◌∙◌, subst, arith}
+use Rattle.std.proofs.Common.{◌≡◌, ◌≢◌, ℕ, ◌+◌, ◌*◌, ◌<◌, ◌≤◌, max, true, ℤ, List, length, Option, Some, None, refl, sym, ap, ◌∙◌, subst, inl, inr, arith, length-append}
+use Rattle.std.proofs.lemmas.List.Concat.{flat_map-append}
 use Rattle.kpn_lang.specs.Prefix.{IsPrefix}
-use Rattle.kpn_lang.proofs.Prefixes.{length_of_prefix}
+use Rattle.kpn_lang.proofs.Prefixes.{IsPrefix-same, IsPrefix-trans, length_of_prefix, rest_of_prefix, same_from_prefix, prefixes_of_one}
 use Rattle.kpn_net.specs.Tables.{Tables, channel_at, is_sink, instance_at, program_of}
 use Rattle.kpn_net.specs.Faults.{IsNetwork}
 use Rattle.kpn_net.specs.Process.{Family}
 use Rattle.kpn_net.specs.Iteration.{given_by}
 use Rattle.kpn_step.specs.Frame.{start_frame}
 use Rattle.kpn_history.specs.declared.event.Event.{Event}
-use Rattle.kpn_history.specs.Channels.{written_on, read_on}
+use Rattle.kpn_history.specs.Channels.{read_in, written_on, read_on}
 use Rattle.kpn_history.specs.OneEnd.{IsRunFrom, HasMadeNoMore}
 use Rattle.kpn_history.specs.Progress.{HasMade, IsCaughtUp}
 use Rattle.kpn_history.proofs.Above.{all_read}
@@ -26,7 +27,7 @@ use Rattle.kpn_book.specs.Reports.{events_of, AreSupplied, IsReport}
 use Rattle.kpn_book.specs.RunHere.{supplies, IsBeforeTurn, Turns, no_turn, one_turn_more, IsNewBook, IsReportHere}
 use Rattle.kpn_book.specs.Progress.{TakesRounds}
 use Rattle.kpn_book.proofs.Completing.{fed_from}
-use Rattle.kpn_book.proofs.FinalReports.{final_run, enough_too, lacking, Kind, is_verdict, is_enough, is_stopped, kind_of}
+use Rattle.kpn_book.proofs.FinalReports.{final_run, reads_as_much, enough_too, lacking, Kind, is_verdict, is_enough, is_stopped, kind_of}
 use Rattle.kpn_book.proofs.Told.{turns_to_limit}
 use Rattle.kpn_book.proofs.Progress.{IsOnWay, AreOnWay, happening_on_way, supplies_of_nobody}
 use Rattle.kpn_book.proofs.RoundOfQueue.{all_tables, turn_prefix, turns_tables}
@@ -142,6 +143,24 @@ module _ (t : Tables) (network : IsNetwork t) (lists : List (List ℤ)) (limits 
     enough_before (Some items) has = λ c there sink.
         let read = has c there sink in let more = read_as_much c sink in omega arith
 
+  -- as much was read of a sink
+  read_at_last : report.outcome ≢ Enough → (c : ℕ) → c < length t.channels → is_sink (channel_at t c) ≡ true
+      → length (read_on H c) ≤ length (read_on (events_of report) c)
+  read_at_last other c there sink = by_kind (kind_of t network lists report.outcome)
+    where
+      by_kind : Kind t network lists report.outcome → length (read_on H c) ≤ length (read_on (events_of report) c)
+      by_kind (is_verdict v e) =
+          reads_as_much t network lists H (events_of report) run (final_run t network lists limits report is v e) c
+          there sink (is.stays c)
+      by_kind (is_enough e) = absurd (other e)
+      by_kind (is_stopped e) =
+          let rest = rest_of_prefix (last e).before.history (events_of report) (begins e) in
+          let all = ap (λ G. length (read_on G c)) (sym rest.1)
+          ∙ ap length (flat_map-append (read_in c) (last e).before.history rest.0)
+          ∙ length-append (read_on (last e).before.history c) (read_on rest.0 c) in
+          let read = read_as_much e c sink in
+          omega arith
+
   pub made_if_not_enough : report.outcome ≢ Enough → HasMadeNoMore t H (events_of report)
   made_if_not_enough other = by_kind (kind_of t network lists report.outcome)
     where
@@ -150,6 +169,21 @@ module _ (t : Tables) (network : IsNetwork t) (lists : List (List ℤ)) (limits 
           made_no_more t network given (events_of report) (final_run t network lists limits report is v e) H run
       by_kind (is_enough e) = absurd (other e)
       by_kind (is_stopped e) = made_if_stopped e
+
+  pub taken_if_not_enough : report.outcome ≢ Enough → (c : ℕ) → c < length t.channels
+      → is_sink (channel_at t c) ≡ true → IsPrefix (read_on H c) (read_on (events_of report) c)
+  taken_if_not_enough other c there sink =
+      let made = made_if_not_enough other in
+      let G = events_of report in
+      elim (prefixes_of_one (read_on H c) (read_on G c) (written_on G c)
+      (IsPrefix-trans (read_on H c) (written_on H c) (written_on G c) (reads_begin_writes t H run.legal c)
+      (made.written c))
+      (reads_begin_writes t G is.legal c)) [
+        | inl begins ↦ begins
+        | inr back ↦
+            IsPrefix-same _ _
+            (sym (same_from_prefix (read_on G c) (read_on H c) back (read_at_last other c there sink)))
+      ]
 
   pub enough_in_time : IsEnough t H limits.take → report.outcome ≡ Enough
   enough_in_time wanted = by_kind (kind_of t network lists report.outcome)

@@ -1,14 +1,15 @@
 //! What holds of every report, as contracts of functions that do nothing: Kahn's theorem on reports, whatever the
 //! schedules of the runs and however many workers stepped the processes.
-ghost use Rattle.std.specs.Prelude.{◌≡◌, ◌≢◌, ℕ, ◌*◌, ◌<◌, ◌≤◌, ◌⊎◌, max, ℤ, List, length, take, Option, Some};
+ghost use Rattle.std.specs.Prelude.{◌≡◌, ◌≢◌, ℕ, true, ◌*◌, ◌<◌, ◌≤◌, ◌⊎◌, max, ℤ, List, length, take, Option, Some};
 ghost use Rattle.kpn_net.specs.declared.tables.Policy.TheVariants.{All};
 ghost use Rattle.kpn_net.specs.declared.wait.Wait.TheVariants.{Full};
-ghost use Rattle.kpn_net.specs.Tables.{Tables};
+ghost use Rattle.kpn_lang.specs.Prefix.{IsPrefix};
+ghost use Rattle.kpn_net.specs.Tables.{Tables, channel_at, is_sink};
 ghost use Rattle.kpn_net.specs.Faults.{IsNetwork};
 ghost use Rattle.kpn_net.specs.Iteration.{iterate, given_by, lists_of, IsBelowLeast, IsLeast};
 ghost use Rattle.kpn_history.specs.declared.event.Event.{Event};
 ghost use Rattle.kpn_history.specs.declared.state.Verdict.{Verdict};
-ghost use Rattle.kpn_history.specs.Channels.{capacity_after};
+ghost use Rattle.kpn_history.specs.Channels.{read_on, capacity_after};
 ghost use Rattle.kpn_history.specs.Ends.{WaitsOnFull, IsQuiet};
 ghost use Rattle.kpn_history.specs.Stops.{IsJammedAtLimit, WaitsForBlocked};
 ghost use Rattle.kpn_history.specs.Waiting.{wait_of, HasFullCycle};
@@ -138,7 +139,8 @@ pub fn turns_of_a_run_here()
 
 /// What any history from the same lists makes, the run on one thread makes too, if its limit of commits allows a round of
 /// the queue for each event of a process there, and for each pause before it. Unless it has enough before, it has all of
-/// it: the same items at least on each channel, read by the same processes. If that history has enough, so has the run.
+/// it: what was said and written begins the same, and what was taken from each sink. If that history has enough, so has
+/// the run.
 pub fn what_is_made_in_time()
     ensures made { (t : Tables) → IsNetwork t → (lists : List (List ℤ)) (limits : Limits)
         (report : Report) → IsReport t lists limits report → IsReportHere t lists limits report
@@ -146,6 +148,14 @@ pub fn what_is_made_in_time()
         → (H : List Event) → IsRunFrom t (given_by t lists) H
         → (rounds : ℕ) → TakesRounds t (max limits.quota 1) H rounds
         → rounds * length t.instances < limits.commits → HasMadeNoMore t H (events_of report) }
+    ensures taken { (t : Tables) → IsNetwork t → (lists : List (List ℤ)) (limits : Limits)
+        (report : Report) → IsReport t lists limits report → IsReportHere t lists limits report
+        → AreSupplied t lists (events_of report) → report.outcome ≢ Enough
+        → (H : List Event) → IsRunFrom t (given_by t lists) H
+        → (rounds : ℕ) → TakesRounds t (max limits.quota 1) H rounds
+        → rounds * length t.instances < limits.commits
+        → (c : ℕ) → c < length t.channels → is_sink (channel_at t c) ≡ true
+        → IsPrefix (read_on H c) (read_on (events_of report) c) }
     ensures enough { (t : Tables) → IsNetwork t → (lists : List (List ℤ)) (limits : Limits)
         (report : Report) → IsReport t lists limits report → IsReportHere t lists limits report
         → AreSupplied t lists (events_of report)
