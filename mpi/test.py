@@ -297,6 +297,9 @@ class Tests:
             same(f'{words}', (2, ''), self.over_ranks(2, 'net.kpn', *words)[:2])
         for words in ([], ['--ranks', '2', '--seed', '1'], ['--ranks', '2', '--take', '1']):
             same(f'plan {words}', (2, ''), self.call(self.mpi, 'plan', 'net.kpn', *words)[:2])
+        (self.room / 'numbers').write_text(NUMBERS)
+        status, out, error = self.call('env', 'KPN_PROGRAM=/nothing', self.mpi, 'plan', 'numbers', '--ranks', '2')
+        same('language 2 without kpn', (1, '', True), (status, out, 'is read by `kpn print`, which has failed' in error))
         with open('/dev/full', 'w') as full:
             done = subprocess.run([self.mpi, 'plan', 'net.kpn', '--ranks', '2'], cwd=self.room, stdout=full,
                                   stderr=subprocess.PIPE, env=ENVIRONMENT)
