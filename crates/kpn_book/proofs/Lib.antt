@@ -44,4 +44,5 @@ pub mod Progress
 pub mod RoundOfQueue
 pub mod MadeInTime
 pub mod ReportsInTime
+pub mod RoundsHere
 mod Release

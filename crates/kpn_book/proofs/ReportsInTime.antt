@@ -34,7 +34,7 @@ use Rattle.kpn_book.proofs.RoundOfQueue.{all_tables, turn_prefix, turns_tables}
 use Rattle.kpn_book.proofs.MadeInTime.{made_in_time}
 
 -- at the start each process is on its way
-new_on_way : (t : Tables) (b : Book) → IsNewBook t b → AreOnWay b
+pub new_on_way : (t : Tables) (b : Book) → IsNewBook t b → AreOnWay b
 new_on_way t b is p there =
     let below : p < length t.instances = subst (λ t. p < length t.instances) is.tables there in
     subst (λ x. IsOnWay x p b.history (frame_in b.machine p)) (sym is.tables)

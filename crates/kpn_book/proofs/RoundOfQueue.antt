@@ -295,7 +295,7 @@ module _ (quota : ℕ) (before after : Book) (ready : IsBeforeTurn before) (turn
       (subst (StandsAt a.program.blocks a.to) pauses turn.steps.steps.advance.stands)
 
   -- where it stands, no step comes, if it has not paused
-  no_step : turn.steps.advance.stop ≢ stop.Paused → (next : Frame)
+  pub no_step : turn.steps.advance.stop ≢ stop.Paused → (next : Frame)
       → step_of (program_of before.tables q).blocks turn.steps.advance.to ≢ Goes next
   no_step stops next goes =
       let a = turn.steps.advance in

@@ -163,3 +163,10 @@ pub fn what_is_made_in_time()
         → (rounds : ℕ) → TakesRounds t (max limits.quota 1) H rounds
         → rounds * length t.instances < limits.commits → report.outcome ≡ Enough }
 {}
+
+/// Each run on one thread takes some number of rounds, whatever the quota of steps is by which its pauses are counted.
+pub fn a_run_takes_rounds()
+    ensures { (t : Tables) → (lists : List (List ℤ)) (limits : Limits) (report : Report)
+        → IsReportHere t lists limits report → (quota : ℕ) → 1 ≤ quota
+        → ((rounds : ℕ) × TakesRounds t quota (events_of report) rounds) }
+{}
