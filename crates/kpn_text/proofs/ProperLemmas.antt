@@ -343,7 +343,7 @@ pub description_is : (l : Language) (text : List ℕ) (read tokens : List Lexeme
     → IsProper l d
 description_is l text read tokens d reads stands s =
     let rules = s.spelled in
-    let was : AreSpelled l (kinds read) = read_spelled l text (kinds read) (are_tokens l text read reads) in
+    let was : AreSpelled l (kinds read) = read_spelled l text (kinds read) (are_tokens l text read reads).read in
     let spelled = subst (λ ts. AreSpelled l ts) rules.opening
     (expanded_spelled l (length text) read tokens was stands) in
     let tables = all_are l spell_table (IsProperTable l) (table_is l) d.tables _ (language_is l _ spelled) in

@@ -1,6 +1,7 @@
 -- What the phases return is what the text spells.
 use Rattle.std.proofs.Common.{◌≡◌, ℕ, suc, ◌≤◌, Bool, true, false, if◌then◌else◌, List, [], ◌∷◌, length, Option, Some, None, Result, Ok, Err, refl, sym, ap, ◌∙◌, subst, arith}
 use Rattle.std.specs.Prelude.{nat_lt, All}
+use Rattle.std.proofs.lemmas.Bool.Decides.{nat_tests}
 use Rattle.std.proofs.lemmas.List.Elements.{All-nil, All-cons, All-head, All-tail}
 use Rattle.kpn_limits.specs.declared.TheConstants.{MAX_TEXT_BYTES, MAX_LEVELS}
 use Rattle.kpn_lang.specs.Parts as lang
@@ -56,16 +57,19 @@ pub has_lexemes : (l : Language) (text : List ℕ) (ts : List Token) → length 
 unfolding tokens_of
 has_lexemes l text ts short e = lexemes_by l text ts (scan l 0 0 text) (short_text l text short) e
 
--- the tokens of a text that has lexemes are read
-tokens_by : (l : Language) (text : List ℕ) (ls : List Lexeme) (b : Bool)
-    → (if b then Err (lex.TooLong MAX_TEXT_BYTES) else scan l 0 0 text) ≡ Ok ls → tokens_of l text ≡ Some (kinds ls)
-unfolding tokens_of
-tokens_by l text ls true e = absurd cc
-tokens_by l text ls false e = ap tokens_in e
+-- a text that has lexemes is within the limit, and its tokens are read
+pub record AreTokens (l : Language) (text : List ℕ) (ls : List Lexeme) : Type 0 where
+  pub within : length text ≤ MAX_TEXT_BYTES
+  pub read : tokens_of l text ≡ Some (kinds ls)
 
-pub are_tokens : (l : Language) (text : List ℕ) (ls : List Lexeme) → lexemes_of l text ≡ Ok ls
-    → tokens_of l text ≡ Some (kinds ls)
-are_tokens l text ls e = tokens_by l text ls (nat_lt MAX_TEXT_BYTES (length text)) e
+tokens_by : (l : Language) (text : List ℕ) (ls : List Lexeme) (b : Bool) → nat_lt MAX_TEXT_BYTES (length text) ≡ b
+    → (if b then Err (lex.TooLong MAX_TEXT_BYTES) else scan l 0 0 text) ≡ Ok ls → AreTokens l text ls
+unfolding tokens_of
+tokens_by l text ls true is e = absurd cc
+tokens_by l text ls false is e = record { within = grind (arith, nat_tests); read = ap tokens_in e }
+
+pub are_tokens : (l : Language) (text : List ℕ) (ls : List Lexeme) → lexemes_of l text ≡ Ok ls → AreTokens l text ls
+are_tokens l text ls e = tokens_by l text ls (nat_lt MAX_TEXT_BYTES (length text)) refl e
 
 -- the tokens that a text stands for, and what they were read as
 record IsMeant (l : Language) (text : List ℕ) (ms : List Lexeme) : Type 0 where
