@@ -1,4 +1,0 @@
--- The lemmas. Other crates may cite the public ones.
-mod Steps
-pub mod Plain
-pub mod Spelled
