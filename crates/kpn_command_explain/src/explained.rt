@@ -37,8 +37,8 @@ pub(crate) fn explanation_of(
     Ok(told)
 }
 
-/// The tokens of a text. There are none if one of them has a fault.
-pub(crate) fn tokens_of(alloc: Global, text: &[u8]) -> Result<Vec<Lexeme<'_>>, AllocError>
+// The tokens of a text. There are none if one of them has a fault.
+fn tokens_of(alloc: Global, text: &[u8]) -> Result<Vec<Lexeme<'_>>, AllocError>
     ensures { IfOk result (λ found. found.items ≡ text_tokens text.now) }
 {
     match lexemes(alloc, language_of(text), text) {

@@ -288,23 +288,33 @@ impl<'t> FaultFrame<'t> {
 
     // The value of a variable. One that was not set is 0.
     fn variable(&self, name: &[u8]) -> i64 {
-        match self.variables.iter().find(|variable| variable.name == name) {
-            Some(variable) => variable.value,
-            None => 0,
+        for variable in self.variables.as_slice() {
+            if variable.name == name {
+                return variable.value;
+            }
         }
+        0
     }
 
     // The value of a cell, if it is there.
     fn cell(&self, name: &[u8], number: i64) -> Option<i64> {
-        self.cells(name).get(usize::try_from(number).ok()?).copied()
+        for row in self.rows.as_slice() {
+            if row.name == name {
+                let place = usize::try_from(number).ok()?;
+                return row.cells.get(place).copied();
+            }
+        }
+        None
     }
 
-    /// The cells of an array or a table.
-    pub(crate) fn cells(&self, name: &[u8]) -> &[i64] {
-        match self.rows.iter().find(|row| row.name == name) {
-            Some(row) => row.cells.as_slice(),
-            None => &[],
+    /// How many cells an array or a table has.
+    pub(crate) fn cells(&self, name: &[u8]) -> usize {
+        for row in self.rows.as_slice() {
+            if row.name == name {
+                return row.cells.len();
+            }
         }
+        0
     }
 
     // Keeps where the fault of an expression is, and what is said of it.

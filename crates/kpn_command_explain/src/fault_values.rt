@@ -20,9 +20,18 @@ pub(crate) fn push_expression(
             push_expression(out, index, false)?;
             push_if(out, true, b']')
         }
-        Expression::Negative(inner) => push_signed(out, b'-', inner),
-        Expression::Not(inner) => push_signed(out, b'!', inner),
-        Expression::BitNot(inner) => push_signed(out, b'~', inner),
+        Expression::Negative(inner) => {
+            out.push(b'-')?;
+            push_expression(out, inner, true)
+        }
+        Expression::Not(inner) => {
+            out.push(b'!')?;
+            push_expression(out, inner, true)
+        }
+        Expression::BitNot(inner) => {
+            out.push(b'~')?;
+            push_expression(out, inner, true)
+        }
         Expression::Binary(operator, left, right) => {
             push_if(out, is_inner, b'(')?;
             push_expression(out, left, true)?;
@@ -42,12 +51,6 @@ pub(crate) fn push_expression(
             push_if(out, true, b')')
         }
     }
-}
-
-// Adds a mark with one side.
-fn push_signed(out: &mut Vec<u8>, mark: u8, inner: &Expression<'_>) -> Result<(), AllocError> {
-    out.push(mark)?;
-    push_expression(out, inner, true)
 }
 
 fn push_if(out: &mut Vec<u8>, holds: bool, byte: u8) -> Result<(), AllocError> {
@@ -193,7 +196,7 @@ fn add_missing(
     let mut note = Vec::new(alloc);
     note.extend_from_slice(name.bytes)?;
     note.extend_from_slice(b" has ")?;
-    note.extend_from_slice(size.format(frame.cells(name.bytes).len()).as_bytes())?;
+    note.extend_from_slice(size.format(frame.cells(name.bytes)).as_bytes())?;
     note.extend_from_slice(b" cells")?;
     add_new(notes, note)
 }

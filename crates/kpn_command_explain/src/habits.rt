@@ -1,7 +1,6 @@
 //! Ways of writing that other languages have and that of the text has not.
 
 use crate::choices::{is_taken, may_stand};
-use crate::explained::tokens_of;
 use crate::lines::{back, front};
 use crate::names::name_at;
 use crate::second_habits::habit_of_two;
@@ -9,7 +8,7 @@ use crate::sentences::Case;
 use crate::spots::{TokenSpot, spot_at, start_before};
 use crate::stands::{Stand, stand_of};
 use crate::words::{begins_name, is_fraction};
-use kpn_text_tokens::{Language, Lexeme, language_of};
+use kpn_text_tokens::{Language, LexFault, Lexeme, language_of, lexemes};
 use std::alloc::{AllocError, Global};
 
 /// A way of writing that the language of the text has not.
@@ -238,24 +237,13 @@ pub(crate) fn assigns(text: &[u8]) -> bool {
     text.starts_with(b"=") && !begins_any(text, &[b"=>", b"=<"])
 }
 
-// The way of writing by the first of these marks with which a text begins.
-fn by_mark(text: &[u8], marks: &[(&[u8], Habit)]) -> Option<Habit> {
-    let (_, habit) = marks.iter().find(|(mark, _)| text.starts_with(*mark))?;
-    Some(*habit)
-}
-
 fn shift(text: &[u8]) -> Option<Habit> {
-    by_mark(text, &SHIFTS)
+    if text.starts_with(b">>") {
+        Some(Habit::ShiftRight)
+    } else {
+        habit_if(text.starts_with(b"<<"), Habit::ShiftLeft)
+    }
 }
-
-const SHIFTS: [(&[u8], Habit); 2] = [(b">>", Habit::ShiftRight), (b"<<", Habit::ShiftLeft)];
-
-// Marks before an operand that this language has not.
-const MARKS: [(&[u8], Habit); 3] = [
-    (b"//", Habit::Slashes),
-    (b"<>", Habit::Differs),
-    (b"**", Habit::Stars),
-];
 
 /// Behind the name of a variable that begins a statement.
 pub(crate) fn assigning_habit(last: &[u8], here: &[u8]) -> Option<Habit> {
@@ -338,7 +326,15 @@ fn whole_habit(last: &[u8], here: &[u8]) -> Option<Habit> {
 
 /// Where an operand is to begin.
 pub(crate) fn operand_habit(last: &[u8]) -> Option<Habit> {
-    by_mark(last, &MARKS).or(shift(last))
+    if last.starts_with(b"//") {
+        Some(Habit::Slashes)
+    } else if last.starts_with(b"<>") {
+        Some(Habit::Differs)
+    } else if last.starts_with(b"**") {
+        Some(Habit::Stars)
+    } else {
+        shift(last)
+    }
 }
 
 // Behind the first block of an `if`.
@@ -366,7 +362,11 @@ fn reserved_habit(spot: TokenSpot, last: &[u8], here: &[u8]) -> Option<Habit> {
 // A point: the last token before it may be a number, if one may stand there. Behind `for NAME in NUMBER` two of them
 // begin a range.
 fn point_habit(alloc: Global, text: &[u8], at: usize) -> Result<Option<Habit>, AllocError> {
-    let tokens = tokens_of(alloc, front(text, at))?;
+    let tokens = match lexemes(alloc, language_of(text), front(text, at)) {
+        Ok(tokens) => tokens,
+        Err(LexFault::NoMemory) => return Err(AllocError),
+        Err(_) => return Ok(None),
+    };
     let before = start_before(tokens.as_slice(), at);
     if back(text, at).starts_with(b"..") && begins_for(alloc, text, tokens.as_slice(), before)? {
         return Ok(Some(Habit::For));
@@ -410,8 +410,11 @@ fn ends_operand(alloc: Global, text: &[u8]) -> Result<bool, AllocError> {
     if may_stand(alloc, text, b"*")? {
         return Ok(true);
     }
-    let tokens = tokens_of(alloc, text)?;
-    let last = start_before(tokens.as_slice(), text.len());
+    let last = match lexemes(alloc, language_of(text), text) {
+        Ok(tokens) => start_before(tokens.as_slice(), text.len()),
+        Err(LexFault::NoMemory) => return Err(AllocError),
+        Err(_) => return Ok(false),
+    };
     if name_at(text, last).is_empty() {
         return Ok(false);
     }

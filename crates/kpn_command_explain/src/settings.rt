@@ -1,8 +1,7 @@
 //! The lines of a description on which its network begins, and on which a setting stands.
 
-use crate::explained::tokens_of;
 use crate::lines::place_at;
-use kpn_text_tokens::{Keyword, Token};
+use kpn_text_tokens::{Keyword, LexFault, Token, language_of, lexemes};
 use std::alloc::{AllocError, Global};
 
 /// On which lines of a description the words `network`, `limit` and `policy` stand, if they do.
@@ -20,8 +19,12 @@ pub fn setting_lines(alloc: Global, text: &[u8]) -> Result<SettingLines, AllocEr
         limit: None,
         policy: None,
     };
-    let tokens = tokens_of(alloc, text)?;
-    for lexeme in &tokens {
+    let tokens = match lexemes(alloc, language_of(text), text) {
+        Ok(tokens) => tokens,
+        Err(LexFault::NoMemory) => return Err(AllocError),
+        Err(_) => return Ok(found),
+    };
+    for lexeme in tokens.as_slice() {
         let line = match &lexeme.token {
             Token::Keyword(Keyword::Network) => &mut found.network,
             Token::Keyword(Keyword::Limit) => &mut found.limit,

@@ -2,13 +2,12 @@
 //! from the start, and rates that can't balance. Rows show the words.
 
 use crate::excerpt::push_where;
-use crate::explained::tokens_of;
 use crate::first_moves::{FirstMove, first_move, moved_each_turn, names_port};
 use crate::ratios::{RatedChannel, first_unbalanced};
 use kpn_text_grammar::{
     Description, GrammarFault, Identifier, InstanceNode, Item, ProcessNode, description,
 };
-use kpn_text_tokens::language_of;
+use kpn_text_tokens::{LexFault, language_of, lexemes};
 use std::alloc::{AllocError, Global};
 
 // The text of a file, to which lines are added.
@@ -29,7 +28,11 @@ struct Member<'d, 'a> {
 pub fn warnings_text(alloc: Global, file: &str, text: &[u8]) -> Result<Vec<u8>, AllocError> {
     let mut told = Vec::new(alloc);
     let language = language_of(text);
-    let tokens = tokens_of(alloc, text)?;
+    let tokens = match lexemes(alloc, language, text) {
+        Ok(tokens) => tokens,
+        Err(LexFault::NoMemory) => return Err(AllocError),
+        Err(_) => return Ok(told),
+    };
     let tree = match description(alloc, language, tokens.as_slice(), text.len()) {
         Ok(tree) => tree,
         Err(GrammarFault::NoMemory) => return Err(AllocError),
@@ -37,13 +40,18 @@ pub fn warnings_text(alloc: Global, file: &str, text: &[u8]) -> Result<Vec<u8>, 
     };
     let source = Described { file, text };
     for process in &tree.processes {
-        let parts = &process.parts;
-        push_unnamed(&mut told, source, process, &parts.ins, b" is never read")?;
         push_unnamed(
             &mut told,
             source,
             process,
-            &parts.outs,
+            &process.parts.ins,
+            b" is never read",
+        )?;
+        push_unnamed(
+            &mut told,
+            source,
+            process,
+            &process.parts.outs,
             b" is never written",
         )?;
     }
