@@ -143,8 +143,7 @@ fn push_news_of_faults<R: System + AllocGlobal + Threads>(
     let shelf = FileShelf::new(rt);
     match read_words(alloc, words) {
         Ok(Request::Stream(stream)) => {
-            let inputs =
-                lines_of_stream(stream.file, &stream.sources, &stream.formats, document);
+            let inputs = lines_of_stream(stream.file, &stream.sources, &stream.formats, document);
             push_faults(text, alloc, faults, inputs, &shelf, rt)
         }
         _ => Ok(false),
@@ -171,7 +170,12 @@ fn push_clogged(
         let is_first = !matches!(states.get(reader), Some(State::WaitsFull(_)));
         if is_first && is_stuck(document, book, states, waits, reader) {
             let mut line = Vec::new(alloc);
-            push_name(&mut line, "clogged: ", document.instance_name(p), " waits for room on ")?;
+            push_name(
+                &mut line,
+                "clogged: ",
+                document.instance_name(p),
+                " waits for room on ",
+            )?;
             push_name(&mut line, "", document.channel_name(channel), ", and ")?;
             push_name(&mut line, "", document.instance_name(reader), NEVER)?;
             if !is_said(said, text_of(&line)) {
