@@ -149,8 +149,7 @@ fn push_news_of_faults<R: System + AllocGlobal + Threads>(
     };
     match read_words(evidence.alloc, words) {
         Ok(Request::Stream(stream)) => {
-            let inputs =
-                lines_of_stream(stream.file, &stream.sources, &stream.formats, document);
+            let inputs = lines_of_stream(stream.file, &stream.sources, &stream.formats, document);
             push_faults(text, faults, inputs, &evidence)
         }
         _ => Ok(false),
@@ -176,7 +175,12 @@ fn push_clogged(
         let is_first = !matches!(states.get(reader), Some(State::WaitsFull(_)));
         if is_first && is_stuck(document, book, states, waits, reader) {
             let before = text.len();
-            push_name(text, "clogged: ", document.instance_name(p), " waits for room on ")?;
+            push_name(
+                text,
+                "clogged: ",
+                document.instance_name(p),
+                " waits for room on ",
+            )?;
             push_name(text, "", document.channel_name(channel), ", and ")?;
             push_name(text, "", document.instance_name(reader), NEVER)?;
             if is_said(said, text_of(text.get(before..).unwrap_or(&[]))) {

@@ -200,9 +200,7 @@ fn run_over<
     ensures no_source { OnErr result (sources.new ≡ sources.old) }
     ensures no_sink { OnErr result (sinks.new ≡ sinks.old) }
 {
-    let streamed = stream(
-        alloc, network, sources, sinks, limits, keeping, watcher,
-    )?;
+    let streamed = stream(alloc, network, sources, sinks, limits, keeping, watcher)?;
     flush_each(places, sinks, lost);
     Ok(streamed)
 }
