@@ -87,6 +87,7 @@ impl SeenBytes<'static> {
 }
 
 /// What words are found from: plain files, and what is known of the command.
+#[derive(Drop)]
 pub(crate) struct Evidence<'e, R, S> {
     pub(crate) alloc: Global,
     pub(crate) rt: &'e R,
