@@ -29,6 +29,7 @@ pub struct Unwatched;
 
 impl Watcher for Unwatched {
     ghost knows = { λ _ _. ⊤ };
+
     ghost sees = { λ _ _ halts _. halts ≡ false };
 
     fn has_news(&self, _book: &Book<'_>) -> bool {

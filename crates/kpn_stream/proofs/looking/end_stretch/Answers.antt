@@ -142,8 +142,8 @@ returns-then-is_some-2-clause-stepless g c =
     (stepless-trans None c.read_at_hand-ended.result c.flush_all-ended.new.book c.sources.book
     c.read_at_hand-ended.new.book c.sources.invariant.stepless
     (stepless_at_hand g.S.Sources.gives g.S.Sources.looks g.S.Sources.at_hand c.index.result.now
-          c.read_at_hand-ended.result c.sources.book c.read_at_hand-ended.new.book c.sources.sources
-          c.read_at_hand-ended.new.sources c.read_at_hand-ended.ensures))
+    c.read_at_hand-ended.result c.sources.book c.read_at_hand-ended.new.book c.sources.sources
+    c.read_at_hand-ended.new.sources c.read_at_hand-ended.ensures))
 
 pub returns-clause-stepless : goal.returns-clause-stepless
 returns-clause-stepless g c =
