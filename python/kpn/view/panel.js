@@ -277,7 +277,7 @@ class Panel {
     const first = Math.max(0, Math.min(at - 8, chain.length - MOST_LINKS));
     const links = Array.from(chain.slice(first, first + MOST_LINKS), (k, it) => this.linkRow(k, first + it + 1, at));
     return [html('h2', {}, `What binds the run to ${grouped(model.length)} ticks`),
-      html('p', {}, run.stats.head[2] || ''),
+      html('p', {}, run.stats.head.find(line => line.startsWith('bound by')) || ''),
       html('p', {class: 'set'}, html('button', {title: 'C', click: () => app.followChain(-1)}, '< chain'),
         html('button', {title: 'c', click: () => app.followChain(1)}, 'chain >'),
         html('label', {}, this.chainBox(), ' in the rows')),
