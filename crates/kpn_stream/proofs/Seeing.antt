@@ -12,7 +12,8 @@ use Rattle.kpn_stream.specs.declared.faults.SinkFault.{SinkFault}
 use Rattle.kpn_stream.specs.declared.ending.StreamEnding.{StreamEnding}
 use Rattle.kpn_stream.specs.declared.ending.StreamEnding.TheVariants.{Halted}
 use Rattle.kpn_stream.specs.Ending.{end_numbers, AreTaken, is_halted}
-use Rattle.kpn_stream.specs.Devices.{is_of_source, is_of_outside, is_elsewhere, is_of_process, is_no_growth, NoneIs, AreFlushed, answered, IsAnswered, none_yet}
+use Rattle.kpn_history.specs.Talks.{is_of_process}
+use Rattle.kpn_stream.specs.Devices.{is_of_source, is_of_outside, is_elsewhere, is_no_growth, NoneIs, AreFlushed, answered, IsAnswered, none_yet}
 use Rattle.kpn_stream.specs.Streaming.{HappensBesides, IsStepless, MayEnd, MayFail, Serves, ServesOrHalts, serves_them, is_over, ReadsSource, ReadsInTurn, none_yet_read, once_more_read, ReadsAtHand, not_read, is_read, StreamGoesOn, StepsWithinLimits}
 use Rattle.kpn_stream.specs.Watching.{Watched, by_steps, by_reads, seen, Watches}
 use Rattle.kpn_stream.proofs.Going.{none_of, goes_on-trans, taken_then, serves_on, none_join, none_weaker, besides-refl, besides-trans, besides_sources, besides_elsewhere, serves_goes_on}

@@ -45,15 +45,6 @@ is_elsewhere (Leave c) = false
 is_elsewhere (Grow p c n) = false
 is_elsewhere e = true
 
--- an event of a process
-abbrev pub is_of_process : Event → Bool
-is_of_process (Feed c v) = false
-is_of_process (Close c) = false
-is_of_process (Take c v) = false
-is_of_process (Leave c) = false
-is_of_process (Grow p c n) = false
-is_of_process e = true
-
 -- no growth
 abbrev pub is_no_growth : Event → Bool
 is_no_growth (Grow p c n) = false

@@ -13,7 +13,8 @@ use Rattle.kpn_stream.specs.declared.faults.SinkFault.TheVariants as sink_fault
 use Rattle.kpn_stream.specs.declared.ending.StreamEnding.{StreamEnding}
 use Rattle.kpn_stream.specs.declared.ending.StreamEnding.TheVariants.{Halted, SourceFailed, SinkFailed}
 use Rattle.kpn_book.specs.declared.outcome.Limits.{Limits}
-use Rattle.kpn_stream.specs.Devices.{is_of_sink, is_of_outside, is_of_process, is_elsewhere, is_no_growth, NoneIs, MayRead, Fed, ServedSince, AreFlushed, EndsFlushed, AreLookedAt, IsAnswered, Called}
+use Rattle.kpn_history.specs.Talks.{is_of_process}
+use Rattle.kpn_stream.specs.Devices.{is_of_sink, is_of_outside, is_elsewhere, is_no_growth, NoneIs, MayRead, Fed, ServedSince, AreFlushed, EndsFlushed, AreLookedAt, IsAnswered, Called}
 use Rattle.kpn_stream.specs.Ending.{end_numbers, AreLeft, IsSinkTaken, AreTaken, LeavesNothing, IsEnding, failed_source, failed_sink, is_halted}
 
 -- events happened, but none of this kind

@@ -2,9 +2,10 @@
 use Rattle.std.specs.Prelude.{◌≡◌, Bool, true, false, List, [], ◌++◌}
 use Rattle.kpn_net.specs.Tables.{Tables}
 use Rattle.kpn_history.specs.declared.event.Event.{Event}
+use Rattle.kpn_history.specs.Talks.{is_of_process}
 use Rattle.kpn_book.specs.Book.{Book}
 use Rattle.kpn_book.specs.Kept.{IsBook}
-use Rattle.kpn_stream.specs.Devices.{is_of_source, is_of_process, NoneIs}
+use Rattle.kpn_stream.specs.Devices.{is_of_source, NoneIs}
 
 -- From the first watcher to this one, by looks at the book of the run, one after the other. A source is fed or closed
 -- only while the watcher knows the book: since then no process has done anything. If the watcher wanted the end, nothing

@@ -7,17 +7,17 @@ const TURNS: u32 = 1_024;
 
 /// What a stream notes from turn to turn.
 #[derive(Drop)]
-pub(crate) struct Pace {
+pub(crate) struct StreamPace {
     /// The stretch is over once the commits have reached this.
     pub(crate) goal: u64,
     /// How many turns are left before the next look.
     turns: u32,
 }
 
-impl Pace {
+impl StreamPace {
     /// At the start the watcher looks.
-    pub(crate) fn new() -> Pace {
-        Pace {
+    pub(crate) fn new() -> StreamPace {
+        StreamPace {
             goal: STRETCH,
             turns: 0,
         }

@@ -14,7 +14,7 @@ use crate::ending::StreamEnding;
 use crate::ends::EndNumbers;
 use crate::faults::SourceFault;
 use crate::looking::first_to_come;
-use crate::pace::Pace;
+use crate::pace::StreamPace;
 use crate::running::ending_of;
 use crate::stepping::{is_idle, is_order_seen};
 use crate::taking::flush_all;
@@ -32,7 +32,7 @@ pub(crate) fn read_one<S: Sources, K: Sinks>(
     sources: &mut S,
     sinks: &mut K,
     limits: &Limits,
-    pace: &mut Pace,
+    pace: &mut StreamPace,
 ) -> Option<StreamEnding>
     requires sources { ends.now.sources.items ≡ end_numbers is_source book.old.tables }
     requires sinks { ends.now.sinks.items ≡ end_numbers is_sink book.old.tables }
@@ -59,7 +59,7 @@ fn wait_for_one<S: Sources, K: Sinks>(
     sources: &mut S,
     sinks: &mut K,
     limits: &Limits,
-    pace: &mut Pace,
+    pace: &mut StreamPace,
 ) -> Option<StreamEnding>
     requires sources { ends.now.sources.items ≡ end_numbers is_source book.old.tables }
     requires sinks { ends.now.sinks.items ≡ end_numbers is_sink book.old.tables }

@@ -13,7 +13,7 @@ use crate::devices::{Sinks, Sources};
 use crate::ending::{StreamEnding, Streamed};
 use crate::ends::{EndNumbers, end_numbers_of};
 use crate::looking::end_stretch;
-use crate::pace::Pace;
+use crate::pace::StreamPace;
 use crate::reading::read_one;
 use crate::stepping::{STRETCH, is_idle, step_stretch};
 use crate::taking::{flush_all, take_all};
@@ -121,7 +121,7 @@ fn make_turns<S: Sources, K: Sinks, W: Watcher>(
     ensures watched { Watches W.knows W.sees book.old book.new
         watcher.old (is_halted (Some result)) watcher.new }
 {
-    let mut pace = Pace::new();
+    let mut pace = StreamPace::new();
     'turns: for _turn in 0..u64::MAX {
         let ended = turn(book, ends, sources, sinks, limits, &mut pace, watcher);
         if let Some(ending) = ended {
@@ -138,7 +138,7 @@ fn turn<S: Sources, K: Sinks, W: Watcher>(
     sources: &mut S,
     sinks: &mut K,
     limits: &Limits,
-    pace: &mut Pace,
+    pace: &mut StreamPace,
     watcher: &mut W,
 ) -> Option<StreamEnding>
     requires sources { ends.now.sources.items ≡ end_numbers is_source book.old.tables }
@@ -171,7 +171,7 @@ fn show<K: Sinks, W: Watcher>(
     ends: &EndNumbers,
     sinks: &mut K,
     limits: &Limits,
-    pace: &mut Pace,
+    pace: &mut StreamPace,
     watcher: &mut W,
 ) -> Option<StreamEnding>
     requires ends { ends.now.sinks.items ≡ end_numbers is_sink book.old.tables }
@@ -229,7 +229,7 @@ fn come_to_read<S: Sources, K: Sinks>(
     sources: &mut S,
     sinks: &mut K,
     limits: &Limits,
-    pace: &mut Pace,
+    pace: &mut StreamPace,
 ) -> Option<StreamEnding>
     requires sources { ends.now.sources.items ≡ end_numbers is_source book.old.tables }
     requires sinks { ends.now.sinks.items ≡ end_numbers is_sink book.old.tables }
