@@ -57,6 +57,7 @@ pub(crate) fn steps_of(
     events: &[Event],
     quota: u64,
 ) -> Result<Vec<usize>, AllocError> {
+    network.known();
     let mut processes = Vec::with_capacity(alloc, network.instances())?;
     for p in 0..network.instances() {
         let frame = Frame::try_start(network.program(p), network.pars(p))?;
