@@ -31,12 +31,12 @@ KnowsEnded watcher b = watcher.ended ≡ count_by is_ended b.schedule.states
 
 -- a look: the place for faults is told of the book
 pub record LooksAt {E : Type 0} (hears : E → Document → Book → E → Type 0) (before : StreamWatcher E) (b : Book)
-    (ends : Bool) (after : StreamWatcher E) : Type 0 where
+    (halts : Bool) (after : StreamWatcher E) : Type 0 where
   pub document : after.document ≡ before.document
   pub stops : after.stops ≡ before.stops
   pub name : after.err.ghost_name ≡ before.err.ghost_name
   pub told : hears before.err.now before.document.now b after.err.now
-  pub ends : EndsAfterFault before.stops b ends
+  pub ends : EndsAfterFault before.stops b halts
 
 -- While a stream ran that has come to this book, the place for faults was told of its books: before each read of a
 -- source of one in which the same processes had ended. The stream has ended so if and only if a look has ended it.
