@@ -3,4 +3,7 @@ pub mod Results
 pub mod Declaration
 pub mod Constants
 pub mod Plain
+pub mod Capacities
+pub mod Sums
+pub mod Loops
 pub mod Expanding

@@ -49,7 +49,7 @@ fn value_in(constants: &[Constant<'_>], name: &Name<'_>) -> Option<Value>
 }
 
 /// Adds a token and its byte.
-fn add<'a>(
+pub(crate) fn add<'a>(
     tokens: &mut Sequence<Lexeme<'a>>,
     token: Token<'a>,
     start: usize,

@@ -1,11 +1,18 @@
 //! All steps, one after the other.
 
+ghost use Rattle.std.specs.Prelude.{Ok};
+ghost use Rattle.kpn_text_expand.specs.Capacities.{with_capacities};
 ghost use Rattle.kpn_text_expand.specs.Constants.{without_constants};
 ghost use Rattle.kpn_text_expand.specs.Expanding as spec;
+ghost use Rattle.kpn_text_expand.specs.Loops.{with_loops};
 ghost use Rattle.kpn_text_expand.specs.Results.{Gives};
+ghost use Rattle.kpn_text_expand.specs.Sums.{with_sums};
 
+use crate::capacities::Capacities;
 use crate::constants::Constants;
 use crate::fault::ExpandFault;
+use crate::loops::Loops;
+use crate::sums::Sums;
 use kpn_lang::Sequence;
 use kpn_text_tokens::{Language, Lexeme};
 use std::alloc::Global;
@@ -34,6 +41,66 @@ fn without_constants<'a>(
     constants.finish(alloc, end)
 }
 
+/// The tokens with the capacity of their network.
+fn with_capacities<'a>(
+    alloc: Global,
+    tokens: &[Lexeme<'a>],
+    end: usize,
+) -> Result<Sequence<Lexeme<'a>>, ExpandFault>
+    ensures { Gives (λ left. left) result (Ok (with_capacities end tokens.now)) }
+{
+    let mut capacities = Capacities::new(alloc);
+    for lexeme in tokens {
+        capacities.step(lexeme)?;
+    }
+    capacities.finish(end)
+}
+
+/// The tokens with plain assignments.
+fn with_sums<'a>(
+    alloc: Global,
+    tokens: &[Lexeme<'a>],
+    end: usize,
+) -> Result<Sequence<Lexeme<'a>>, ExpandFault>
+    ensures { Gives (λ left. left) result (Ok (with_sums end tokens.now)) }
+{
+    let mut sums = Sums::new(alloc);
+    for lexeme in tokens {
+        sums.step(lexeme)?;
+    }
+    sums.finish(end)
+}
+
+/// The tokens with `while` in place of `for`.
+fn with_loops<'a>(
+    alloc: Global,
+    tokens: &[Lexeme<'a>],
+    end: usize,
+) -> Result<Sequence<Lexeme<'a>>, ExpandFault>
+    ensures { Gives (λ left. left) result (Ok (with_loops end tokens.now)) }
+{
+    let mut loops = Loops::new(alloc);
+    for lexeme in tokens {
+        loops.step(lexeme)?;
+    }
+    loops.finish(end)
+}
+
+/// All four steps.
+#[tactic(auto, unfolding(kpn_text_tokens::specs::Results::and_then))]
+fn all_forms<'a>(
+    alloc: Global,
+    tokens: &[Lexeme<'a>],
+    end: usize,
+) -> Result<Sequence<Lexeme<'a>>, ExpandFault>
+    ensures { Gives (λ left. left) result (spec.all_forms end tokens.now) }
+{
+    let tokens = without_constants(alloc, tokens, end)?;
+    let tokens = with_capacities(alloc, tokens.as_slice(), end)?;
+    let tokens = with_sums(alloc, tokens.as_slice(), end)?;
+    with_loops(alloc, tokens.as_slice(), end)
+}
+
 /// The tokens that those of a text stand for; `end` is the length of the text in bytes. In language 1 they are the
 /// same.
 ///
@@ -56,6 +123,6 @@ pub fn expanded<'a>(
 {
     match language {
         Language::One => Ok(tokens),
-        Language::Two => Ok(without_constants(alloc, tokens.as_slice(), end)?.into_vec()),
+        Language::Two => Ok(all_forms(alloc, tokens.as_slice(), end)?.into_vec()),
     }
 }

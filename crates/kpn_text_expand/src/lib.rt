@@ -5,10 +5,13 @@
 //! numbers, `declaration` reads the declaration of one, and `expanding` makes all steps, one after the other.
 #![tactic(auto)]
 
+mod capacities;
 mod constants;
 mod declaration;
 mod expanding;
 mod fault;
+mod loops;
+mod sums;
 
 pub use expanding::expanded;
 pub use fault::ExpandFault;
