@@ -188,7 +188,12 @@ impl<'a> Loops<'a> {
     }
 
     /// A token of the first number, or one behind it.
-    fn step_in_first(&mut self, lexeme: &Lexeme<'a>, name: Name<'a>, start: usize) -> Result<(), ExpandFault>
+    fn step_in_first(
+        &mut self,
+        lexeme: &Lexeme<'a>,
+        name: Name<'a>,
+        start: usize,
+    ) -> Result<(), ExpandFault>
         ensures { Gives (λ _. self.new) result (Ok (spec.first name.entry start lexeme.now self.old)) }
     {
         if matches!(&lexeme.token, Token::Mark(Mark::Range)) {
@@ -201,7 +206,12 @@ impl<'a> Loops<'a> {
     }
 
     /// A token of the bound, or one behind it.
-    fn step_in_bound(&mut self, lexeme: &Lexeme<'a>, name: Name<'a>, depth: usize) -> Result<(), ExpandFault>
+    fn step_in_bound(
+        &mut self,
+        lexeme: &Lexeme<'a>,
+        name: Name<'a>,
+        depth: usize,
+    ) -> Result<(), ExpandFault>
         ensures { Gives (λ _. self.new) result (Ok (spec.in_bound name.entry depth lexeme.now self.old)) }
     {
         if let Some(depth) = depth_behind(&lexeme.token, depth) {

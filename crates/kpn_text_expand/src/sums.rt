@@ -117,7 +117,13 @@ impl<'a> Sums<'a> {
     }
 
     /// The operator with `=` behind the target x: `= x + (`.
-    fn open(&mut self, name: Name<'a>, start: usize, sign: Mark, at: usize) -> Result<(), ExpandFault>
+    fn open(
+        &mut self,
+        name: Name<'a>,
+        start: usize,
+        sign: Mark,
+        at: usize,
+    ) -> Result<(), ExpandFault>
         ensures { Gives (λ _. self.new) result (Ok (spec.opened name.entry start sign at self.old)) }
     {
         add(&mut self.left, Token::Mark(Mark::Assign), at)?;
