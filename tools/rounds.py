@@ -11,7 +11,7 @@ import re
 import typing
 
 TOKEN = re.compile(r'\s+|#[^\n]*|([A-Za-z_]\w*|\d\w*|\'(?:[^\\]|\\.)\''
-                   r'|<=|>=|==|!=|&&|\|\||<<|>>|[-(){}\[\];,=+*/%<>!?:~&|^])')
+                   r'|<<=|>>=|[-+*/%&|^]=|\.\.|<=|>=|==|!=|&&|\|\||<<|>>|[-(){}\[\];,=+*/%<>!?:~&|^])')
 SMALLEST, LARGEST = -2**63, 2**63 - 1
 LARGEST_CAPACITY = 1_048_576
 # How tightly each operator binds, from the loosest on. Those of one row go from the left.
@@ -66,19 +66,39 @@ class Parser:
         self.tokens = [token for token in TOKEN.findall(text) if token]
         self.place = 0
         self.language, self.shared = 1, {}
+        # Those for all that follows, and those of a process or of the network.
+        self.constants, self.own, self.depth = {}, {}, 0
+
+    def settle(self):
+        """Goes past the constants that are declared here, and puts the value of one in place of its name."""
+        while self.language == 2 and self.tokens[self.place - 1] in ';{}' and self.tokens[self.place:][:1] == ['const']:
+            name = self.tokens[self.place + 1]
+            assert self.tokens[self.place + 2] == '=', name
+            self.place += 3
+            found = value(self.expression(), {})
+            self.next(';')
+            (self.own if self.depth else self.constants)[name] = found
+        for known in (self.constants, self.own):
+            if self.place < len(self.tokens) and self.tokens[self.place] in known:
+                found = known[self.tokens[self.place]]
+                self.tokens[self.place:self.place + 1] = ['-'] * (found < 0) + [str(abs(found))]
 
     def peek(self):
+        self.settle()
         return self.tokens[self.place] if self.place < len(self.tokens) else None
 
     def next(self, wanted=None):
-        token = self.tokens[self.place]
-        assert wanted is None or token == wanted, (token, wanted)
+        token = self.peek()
+        assert token is not None and wanted in (None, token), (token, wanted)
         self.place += 1
+        self.depth += (token == '{') - (token == '}')
+        if self.depth == 0:
+            self.own.clear()
         return token
 
     def took(self, token):
         if self.peek() == token:
-            self.place += 1
+            self.next()
             return True
         return False
 
