@@ -18,6 +18,8 @@ LARGEST_CAPACITY = 1_048_576
 ROWS = (('||',), ('&&',), ('<', '<=', '>', '>=', '==', '!='), ('|',), ('^',), ('&',), ('<<', '>>'), ('+', '-'),
         ('*', '/', '%'))
 TIGHTNESS = {mark: number for number, row in enumerate(ROWS, 1) for mark in row}
+# What `x += e;` and the like compute.
+COMPOUND = {f'{mark}=': mark for mark in ('+', '-', '*', '/', '%', '&', '|', '^', '<<', '>>')}
 DIGITS, ESCAPED = frozenset("0123456789'"), {'n': 10, '\\': 92, "'": 39, '0': 0}
 COMPARING, SHIFTING, OPERAND = TIGHTNESS['<'], TIGHTNESS['<<'], len(ROWS) + 1
 
@@ -165,8 +167,17 @@ class Parser:
         """Those of a block, behind its brace."""
         found = []
         while not self.took('}'):
-            found.append(self.statement())
+            found += self.loop() if self.language == 2 and self.took('for') else [self.statement()]
         return found
+
+    def loop(self):
+        """What a `for` stands for, behind that word."""
+        name = self.next()
+        self.next('in')
+        first = self.expression()
+        self.next('..')
+        test = '<', name, self.expression()
+        return [('assign', name, first), ('while', test, [*self.block(), ('assign', name, ('+', name, 1))])]
 
     def statement(self):
         word = self.next()
@@ -183,6 +194,8 @@ class Parser:
             found = 'set', word, self.index()
             self.next('=')
             found += self.expression(),
+        elif self.peek() in COMPOUND:
+            found = 'assign', word, (COMPOUND[self.next()], word, self.expression())
         else:
             self.next('=')
             found = 'assign', word, self.expression()
@@ -234,12 +247,15 @@ class Parser:
     def network(self):
         self.next('network')
         self.next('{')
-        growing, channels, instances = self.growing(), {}, {}
+        growing, channels, instances, usual = self.growing(), {}, {}, None
+        if self.took('cap'):
+            usual = number(self.next())
+            self.next(';')
         while not self.took('}'):
             word = self.next()
             if word in ('channel', 'sink', 'source'):
                 name = self.next()
-                channels[name] = word, number(self.next()) if self.took('cap') else None
+                channels[name] = word, number(self.next()) if self.took('cap') else usual if word != 'source' else None
             else:
                 self.next('=')
                 instances[word] = self.instance()

@@ -1,5 +1,7 @@
-"""Random networks of language 2 whose processes have arrays and tables, and constants. Most indices are right."""
+"""Random networks of language 2 whose processes have arrays and tables, constants and shorter forms. Most indices are
+right."""
 OPERATORS = ('+', '-', '*', '/', '%', '&', '|', '^', '<<', '>>', '<', '<=', '==', '&&', '||')
+COMPOUND = ('+=', '-=', '*=', '/=', '%=', '&=', '|=', '^=', '<<=', '>>=')
 TABLE = 'table t = 3, LESS, 4, -1, 5;\n'
 SIZES = {'a': 4, 'b': 3, 't': 5, 'u': 2}
 # What a constant may be given as, in front of the processes, and in one of them.
@@ -51,13 +53,25 @@ def statements(chance, cells, arrays):
             found.append(f'{name}[{index(chance, name, known, 2)}] = ({value}) & 65535;')
         elif chance.random() < 0.3:
             found.append(f'if {value} {{ y = {expression(chance, known, cells)}; }} else if x {{ y = 5; }}')
+        elif chance.random() < 0.5:
+            found.append(f'y {chance.choice(COMPOUND[:-2])} {value}; y %= 1000;')
         else:
             found.append(f'y = ({value}) % 1000;')
-    if chance.random() < 0.4:
-        cell = f'{chance.choice(cells)}[k]'
-        body = chance.choice((f'y = y + {cell};', f'const THIS = FEW; y = y - {cell} * THIS;'))
-        found.append(f'k = 0; while k < {chance.choice(("2", "FEW - 1"))} {{ {body} k = k + 1; }}')
+    if chance.random() < 0.2:
+        found.append(f'y {chance.choice(COMPOUND[-2:])} {chance.choice(("1", "FEW", "x & 3"))}; y %= 1000;')
+    if chance.random() < 0.5:
+        found.append(loop(chance, f'{chance.choice(cells)}[k]'))
     return found
+
+
+def loop(chance, cell):
+    """A loop over the first two cells, and perhaps one around it."""
+    first, end = chance.choice(('0', 'LESS + 1', 'SIZE - FEW - 1')), chance.choice(('2', 'FEW - 1', 'SIZE / 2'))
+    body = chance.choice((f'y += {cell};', f'const THIS = FEW; y -= {cell} * THIS;', f'if x {{ y ^= {cell}; }}'))
+    inner = f'for k in {first}..{end} {{ {body} }}'
+    if chance.random() < 0.3:
+        return f'for j in {first} .. FEW {{ {inner} }}'
+    return inner if chance.random() < 0.7 else f'k = 0; while k < 2 {{ {body} k = k + 1; }}'
 
 
 def process(chance, name, has_arrays):
@@ -78,8 +92,8 @@ def network(chance):
     text = f'language 2;\n{constants(chance, SHARED)}\n{TABLE}'
     text += ''.join(process(chance, f'p{n}', chance.random() < 0.5) for n in range(count))
     ends = ['s', *(f'c{n}' for n in range(1, count)), 'z']
-    channels = ' '.join(f'channel {it}{chance.choice((" cap SIZE", " cap 1", " cap 2"))};' for it in ends[1:-1])
+    channels = ' '.join(f'channel {it}{chance.choice(("", " cap SIZE", " cap 1"))};' for it in ends[1:-1])
     rows = ' '.join(f'i{n} = p{n}({ends[n]}; {ends[n + 1]});' for n in range(count))
     items = [chance.randrange(-9, 100) for _ in range(chance.choice((3, 40, 200)))]
-    text += f'network {{ const ROOM = SIZE / 2; source s; {channels} sink z cap ROOM; {rows} }}\n'
-    return text, {'s': items}
+    usual = chance.choice(('cap 1;', 'cap SIZE;', 'const ROOM = SIZE / 2; cap ROOM;'))
+    return f'{text}network {{ {usual} source s; {channels} sink z cap 2; {rows} }}\n', {'s': items}
