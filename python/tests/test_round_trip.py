@@ -92,7 +92,8 @@ class RoundTrips(unittest.TestCase):
         """They stand for other tokens, and what is wrong is found where it stands in the text of the process."""
         shared = 'const N = 2 << 1; const LOW = 1 - N; table t = N, LOW; '
         own = 'process p(in i; out o) { const K = N - 2; array a[N]; read i x; x *= 2 + 1; ' \
-            'for k in 0..K { x += t[k]; for j in k .. K + -LOW - 1 { a[j] = x; } } const M = -K; x <<= K; write o x - M; }'
+            'for k in 0..K { x += t[k]; for j in k .. K + -LOW - 1 { a[j] = x; } } const M = -K; x <<= K; ' \
+            'write o x - M; }'
         text = f'language 2; {shared}{own} const ROOM = N; network {{ grow double; cap ROOM; source s; sink z; ' \
             'channel c cap 1; a = p(s; c); b = p(c; z); }'
         printed = answer('print', text)
