@@ -152,8 +152,8 @@ class Plain:
 
     def capped(self) -> bool:
         """`cap N;` behind the settings of the network, for channels that have none."""
-        word, number, end = [*self.texts(3), '', '', ''][:3]
-        if (word, end) != ('cap', ';') or number_of(number, 2) is None or not self.head:
+        word, number, end, behind = [*self.texts(4), '', '', '', ''][:4]
+        if (word, end) != ('cap', ';') or number_of(number, 2) is None or not self.head or behind in SETTINGS:
             return False
         if any(it.text not in SETTINGS for it in self.found[self.head::SETTING]):
             return False
