@@ -157,7 +157,7 @@ class Plain:
             return False
         if any(it.text not in SETTINGS for it in self.found[self.head::SETTING]):
             return False
-        self.cap = self.tokens[self.place:self.place + 2]
+        self.cap, self.head = self.tokens[self.place:self.place + 2], 0
         self.place += SETTING
         return True
 
