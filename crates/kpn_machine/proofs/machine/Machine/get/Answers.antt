@@ -54,18 +54,6 @@ pass_read-requires-clause-read g c =
     (subst (StandsAtRead (program_of t c.args.p).blocks) (sym frame)
     (at_read t c.known.ensures s c.args.p c.requires.process c.args.c c.requires.reads))
 
-pub unreachable-requires : goal.unreachable-requires
-unreachable-requires g c =
-    let t = c.args.network.now in
-    let s = c.args.self.now in
-    let there = reads_below t c.known.ensures s c.args.p c.requires.process c.args.c c.requires.reads in
-    let value =
-    element c.self.inside.channels.items s.channels c.args.c c.index_mut-channel.result.now (opened None false)
-    (ap (λ x. x.channels) c.self.view_is) (omega (arith, c.requires.shape.channels)) c.index_mut-channel.ensures.value
-    in
-    false≢true
-    (subst IsSome (ap next_item (sym value) ∙ sym c.get.ensures.item ∙ c.in_default.is) c.requires.ready)
-
 pub wake_writer-woken-requires-clause-channel : goal.wake_writer-woken-requires-clause-channel
 wake_writer-woken-requires-clause-channel g c =
     reads_below c.args.network.now c.known.ensures c.args.self.now c.args.p c.requires.process c.args.c

@@ -52,18 +52,6 @@ pass_write-requires-clause-write g c =
     (subst (StandsAtWrite (program_of t c.args.p).blocks) (sym frame)
     (at_write t c.known.ensures s c.args.p c.requires.process c.args.c c.args.item c.requires.writes))
 
-pub put-requires : goal.put-requires
-put-requires g c =
-    let t = c.args.network.now in
-    let s = c.args.self.now in
-    let there =
-    writes_below t c.known.ensures s c.args.p c.requires.process c.args.c c.args.item c.requires.writes in
-    let value =
-    element c.self.inside.channels.items s.channels c.args.c c.index_mut-channel.result.now (opened None false)
-    (ap (λ x. x.channels) c.self.view_is) (omega (arith, c.requires.shape.channels)) c.index_mut-channel.ensures.value
-    in
-    subst (λ x. IsTrue x.is_reserved) (sym value) c.requires.reserved
-
 pub wake_reader-requires-clause-channel : goal.wake_reader-requires-clause-channel
 wake_reader-requires-clause-channel g c =
     writes_below c.args.network.now c.known.ensures c.args.self.now c.args.p c.requires.process c.args.c c.args.item
