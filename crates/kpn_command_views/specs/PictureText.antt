@@ -14,6 +14,8 @@ use Rattle.kpn_history.specs.declared.event.Event.TheVariants.{Get, Put, Grow}
 use Rattle.kpn_text_names.specs.Names.{name_at}
 use Rattle.kpn_text.specs.Document.{Document}
 use Rattle.kpn_ticks.specs.Ticks.{Clocks, latest_of, get_tick, put_tick, clocks_with_event, start, clocks_after}
+use Rattle.kpn_command_views.specs.declared.boxes.Bar.{Bar}
+use Rattle.kpn_command_views.specs.declared.boxes.ShownWait.{ShownWait}
 use Rattle.kpn_command_views.specs.declared.scale.Scale.{Scale}
 use Rattle.kpn_command_views.specs.TimelineText.{each_below}
 
@@ -98,30 +100,48 @@ abbrev pub box_name : (kind : List ℕ) (x y wide : ℕ) (name : List ℕ) → L
 box_name kind x y wide name =
     if nat_le (length name) ((wide - 4) / 5) then picture_name_text kind (x + wide / 2) y name else []
 
--- a box of this kind in a row that begins here, with a title and the name of its channel
-abbrev pub whole_box : (kind : List ℕ) (x row wide : ℕ) (title name : List ℕ) → List ℕ
-whole_box kind x row wide title name =
-    box_front kind x (row + 6) wide ++ title ++ box_name kind x (row + 19) wide name
+-- a bar from the end of tick `begin` to that of tick `end`, in the row of process p
+abbrev pub bar_between : Scale → (p begin end : ℕ) → Bar
+bar_between s p begin end = record {
+  x = edge_of s begin;
+  row = row_place p;
+  wide = edge_of s end - edge_of s begin;
+}
 
--- the same from the end of tick `begin` to that of tick `end`, if something of it is shown
-abbrev pub box : Scale → (kind : List ℕ) (p begin end : ℕ) (title name : List ℕ) → List ℕ
-box s kind p begin end title name =
-    let wide = edge_of s end - edge_of s begin in
-    if nat_eq wide 0 then [] else whole_box kind (edge_of s begin) (row_place p) wide title name
+-- a box of this kind at a bar, with a title and the name of its channel
+abbrev pub whole_box : (kind : List ℕ) → Bar → (title name : List ℕ) → List ℕ
+whole_box kind bar title name =
+    box_front kind bar.x (bar.row + 6) bar.wide ++ title ++ box_name kind bar.x (bar.row + 19) bar.wide name
 
--- a get or put of process p in this tick
-abbrev pub item_box : Scale → (p tick : ℕ) (word name : List ℕ) → ℤ → List ℕ
-item_box s p tick word name item = box s word p (tick - 1) tick (item_title word name item tick) name
+-- the same, if something of it is shown
+abbrev pub box : (kind : List ℕ) → Bar → (title name : List ℕ) → List ℕ
+box kind bar title name = if nat_eq bar.wide 0 then [] else whole_box kind bar title name
 
--- a wait of process p from behind its latest tick to before this one
-abbrev pub wait_box : Scale → (p latest tick : ℕ) (kind what name : List ℕ) → List ℕ
-wait_box s p latest tick kind what name =
-    box s kind p latest (tick - 1) (wait_title what name (latest + 1) (tick - 1)) name
+-- a get or put in this tick, which has this bar
+abbrev pub item_box : Bar → (tick : ℕ) (word name : List ℕ) → ℤ → List ℕ
+item_box bar tick word name item = box word bar (item_title word name item tick) name
+
+-- a wait of process p for an item of channel c, and one for room
+abbrev pub empty_wait : (names : List (List ℕ)) → Clocks → (p c : ℕ) → ShownWait
+empty_wait names s p c = record {
+  p = p; latest = latest_of s p; kind = codes "empty"; what = codes "an item"; name = name_at names c;
+}
+
+abbrev pub full_wait : (names : List (List ℕ)) → Clocks → (p c : ℕ) → ShownWait
+full_wait names s p c = record {
+  p = p; latest = latest_of s p; kind = codes "full"; what = codes "room"; name = name_at names c;
+}
+
+-- a wait from behind its latest tick to before this one
+abbrev pub wait_box : Scale → ShownWait → (tick : ℕ) → List ℕ
+wait_box s wait tick =
+    box wait.kind (bar_between s wait.p wait.latest (tick - 1))
+    (wait_title wait.what wait.name (wait.latest + 1) (tick - 1)) wait.name
 
 -- a get or put, and the wait before it
-abbrev pub move_boxes : Scale → (p latest tick : ℕ) (word kind what name : List ℕ) → ℤ → List ℕ
-move_boxes s p latest tick word kind what name item =
-    wait_box s p latest tick kind what name ++ item_box s p tick word name item
+abbrev pub move_boxes : Scale → ShownWait → (tick : ℕ) (word : List ℕ) → ℤ → List ℕ
+move_boxes s wait tick word item =
+    wait_box s wait tick ++ item_box (bar_between s wait.p (tick - 1) tick) tick word wait.name item
 
 abbrev pub growth_mark_text : (x y : ℕ) (name : List ℕ) → List ℕ
 growth_mark_text x y name =
@@ -138,11 +158,9 @@ growth_mark s p latest name =
 -- what is drawn of an event
 abbrev pub event_boxes : (names : List (List ℕ)) → Tables → Scale → Clocks → Event → List ℕ
 event_boxes names t s clocks (Get p c v) =
-    move_boxes s p (latest_of clocks p) (get_tick clocks p c) (codes "get") (codes "empty") (codes "an item")
-    (name_at names c) v
+    move_boxes s (empty_wait names clocks p c) (get_tick clocks p c) (codes "get") v
 event_boxes names t s clocks (Put p c v) =
-    move_boxes s p (latest_of clocks p) (put_tick t clocks p c) (codes "put") (codes "full") (codes "room")
-    (name_at names c) v
+    move_boxes s (full_wait names clocks p c) (put_tick t clocks p c) (codes "put") v
 event_boxes names t s clocks (Grow p c n) = growth_mark s p (latest_of clocks p) (name_at names c)
 event_boxes names t s clocks event = []
 
@@ -159,18 +177,17 @@ last_title what name first =
     (codes "waits for " ∷ what ∷ codes " on " ∷ name ∷ codes " from tick " ∷ decimal first
     ∷ codes " to the end</title></rect>\n" ∷ [])
 
--- a wait of process p from behind its latest tick to the tick behind the last one
-abbrev pub last_wait_box : Scale → (p latest last : ℕ) (kind what name : List ℕ) → List ℕ
-last_wait_box s p latest last kind what name =
-    box s kind p latest (last + 1) (last_title what name (latest + 1)) name
+-- a wait from behind its latest tick to the tick behind the last one
+abbrev pub last_wait_box : Scale → ShownWait → (last : ℕ) → List ℕ
+last_wait_box s wait last =
+    box wait.kind (bar_between s wait.p wait.latest (last + 1)) (last_title wait.what wait.name (wait.latest + 1))
+    wait.name
 
 -- what is drawn of process p, which waits so at the end
 abbrev pub last_box : (names : List (List ℕ)) → Scale → Clocks → (p : ℕ) → Wait → List ℕ
 last_box names s clocks p Nobody = []
-last_box names s clocks p (Empty c) =
-    last_wait_box s p (latest_of clocks p) clocks.last (codes "empty") (codes "an item") (name_at names c)
-last_box names s clocks p (Full c) =
-    last_wait_box s p (latest_of clocks p) clocks.last (codes "full") (codes "room") (name_at names c)
+last_box names s clocks p (Empty c) = last_wait_box s (empty_wait names clocks p c) clocks.last
+last_box names s clocks p (Full c) = last_wait_box s (full_wait names clocks p c) clocks.last
 
 -- what is drawn of so many processes, which wait so at the end
 abbrev pub last_boxes : (names : List (List ℕ)) → Scale → (processes : ℕ) → List Wait → Clocks → List ℕ

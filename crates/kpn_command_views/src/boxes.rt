@@ -5,7 +5,7 @@ ghost use Rattle.kpn_net.specs.Tables.{Tables};
 ghost use Rattle.kpn_text_names.specs.Names.{name_at};
 ghost use Rattle.kpn_ticks.specs.Ticks.{latest_of, get_tick, put_tick};
 ghost use Rattle.kpn_ticks.specs.Shown.{shown, AreClocks};
-ghost use Rattle.kpn_command_views.specs.PictureText.{row_place, box_front, item_title, wait_title, picture_name_text, box_name, whole_box, item_box, wait_box, move_boxes, growth_mark_text, growth_mark, event_boxes, last_title, last_wait_box, last_box, shown_between, move_count, growth_count, box_count, last_count};
+ghost use Rattle.kpn_command_views.specs.PictureText.{row_place, bar_between, box_front, item_title, wait_title, picture_name_text, box_name, whole_box, item_box, empty_wait, full_wait, wait_box, move_boxes, growth_mark_text, growth_mark, event_boxes, last_title, last_wait_box, last_box, shown_between, move_count, growth_count, box_count, last_count};
 ghost use Rattle.kpn_command_views.specs.Drawable.{IsDrawable};
 
 use crate::scale::Scale;
@@ -32,18 +32,17 @@ pub(crate) fn push_event(
 {
     match event {
         Event::Get(p, c, item) => {
-            push_get(text, document, scale, clocks, p.into(), c.into(), item)
+            let (process, channel) = (usize::from(p), usize::from(c));
+            let tick = clocks.get_tick(process, channel);
+            let wait = empty_wait(document, clocks, process, channel);
+            push_move(text, scale, wait, tick, "get", item)
         }
-        Event::Put(p, c, item) => push_put(
-            text,
-            document,
-            network,
-            scale,
-            clocks,
-            p.into(),
-            c.into(),
-            item,
-        ),
+        Event::Put(p, c, item) => {
+            let (process, channel) = (usize::from(p), usize::from(c));
+            let tick = clocks.put_tick(network, process, channel);
+            let wait = full_wait(document, clocks, process, channel);
+            push_move(text, scale, wait, tick, "put", item)
+        }
         Event::Grow(p, c, _) => {
             let latest = clocks.latest_of(p.into());
             let name = document.channel_name(c.into());
@@ -51,59 +50,6 @@ pub(crate) fn push_event(
         }
         _ => Ok(()),
     }
-}
-
-fn push_get(
-    text: &mut String,
-    document: &Document,
-    scale: Scale,
-    clocks: &Clocks,
-    p: usize,
-    c: usize,
-    item: i64,
-) -> Pushed
-    requires drawable { IsDrawable scale }
-    requires clocks { (t : Tables) × AreClocks t (shown clocks.now) }
-    requires fits { (shown clocks.now).last + 1 < 2 ^ 64 }
-    requires row { p < 2 ^ 16 }
-    ensures { let s = shown clocks.now in
-        Adds result text.old text.new (move_boxes scale p (latest_of s p) (get_tick s p c)
-        (codes "get") (codes "empty") (codes "an item")
-        (name_at document.now.names.channels c) item) }
-{
-    let tick = clocks.get_tick(p, c);
-    let latest = clocks.latest_of(p);
-    let name = document.channel_name(c);
-    push_move(
-        text, scale, p, latest, tick, "get", "empty", "an item", name, item,
-    )
-}
-
-fn push_put(
-    text: &mut String,
-    document: &Document,
-    network: &Network,
-    scale: Scale,
-    clocks: &Clocks,
-    p: usize,
-    c: usize,
-    item: i64,
-) -> Pushed
-    requires drawable { IsDrawable scale }
-    requires clocks { AreClocks network.now (shown clocks.now) }
-    requires fits { (shown clocks.now).last + 1 < 2 ^ 64 }
-    requires row { p < 2 ^ 16 }
-    ensures { let s = shown clocks.now in
-        Adds result text.old text.new (move_boxes scale p (latest_of s p)
-        (put_tick network.now s p c) (codes "put") (codes "full") (codes "room")
-        (name_at document.now.names.channels c) item) }
-{
-    let tick = clocks.put_tick(network, p, c);
-    let latest = clocks.latest_of(p);
-    let name = document.channel_name(c);
-    push_move(
-        text, scale, p, latest, tick, "put", "full", "room", name, item,
-    )
 }
 
 /// What is drawn of process `p`, which waits so at the end.
@@ -122,17 +68,10 @@ pub(crate) fn push_last(
     ensures { Adds result text.old text.new
         (last_box document.now.names.channels scale (shown clocks.now) p wait) }
 {
-    let latest = clocks.latest_of(p);
     let last = clocks.last();
     match wait {
-        Wait::Empty(c) => {
-            let name = document.channel_name(c);
-            push_last_wait(text, scale, p, latest, last, "empty", "an item", name)
-        }
-        Wait::Full(c) => {
-            let name = document.channel_name(c);
-            push_last_wait(text, scale, p, latest, last, "full", "room", name)
-        }
+        Wait::Empty(c) => empty_wait(document, clocks, p, c).push_last(text, scale, last),
+        Wait::Full(c) => full_wait(document, clocks, p, c).push_last(text, scale, last),
         Wait::Nobody => Ok(()),
     }
 }
@@ -205,168 +144,164 @@ fn shown_between(scale: Scale, begin: usize, end: usize) -> usize
     if wide == 0 { 0 } else { 1 }
 }
 
-// A get or put, and the wait before it.
+/// Where a bar begins, the row that it is in, and how wide it is.
+#[derive(Clone, Copy)]
+pub(crate) struct Bar {
+    x: usize,
+    row: usize,
+    wide: usize,
+}
+
+impl Bar {
+    // From the end of tick `begin` to that of tick `end`, in the row of process `p`.
+    fn between(scale: Scale, p: usize, begin: usize, end: usize) -> Bar
+        requires drawable { IsDrawable scale }
+        requires row { p < 2 ^ 16 }
+        ensures exact { result ≡ bar_between scale p begin end }
+        ensures fits { result.x + result.row + result.wide < 2 ^ 32 }
+    {
+        let x = scale.place_of(begin);
+        let wide = scale.place_of(end).saturating_sub(x);
+        Bar {
+            x,
+            row: row_of(p),
+            wide,
+        }
+    }
+}
+
+/// A wait of a process from behind its latest tick on: its kind, and for what it waits on which channel.
+#[derive(Clone, Copy)]
+pub(crate) struct ShownWait<'a> {
+    p: usize,
+    latest: usize,
+    kind: &'a str,
+    what: &'a str,
+    name: &'a str,
+}
+
+// A wait of process `p` for an item of channel `c`.
+fn empty_wait<'a>(document: &'a Document, clocks: &Clocks, p: usize, c: usize) -> ShownWait<'a>
+    ensures { result ≡ empty_wait document.now.names.channels (shown clocks.now) p c }
+{
+    ShownWait {
+        p,
+        latest: clocks.latest_of(p),
+        kind: "empty",
+        what: "an item",
+        name: document.channel_name(c),
+    }
+}
+
+// A wait of process `p` for room on channel `c`.
+fn full_wait<'a>(document: &'a Document, clocks: &Clocks, p: usize, c: usize) -> ShownWait<'a>
+    ensures { result ≡ full_wait document.now.names.channels (shown clocks.now) p c }
+{
+    ShownWait {
+        p,
+        latest: clocks.latest_of(p),
+        kind: "full",
+        what: "room",
+        name: document.channel_name(c),
+    }
+}
+
+impl ShownWait<'_> {
+    // The wait to before this tick, if something of it is shown.
+    fn push(self, text: &mut String, scale: Scale, tick: usize) -> Pushed
+        requires drawable { IsDrawable scale }
+        requires row { self.p < 2 ^ 16 }
+        requires fits { self.latest + 1 < 2 ^ 64 }
+        ensures { Adds result text.old text.new (wait_box scale self tick) }
+    {
+        let end = tick.saturating_sub(1);
+        let bar = Bar::between(scale, self.p, self.latest, end);
+        if bar.wide == 0 {
+            Ok(())
+        } else {
+            self.push_box(text, bar, end)
+        }
+    }
+
+    // The wait to the tick behind the last one, if something of it is shown.
+    fn push_last(self, text: &mut String, scale: Scale, last: usize) -> Pushed
+        requires drawable { IsDrawable scale }
+        requires row { self.p < 2 ^ 16 }
+        requires fits { self.latest + 1 < 2 ^ 64 }
+        requires ends { last + 1 < 2 ^ 64 }
+        ensures { Adds result text.old text.new (last_wait_box scale self last) }
+    {
+        let bar = Bar::between(scale, self.p, self.latest, last + 1);
+        if bar.wide == 0 {
+            Ok(())
+        } else {
+            self.push_last_box(text, bar)
+        }
+    }
+
+    fn push_box(self, text: &mut String, bar: Bar, end: usize) -> Pushed
+        requires place { bar.x + bar.row + bar.wide < 2 ^ 32 }
+        requires fits { self.latest + 1 < 2 ^ 64 }
+        ensures { Adds result text.old text.new (whole_box self.kind bar
+            (wait_title self.what self.name (self.latest + 1) end) self.name) }
+    {
+        push_front(text, self.kind, bar.x, bar.row + 6, bar.wide)?;
+        push_wait_title(text, self.what, self.name, self.latest + 1, end)?;
+        push_name(text, self.kind, bar.x, bar.row + 19, bar.wide, self.name)?;
+        Ok(())
+    }
+
+    fn push_last_box(self, text: &mut String, bar: Bar) -> Pushed
+        requires place { bar.x + bar.row + bar.wide < 2 ^ 32 }
+        requires fits { self.latest + 1 < 2 ^ 64 }
+        ensures { Adds result text.old text.new (whole_box self.kind bar
+            (last_title self.what self.name (self.latest + 1)) self.name) }
+    {
+        push_front(text, self.kind, bar.x, bar.row + 6, bar.wide)?;
+        push_last_title(text, self.what, self.name, self.latest + 1)?;
+        push_name(text, self.kind, bar.x, bar.row + 19, bar.wide, self.name)?;
+        Ok(())
+    }
+}
+
+// A get or put at this tick, and the wait before it.
 fn push_move(
     text: &mut String,
     scale: Scale,
-    p: usize,
-    latest: usize,
+    wait: ShownWait<'_>,
     tick: usize,
     word: &str,
-    kind: &str,
-    what: &str,
-    name: &str,
     item: i64,
 ) -> Pushed
     requires drawable { IsDrawable scale }
-    requires row { p < 2 ^ 16 }
-    requires fits { latest + 1 < 2 ^ 64 }
-    ensures { Adds result text.old text.new
-        (move_boxes scale p latest tick word.now kind.now what.now name.now item) }
+    requires row { wait.p < 2 ^ 16 }
+    requires fits { wait.latest + 1 < 2 ^ 64 }
+    ensures { Adds result text.old text.new (move_boxes scale wait tick word.now item) }
 {
-    push_wait(text, scale, p, latest, tick, kind, what, name)?;
-    push_item(text, scale, p, tick, word, name, item)?;
+    wait.push(text, scale, tick)?;
+    let bar = Bar::between(scale, wait.p, tick.saturating_sub(1), tick);
+    push_item(text, bar, word, wait.name, item, tick)?;
     Ok(())
-}
-
-// A wait from behind the latest tick to before this one, if something of it is shown.
-fn push_wait(
-    text: &mut String,
-    scale: Scale,
-    p: usize,
-    latest: usize,
-    tick: usize,
-    kind: &str,
-    what: &str,
-    name: &str,
-) -> Pushed
-    requires drawable { IsDrawable scale }
-    requires row { p < 2 ^ 16 }
-    requires fits { latest + 1 < 2 ^ 64 }
-    ensures { Adds result text.old text.new
-        (wait_box scale p latest tick kind.now what.now name.now) }
-{
-    let end = tick.saturating_sub(1);
-    let x = scale.place_of(latest);
-    let wide = scale.place_of(end).saturating_sub(x);
-    if wide == 0 {
-        Ok(())
-    } else {
-        push_wait_box(text, x, row_of(p), wide, kind, what, name, latest + 1, end)
-    }
-}
-
-// A wait from behind the latest tick to the one behind the last one, if something of it is shown.
-fn push_last_wait(
-    text: &mut String,
-    scale: Scale,
-    p: usize,
-    latest: usize,
-    last: usize,
-    kind: &str,
-    what: &str,
-    name: &str,
-) -> Pushed
-    requires drawable { IsDrawable scale }
-    requires row { p < 2 ^ 16 }
-    requires fits { latest + 1 < 2 ^ 64 }
-    requires ends { last + 1 < 2 ^ 64 }
-    ensures { Adds result text.old text.new
-        (last_wait_box scale p latest last kind.now what.now name.now) }
-{
-    let x = scale.place_of(latest);
-    let wide = scale.place_of(last + 1).saturating_sub(x);
-    if wide == 0 {
-        Ok(())
-    } else {
-        push_last_wait_box(text, x, row_of(p), wide, kind, what, name, latest + 1)
-    }
 }
 
 // A get or put, if it is shown.
 fn push_item(
     text: &mut String,
-    scale: Scale,
-    p: usize,
-    tick: usize,
+    bar: Bar,
     word: &str,
     name: &str,
     item: i64,
+    tick: usize,
 ) -> Pushed
-    requires drawable { IsDrawable scale }
-    requires row { p < 2 ^ 16 }
-    ensures { Adds result text.old text.new (item_box scale p tick word.now name.now item) }
+    requires { bar.x + bar.row + bar.wide < 2 ^ 32 }
+    ensures { Adds result text.old text.new (item_box bar tick word.now name.now item) }
 {
-    let x = scale.place_of(tick.saturating_sub(1));
-    let wide = scale.place_of(tick).saturating_sub(x);
-    if wide == 0 {
-        Ok(())
-    } else {
-        push_item_box(text, x, row_of(p), wide, word, name, item, tick)
+    if bar.wide == 0 {
+        return Ok(());
     }
-}
-
-// A wait in these ticks, in a row that begins here.
-fn push_wait_box(
-    text: &mut String,
-    x: usize,
-    row: usize,
-    wide: usize,
-    kind: &str,
-    what: &str,
-    name: &str,
-    first: usize,
-    last: usize,
-) -> Pushed
-    requires { x + row + wide < 2 ^ 32 }
-    ensures { Adds result text.old text.new (whole_box kind.now x row wide
-        (wait_title what.now name.now first last) name.now) }
-{
-    push_front(text, kind, x, row + 6, wide)?;
-    push_wait_title(text, what, name, first, last)?;
-    push_name(text, kind, x, row + 19, wide, name)?;
-    Ok(())
-}
-
-// A wait from this tick on, in a row that begins here.
-fn push_last_wait_box(
-    text: &mut String,
-    x: usize,
-    row: usize,
-    wide: usize,
-    kind: &str,
-    what: &str,
-    name: &str,
-    first: usize,
-) -> Pushed
-    requires { x + row + wide < 2 ^ 32 }
-    ensures { Adds result text.old text.new (whole_box kind.now x row wide
-        (last_title what.now name.now first) name.now) }
-{
-    push_front(text, kind, x, row + 6, wide)?;
-    push_last_title(text, what, name, first)?;
-    push_name(text, kind, x, row + 19, wide, name)?;
-    Ok(())
-}
-
-// A get or put in this tick, in a row that begins here.
-fn push_item_box(
-    text: &mut String,
-    x: usize,
-    row: usize,
-    wide: usize,
-    word: &str,
-    name: &str,
-    item: i64,
-    tick: usize,
-) -> Pushed
-    requires { x + row + wide < 2 ^ 32 }
-    ensures { Adds result text.old text.new (whole_box word.now x row wide
-        (item_title word.now name.now item tick) name.now) }
-{
-    push_front(text, word, x, row + 6, wide)?;
+    push_front(text, word, bar.x, bar.row + 6, bar.wide)?;
     push_item_title(text, word, name, item, tick)?;
-    push_name(text, word, x, row + 19, wide, name)?;
+    push_name(text, word, bar.x, bar.row + 19, bar.wide, name)?;
     Ok(())
 }
 
