@@ -30,7 +30,10 @@ fn push_sinks(text: &mut String, document: &Document, audit: &Audit) -> Pushed {
             write!(text, "{sink} is complete: nothing more is ever put there\n")?;
         } else {
             let lacking = lacking_for(document.network(), audit, c);
-            write!(text, "{sink} is not complete: {lacking} may put more there\n")?;
+            write!(
+                text,
+                "{sink} is not complete: {lacking} may put more there\n"
+            )?;
         }
     }
     Ok(())
@@ -45,7 +48,12 @@ fn lacking_for(network: &Network, audit: &Audit, c: usize) -> &'static str {
             break;
         };
         let has_ended = matches!(audit.ends.as_slice().get(p), Some(Some(_)));
-        wait = audit.waits.as_slice().get(p).copied().unwrap_or(Wait::Nobody);
+        wait = audit
+            .waits
+            .as_slice()
+            .get(p)
+            .copied()
+            .unwrap_or(Wait::Nobody);
         match wait {
             Wait::Nobody if !has_ended => return "a longer run",
             Wait::Empty(d) if is_open(network, audit, d) => return "more input",

@@ -39,7 +39,13 @@ pub fn warnings_text(alloc: Global, file: &str, text: &[u8]) -> Result<Vec<u8>, 
     for process in &tree.processes {
         let parts = &process.parts;
         push_unnamed(&mut told, source, process, &parts.ins, b" is never read")?;
-        push_unnamed(&mut told, source, process, &parts.outs, b" is never written")?;
+        push_unnamed(
+            &mut told,
+            source,
+            process,
+            &parts.outs,
+            b" is never written",
+        )?;
     }
     let members = members_of(alloc, &tree)?;
     push_rings(alloc, &mut told, source, members.as_slice())?;

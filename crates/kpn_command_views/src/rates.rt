@@ -24,15 +24,15 @@ struct TimedMove {
 /// The gets and puts of a process in order, the last tick of them, and how many of the last ones come again and again:
 /// 0 if none do.
 #[derive(Drop)]
-struct Course {
+struct ProcessTiming {
     moves: Vec<TimedMove>,
     last: usize,
     period: usize,
 }
 
-impl Course {
-    fn new(alloc: Global) -> Course {
-        Course {
+impl ProcessTiming {
+    fn new(alloc: Global) -> ProcessTiming {
+        ProcessTiming {
             moves: Vec::new(alloc),
             last: 0,
             period: 0,
@@ -41,7 +41,11 @@ impl Course {
 
     fn add(&mut self, channel: usize, is_put: bool, tick: usize) -> Result<(), AllocError> {
         let gap = tick.saturating_sub(self.last);
-        self.moves.push(TimedMove { channel, is_put, gap })?;
+        self.moves.push(TimedMove {
+            channel,
+            is_put,
+            gap,
+        })?;
         self.last = tick;
         Ok(())
     }
@@ -84,26 +88,26 @@ impl Course {
     }
 }
 
-/// The courses of the processes in a history.
+/// The timings of the processes in a history.
 #[derive(Drop)]
-pub(crate) struct Courses {
-    courses: Vec<Course>,
+pub(crate) struct Timings {
+    timings: Vec<ProcessTiming>,
 }
 
-impl Courses {
-    /// The courses after events that end with these clocks, which an audit found legal.
+impl Timings {
+    /// The timings after events that end with these clocks, which an audit found legal.
     pub(crate) fn of(
         alloc: Global,
         network: &Network,
         clocks: &Clocks,
         events: &[Event],
         audit: &Audit,
-    ) -> Result<Courses, AllocError> {
-        let mut courses = timed(alloc, network, clocks, events)?;
-        for (course, wait) in courses.iter_mut().zip(audit.waits.as_slice()) {
-            course.find_period(alloc, *wait)?;
+    ) -> Result<Timings, AllocError> {
+        let mut timings = timed(alloc, network, clocks, events)?;
+        for (timing, wait) in timings.iter_mut().zip(audit.waits.as_slice()) {
+            timing.find_period(alloc, *wait)?;
         }
-        Ok(Courses { courses })
+        Ok(Timings { timings })
     }
 
     /// How many ticks the items of a channel take, if its writer has a period, and so has each process that this gets
@@ -116,17 +120,17 @@ impl Courses {
         c: usize,
     ) -> Result<Option<Rate>, AllocError> {
         let feeders = feeders_of(alloc, network, c)?;
-        let Some(writer) = feeders.first().and_then(|p| self.courses.get(*p)) else {
+        let Some(writer) = feeders.first().and_then(|p| self.timings.get(*p)) else {
             return Ok(None);
         };
         let begin = writer.begin();
         for p in &feeders {
             let has_ended = matches!(audit.ends.as_slice().get(*p), Some(Some(_)));
-            let Some(course) = self.courses.get(*p) else {
+            let Some(timing) = self.timings.get(*p) else {
                 continue;
             };
-            let is_over = has_ended && course.last < begin;
-            if course.period == 0 && !is_over {
+            let is_over = has_ended && timing.last < begin;
+            if timing.period == 0 && !is_over {
                 return Ok(None);
             }
         }
@@ -140,10 +144,10 @@ fn timed(
     network: &Network,
     clocks: &Clocks,
     events: &[Event],
-) -> Result<Vec<Course>, AllocError> {
-    let mut courses = Vec::with_capacity(alloc, network.instances())?;
+) -> Result<Vec<ProcessTiming>, AllocError> {
+    let mut timings = Vec::with_capacity(alloc, network.instances())?;
     for _p in 0..network.instances() {
-        courses.push(Course::new(alloc))?;
+        timings.push(ProcessTiming::new(alloc))?;
     }
     let mut written = vec![in alloc; 0usize; network.channels()]?;
     let mut read = vec![in alloc; 0usize; network.channels()]?;
@@ -158,11 +162,11 @@ fn timed(
         } else {
             next_tick(clocks.read_of(c), &mut read, c)
         };
-        if let Some(course) = event.process().and_then(|p| courses.get_mut(p)) {
-            course.add(c, is_put, tick)?;
+        if let Some(timing) = event.process().and_then(|p| timings.get_mut(p)) {
+            timing.add(c, is_put, tick)?;
         }
     }
-    Ok(courses)
+    Ok(timings)
 }
 
 // The tick at the place of a channel in its ticks, which moves on by one.

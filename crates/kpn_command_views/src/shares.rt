@@ -9,27 +9,27 @@ const NAMED: usize = 5;
 
 /// What is shared: how the line begins, and the words for one part and for several.
 #[derive(Clone, Copy)]
-pub(crate) struct Shared {
+pub(crate) struct ShareWords {
     begin: &'static str,
     one: &'static str,
     several: &'static str,
 }
 
 /// The ticks of a longest chain.
-pub(crate) const TICKS: Shared = Shared {
+pub(crate) const TICK_WORDS: ShareWords = ShareWords {
     begin: "bound by ",
     one: "tick",
     several: "ticks",
 };
 
 /// All steps.
-pub(crate) const STEPS: Shared = Shared {
+pub(crate) const STEP_WORDS: ShareWords = ShareWords {
     begin: "most work by ",
     one: "step",
     several: "steps",
 };
 
-impl Shared {
+impl ShareWords {
     /// The word behind a number of parts.
     pub(crate) fn word(self, count: usize) -> &'static str {
         if count == 1 { self.one } else { self.several }
@@ -42,7 +42,7 @@ pub(crate) fn push_shares(
     alloc: Global,
     text: &mut String,
     document: &Document,
-    shared: Shared,
+    shared: ShareWords,
     shares: &[usize],
     parts: usize,
 ) -> Pushed {

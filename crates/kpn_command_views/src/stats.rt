@@ -4,7 +4,7 @@ ghost use Rattle.kpn_command_base.specs.Conclusion.{TellsOnly};
 ghost use Rattle.kpn_command_base.specs.Audited.{IsAnyToldOf, IsAnyTextFor, IsRefusalOfAudit};
 
 use crate::measured::measure;
-use crate::stats_text::{Told, text_of};
+use crate::stats_text::{MeasuredRun, text_of};
 use kpn_command_base::{Audited, Conclusion, Finding, Refusal, StatsTables, load_audited};
 use kpn_shelf::Shelf;
 use std::alloc::{AllocError, Global};
@@ -41,7 +41,7 @@ fn conclusion_of(
         Finding::Legal(audit) => {
             let (document, trace) = (&audited.document, &audited.trace);
             let measured = measure(alloc, document, trace, steps)?;
-            let told = Told {
+            let told = MeasuredRun {
                 document,
                 trace,
                 audit,

@@ -4,8 +4,8 @@ ghost use Rattle.std.specs.Prelude.{◌≡◌, ◌<◌, length};
 
 use crate::knots::Knots;
 use crate::measured::Measured;
-use crate::rates::{Courses, Rate};
-use crate::shares::{STEPS, TICKS, push_shares};
+use crate::rates::{Rate, Timings};
+use crate::shares::{STEP_WORDS, TICK_WORDS, push_shares};
 use kpn_audit::Audit;
 use kpn_command_base::{Pushed, StatsTables, TableRow, TextTable, parameters_of};
 use kpn_deadlock::rings;
@@ -45,7 +45,7 @@ const PROCESS_HEADINGS: [&str; 9] = [
 
 /// A legal history of the document's network: what an audit found after it, and what was measured of it.
 #[derive(Clone, Copy)]
-pub(crate) struct Told<'a> {
+pub(crate) struct MeasuredRun<'a> {
     pub(crate) document: &'a Document,
     pub(crate) trace: &'a Trace,
     pub(crate) audit: &'a Audit,
@@ -56,7 +56,7 @@ pub(crate) struct Told<'a> {
 pub(crate) fn text_of(
     alloc: Global,
     tables: StatsTables,
-    told: Told<'_>,
+    told: MeasuredRun<'_>,
 ) -> Result<Vec<u8>, AllocError> {
     let mut text = String::new(alloc);
     match tables {
@@ -75,14 +75,21 @@ pub(crate) fn text_of(
     Ok(text.into_bytes())
 }
 
-impl Told<'_> {
+impl MeasuredRun<'_> {
     fn push_head(self, alloc: Global, text: &mut String) -> Pushed {
         let times = &self.measured.times;
         let (shares, steps) = (times.shares.as_slice(), self.measured.steps.as_slice());
         self.push_lengths(text)?;
         self.push_rates(alloc, text)?;
-        push_shares(alloc, text, self.document, TICKS, shares, times.bounded.last())?;
-        push_shares(alloc, text, self.document, STEPS, steps, sum_of(steps))?;
+        push_shares(
+            alloc,
+            text,
+            self.document,
+            TICK_WORDS,
+            shares,
+            times.bounded.last(),
+        )?;
+        push_shares(alloc, text, self.document, STEP_WORDS, steps, sum_of(steps))?;
         self.push_rings(alloc, text)
     }
 
@@ -90,7 +97,7 @@ impl Told<'_> {
     fn push_lengths(self, text: &mut String) -> Pushed {
         let times = &self.measured.times;
         let (length, shortest) = (times.bounded.last(), times.free.last());
-        let word = TICKS.word(length);
+        let word = TICK_WORDS.word(length);
         write!(text, "length {length} {word}, ")?;
         write!(text, "{shortest} without capacities\n")?;
         let (events, moves) = (times.events, times.moves);
@@ -107,11 +114,11 @@ impl Told<'_> {
         let network = self.document.network();
         let clocks = &self.measured.times.bounded;
         let events = self.trace.events.as_slice();
-        let courses = Courses::of(alloc, network, clocks, events, self.audit)?;
+        let timings = Timings::of(alloc, network, clocks, events, self.audit)?;
         for c in 0..network.channels() {
             let ticks = clocks.written_of(c);
             if network.is_sink(c) && 1 < ticks.len() {
-                let rate = courses.rate_of(alloc, network, self.audit, c)?;
+                let rate = timings.rate_of(alloc, network, self.audit, c)?;
                 push_rate(text, self.document.channel_name(c), rate, ticks)?;
             }
         }
@@ -157,7 +164,11 @@ impl Told<'_> {
         row.add_number(Some(figures.waits_empty))?;
         row.add_number(Some(figures.waits_full))?;
         let complete = self.audit.complete.as_slice();
-        row.add(if complete.get(c).copied().unwrap_or(false) { "yes" } else { "no" })?;
+        row.add(if complete.get(c).copied().unwrap_or(false) {
+            "yes"
+        } else {
+            "no"
+        })?;
         row.add_number(first.map(|_| self.measured.times.free.capacity_needed(c)))?;
         Ok(row)
     }
@@ -270,7 +281,10 @@ fn push_rate(text: &mut String, name: &str, rate: Option<Rate>, ticks: &[usize])
         }
         _ => {
             let (items, last) = (ticks.len(), ticks.last().copied().unwrap_or(0));
-            write!(text, "{name} has {items} items by tick {last}, without a period\n")
+            write!(
+                text,
+                "{name} has {items} items by tick {last}, without a period\n"
+            )
         }
     }
 }

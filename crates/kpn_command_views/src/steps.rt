@@ -11,14 +11,14 @@ use std::alloc::{AllocError, Global};
 
 /// A process on its way through a history: where it stands, and how many steps have led there.
 #[derive(Drop)]
-struct Walk {
+struct SteppedProcess {
     frame: Frame,
     steps: usize,
 }
 
-impl Walk {
-    // Goes to the stop of this event of the process, and past it. A walk through a program has its frames: to test it
-    // here costs less than to prove it of all walks.
+impl SteppedProcess {
+    // Goes to the stop of this event of the process, and past it. Its frame is always one of its program. A test of that
+    // costs less than a proof about all processes.
     fn go_by(&mut self, program: &Program, event: Event, quota: u64) {
         if !self.frame.fits(program) {
             return;
@@ -57,26 +57,32 @@ pub(crate) fn steps_of(
     events: &[Event],
     quota: u64,
 ) -> Result<Vec<usize>, AllocError> {
-    let mut walks = Vec::with_capacity(alloc, network.instances())?;
+    let mut processes = Vec::with_capacity(alloc, network.instances())?;
     for p in 0..network.instances() {
         let frame = Frame::try_start(network.program(p), network.pars(p))?;
-        walks.push(Walk { frame, steps: 0 })?;
+        processes.push(SteppedProcess { frame, steps: 0 })?;
     }
     for event in events {
         if let Some(p) = event.process() {
-            go_on(&mut walks, network, p, *event, quota);
+            go_on(&mut processes, network, p, *event, quota);
         }
     }
-    let mut steps = Vec::with_capacity(alloc, walks.len())?;
-    for walk in &walks {
-        steps.push(walk.steps)?;
+    let mut steps = Vec::with_capacity(alloc, processes.len())?;
+    for process in &processes {
+        steps.push(process.steps)?;
     }
     Ok(steps)
 }
 
-fn go_on(walks: &mut Vec<Walk>, network: &Network, p: usize, event: Event, quota: u64) {
-    if p < walks.len() && p < network.instances() {
-        let walk = &mut walks[p];
-        walk.go_by(network.program(p), event, quota);
+fn go_on(
+    processes: &mut Vec<SteppedProcess>,
+    network: &Network,
+    p: usize,
+    event: Event,
+    quota: u64,
+) {
+    if p < processes.len() && p < network.instances() {
+        let process = &mut processes[p];
+        process.go_by(network.program(p), event, quota);
     }
 }
