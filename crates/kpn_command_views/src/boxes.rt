@@ -32,13 +32,15 @@ pub(crate) fn push_event(
 {
     match event {
         Event::Get(p, c, item) => {
-            let (process, channel) = (usize::from(p), usize::from(c));
+            let process = usize::from(p);
+            let channel = usize::from(c);
             let tick = clocks.get_tick(process, channel);
             let wait = empty_wait(document, clocks, process, channel);
             push_move(text, scale, wait, tick, "get", item)
         }
         Event::Put(p, c, item) => {
-            let (process, channel) = (usize::from(p), usize::from(c));
+            let process = usize::from(p);
+            let channel = usize::from(c);
             let tick = clocks.put_tick(network, process, channel);
             let wait = full_wait(document, clocks, process, channel);
             push_move(text, scale, wait, tick, "put", item)
@@ -297,8 +299,24 @@ fn push_item(
     ensures { Adds result text.old text.new (item_box bar tick word.now name.now item) }
 {
     if bar.wide == 0 {
-        return Ok(());
+        Ok(())
+    } else {
+        push_item_box(text, bar, word, name, item, tick)
     }
+}
+
+fn push_item_box(
+    text: &mut String,
+    bar: Bar,
+    word: &str,
+    name: &str,
+    item: i64,
+    tick: usize,
+) -> Pushed
+    requires { bar.x + bar.row + bar.wide < 2 ^ 32 }
+    ensures { Adds result text.old text.new
+        (whole_box word.now bar (item_title word.now name.now item tick) name.now) }
+{
     push_front(text, word, bar.x, bar.row + 6, bar.wide)?;
     push_item_title(text, word, name, item, tick)?;
     push_name(text, word, bar.x, bar.row + 19, bar.wide, name)?;
