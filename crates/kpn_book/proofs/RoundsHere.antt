@@ -1,5 +1,5 @@
--- Each run on one thread takes some number of rounds: at each of its events the process stands where steps have led from
--- what it said last.
+-- Each run on one thread takes some number of rounds: at each of its events the process stands where steps have led
+-- from what it said last.
 use Rattle.std.proofs.Common.{◌≡◌, ◌≢◌, ℕ, ◌+◌, ◌*◌, ◌≤◌, ◌⊎◌, max, ℤ, List, [], ◌∷◌, ◌++◌, sym, ◌∙◌, subst, inl, inr, arith, append_assoc, append-nil, mul-le-mul_right}
 use Rattle.kpn_net.specs.Tables.{Tables, program_of}
 use Rattle.kpn_net.specs.Iteration.{given_by}

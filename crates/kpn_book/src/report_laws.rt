@@ -137,10 +137,10 @@ pub fn turns_of_a_run_here()
         → report.commits ≡ limits.commits }
 {}
 
-/// What any history from the same lists makes, the run on one thread makes too, if its limit of commits allows a round of
-/// the queue for each event of a process there, and for each pause before it. Unless it has enough before, it has all of
-/// it: what was said and written begins the same, and what was taken from each sink. If that history has enough, so has
-/// the run.
+/// What any history from the same lists makes, the run on one thread makes too, if its limit of commits allows a round
+/// of the queue for each event of a process there, and for each pause before it. Unless it has enough before, it has
+/// all of it: what was said and written begins the same, and what was taken from each sink. If that history has enough,
+/// so has the run.
 pub fn what_is_made_in_time()
     ensures made { (t : Tables) → IsNetwork t → (lists : List (List ℤ)) (limits : Limits)
         (report : Report) → IsReport t lists limits report → IsReportHere t lists limits report

@@ -25,8 +25,8 @@ pub fn one_more_is_made()
         → HasMade t (B ++ e ∷ []) G }
 {}
 
-/// A history that has made all that another one has made has every item of it on each channel, if each of its sources is
-/// closed, and each process has read as much.
+/// A history that has made all that another one has made has every item of it on each channel, if each of its sources
+/// is closed, and each process has read as much.
 pub fn what_is_made()
     ensures { (t : Tables) → IsNetwork t → (given : Family) (H G : List Event)
         → IsRunFrom t given H → IsRunFrom t given G
