@@ -2,12 +2,14 @@
 than the proved one computes it from what an audit keeps of channels and processes (histories.py), and from the events
 of the trace.
 """
+import collections
+
 import histories
 import ticks
 
 CHANNEL_HEADING = ('channel put read left most cap_first cap_last growths waits_empty waits_full complete '
                    'cap_shortest').split()
-PROCESS_HEADING = 'process gets puts waits_empty waits_full end bounds parameters'.split()
+PROCESS_HEADING = 'process gets puts steps waits_empty waits_full end bounds parameters'.split()
 HEAD = '''digraph network {
   rankdir=%s;
   node [fontname="sans-serif", shape=box];
@@ -62,9 +64,10 @@ def channel_row(audit, history, most, free, c):
 
 
 def process_row(audit, history, bounded, p):
-    events = [count(history, word, 1, p) for word in ('get', 'put', 'wait-empty', 'wait-full')]
+    moves, waits = ([count(history, word, 1, p) for word in words]
+                    for words in (('get', 'put'), ('wait-empty', 'wait-full')))
     behind = [standing(audit, p) or '-', bounded.shares()[p], parameters(audit.network, p) or '-']
-    return [audit.network.instances[p], *events, *behind]
+    return [audit.network.instances[p], *moves, audit.processes[p].steps, *waits, *behind]
 
 
 def advice(audit, bounded, free, c):
@@ -81,39 +84,74 @@ def advice(audit, bounded, free, c):
     return f'{said} is advised' + (f', and it has {last}' if number > last else '') + '\n'
 
 
-def in_ticks(count):
-    return f'{count} tick' if count == 1 else f'{count} ticks'
+def counted(count, word):
+    return f'{count} {word}' if count == 1 else f'{count} {word}s'
 
 
-def bound_line(network, bounded):
-    """The five processes that bind the run for most ticks, and the others together."""
-    shares = bounded.shares()
+def shares_line(network, begin, word, shares):
+    """The five processes with the largest shares, and the others together."""
     if not shares:
-        return 'bound by nothing\n'
+        return f'{begin} by nothing\n'
     first = sorted(shares, key=lambda p: (-shares[p], p))[:5]
     told = [(network.instances[p], shares[p]) for p in first]
-    others = shares.total() - sum(ticks for _, ticks in told)
+    others = shares.total() - sum(share for _, share in told)
     told += [('others', others)] * bool(others)
-    return 'bound by ' + ', '.join(f'{name} ({in_ticks(count)})' for name, count in told) + '\n'
+    return f'{begin} by ' + ', '.join(f'{name} ({counted(share, word)})' for name, share in told) + '\n'
 
 
-def head(network, history, bounded, free):
-    moves = len(bounded.places)
+def head(audit, trace, bounded, free):
+    network, moves = audit.network, len(bounded.places)
     hundredths = moves * 100 // bounded.length if bounded.length else None
     in_a_tick = '-' if hundredths is None else f'{hundredths // 100}.{hundredths % 100:02}'
-    return (f'length {in_ticks(bounded.length)}, {free.length} without capacities\n'
-            f'events {len(history)}, gets and puts {moves}, in a tick {in_a_tick}\n'
-            + ''.join(rate_lines(network, bounded)) + bound_line(network, bounded))
+    steps = collections.Counter({p: process.steps for p, process in enumerate(audit.processes) if process.steps})
+    return (f'length {counted(bounded.length, "tick")}, {free.length} without capacities\n'
+            f'events {len(trace.history)}, gets and puts {moves}, in a tick {in_a_tick}\n'
+            + ''.join(rate_lines(audit, bounded)) + shares_line(network, 'bound', 'tick', bounded.shares())
+            + shares_line(network, 'most work', 'step', steps))
 
 
-def rate_lines(network, bounded):
-    """How many ticks an item of each sink takes in the second half of its items, if there are two."""
+def rate_lines(audit, bounded):
+    """How many ticks an item of each sink takes in a period, if there are two items."""
+    network = audit.network
+    courses = [course_of(audit, bounded, p) for p in range(len(network.instances))]
     for c in network.of_kind('sink'):
-        ticks = bounded.written(c)
-        steps = len(ticks) // 2
-        if steps:
-            hundredths = (ticks[-1] - ticks[-1 - steps]) * 100 // steps
-            yield f'{network.channels[c]} takes {hundredths // 100}.{hundredths % 100:02} ticks an item\n'
+        at, name = bounded.written(c), network.channels[c]
+        if len(at) > 1:
+            rate = rate_of(audit, courses, c)
+            yield (f'{name} takes {rate // 100}.{rate % 100:02} ticks an item\n' if rate is not None
+                   else f'{name} has {len(at)} items by tick {at[-1]}, without a period\n')
+
+
+def course_of(audit, bounded, p):
+    """The moves of a process, each with its tick and how much later than the one before it is, and how many of them
+    come again to the end, twice at least, in the last two thirds; 0 if none do, or if it waits for another move."""
+    moves = [(bounded.ticks[k], bounded.places[k]) for k in bounded.of_process[p]]
+    steps = [(place.word, place.channel, tick - before)
+             for (tick, place), (before, _) in zip(moves, [(0, None), *moves])]
+    steady = steps[len(steps) // 3:]
+    period = next((n for n in range(1, len(steady) // 2 + 1) if steady[n:] == steady[:-n]), 0)
+    wait = audit.blocked(p)
+    if period and wait and ({'empty': 'get', 'full': 'put'}[wait[0]], wait[1]) != steps[-period][:2]:
+        period = 0
+    return moves, period
+
+
+def rate_of(audit, courses, c):
+    """Hundredths of ticks that an item of a sink takes, if all that gives it items has a period."""
+    network, writer = audit.network, audit.network.writers[c]
+    feeders = [writer]
+    for p in feeders:
+        feeders += {network.writers[d] for d in network.ins(p)} - {None, *feeders}
+    moves, period = courses[writer]
+    begin = moves[len(moves) // 3 - 1][0] if len(moves) // 3 else 0
+    for p in feeders:
+        ticks_of = [tick for tick, _ in courses[p][0]]
+        if not courses[p][1] and not (audit.has_ended(p) and (ticks_of or [0])[-1] < begin):
+            return None
+    last = moves[len(moves) - period:]
+    puts = sum(place.word == 'put' and place.channel == c for _, place in last)
+    before = moves[-period - 1][0] if period < len(moves) else 0
+    return (moves[-1][0] - before) * 100 // puts if puts else None
 
 
 def aligned(rows):
@@ -168,7 +206,7 @@ def stats_text(network, trace, tsv=None):
         return tabbed(of_channels if tsv == 'channels' else of_processes)
     said = ''.join(advice(audit, bounded, free, c) for c in channels)
     rings = ''.join(' '.join(['deadlock', *(network.instances[p] for p in ring)]) + '\n' for ring in rings_of(audit))
-    first = head(network, trace.history, bounded, free) + rings
+    first = head(audit, trace, bounded, free) + rings
     return f'{first}\n{aligned(of_channels)}\n{aligned(of_processes)}\n{said}'
 
 
@@ -219,14 +257,17 @@ def drawing(network, trace=None, across=False):
 
 # ---- what is said of a legal history that is not exact
 
-def what_lacks(audit, complete):
-    """What may put more on a sink: turns, input or room."""
-    network = audit.network
-    if any(not audit.has_ended(p) and audit.blocked(p) is None for p in range(len(network.instances))):
-        return 'a longer run'
-    awaited = [wait[1] for wait in audit.waits() if wait and wait[0] == 'empty']
-    if any(network.kinds[c] == 'source' and not complete[c] for c in awaited):
-        return 'more input'
+def what_lacks(audit, complete, c):
+    """What may put more on a sink: turns or input of the one for which its writer waits in the end, or room."""
+    network, met, p = audit.network, set(), audit.network.writers[c]
+    while p is not None and p not in met:
+        met.add(p)
+        wait = audit.blocked(p)
+        if wait is None and not audit.has_ended(p):
+            return 'a longer run'
+        if wait and wait[0] == 'empty' and network.kinds[wait[1]] == 'source' and not complete[wait[1]]:
+            return 'more input'
+        p = awaited(audit, p)
     return 'more room (`cap`, `limit`)'
 
 
@@ -312,7 +353,6 @@ def explained(network, trace):
     if audit.is_quiet():
         return said
     complete = audit.complete()
-    more = what_lacks(audit, complete)
-    sinks = [sink_line(audit, c, complete[c], more) for c in network.of_kind('sink')]
+    sinks = [sink_line(audit, c, complete[c], what_lacks(audit, complete, c)) for c in network.of_kind('sink')]
     full = [unread_line(audit, wait[1], complete) for wait in audit.waits() if wait and wait[0] == 'full']
     return said + ''.join(sinks + full)

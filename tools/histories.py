@@ -29,7 +29,7 @@ class Process:
     """One process, from stop to stop."""
 
     def __init__(self, program, values):
-        self.variables = program.variables(values)
+        self.variables, self.steps = program.variables(values), 0
         self.turns = self.block(program.body)
         self.stands_at = None
         self.move()
@@ -42,16 +42,16 @@ class Process:
                 yield 'write', rest[0], rounds.value(rest[1], self.variables)
             elif word == 'assign':
                 yield STEP
-                self.variables[rest[0]] = rounds.value(rest[1], self.variables)
+                self.variables[rest[0]] = self.stepped(rounds.value(rest[1], self.variables))
             elif word == 'set':
                 yield STEP
-                rounds.set_cell(self.variables, *rest)
+                self.stepped(rounds.set_cell(self.variables, *rest))
             elif word == 'if':
                 yield STEP
-                yield from self.inner(rest[1] if rounds.value(rest[0], self.variables) else rest[2])
+                yield from self.inner(rest[1] if self.stepped(rounds.value(rest[0], self.variables)) else rest[2])
             else:
                 yield STEP
-                while rounds.value(rest[0], self.variables):
+                while self.stepped(rounds.value(rest[0], self.variables)):
                     yield from self.inner(rest[1])
                     yield STEP
 
@@ -59,6 +59,12 @@ class Process:
         """A block that a process leaves by a step of its own, unlike the body."""
         yield from self.block(statements)
         yield STEP
+        self.stepped()
+
+    def stepped(self, value=None):
+        """Counts a step that was made, with its value."""
+        self.steps += 1
+        return value
 
     def move(self, item=None):
         """Moves past the place where it is, with the item of a read."""

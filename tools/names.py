@@ -20,6 +20,7 @@ KEYWORDS = {'use', 'pub', 'mod', 'mutual', 'data', 'record', 'abbrev', 'where', 
 SHARED = {
     'ALL': 'a constant of a type, with all its values',
     'CHUNK': 'how much is handled at once, in units of the crate: items of a journal, bytes of an input',
+    'MOST_TRACED': 'how long a history may be whose trace is to be read: in commits of a run, in events of a stream',
     'Part': 'of a network that is cut, and of the first line of a text, which is private to its file',
     'State': 'of a process in a run, which the specification names; in kpn_lang private to the plain interpreter',
     'run': 'what a program does, and a run of bytes of one kind, each read in its own crate only',

@@ -4,7 +4,7 @@ use crate::devices::{Failure, Input, NONE, Output};
 use crate::files::bytes_of;
 use crate::shelf::{Call, Troubled};
 use anyhow::{Result, bail};
-use kpn_cli::{Ports, SeenBytes, System, command, words_for};
+use kpn_cli::{Ports, SeenBytes, Speaker, System, command, words_for};
 use std::alloc::Global;
 use std::io::{ErrorKind, Write};
 use std::sync::Wait;
@@ -115,7 +115,14 @@ pub(crate) fn run<R: Threads + Wait + Clock + Sync + System + AllocGlobal, S: Po
     let bytes = bytes_of(alloc, &stage.shelf.files, "input");
     let mut input = Input::new(&bytes, stage.input);
     let mut out = Output::new(alloc, stage.output);
-    let mut errors = Output::new(alloc, stage.errors);
+    let has_words = bare.as_str() != line;
+    let mut errors = Speaker::new(
+        alloc,
+        rt,
+        &words,
+        Output::new(alloc, stage.errors),
+        has_words,
+    );
     let mut unsaid = Vec::new(alloc);
     let shelf = &mut stage.shelf;
     let status = command(
@@ -130,16 +137,18 @@ pub(crate) fn run<R: Threads + Wait + Clock + Sync + System + AllocGlobal, S: Po
     );
     let known = SeenBytes {
         written: &out.kept,
-        told: &errors.kept,
+        told: errors.kept(),
+        said: errors.said(),
         unsaid: &unsaid,
         given: &bytes,
         count: bytes.len() as u64,
     };
-    let said = if bare.as_str() == line {
-        Vec::new(alloc)
-    } else {
+    let said = if has_words {
         words_for(rt, &words, status, &known)
+    } else {
+        Vec::new(alloc)
     };
+    let errors = errors.into_inner();
     if stage.may_fail && !errors.kept.is_empty() {
         out.kept.write_all(b"errors:\n")?;
     }

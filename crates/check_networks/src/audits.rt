@@ -1,14 +1,13 @@
 //! Audits in a heap. If the heap is too small for the machine on which an audit replays, or for the items that
 //! come, the audit fails. So does each audit in a heap that is smaller than the first that suffices. And three wrong
 //! auditors, each with a history that they judge wrongly.
+use crate::scenes::{Scene, plays};
 use kpn_audit::{AuditFault, audit};
 use kpn_history::{Event, Trace, Version};
 use kpn_lang::Sequence;
 use kpn_net::{Growth, Network, Policy};
-use kpn_text::read_network;
 use linked_list_allocator::LocalHeap;
 use std::alloc::{AllocError, Global};
-use std::process::Abort;
 use std::test::Fail;
 use test_support::texts::COPY;
 
@@ -25,10 +24,17 @@ network {
 }
 ";
 
-/// The trace of these events, under the usual rules.
-fn trace_of(alloc: Global, version: Version, events: &[Event]) -> Result<Trace, AllocError> {
+/// The trace of these events, so many times one after another, under the usual rules.
+fn trace_of(
+    alloc: Global,
+    version: Version,
+    events: &[Event],
+    times: usize,
+) -> Result<Trace, AllocError> {
     let mut list = Vec::new(alloc);
-    list.extend_from_slice(events)?;
+    for _ in 0..times {
+        list.extend_from_slice(events)?;
+    }
     Ok(Trace {
         version,
         policy: Policy::Cycles,
@@ -37,115 +43,102 @@ fn trace_of(alloc: Global, version: Version, events: &[Event]) -> Result<Trace, 
     })
 }
 
-/// Why an audit of these events in a heap of this size fails, or `None` if it finds a legal history.
-fn fault_in(
+/// An audit: its version, its events, how often they come, how many bytes its heap has, and why it fails, or `None` if it
+/// finds a legal history.
+pub type Audited<'a> = (Version, &'a [Event], usize, usize, Option<AuditFault>);
+
+/// Whether an audit comes to that.
+pub fn is_audited(
     alloc: Global,
     network: &Network,
-    version: Version,
-    events: &[Event],
-    size: usize,
-) -> Result<Option<AuditFault>, AllocError> {
-    let trace = trace_of(alloc, version, events)?;
+    audited: &Audited<'_>,
+) -> Result<bool, AllocError> {
+    let (version, events, times, size, wanted) = *audited;
+    let trace = trace_of(alloc, version, events, times)?;
     let heap = LocalHeap::new(alloc, size)?;
-    Ok(audit(&heap, network, &trace, 1_000).err())
+    Ok(audit(&heap, network, &trace, 1_000).err() == wanted)
 }
 
-/// The size of the first heap, of 64 bytes and then of 16 more each time, in which an audit of these events gets enough
-/// memory.
-fn sufficient_size(
-    alloc: Global,
-    network: &Network,
-    events: &[Event],
-) -> Result<Option<usize>, AllocError> {
+/// Whether an audit is refused until its heap suffices, and then finds the history legal. The first heap has 64 bytes, and
+/// each one then 16 more.
+pub fn is_audited_in_time(alloc: Global, network: &Network) -> Result<bool, AllocError> {
     for steps in 0..256 {
         let size = 64 + 16 * steps;
-        if fault_in(alloc, network, Version::Two, events, size)? != Some(AuditFault::NoMemory) {
-            return Ok(Some(size));
+        if !is_audited(alloc, network, &(Version::Two, &ONE, 1, size, NO_MEMORY))? {
+            let is_legal = is_audited(alloc, network, &(Version::Two, &ONE, 1, size, None))?;
+            return Ok(steps > 0 && is_legal);
         }
     }
-    Ok(None)
+    Ok(false)
 }
 
-#[test]
-fn an_audit_is_refused_at_its_start_and_in_its_course(rt: HostRuntime) -> Result<(), Fail> {
-    let alloc = rt.alloc();
-    let document = read_network(alloc, COPY.as_bytes())?;
-    let many = vec![in alloc; Event::Feed(0, 5); 1_000]?;
-    for (events, size, fault) in [
-        (ONE.as_slice(), 64, Some(AuditFault::NoMemory)),
-        (ONE.as_slice(), 4_096, None),
-        (many.as_slice(), 4_096, Some(AuditFault::NoMemory)),
-        (many.as_slice(), 65_536, None),
-    ] {
-        assert_eq!(rt;
-            fault_in(alloc, document.network(), Version::Two, events, size)?,
-            fault
-        );
-    }
-    Ok(())
-}
-
-/// An audit is refused until its heap suffices, and then it finds the history legal.
 #[test]
 fn refutes_always_out_of_memory(rt: HostRuntime) -> Result<(), Fail> {
-    let alloc = rt.alloc();
-    let document = read_network(alloc, COPY.as_bytes())?;
-    let size = sufficient_size(alloc, document.network(), &ONE)?.unwrap_or(0);
-    assert!(rt; size > 64);
-    assert_eq!(rt;
-        fault_in(alloc, document.network(), Version::Two, &ONE, size)?,
-        None
-    );
+    assert!(rt; plays(&rt, rt.alloc(), COPY, Scene::IsAuditedInTime)?);
     Ok(())
 }
 
-/// Why an audit of these events on a described network fails.
-fn fault_on(
-    alloc: Global,
-    text: &str,
-    version: Version,
-    events: &[Event],
-) -> Result<Option<AuditFault>, Fail> {
-    let document = read_network(alloc, text.as_bytes())?;
-    let fault = fault_in(alloc, document.network(), version, events, 65_536);
-    drop(document);
-    Ok(fault?)
-}
+const NO_MEMORY: Option<AuditFault> = Some(AuditFault::NoMemory);
 
-fn refutes_audit_always_illegal(rt: &impl Abort, alloc: Global) -> Result<(), Fail> {
-    let fault = fault_on(alloc, COPY, Version::Two, &ONE)?;
-    assert!(rt; fault == None, "an item is fed");
-    Ok(())
-}
+/// All wait, and no growth is owed.
+const ALL_WAIT: [Event; 4] = [
+    Event::Put(0, 0, 1),
+    Event::WaitEmpty(1, 1),
+    Event::WaitFull(0, 0),
+    Event::Leave(2),
+];
 
-fn refutes_audit_accepts_what_is_well_spelled(rt: &impl Abort, alloc: Global) -> Result<(), Fail> {
-    let fault = fault_on(alloc, COPY, Version::Two, &[Event::Get(0, 0, 5)])?;
-    assert!(rt;
-        fault == Some(AuditFault::Illegal(0)),
-        "an item is read that nobody fed"
-    );
-    Ok(())
-}
-
-fn refutes_audits_version_one_by_the_networks_policy(
-    rt: &impl Abort,
-    alloc: Global,
-) -> Result<(), Fail> {
-    let events = [
-        Event::Put(0, 0, 1),
-        Event::WaitEmpty(1, 1),
-        Event::WaitFull(0, 0),
-        Event::Leave(2),
-    ];
-    let fault = fault_on(alloc, CLOGGED, Version::One, &events)?;
-    assert!(rt; fault == None, "all wait, and no growth is owed");
-    Ok(())
-}
+const ROWS: [(&str, &str, Audited<'static>); 7] = [
+    (
+        "an_audit_is_refused_at_its_start_and_in_its_course: an item in 64 bytes",
+        COPY,
+        (Version::Two, &ONE, 1, 64, NO_MEMORY),
+    ),
+    (
+        "an_audit_is_refused_at_its_start_and_in_its_course: an item in 4,096 bytes",
+        COPY,
+        (Version::Two, &ONE, 1, 4_096, None),
+    ),
+    (
+        "an_audit_is_refused_at_its_start_and_in_its_course: 1,000 items in 4,096 bytes",
+        COPY,
+        (Version::Two, &ONE, 1_000, 4_096, NO_MEMORY),
+    ),
+    (
+        "an_audit_is_refused_at_its_start_and_in_its_course: 1,000 items in 65,536 bytes",
+        COPY,
+        (Version::Two, &ONE, 1_000, 65_536, None),
+    ),
+    (
+        "refutes_audit_always_illegal",
+        COPY,
+        (Version::Two, &ONE, 1, 65_536, None),
+    ),
+    (
+        "refutes_audit_accepts_what_is_well_spelled",
+        COPY,
+        (
+            Version::Two,
+            &[Event::Get(0, 0, 5)],
+            1,
+            65_536,
+            Some(AuditFault::Illegal(0)),
+        ),
+    ),
+    (
+        "refutes_audits_version_one_by_the_networks_policy",
+        CLOGGED,
+        (Version::One, &ALL_WAIT, 1, 65_536, None),
+    ),
+];
 
 #[test]
 fn audits_judge_events_by_the_rules_of_their_version(rt: HostRuntime) -> Result<(), Fail> {
-    let alloc = rt.alloc();
-    refutes_audit_always_illegal(&rt, alloc)?;
-    refutes_audit_accepts_what_is_well_spelled(&rt, alloc)?;
-    refutes_audits_version_one_by_the_networks_policy(&rt, alloc)
+    for (name, text, audited) in &ROWS {
+        assert!(rt;
+            plays(&rt, rt.alloc(), text, Scene::IsAudited(audited))?,
+            "{name}"
+        );
+    }
+    Ok(())
 }

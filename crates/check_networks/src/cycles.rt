@@ -2,11 +2,10 @@
 ghost use Rattle.std.specs.Prelude.{IsTrue, IfOk};
 ghost use Rattle.kpn_net.specs.Waits.{IsOwnWait, AreWaits};
 
-use crate::worked::idle_network;
+use crate::scenes::{Scene, plays};
 use kpn_cycle::Wait::{Empty, Full, Nobody};
 use kpn_cycle::{Found, Wait, Waits, cycle_through, scan_all};
-use kpn_net::ChannelSpec::{Inner, Sink};
-use kpn_net::{ChannelSpec, End, Growth, Network, Policy};
+use kpn_net::{End, Network};
 use linked_list_allocator::LocalHeap;
 use std::alloc::{AllocError, Global};
 use std::process::Abort;
@@ -42,7 +41,7 @@ fn table(
 }
 
 /// Waits and capacities, what the search from each process in order finds, and what a scan finds.
-type Row<'a> = (&'a [Wait], &'a [u32], &'a [Found], Found);
+pub type Row<'a> = (&'a [Wait], &'a [u32], &'a [Found], Found);
 
 // Whether the searches and the scan along these waits find what a row says.
 fn finds(rt: &impl Abort, network: &Network, waits: &Waits, row: &Row<'_>) -> bool
@@ -58,35 +57,18 @@ fn finds(rt: &impl Abort, network: &Network, waits: &Waits, row: &Row<'_>) -> bo
     all
 }
 
-// Asserts that they do for each row.
-fn assert_rows(
+/// Whether they do for each row.
+pub fn find_all(
     rt: &impl Abort,
     alloc: Global,
     network: &Network,
     rows: &[Row<'_>],
-) -> Result<(), AllocError> {
+) -> Result<bool, AllocError> {
     for (k, row) in rows.iter().enumerate() {
         let waits = table(rt, alloc, network, row.0)?;
         assert!(rt; finds(rt, network, &waits, row), "row {k}");
     }
-    Ok(())
-}
-
-/// A network of processes with these ports that do nothing: its channels, its limit, and rows.
-type Worked<'a> = (
-    &'a [(&'a [usize], &'a [usize])],
-    &'a [ChannelSpec],
-    u32,
-    &'a [Row<'a>],
-);
-
-// Asserts that they do for each row of a network.
-fn assert_found(rt: &impl Abort, alloc: Global, worked: &Worked<'_>) -> Result<(), Fail> {
-    let (ports, channels, limit, rows) = worked;
-    let network = idle_network(alloc, ports, channels, *limit, Policy::Cycles, Growth::One)?;
-    let found = assert_rows(rt, alloc, &network, rows);
-    drop(network);
-    Ok(found?)
+    Ok(true)
 }
 
 // The writer of the full channel 0 and the reader of the empty channel 1.
@@ -210,50 +192,62 @@ const SMALLEST_OF_RING: [Row<'static>; 8] = [
     (RING, &[3, 2, 2, 1, 1], &[Found::Full(3); 5], Found::Full(3)),
 ];
 
-const NETWORKS: [Worked<'static>; 6] = [
+/// Processes that do nothing: their network, and rows.
+const NETWORKS: [(&str, &[Row<'static>]); 6] = [
     (
-        &[(&[], &[0, 1]), (&[0, 1], &[2])],
-        &[Inner(1), Inner(1), Sink(1)],
-        9,
+        "process w(out o, p) { } process r(in i, j; out z) { }
+network {
+  limit 9; channel a cap 1; channel b cap 1; sink z cap 1;
+  w = w(; a, b); r = r(a, b; z);
+}",
         &PAIR,
     ),
     (
-        &[(&[], &[0, 1]), (&[0, 1], &[2])],
-        &[Inner(1), Inner(1), Sink(1)],
-        1,
+        "process w(out o, p) { } process r(in i, j; out z) { }
+network {
+  limit 1; channel a cap 1; channel b cap 1; sink z cap 1;
+  w = w(; a, b); r = r(a, b; z);
+}",
         &PAIR_AT_LIMIT,
     ),
     (
-        &[(&[], &[0]), (&[0, 1], &[2]), (&[2], &[1])],
-        &[Inner(1); 3],
-        9,
+        "process w(out o) { } process m(in i, j; out o) { } process r(in i; out o) { }
+network {
+  limit 9; channel a cap 1; channel b cap 1; channel c cap 1;
+  w = w(; a); m = m(a, b; c); r = r(c; b);
+}",
         &TAIL,
     ),
-    (&[(&[0], &[0, 1])], &[Inner(1), Sink(1)], 9, &SELF_LOOP),
     (
-        &[(&[1], &[0]), (&[0], &[1]), (&[3], &[2]), (&[2], &[3])],
-        &[Inner(1); 4],
-        9,
+        "process p(in i; out o, z) { }
+network { limit 9; channel a cap 1; sink z cap 1; p = p(a; a, z); }",
+        &SELF_LOOP,
+    ),
+    (
+        "process p(in i; out o) { }
+network {
+  limit 9; channel a cap 1; channel b cap 1; channel c cap 1; channel d cap 1;
+  p = p(b; a); q = p(a; b); r = p(d; c); s = p(c; d);
+}",
         &TWO_PAIRS,
     ),
     (
-        &[
-            (&[4], &[0]),
-            (&[0], &[1]),
-            (&[1], &[2]),
-            (&[2], &[3]),
-            (&[3], &[4]),
-        ],
-        &[Inner(1); 5],
-        9,
+        "process p(in i; out o) { }
+network {
+  limit 9; channel a cap 1; channel b cap 1; channel c cap 1; channel d cap 1; channel e cap 1;
+  p = p(e; a); q = p(a; b); r = p(b; c); s = p(c; d); t = p(d; e);
+}",
         &SMALLEST_OF_RING,
     ),
 ];
 
 #[test]
 fn cycles_are_found(rt: HostRuntime) -> Result<(), Fail> {
-    for worked in &NETWORKS {
-        assert_found(&rt, rt.alloc(), worked)?;
+    for (text, rows) in NETWORKS {
+        assert!(rt;
+            plays(&rt, rt.alloc(), text, Scene::FindAll(rows))?,
+            "{text}"
+        );
     }
     Ok(())
 }

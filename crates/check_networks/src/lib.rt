@@ -20,9 +20,10 @@ mod networks;
 #[cfg(test)]
 mod refusals;
 #[cfg(test)]
-#[cfg(test)]
 mod regions;
 #[cfg(test)]
 mod rounds;
+#[cfg(test)]
+mod scenes;
 #[cfg(test)]
 mod worked;

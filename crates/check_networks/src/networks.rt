@@ -1,10 +1,12 @@
 //! Networks: each refusal at its place and beside the one before it, sizes at their limits, what is at the ends of a
 //! channel, equality, how channels grow, and copies.
-use crate::worked::{idle, idle_network, instance};
-use kpn_lang::{Expr, Op, Program, Stmt};
+use crate::scenes::{Scene, plays};
+use crate::worked::{idle, instance};
+use kpn_lang::Program;
 use kpn_limits::MAX_CAPACITY;
 use kpn_net::ChannelSpec::{Inner, Sink, Source};
 use kpn_net::{ChannelSpec, End, Growth, Instance, NetFault, Network, Policy, same};
+use kpn_text::read_network;
 use std::alloc::{AllocError, Global};
 use std::process::Abort;
 use std::test::Fail;
@@ -181,13 +183,7 @@ fn takes_networks_at_the_limits(rt: HostRuntime) -> Result<(), Fail> {
     Ok(())
 }
 
-/// A network of process 0 between the source 0 and the sink 1, which does nothing.
-fn one_process(alloc: Global, limit: u32, policy: Policy, growth: Growth) -> Result<Network, Fail> {
-    let channels = [Source, Sink(1)];
-    idle_network(alloc, &[(&[0], &[1])], &channels, limit, policy, growth)
-}
-
-/// Whether such a network with the limit 9 has its rules.
+/// Whether a network of process 0 between the source 0 and the sink 1, with the limit 9, has its rules.
 fn has_its_rules(network: &Network) -> bool {
     network.limit() == 9 && network.policy() == Policy::Cycles && network.growth() == Growth::One
 }
@@ -212,65 +208,89 @@ fn has_its_process(network: &Network) -> bool {
         && network.pars(0).is_empty()
 }
 
+/// Whether it has its rules, its ends and its process.
+pub fn has_its_tables(network: &Network) -> bool {
+    has_its_rules(network) && has_its_ends(network) && has_its_process(network)
+}
+
+/// A process that does nothing.
+pub const IDLE: &str = "process idle(in i; out o) { }
+network { limit 9; source s; sink z cap 1; p = idle(s; z); }
+";
+
+const IDLE_BELOW_EIGHT: &str = "process idle(in i; out o) { }
+network { limit 8; source s; sink z cap 1; p = idle(s; z); }
+";
+
+const IDLE_UNDER_ALL: &str = "process idle(in i; out o) { }
+network { limit 9; policy all; source s; sink z cap 1; p = idle(s; z); }
+";
+
+const IDLE_BY_ONE: &str = "process idle(in i; out o) { }
+network { limit 5; source s; sink z cap 1; p = idle(s; z); }
+";
+
+const IDLE_BY_DOUBLE: &str = "process idle(in i; out o) { }
+network { limit 5; grow double; source s; sink z cap 1; p = idle(s; z); }
+";
+
 #[test]
 fn tables_of_a_network(rt: HostRuntime) -> Result<(), Fail> {
-    let network = one_process(rt.alloc(), 9, Policy::Cycles, Growth::One)?;
-    assert!(rt; has_its_rules(&network));
-    assert!(rt; has_its_ends(&network));
-    assert!(rt; has_its_process(&network));
+    assert!(rt; plays(&rt, rt.alloc(), IDLE, Scene::HasItsTables)?);
     Ok(())
 }
 
-/// A limit, a policy and a growth.
-type Rules = (u32, Policy, Growth);
-
-/// Whether a network is the same as such a one with other rules, as is wanted.
-fn compares(alloc: Global, network: &Network, rules: Rules, wanted: bool) -> Result<bool, Fail> {
-    let (limit, policy, growth) = rules;
-    let other = one_process(alloc, limit, policy, growth)?;
-    Ok(same(network, &other) == wanted && other.policy() == policy && other.growth() == growth)
+/// A description of a network, the rules of that, and whether another one is the same.
+#[derive(Clone, Copy)]
+pub struct Compared<'a> {
+    text: &'a str,
+    policy: Policy,
+    growth: Growth,
+    is_same: bool,
 }
 
-const COMPARED: [(Rules, Rules, bool); 4] = [
-    (
-        (9, Policy::Cycles, Growth::One),
-        (9, Policy::Cycles, Growth::One),
-        true,
-    ),
-    (
-        (9, Policy::Cycles, Growth::One),
-        (8, Policy::Cycles, Growth::One),
-        false,
-    ),
-    (
-        (9, Policy::Cycles, Growth::One),
-        (9, Policy::All, Growth::One),
-        false,
-    ),
-    (
-        (5, Policy::Cycles, Growth::One),
-        (5, Policy::Cycles, Growth::Double),
-        false,
-    ),
-];
+/// Whether a network compares so with a described one.
+pub fn compares(alloc: Global, network: &Network, with: Compared<'_>) -> Result<bool, Fail> {
+    let document = read_network(alloc, with.text.as_bytes())?;
+    let other = document.network();
+    let is_same = same(network, other) == with.is_same;
+    let has_its_rules = other.policy() == with.policy && other.growth() == with.growth;
+    drop(document);
+    Ok(is_same && has_its_rules)
+}
 
 #[test]
 fn networks_are_compared(rt: HostRuntime) -> Result<(), Fail> {
-    for (k, (rules, others, wanted)) in COMPARED.iter().enumerate() {
-        let (limit, policy, growth) = *rules;
-        let network = one_process(rt.alloc(), limit, policy, growth)?;
-        let compared = compares(rt.alloc(), &network, *others, *wanted);
-        drop(network);
-        assert!(rt; compared?, "row {k}");
+    for (first, text, policy, growth, is_same) in [
+        (IDLE, IDLE, Policy::Cycles, Growth::One, true),
+        (IDLE, IDLE_BELOW_EIGHT, Policy::Cycles, Growth::One, false),
+        (IDLE, IDLE_UNDER_ALL, Policy::All, Growth::One, false),
+        (
+            IDLE_BY_ONE,
+            IDLE_BY_DOUBLE,
+            Policy::Cycles,
+            Growth::Double,
+            false,
+        ),
+    ] {
+        let with = Compared {
+            text,
+            policy,
+            growth,
+            is_same,
+        };
+        assert!(rt;
+            plays(&rt, rt.alloc(), first, Scene::Compares(with))?,
+            "{text}"
+        );
     }
     Ok(())
 }
 
 /// Whether the capacities of a network grow so.
-fn grows_so(rt: &impl Abort, network: &Network, rows: &[(u32, u32)]) -> bool {
+pub fn grows_so(network: &Network, rows: &[(u32, u32)]) -> bool {
     for (cap, wanted) in rows {
-        assert!(rt; *cap < network.limit());
-        if network.larger_capacity(*cap) != *wanted {
+        if *cap >= network.limit() || network.larger_capacity(*cap) != *wanted {
             return false;
         }
     }
@@ -279,58 +299,46 @@ fn grows_so(rt: &impl Abort, network: &Network, rows: &[(u32, u32)]) -> bool {
 
 #[test]
 fn growths_of_a_network(rt: HostRuntime) -> Result<(), Fail> {
-    for (growth, rows) in [
-        (Growth::One, [(1, 2), (2, 3), (3, 4), (4, 5)]),
-        (Growth::Double, [(1, 2), (2, 4), (3, 5), (4, 5)]),
+    for (text, rows) in [
+        (IDLE_BY_ONE, [(1, 2), (2, 3), (3, 4), (4, 5)]),
+        (IDLE_BY_DOUBLE, [(1, 2), (2, 4), (3, 5), (4, 5)]),
     ] {
-        let network = one_process(rt.alloc(), 5, Policy::Cycles, growth)?;
-        assert!(rt; network.growth() == growth);
-        assert!(rt; grows_so(&rt, &network, &rows));
+        assert!(rt;
+            plays(&rt, rt.alloc(), text, Scene::GrowsSo(rows.as_slice()))?,
+            "{text}"
+        );
     }
     Ok(())
 }
 
-// `-3 + !x`
-fn sum(alloc: Global) -> Result<Expr, AllocError> {
-    let less = Box::new(alloc, Expr::Neg(Box::new(alloc, Expr::Num(3))?))?;
-    let flag = Box::new(alloc, Expr::Not(Box::new(alloc, Expr::Var(0))?))?;
-    Ok(Expr::Bin(Op::Add, less, flag))
+/// Each kind of statement and of expression.
+const BUSY: &str = "process busy(in i; out o; par k) {
+  read i x; y = (-3 + !k); if x { write o y; } else { } while 1 { }
+}
+network { limit 5; source s; sink z cap 1; p = busy(s; z; 7); }
+";
+
+const BUSY_UNDER_ALL: &str = "process busy(in i; out o; par k) {
+  read i x; y = (-3 + !k); if x { write o y; } else { } while 1 { }
+}
+network { limit 5; policy all; grow double; source s; sink z cap 1; p = busy(s; z; 7); }
+";
+
+/// Whether a copy of a network under other rules is the same as the described one, and not as the network.
+pub fn is_copied(alloc: Global, network: &Network, text: &str) -> Result<bool, Fail> {
+    let document = read_network(alloc, text.as_bytes())?;
+    let is_so = is_copied_as(network, document.network());
+    drop(document);
+    Ok(is_so?)
 }
 
-// Each kind of statement and of expression.
-fn busy_blocks(alloc: Global) -> Result<Vec<Vec<Stmt>>, AllocError> {
-    let sum = sum(alloc)?;
-    let body = vec![in alloc;
-        Stmt::Read(0, 0),
-        Stmt::Assign(1, sum),
-        Stmt::If(Expr::Var(0), 1, 2),
-        Stmt::While(Expr::Num(1), 3),
-    ]?;
-    let first = vec![in alloc; Stmt::Write(0, Expr::Var(1))]?;
-    Ok(vec![in alloc; body, first, Vec::new(alloc), Vec::new(alloc)]?)
-}
-
-// A process between a source and a sink, with each kind of statement and of expression.
-fn busy_network(alloc: Global, policy: Policy, growth: Growth) -> Result<Network, Fail> {
-    let program = Program::new(alloc, 1, 1, 1, 1, busy_blocks(alloc)?)?;
-    let programs = vec![in alloc; program]?;
-    let instances = instances_of_busy(alloc)?;
-    let channels = [Source, Sink(1)].to_vec(alloc)?;
-    Ok(Network::new(alloc, programs, instances, channels, 5, policy, growth)?)
-}
-
-fn instances_of_busy(alloc: Global) -> Result<Vec<Instance>, AllocError> {
-    let process = instance(alloc, 0, &[0], &[1], &[7])?;
-    Ok(vec![in alloc; process]?)
+fn is_copied_as(network: &Network, made: &Network) -> Result<bool, AllocError> {
+    let copy = network.under(Policy::All, Growth::Double)?;
+    Ok(same(&copy, made) && !same(&copy, network))
 }
 
 #[test]
 fn copies_of_a_network(rt: HostRuntime) -> Result<(), Fail> {
-    let a = rt.alloc();
-    let network = busy_network(a, Policy::Cycles, Growth::One)?;
-    let made = busy_network(a, Policy::All, Growth::Double)?;
-    let copy = network.under(Policy::All, Growth::Double)?;
-    assert!(rt; same(&copy, &made));
-    assert!(rt; !same(&copy, &network));
+    assert!(rt; plays(&rt, rt.alloc(), BUSY, Scene::IsCopied(BUSY_UNDER_ALL))?);
     Ok(())
 }

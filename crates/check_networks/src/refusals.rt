@@ -3,9 +3,9 @@
 ghost use Rattle.kpn_machine.specs.Machine.{IsMachine};
 
 use crate::feeding::feed;
+use crate::scenes::{Scene, plays};
 use kpn_machine::Machine;
 use kpn_net::{Network, Wait};
-use kpn_text::read_network;
 use linked_list_allocator::LocalHeap;
 use std::alloc::{AllocError, Allocator, Global};
 use std::process::Abort;
@@ -92,12 +92,20 @@ fn feed_on<'a>(
     Ok(())
 }
 
+/// The same with a heap of its own.
+pub fn are_without_memory(
+    rt: &impl Abort,
+    alloc: Global,
+    network: &Network,
+) -> Result<bool, AllocError> {
+    let heap = LocalHeap::new(alloc, 4_096)?;
+    let mut machine = Machine::new(&heap, network)?;
+    let fed = feed_on(rt, alloc, &heap, network, &mut machine);
+    Ok(fed.is_ok())
+}
+
 #[test]
 fn refused_calls_change_nothing(rt: HostRuntime) -> Result<(), Fail> {
-    let alloc = rt.alloc();
-    let document = read_network(alloc, COPY.as_bytes())?;
-    let heap = LocalHeap::new(alloc, 4_096)?;
-    let mut machine = Machine::new(&heap, document.network())?;
-    feed_on(&rt, alloc, &heap, document.network(), &mut machine)?;
+    assert!(rt; plays(&rt, rt.alloc(), COPY, Scene::AreWithoutMemory)?);
     Ok(())
 }

@@ -4,13 +4,13 @@ ghost use Rattle.kpn_region.specs.Batch.{IsFresh};
 ghost use Rattle.kpn_machine.specs.Machine.{IsMachine};
 
 use crate::feeding::feed;
+use crate::scenes::{self, Scene};
 use kpn_history::Event;
 use kpn_lang::Fault;
 use kpn_machine::Machine;
 use kpn_net::Network;
 use kpn_region::Batch;
 use kpn_step::{Frame, Stop};
-use kpn_text::read_network;
 use std::alloc::{AllocError, Global};
 use std::process::Abort;
 use std::test::Fail;
@@ -48,7 +48,7 @@ network { sink z cap 1; spin = spin(; z); }";
 /// A network, what is claimed of it, how often it is run, the events that this makes, and where its processes can't go
 /// on then.
 #[derive(Clone, Copy)]
-struct Row<'a> {
+pub struct Row<'a> {
     text: &'a str,
     items: &'a [i64],
     drains: bool,
@@ -153,128 +153,116 @@ fn are_stopped(network: &Network, batch: &Batch<'_>, stops: &[Option<Stop>]) -> 
 }
 
 /// Claims and runs a network, as `plays` does.
-fn runs(alloc: Global, network: &Network, row: &Row<'_>) -> Result<bool, AllocError> {
+pub fn runs(alloc: Global, network: &Network, row: &Row<'_>) -> Result<bool, AllocError> {
     let mut batch = Batch::new(alloc, network)?;
     let played = plays(network, &mut batch, row);
     drop(batch);
     played
 }
 
-/// Whether the network of a row does what the row says.
-fn does(alloc: Global, row: &Row<'_>) -> Result<bool, Fail> {
-    let document = read_network(alloc, row.text.as_bytes())?;
-    let done = runs(alloc, document.network(), row);
-    drop(document);
-    Ok(done?)
-}
-
-/// Each process has its turns until it can't go on, with capacity 1, and what comes to the sink is taken at once.
-#[test]
-fn runs_until_all_are_stuck(rt: HostRuntime) -> Result<(), Fail> {
-    assert!(rt; does(rt.alloc(), &THROUGH)?);
-    Ok(())
-}
-
 /// Where a channel is wide, a process goes on until it can't.
-#[test]
-fn goes_on_where_a_channel_is_wide(rt: HostRuntime) -> Result<(), Fail> {
-    let row = Row {
-        text: WIDE_COPIES,
-        items: &[5, 6],
-        drains: true,
-        budget: 100,
-        times: 1,
-        events: &[
-            Event::Get(0, 0, 5),
-            Event::Put(0, 1, 5),
-            Event::Get(0, 0, 6),
-            Event::Put(0, 1, 6),
-            Event::Get(1, 1, 5),
-            Event::Put(1, 2, 5),
-            Event::Take(2, 5),
-            Event::Get(1, 1, 6),
-            Event::Put(1, 2, 6),
-            Event::Take(2, 6),
-        ],
-        stops: &[Some(Stop::WantRead(0)), Some(Stop::WantRead(0))],
-    };
-    assert!(rt; does(rt.alloc(), &row)?);
-    Ok(())
-}
+const WIDE: Row<'static> = Row {
+    text: WIDE_COPIES,
+    items: &[5, 6],
+    drains: true,
+    budget: 100,
+    times: 1,
+    events: &[
+        Event::Get(0, 0, 5),
+        Event::Put(0, 1, 5),
+        Event::Get(0, 0, 6),
+        Event::Put(0, 1, 6),
+        Event::Get(1, 1, 5),
+        Event::Put(1, 2, 5),
+        Event::Take(2, 5),
+        Event::Get(1, 1, 6),
+        Event::Put(1, 2, 6),
+        Event::Take(2, 6),
+    ],
+    stops: &[Some(Stop::WantRead(0)), Some(Stop::WantRead(0))],
+};
 
 /// The same as with capacity 1, by a budget of one: each event, and each turn without one, is a run of its own, and the
 /// next process has its turn then.
-#[test]
-fn runs_by_budgets_of_one(rt: HostRuntime) -> Result<(), Fail> {
-    let row = Row {
-        text: TWO_COPIES,
-        items: &[5, 6],
-        drains: true,
-        budget: 1,
-        times: 11,
-        events: &[
-            Event::Get(0, 0, 5),
-            Event::Put(0, 1, 5),
-            Event::Get(1, 1, 5),
-            Event::Get(0, 0, 6),
-            Event::Put(1, 2, 5),
-            Event::Take(2, 5),
-            Event::Put(0, 1, 6),
-            Event::Get(1, 1, 6),
-            Event::Put(1, 2, 6),
-            Event::Take(2, 6),
-        ],
-        stops: &[Some(Stop::WantRead(0)), Some(Stop::WantRead(0))],
-    };
-    assert!(rt; does(rt.alloc(), &row)?);
-    Ok(())
-}
+const BY_ONE: Row<'static> = Row {
+    text: TWO_COPIES,
+    items: &[5, 6],
+    drains: true,
+    budget: 1,
+    times: 11,
+    events: &[
+        Event::Get(0, 0, 5),
+        Event::Put(0, 1, 5),
+        Event::Get(1, 1, 5),
+        Event::Get(0, 0, 6),
+        Event::Put(1, 2, 5),
+        Event::Take(2, 5),
+        Event::Put(0, 1, 6),
+        Event::Get(1, 1, 6),
+        Event::Put(1, 2, 6),
+        Event::Take(2, 6),
+    ],
+    stops: &[Some(Stop::WantRead(0)), Some(Stop::WantRead(0))],
+};
 
-/// A sink that is not emptied has the room that it had at the claim.
-#[test]
-fn uses_up_the_room(rt: HostRuntime) -> Result<(), Fail> {
-    assert!(rt; does(rt.alloc(), &LEFT_FULL)?);
-    Ok(())
-}
+const FAULTED: Row<'static> = Row {
+    text: REST,
+    items: &[3, 0],
+    drains: true,
+    budget: 100,
+    times: 1,
+    events: &[
+        Event::Get(0, 0, 3),
+        Event::Put(0, 1, 1),
+        Event::Take(1, 1),
+        Event::Get(0, 0, 0),
+    ],
+    stops: &[Some(Stop::Faulted(Fault::ZeroDivisor))],
+};
 
-/// A fault, a cycle of waits, and a process that is only paused.
+const CYCLE: Row<'static> = Row {
+    text: CROSSED,
+    items: &[],
+    drains: true,
+    budget: 100,
+    times: 1,
+    events: &[Event::Put(0, 0, 1)],
+    stops: &[Some(Stop::WantWrite(0, 2)), Some(Stop::WantRead(1))],
+};
+
+const PAUSED: Row<'static> = Row {
+    text: SPINS,
+    items: &[],
+    drains: true,
+    budget: 2000,
+    times: 1,
+    events: &[],
+    stops: &[Some(Stop::Paused)],
+};
+
+/// Each process has its turns until it can't go on, with capacity 1 and on a wide channel, and what comes to the sink is
+/// taken at once. A sink that is not emptied has the room that it had at the claim.
+const RUNS: [(&str, Row<'static>); 7] = [
+    ("runs_until_all_are_stuck", THROUGH),
+    ("goes_on_where_a_channel_is_wide", WIDE),
+    ("runs_by_budgets_of_one", BY_ONE),
+    ("uses_up_the_room", LEFT_FULL),
+    ("stops_where_it_cannot_go_on: a fault", FAULTED),
+    ("stops_where_it_cannot_go_on: a cycle of waits", CYCLE),
+    (
+        "stops_where_it_cannot_go_on: a process that is only paused",
+        PAUSED,
+    ),
+];
+
 #[test]
-fn stops_where_it_cannot_go_on(rt: HostRuntime) -> Result<(), Fail> {
-    let faults = Row {
-        text: REST,
-        items: &[3, 0],
-        drains: true,
-        budget: 100,
-        times: 1,
-        events: &[
-            Event::Get(0, 0, 3),
-            Event::Put(0, 1, 1),
-            Event::Take(1, 1),
-            Event::Get(0, 0, 0),
-        ],
-        stops: &[Some(Stop::Faulted(Fault::ZeroDivisor))],
-    };
-    assert!(rt; does(rt.alloc(), &faults)?);
-    let crossed = Row {
-        text: CROSSED,
-        items: &[],
-        drains: true,
-        budget: 100,
-        times: 1,
-        events: &[Event::Put(0, 0, 1)],
-        stops: &[Some(Stop::WantWrite(0, 2)), Some(Stop::WantRead(1))],
-    };
-    assert!(rt; does(rt.alloc(), &crossed)?);
-    let spins = Row {
-        text: SPINS,
-        items: &[],
-        drains: true,
-        budget: 2000,
-        times: 1,
-        events: &[],
-        stops: &[Some(Stop::Paused)],
-    };
-    assert!(rt; does(rt.alloc(), &spins)?);
+fn regions_run_as_these_rows_say(rt: HostRuntime) -> Result<(), Fail> {
+    for (name, row) in &RUNS {
+        assert!(rt;
+            scenes::plays(&rt, rt.alloc(), row.text, Scene::Runs(row))?,
+            "{name}"
+        );
+    }
     Ok(())
 }
 
@@ -333,7 +321,7 @@ fn stands_so(
 
 /// Runs a whole network as a region beside a machine, and joins it: whether that stands then as these counts say.
 /// If the channels are not made roomy, the batch does not agree with the machine.
-fn joins(
+pub fn joins(
     rt: &impl Abort,
     alloc: Global,
     network: &Network,
@@ -364,11 +352,15 @@ fn joins_what_it_has_done(rt: HostRuntime) -> Result<(), Fail> {
         (THROUGH, [(2, 0, 2), (2, 0, 1), (2, 0, 1)]),
         (LEFT_FULL, [(3, 0, 3), (2, 1, 1), (0, 1, 1)]),
     ];
-    let document = read_network(rt.alloc(), TWO_COPIES.as_bytes())?;
     for (row, counts) in &rows {
-        let joined = joins(&rt, rt.alloc(), document.network(), row, counts)?;
-        assert!(rt; joined);
+        assert!(rt;
+            scenes::plays(
+                &rt,
+                rt.alloc(),
+                row.text,
+                Scene::Joins(row, counts.as_slice())
+            )?
+        );
     }
-    drop(document);
     Ok(())
 }

@@ -1,8 +1,9 @@
 //! Kahn's iteration, which gets the memory that it wants.
-use crate::worked::idle_network;
+use crate::networks::IDLE;
+use crate::scenes::{Scene, plays};
 use kpn_lang::Sequence;
-use kpn_net::ChannelSpec::{Sink, Source};
-use kpn_net::{Growth, Policy, rounds};
+use kpn_net::{Network, rounds};
+use std::alloc::{AllocError, Global};
 use std::test::Fail;
 
 /// Whether these are the items of the first list.
@@ -13,15 +14,19 @@ fn first_has(lists: &[Sequence<i64>], items: &[i64]) -> bool {
     }
 }
 
-/// While there is memory, an iterate is computed. A source has what it is given.
+/// Whether the first iterate of a network with one source has what that is given.
+pub fn iterates(alloc: Global, network: &Network) -> Result<bool, AllocError> {
+    let given = [Sequence::from_vec(vec![in alloc; 1, 2]?)];
+    if network.sources() != 1 {
+        return Ok(false);
+    }
+    let lists = rounds(alloc, network, &given, 1)?;
+    Ok(first_has(lists.as_slice(), &[1, 2]))
+}
+
+/// While there is memory, an iterate is computed.
 #[test]
 fn refutes_always_out_of_memory(rt: HostRuntime) -> Result<(), Fail> {
-    let (policy, growth) = (Policy::Cycles, Growth::One);
-    let channels = [Source, Sink(1)];
-    let network = idle_network(rt.alloc(), &[(&[0], &[1])], &channels, 5, policy, growth)?;
-    let given = [Sequence::from_vec(vec![in rt.alloc(); 1, 2]?)];
-    assert_eq!(rt; network.sources(), 1);
-    let lists = rounds(rt.alloc(), &network, &given, 1)?;
-    assert!(rt; first_has(lists.as_slice(), &[1, 2]));
+    assert!(rt; plays(&rt, rt.alloc(), IDLE, Scene::Iterates)?);
     Ok(())
 }

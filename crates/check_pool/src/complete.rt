@@ -1,8 +1,9 @@
 //! Which sinks of a report are complete: also where the run has stopped for another reason.
-ghost use Rattle.std.specs.Prelude.{◌≡◌, length};
-ghost use Rattle.kpn_net.specs.Iteration.{sources};
+ghost use Rattle.kpn_history.specs.Legal.{Legal};
+ghost use Rattle.kpn_history.specs.Views.{Agrees};
+ghost use Rattle.kpn_book.specs.Reports.{events_of};
 
-use kpn_book::{Limits, run_here};
+use kpn_book::{Limits, Report, run_here};
 use kpn_lang::Sequence;
 use kpn_net::Network;
 use kpn_text::read_network;
@@ -37,21 +38,25 @@ const ALL: Limits = Limits {
     quota: 1_000,
 };
 
-/// Which sinks of a run on one thread are complete.
-fn complete_sinks_of(
-    alloc: Global,
-    network: &Network,
-    lists: &[Sequence<i64>],
-) -> Result<Sequence<bool>, AllocError>
-    requires { length lists.now ≡ sources network.now }
+/// Whether these are the sinks of a report that are complete, in order of channel number.
+fn has_these(report: &Report, network: &Network, complete: &[bool]) -> bool
+    requires legal { Legal network.now (events_of report.now) }
+    requires view { Agrees network.now (events_of report.now) report.now.view }
 {
-    match run_here(alloc, network, lists, &ALL) {
-        Ok(report) => report.complete_sinks(alloc, network),
-        Err(fault) => Err(fault),
+    let mut sinks: usize = 0;
+    for c in 0..network.channels() {
+        if network.is_sink(c) {
+            match complete.get(sinks) {
+                Some(&is) if is == report.is_complete(network, c) => {}
+                _ => return false,
+            }
+            sinks = sinks.saturating_add(1);
+        }
     }
+    sinks == complete.len()
 }
 
-/// Whether these sinks are complete.
+/// Whether a run on one thread has these complete sinks.
 fn are_complete(
     alloc: Global,
     network: &Network,
@@ -61,8 +66,10 @@ fn are_complete(
     if lists.len() != network.sources() {
         return Ok(false);
     }
-    let found = complete_sinks_of(alloc, network, lists)?;
-    Ok(found.as_slice() == complete)
+    match run_here(alloc, network, lists, &ALL) {
+        Ok(report) => Ok(has_these(&report, network, complete)),
+        Err(fault) => Err(fault),
+    }
 }
 
 /// Whether a run of a described network has these complete sinks.

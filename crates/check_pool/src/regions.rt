@@ -97,7 +97,7 @@ impl<'n, 'a, J: Job> OnlyWorker<'n, 'a, J> {
         }
         let before = worker.seat.commits();
         region.run(1_000);
-        let why = match region.come_back(desk, &mut worker.seat, &worker.pace, self.most) {
+        let why = match region.come_back(desk, &mut worker.seat, u64::MAX, self.most) {
             NextMove::End(why) => Some(why),
             _ => None,
         };

@@ -6,7 +6,9 @@ ghost use Rattle.std.specs.Bool.{⊤};
 
 use anyhow::Result;
 use kpn_net::Network;
-use kpn_stream::{Keeping, Limits, Readiness, SinkFault, Sinks, SourceFault, Sources, stream};
+use kpn_stream::{
+    Keeping, Limits, Readiness, SinkFault, Sinks, SourceFault, Sources, Unwatched, stream,
+};
 use kpn_text::read_network;
 use std::alloc::Global;
 use std::io::Write;
@@ -92,6 +94,7 @@ fn run<O: Write>(alloc: Global, network: &Network, out: &mut O) -> Result<()> {
         &mut Display { out },
         &LIMITS,
         Keeping::Nothing,
+        &mut Unwatched,
     )?;
     writeln!(out, "{:?}", streamed.ending)?;
     Ok(())

@@ -2,7 +2,7 @@
 //! command tells stand words for a person, if they are wanted.
 #![tactic(auto)]
 
-use kpn_cli::{BeginningKeeper, EndKeeper, SeenBytes, WordsWanted, command, words_for};
+use kpn_cli::{BeginningKeeper, EndKeeper, SeenBytes, Speaker, WordsWanted, command, words_for};
 use kpn_command_base::Refusal;
 use kpn_shelf::{FileShelf, Patient, fill_standard, standard_input};
 use std::env;
@@ -30,7 +30,8 @@ fn main(rt: HostRuntime) -> ExitCode {
     let has_words = wanted.holds(&rt);
     let mut input = BeginningKeeper::new(rt.alloc(), standard_input(&rt, rt.stdin()));
     let mut out = EndKeeper::new(rt.alloc(), Patient::new(&rt, rt.stdout()), has_words);
-    let mut err = EndKeeper::new(rt.alloc(), Patient::new(&rt, rt.stderr()), has_words);
+    let place = Patient::new(&rt, rt.stderr());
+    let mut err = Speaker::new(rt.alloc(), &rt, &words, place, has_words);
     let mut unsaid = Vec::new(rt.alloc());
     let status = command(
         &rt,
@@ -46,6 +47,7 @@ fn main(rt: HostRuntime) -> ExitCode {
         let known = SeenBytes {
             written: out.kept(),
             told: err.kept(),
+            said: err.said(),
             unsaid: &unsaid,
             given: input.given(),
             count: input.count(),

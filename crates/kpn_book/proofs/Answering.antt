@@ -123,9 +123,6 @@ none_at_stop b step cycle stop =
 pub blocked_then : (p : ℕ) (b a : Book) → GrowsAtStop None b a → GrowsIfOwed p done.Blocked b a
 blocked_then p b a is = record { grows = is.grows; sound = is.sound; held = is.held }
 
-pub grew_then : (p d : ℕ) (b a : Book) → GrowsAtStop (Some d) b a → GrowsIfOwed p (done.Grew d) b a
-grew_then p d b a is = record { grows = is.grows; sound = is.sound; held = is.held }
-
 -- ---- an event, and the growth that is then owed
 
 pub happens : (e : Event) (b m a : Book) (channel : Option ℕ) → Follows e b m → GrowsAtStop channel m a → Happens e b a

@@ -1,23 +1,20 @@
 -- A region is claimed: its processes, the channels, and what that makes of the book.
-use Rattle.std.proofs.Common.{◌≡◌, ◌↔◌, ℕ, ◌+◌, ◌-◌, ◌<◌, ◌≤◌, ◌^◌, min, ℤ, Bool, true, false, not, ◌&&◌, eqb, cond, IsTrue, List, [], ◌∷◌, ◌++◌, length, take, drop, get_or, Option, Some, None, is_some, is_ok, Result, Ok, Err, refl, sym, ap, ◌∙◌, subst, inl, inr, arith, length-drop}
+use Rattle.std.proofs.Common.{◌≡◌, ◌↔◌, ℕ, ◌+◌, ◌-◌, ◌<◌, ◌≤◌, ◌^◌, min, ℤ, Bool, true, false, not, ◌&&◌, eqb, cond, IsTrue, List, [], ◌∷◌, ◌++◌, length, take, drop, get_or, Option, Some, None, is_some, Result, Ok, Err, refl, sym, ap, ◌∙◌, subst, inl, inr, arith, length-drop}
 use Rattle.std.specs.List.{Contains}
 use Rattle.std.specs.Prelude.{OnOk}
-use Rattle.std.proofs.lemmas.Bool.{cases_eq, false≢true, both_ways, eqb-true}
-use Rattle.std.proofs.lemmas.List.{length-set, get_or-set_same, get_or-set_other, length-take-le, take_all}
+use Rattle.std.proofs.lemmas.Bool.{cases_eq, false≢true, eqb-true}
+use Rattle.std.proofs.lemmas.List.{get_or-set_same, get_or-set_other, length-take-le, take_all}
 use Rattle.std.proofs.lemmas.List.Elements.{Contains-append_left, Contains-push, Contains-push_cases}
 use Rattle.kpn_net.specs.declared.tables.End.{End}
 use Rattle.kpn_net.specs.declared.tables.End.TheVariants.{Process}
 use Rattle.kpn_net.specs.Tables.{Tables, channel_at, is_sink, writer_of, reader_of}
 use Rattle.kpn_net.specs.Faults.{IsNetwork}
-use Rattle.kpn_net.proofs.Cycles.{Contains-none}
-use Rattle.kpn_chan.specs.Channel.{ChannelState, unread, has_places_for, roomy, with_reserved, opened, readable}
+use Rattle.kpn_chan.specs.Channel.{ChannelState, unread, has_places_for, roomy, readable}
 use Rattle.kpn_history.specs.declared.event.How.{How}
-use Rattle.kpn_history.specs.declared.event.Event.{Event}
-use Rattle.kpn_machine.specs.Machine.{Machine, channel_in, wait_in, end_in, frame_in, no_frame, with_channel}
-use Rattle.kpn_machine.specs.Run.{IsRun}
+use Rattle.kpn_machine.specs.Machine.{Machine, channel_in, wait_in, end_in, frame_in, no_frame}
 use Rattle.kpn_machine.proofs.Moments.{within_capacity}
 use Rattle.kpn_region.specs.Local.{no_side, Local, is_in_region, frame_at, side_at, IsLocal}
-use Rattle.kpn_region.specs.Batch.{Batch, IsFresh, IsEmpty, with_process}
+use Rattle.kpn_region.specs.Batch.{Batch, IsFresh, with_process}
 use Rattle.kpn_region.specs.Joining.{ChannelAgrees, AgreesWith}
 use Rattle.kpn_book.specs.Schedule.{state_at}
 use Rattle.kpn_book.specs.Book.{Book}
@@ -31,17 +28,6 @@ use Rattle.kpn_book.proofs.Regions.{and_left, and_right}
 -- ---- processes
 
 module _ (t : Tables) (s : Machine) where
-  pub no_process_yet : (b : Batch) → b.tables ≡ t → IsFresh b → IsEmpty b.first → HasProcesses [] t s b
-  no_process_yet b tables fresh empty = record {
-    tables = tables;
-    fresh = fresh;
-    within = λ p there. (
-      λ is. absurd (both_ways (is_in_region b.first p) (empty.processes p) is),
-      λ both. absurd (Contains-none p both.0),
-    );
-    frames = λ p is. absurd (both_ways (is_in_region b.first p) (empty.processes p) is);
-  }
-
   -- process q is in the region if it is one of these and has not ended, and only then
   abbrev IsWithinBy : (of : List ℕ) → (q : ℕ) → Local → Type 0
   IsWithinBy of q claim = (is_in_region claim q ≡ true) ↔ (Contains of q × (end_in s q ≡ None))
@@ -157,61 +143,6 @@ more_room_made x y z first second = record {
       same_then (channel_in x c) (channel_in y c) (channel_in z c) (first.channels c) (second.channels c);
   run = λ t H run. second.run t H (first.run t H run);
 }
-
-made_same : (done reserved : Bool) (before after : ChannelState)
-    → after ≡ cond done (roomy reserved before) (with_reserved reserved before)
-    → (IsTrue before.is_reserved → IsTrue after.is_reserved) → IsSameButMemory before after
-made_same true reserved before after is keep = record {
-  same =
-      is ∙ ap (λ x. record before { is_reserved = x.is_reserved; is_roomy = x.is_roomy; is_wide = x.is_wide }) (sym is);
-  reserved = keep;
-  roomy = λ was. ap (λ (x : ChannelState). x.is_roomy) is;
-}
-made_same false reserved before after is keep = record {
-  same =
-      is ∙ ap (λ x. record before { is_reserved = x.is_reserved; is_roomy = x.is_roomy; is_wide = x.is_wide }) (sym is);
-  reserved = keep;
-  roomy = λ was. ap (λ (x : ChannelState). x.is_roomy) is ∙ was;
-}
-
--- a channel was made roomy, whether or not that was refused
-pub room_made_on : (s after : Machine) (c : ℕ) (done reserved : Bool) → c < length s.channels
-    → after
-    ≡ with_channel c (cond done (roomy reserved (channel_in s c)) (with_reserved reserved (channel_in s c))) s
-    → (IsTrue (channel_in s c).is_reserved → IsTrue (channel_in after c).is_reserved)
-    → ((t : Tables) (H : List Event) → IsRun t H s → IsRun t H after) → MakesRoom s after
-room_made_on s after c done reserved there is keep run =
-    record {
-      rest = is ∙ ap (λ x. record s { channels = x.channels }) (sym is);
-      count = ap (λ x. length x.channels) is ∙ length-set s.channels c made;
-      channels = λ d.
-          elim (cases_eq d c) [
-            | inl this ↦
-                subst (λ z. IsSameButMemory (channel_in s z) (channel_in after z)) (sym this)
-                (made_same done reserved (channel_in s c) (channel_in after c)
-                (ap (λ x. channel_in x c) is ∙ get_or-set_same s.channels c made (opened None false) there) keep)
-            | inr other ↦
-                subst (λ x. IsSameButMemory (channel_in s d) x)
-                (sym (ap (λ x. channel_in x d) is ∙ get_or-set_other s.channels c d made (opened None false) other))
-                (record { same = refl; reserved = λ was. was; roomy = λ was. was })
-          ];
-      run = run;
-    }
-  where
-    made : ChannelState
-    made = cond done (roomy reserved (channel_in s c)) (with_reserved reserved (channel_in s c))
-
--- it is roomy then, if it was written and this was not refused
-pub made_roomy : {T E : Type 0} (r : Result T E) (writes : Bool) (s after : Machine) (c : ℕ) (reserved : Bool)
-    → c < length s.channels
-    → after
-    ≡ with_channel c (cond (is_ok r) (roomy reserved (channel_in s c)) (with_reserved reserved (channel_in s c))) s
-    → OnOk r (writes ≡ true → IsTrue (channel_in after c).is_roomy)
-made_roomy (Ok _) writes s after c reserved there is =
-    λ _. ap (λ x. (channel_in x c).is_roomy) is
-    ∙ ap (λ (x : ChannelState). x.is_roomy)
-    (get_or-set_same s.channels c (roomy reserved (channel_in s c)) (opened None false) there)
-made_roomy (Err _) writes s after c reserved there is = tt
 
 -- ---- channels
 

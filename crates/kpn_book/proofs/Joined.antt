@@ -1,19 +1,17 @@
 -- The book with the events of a batch is kept.
 use Rattle.std.proofs.Common.{◌≡◌, ◌⊎◌, ℕ, ◌+◌, ◌<◌, ◌^◌, Bool, true, false, cond, List, ◌++◌, length, get_or, None, refl, sym, ap, ◌∙◌, subst, inl, inr, arith}
 use Rattle.std.specs.List.{range_with_len}
-use Rattle.std.proofs.lemmas.Bool.{cases_lt, false≢true}
-use Rattle.std.proofs.lemmas.List.{get_or_past}
 use Rattle.std.proofs.lemmas.List.Sums.{sum_by-append}
 use Rattle.kpn_net.specs.declared.wait.Wait.{Wait}
 use Rattle.kpn_net.specs.declared.wait.Wait.TheVariants.{Nobody, Empty, Full}
 use Rattle.kpn_history.specs.Recorded.{Recorded}
 use Rattle.kpn_history.specs.Talks.{is_of_process, process_events}
 use Rattle.kpn_history.specs.Stops.{OwesNothing}
-use Rattle.kpn_machine.specs.Machine.{Machine, end_in, wait_in, frame_in}
+use Rattle.kpn_machine.specs.Machine.{Machine, end_in, wait_in}
 use Rattle.kpn_machine.specs.Run.{IsRun}
-use Rattle.kpn_region.specs.Local.{SideState, is_in_region, frame_at}
+use Rattle.kpn_region.specs.Local.{SideState, is_in_region}
 use Rattle.kpn_region.specs.Turn.{side_in}
-use Rattle.kpn_region.specs.Batch.{Batch, IsBatch}
+use Rattle.kpn_region.specs.Batch.{Batch}
 use Rattle.kpn_region.specs.Joining.{has_put_items, has_taken, wait_joined, Joins}
 use Rattle.kpn_book.specs.Schedule.{Schedule, state_at}
 use Rattle.kpn_book.specs.Regions.{region_woken}
@@ -81,17 +79,6 @@ module _ (b : Batch) (book : Book) (s : Machine) (kept : IsKept book) (joins : J
         committed = omega (arith, events, before);
         countable = omega (arith, most, few);
       }
-
-  -- the processes of the region are where the batch has brought them
-  pub frames_with_batch : IsBatch b → (q : ℕ) → is_in_region b.now q ≡ true → frame_in s q ≡ frame_at b.now q
-  frames_with_batch is q within =
-      elim (cases_lt q (length b.tables.instances)) [
-        | inl below ↦
-            joins.each_frame q below ∙ ap (λ w. cond w (frame_at b.now q) (frame_in book.machine q)) within
-        | inr past ↦
-            let long = is.is.within in
-            absurd (false≢true (sym (get_or_past b.now.within q false (omega (arith, past, long))) ∙ within))
-      ]
 
 -- a book with the events, the schedule and the count of a batch
 pub joined_book : (b : Batch) (s : Machine) (book : Book) (h : Recorded) (order : Schedule) (n : ℕ)

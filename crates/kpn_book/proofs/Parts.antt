@@ -1,5 +1,5 @@
 -- The parts of a report by number.
-use Rattle.std.proofs.Common.{◌≡◌, ◌↔◌, ℕ, zero, suc, ◌+◌, ◌<◌, ◌≤◌, Bool, true, false, cond, List, [], ◌∷◌, ◌++◌, length, map, get_or, refl, sym, ap, ◌∙◌, subst, arith, append-nil}
+use Rattle.std.proofs.Common.{◌≡◌, ℕ, zero, suc, ◌+◌, ◌<◌, ◌≤◌, Bool, true, false, cond, List, [], ◌∷◌, ◌++◌, length, map, get_or, refl, sym, ap, ◌∙◌, subst, arith, append-nil}
 use Rattle.std.specs.List.{Contains, filter, range_with_len}
 use Rattle.std.proofs.lemmas.List.{get_or-map, length-map, map-append, get_or_past}
 use Rattle.std.proofs.lemmas.List.Elements.{filter-append}
@@ -10,7 +10,7 @@ use Rattle.kpn_net.proofs.Cycles.{Contains-first, Contains-later}
 use Rattle.kpn_history.specs.declared.event.Event.{Event}
 use Rattle.kpn_history.specs.Channels.{read_on}
 use Rattle.kpn_book.proofs.Agreeing.{number_below}
-use Rattle.kpn_book.specs.Reports.{sink_numbers, read_of_sinks, TellsEach}
+use Rattle.kpn_book.specs.Reports.{sink_numbers, read_of_sinks}
 
 -- ---- lists
 
@@ -55,37 +55,6 @@ kept_same f g n lists more so_far is same =
     same ∙ so_far
     ∙ ap (map g) (sym (append-nil (filter f (range_with_len 0 n)))
     ∙ ap (λ b. filter f (range_with_len 0 n) ++ cond b (n ∷ []) []) (sym is) ∙ sym (filter_next f n))
-
--- an entry more
-pub tells_more : (holds : ℕ → Type 0) (channels : List ℕ) (told : List Bool) (c : ℕ) (said : Bool)
-    → TellsEach holds channels told → ((said ≡ true) ↔ holds c)
-    → TellsEach holds (channels ++ c ∷ []) (told ++ said ∷ [])
-tells_more holds [] [] c said so_far is = (is, tt)
-tells_more holds [] (_ ∷ _) c said so_far is = absurd so_far
-tells_more holds (_ ∷ _) [] c said so_far is = absurd so_far
-tells_more holds (d ∷ channels) (first ∷ told) c said so_far is =
-    (so_far.0, tells_more holds channels told c said so_far.1 is)
-
--- the entries of the members that pass the test, with one number more
-pub tells_next : (f : ℕ → Bool) (holds : ℕ → Type 0) (n : ℕ) (told more : List Bool) (said : Bool)
-    → TellsEach holds (filter f (range_with_len 0 n)) told → f n ≡ true → more ≡ told ++ said ∷ []
-    → ((said ≡ true) ↔ holds n) → TellsEach holds (filter f (range_with_len 0 (n + 1))) more
-tells_next f holds n told more said so_far is added exact =
-    let numbers : filter f (range_with_len 0 (n + 1)) ≡ filter f (range_with_len 0 n) ++ n ∷ [] =
-    filter_next f n ∙ ap (λ b. filter f (range_with_len 0 n) ++ cond b (n ∷ []) []) is in
-    subst (λ m. TellsEach holds (filter f (range_with_len 0 (n + 1))) m) (sym added)
-    (subst (λ ns. TellsEach holds ns (told ++ said ∷ [])) (sym numbers)
-    (tells_more holds (filter f (range_with_len 0 n)) told n said so_far exact))
-
-pub tells_same : (f : ℕ → Bool) (holds : ℕ → Type 0) (n : ℕ) (told more : List Bool)
-    → TellsEach holds (filter f (range_with_len 0 n)) told → f n ≡ false → more ≡ told
-    → TellsEach holds (filter f (range_with_len 0 (n + 1))) more
-tells_same f holds n told more so_far is same =
-    let numbers : filter f (range_with_len 0 (n + 1)) ≡ filter f (range_with_len 0 n) =
-    filter_next f n ∙ ap (λ b. filter f (range_with_len 0 n) ++ cond b (n ∷ []) []) is
-    ∙ append-nil (filter f (range_with_len 0 n)) in
-    subst (λ m. TellsEach holds (filter f (range_with_len 0 (n + 1))) m) (sym same)
-    (subst (λ ns. TellsEach holds ns told) (sym numbers) so_far)
 
 -- ---- sinks
 

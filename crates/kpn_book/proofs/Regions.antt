@@ -105,9 +105,6 @@ module _ (within : ℕ → Bool) (b : Book) (kept : IsKept b) (schedule : IsSche
   abbrev claimed_book : Book
   claimed_book = record b { schedule = region_held within b.schedule }
 
-  claimed : List ℕ
-  claimed = filter within b.schedule.queue
-
   states_claimed : (q : ℕ) → q < length b.tables.instances
       → IsStateBy (end_in b.machine q) (wait_in b.machine q)
       (get_or (all_held (filter within b.schedule.queue) b.schedule.states) q Ready)

@@ -10,7 +10,7 @@ use Rattle.kpn_book.specs.declared.answers.Done.TheVariants as done
 use Rattle.kpn_book.specs.Book.{Book, IsClaimed, standing_at, put_back, with_one_commit}
 use Rattle.kpn_book.specs.Appending.{Appends, AppendsAll, Happens, AllHappen}
 use Rattle.kpn_book.specs.Commits.{ready_if_paused, HandlesStop, Commits}
-use Rattle.kpn_book.specs.Stepping.{StepsNext, StepsInVain}
+use Rattle.kpn_book.specs.Stepping.{StepsNext}
 use Rattle.kpn_book.specs.InARow.{StepsInRow, no_step, one_step_more, ends_row, RunsInRow, RunsInVain}
 use Rattle.kpn_book.specs.Regions.{SettleBelow, none_yet, one_more, Settles, settles_if, goes_to, commits_or_not, has_part}
 use Rattle.kpn_book.specs.RegionClaims.{IsSameBook, ClaimsRegion}
@@ -81,11 +81,6 @@ pub steps_much : (quota : ℕ) (answer : Done) (before after : Book) → StepsNe
 steps_much quota answer before after is =
     much-trans before is.between after (claimed_much is.process before is.between is.steps.claimed)
     (commits_much is.process is.advance answer is.between after is.commits)
-
-pub vain_much : (quota : ℕ) (before after : Book) → StepsInVain quota before after → RemembersAsMuch before after
-vain_much quota before after is keeping kept =
-    let held = claimed_much is.process before is.between is.steps.claimed keeping kept in
-    subst (λ b. Remembers keeping b) (sym is.back) (record { events = held.events; items = held.items })
 
 -- ---- rows
 

@@ -1,15 +1,14 @@
 -- The report of a run that was left to itself has what a report promises.
-use Rattle.std.proofs.Common.{◌≡◌, ℕ, ◌+◌, ◌<◌, ◌≤◌, max, Bool, ℤ, List, length, Some, refl, sym, ap, ◌∙◌, subst, arith, [], ◌∷◌, ◌++◌, take, map, get_or, zero, suc, slice_get, IfSome, None, Option, true, false, count_by}
+use Rattle.std.proofs.Common.{◌≡◌, ℕ, ◌+◌, ◌<◌, ◌≤◌, max, Bool, ℤ, List, length, Some, sym, ap, ◌∙◌, subst, arith, [], take, map, get_or, true, false, count_by}
 use Rattle.std.proofs.lemmas.List.{take_all}
 use Rattle.std.proofs.lemmas.List.FromFn.{length-map-range_with_len, get_or-map-range_with_len}
 use Rattle.kpn_lang.proofs.Prefixes.{IsPrefix-same, length_of_prefix}
-use Rattle.kpn_lang.specs.Prefix.{IsPrefix}
 use Rattle.kpn_net.specs.Tables.{Tables, channel_at, is_source}
 use Rattle.kpn_net.specs.Iteration.{given_by, IsPrefixOnSources, AgreeOnSources}
 use Rattle.kpn_net.proofs.RoundLemmas.{list_of}
 use Rattle.kpn_net.specs.Faults.{IsNetwork}
 use Rattle.kpn_history.specs.Channels.{written_on, read_on, is_closed, is_left}
-use Rattle.kpn_history.specs.Legal.{Legal, HasNumbers}
+use Rattle.kpn_history.specs.Legal.{Legal}
 use Rattle.kpn_history.specs.Stops.{OwesNothing}
 use Rattle.kpn_history.specs.Talks.{process_events}
 use Rattle.kpn_history.specs.Views.{Agrees, is_held}
@@ -35,21 +34,6 @@ use Rattle.kpn_book.proofs.Committing.{source_there}
 use Rattle.kpn_book.proofs.Ends.{closed_stays, closed_later}
 use Rattle.kpn_book.proofs.Parts.{sink_below}
 use Rattle.kpn_book.proofs.Stepped.{step_commits}
-
--- ---- the events of a legal history
-
-prefix_at : (H : List Event) (k : ℕ) (e : Event) → slice_get H k ≡ Some e
-    → (B : List Event) × IsPrefix (B ++ e ∷ []) H
-prefix_at [] k e is = absurd cc
-prefix_at (x ∷ H) zero e is = ([], (cc, tt))
-prefix_at (x ∷ H) (suc k) e is = let r = prefix_at H k e is in (x ∷ r.0, (refl, r.1))
-
--- an event in a legal history has numbers of the network
-pub numbers_at : (t : Tables) (H : List Event) → Legal t H → (k : ℕ) (o : Option Event) → o ≡ slice_get H k
-    → IfSome o (λ e. HasNumbers t e)
-numbers_at t H legal k None is = tt
-numbers_at t H legal k (Some e) is =
-    let r = prefix_at H k e (sym is) in (legal.follows r.0 e r.1).numbers
 
 -- ---- what was read, by a view
 

@@ -1,5 +1,5 @@
 -- What a report of a run promises, whatever the schedule of the run was.
-use Rattle.std.specs.Prelude.{◌≡◌, ◌↔◌, ℕ, ◌≤◌, Bool, true, false, ⊤, ℤ, List, [], ◌∷◌, map, slice_index_or, Some}
+use Rattle.std.specs.Prelude.{◌≡◌, ℕ, ◌≤◌, true, false, ℤ, List, [], map, slice_index_or, Some}
 use Rattle.std.specs.List.{filter}
 use Rattle.kpn_net.specs.Tables.{Tables, channel_at, is_source, is_sink}
 use Rattle.kpn_net.specs.Faults.{channel_numbers}
@@ -40,14 +40,6 @@ sink_numbers t = filter (λ c. is_sink (channel_at t c)) (channel_numbers t)
 -- what was read of each sink
 abbrev pub read_of_sinks : Tables → List Event → List (List ℤ)
 read_of_sinks t H = map (read_on H) (sink_numbers t)
-
--- ---- which sinks are complete
-
--- an entry for each of these channels, in their order, which says whether this holds of the channel
-abbrev pub TellsEach : (holds : ℕ → Type 0) → (channels : List ℕ) → (told : List Bool) → Type 0
-TellsEach holds [] [] = ⊤
-TellsEach holds (c ∷ channels) (is ∷ told) = ((is ≡ true) ↔ holds c) × TellsEach holds channels told
-TellsEach holds _ _ = ⊥
 
 -- ---- how it is written
 

@@ -1,15 +1,13 @@
 //! Which channels of a run had got all their items when it stopped.
-ghost use Rattle.std.specs.Prelude.{◌↔◌, ◌<◌, ℤ, List, length, IsTrue, IfOk};
+ghost use Rattle.std.specs.Prelude.{◌↔◌, ◌<◌, ℤ, List, length, IsTrue};
 ghost use Rattle.kpn_history.specs.Legal.{Legal};
 ghost use Rattle.kpn_history.specs.Views.{Agrees};
 ghost use Rattle.kpn_history.specs.Complete.{IsComplete};
-ghost use Rattle.kpn_book.specs.Reports.{events_of, sink_numbers, AreSupplied, TellsEach};
+ghost use Rattle.kpn_book.specs.Reports.{events_of, AreSupplied};
 
 use crate::report::Report;
 use kpn_history::State;
-use kpn_lang::Sequence;
 use kpn_net::{End, Network};
-use std::alloc::{AllocError, Global};
 
 impl Report {
     /// Whether a channel is complete: its writer is finished, or it is a source, since a run closes its sources. Then
@@ -39,27 +37,5 @@ impl Report {
         }
         // after so many steps it goes round in a ring of empty waits, or has come to a source
         true
-    }
-    /// Whether each sink is complete, in order of channel number, as the lists of `taken` are. The error is that memory
-    /// ran out.
-    pub fn complete_sinks(
-        &self,
-        alloc: Global,
-        network: &Network,
-    ) -> Result<Sequence<bool>, AllocError>
-        requires legal { Legal network.now (events_of self.now) }
-        requires view { Agrees network.now (events_of self.now) self.now.view }
-        ensures { (lists : List (List ℤ)) → AreSupplied network.now lists (events_of self.now)
-            → IfOk result (λ complete. TellsEach (IsComplete network.now (events_of self.now))
-            (sink_numbers network.now) complete) }
-    {
-        let mut complete = Sequence::new(alloc);
-        'channels: for c in 0..network.channels() {
-            if network.is_sink(c) {
-                let told = self.is_complete(network, c);
-                complete.push(told)?;
-            }
-        }
-        Ok(complete)
     }
 }

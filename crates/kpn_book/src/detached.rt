@@ -1,6 +1,4 @@
 //! A book apart from its network.
-ghost use Rattle.std.specs.Prelude.{◌≡◌};
-
 use crate::schedule::Schedule;
 use kpn_history::History;
 use kpn_machine::Machine;
@@ -12,13 +10,4 @@ pub struct Detached {
     pub(crate) history: History,
     pub(crate) schedule: Schedule,
     pub(crate) commits: u64,
-}
-
-impl Detached {
-    /// Whether the events are kept.
-    pub fn keeps_events(&self) -> bool
-        ensures { result ≡ self.now.history.is_kept }
-    {
-        self.history.is_kept()
-    }
 }

@@ -1,6 +1,7 @@
 -- What the program does on a command line: it answers what the words ask for, and carries the answer out.
 use Rattle.std.specs.Prelude.{◌≡◌, ℕ, List, Option, Some, None, map, option_map, IsSome, Result, IfOk, IfErr, ⊤}
-use Rattle.kpn_text.specs.Document.{canonical_text}
+use Rattle.kpn_text.specs.Document.{Document, canonical_text}
+use Rattle.kpn_book.specs.Book.{Book}
 use Rattle.kpn_command_base.specs.declared.refusal.Refusal.{Refusal}
 use Rattle.kpn_command_base.specs.declared.refusal.Refusal.TheVariants.{NoMemory}
 use Rattle.kpn_command_base.specs.declared.conclusion.Conclusion.{Conclusion}
@@ -124,32 +125,33 @@ TellsAsked contents holds may_give request out written err told status = ⊥
 -- faults, each as it was and as it is afterwards, and the status.
 pub data RunsProgram {S I F O G E : Type 0} (may_give : S → Loads) (may_alias : S → Aliases) (names : DeviceNames S F G)
     (remaining : I → Option (List ℕ)) (left_in : F → Option (List ℕ)) (contents : O → Option (List ℕ))
-    (holds_in : G → Option (List ℕ)) (holds : E → Option (List ℕ)) (asked : List (List ℕ)) (shelf kept : S)
+    (holds_in : G → Option (List ℕ)) (holds : E → Option (List ℕ))
+    (hears : E → Document → Book → E → Type 0) (asked : List (List ℕ)) (shelf kept : S)
     (input read : I) (out written : O) (err told : E) (status : ℕ) : Type 0 where
   -- the words ask for something, which is answered, and the answer is carried out
   answers : (request : Request) → IsAsked asked request → (answer : Result Conclusion Refusal) →
       IsRequestAnswer (may_give shelf) (may_alias shelf) remaining request input read answer →
       Concludes may_give contents holds answer shelf kept out written err told status →
-      RunsProgram may_give may_alias names remaining left_in contents holds_in holds asked
+      RunsProgram may_give may_alias names remaining left_in contents holds_in holds hears asked
       shelf kept input read out written err told status
   -- they ask for a stream, which reads and writes while it goes on
   streams : (stream : StreamRequest) → IsAsked asked (Stream stream) →
-      Streams may_give may_alias names (known_of remaining left_in contents holds_in) holds stream
+      Streams may_give may_alias names (known_of remaining left_in contents holds_in) holds hears stream
       shelf kept input read out written err told status →
-      RunsProgram may_give may_alias names remaining left_in contents holds_in holds asked
+      RunsProgram may_give may_alias names remaining left_in contents holds_in holds hears asked
       shelf kept input read out written err told status
   -- they ask for a timeline, which goes out while it is made
   tells : (request : Request) → IsAsked asked request → kept ≡ shelf → read ≡ input →
       TellsAsked contents holds (may_give shelf) request out written err told status →
-      RunsProgram may_give may_alias names remaining left_in contents holds_in holds asked
+      RunsProgram may_give may_alias names remaining left_in contents holds_in holds hears asked
       shelf kept input read out written err told status
   -- they are not understood, and the place for faults gets how to use words
   unclear : AreUnclear asked → kept ≡ shelf → read ≡ input → written ≡ out → status ≡ 2 →
-      RunsProgram may_give may_alias names remaining left_in contents holds_in holds asked
+      RunsProgram may_give may_alias names remaining left_in contents holds_in holds hears asked
       shelf kept input read out written err told status
   -- there is no memory to read them
   unread : kept ≡ shelf → read ≡ input → written ≡ out → IsRefusalReported holds NoMemory err told status →
-      RunsProgram may_give may_alias names remaining left_in contents holds_in holds asked
+      RunsProgram may_give may_alias names remaining left_in contents holds_in holds hears asked
       shelf kept input read out written err told status
 
 -- ---- scaffolding: what the parts of the code answer

@@ -1,19 +1,19 @@
 //! What to do about an outcome: about a ring of processes or a fault, about a run that is clogged, jammed or stopped,
 //! and about a source without items.
 
-use crate::faults::{FedFiles, lines_of_stream, push_faults};
+use crate::faults::{FedFiles, lines_of_stream, push_faults, push_meaning, unsaid_faults};
 use crate::pieces::{file_in, has_name, has_one, is_of, is_plain, push, push_name, text_of};
 use crate::room::push_room;
 use crate::sounds::push_sounds;
 use crate::stopped::{push_looks, push_others};
 use crate::waits::waits_in;
-use crate::words::SeenBytes;
-use kpn_command_base::{EndKind, RunRequest, StreamRequest, load_document};
+use crate::words::Evidence;
+use kpn_command_base::{EndKind, RunRequest, StreamRequest};
 use kpn_command_explain::warnings_text;
 use kpn_command_line::Request;
 use kpn_shelf::{STANDARD, Shelf};
 use kpn_text::Document;
-use std::alloc::{AllocError, Global};
+use std::alloc::AllocError;
 use std::rt::Files;
 
 const CLOGGED: &str = "\
@@ -42,36 +42,33 @@ const STORED: &str = "\
 ";
 
 /// Adds what to do about the outcome of a run or a stream, or about an audit without steps.
-pub(crate) fn push_advice<R: Files + AllocGlobal, S: Shelf>(
+pub(crate) fn push_advice<R: Files, S: Shelf>(
     text: &mut Vec<u8>,
     request: &Request<'_>,
-    shelf: &S,
-    rt: &R,
     status: u8,
-    known: &SeenBytes<'_>,
+    evidence: &Evidence<'_, R, S>,
 ) -> Result<(), AllocError> {
-    let alloc = rt.alloc();
     match request {
         Request::Run(run) => {
-            let document = plain_document(alloc, run.file, shelf, rt);
+            let document = evidence.plain_document(run.file);
             push_outcome(text, status)?;
             match &document {
-                Some(document) => push_run(text, alloc, run, document, shelf, rt, status, known),
+                Some(document) => push_run(text, run, document, status, evidence),
                 None => Ok(()),
             }
         }
         Request::Stream(stream) => {
-            let document = plain_document(alloc, stream.file, shelf, rt);
+            let document = evidence.plain_document(stream.file);
             push_outcome(text, status)?;
             match &document {
                 Some(document) => {
-                    push_sounds(text, alloc, stream, document, known, rt)?;
-                    push_stream(text, alloc, stream, document, shelf, rt, status, known)
+                    push_sounds(text, stream, document, evidence)?;
+                    push_stream(text, stream, document, status, evidence)
                 }
                 None => Ok(()),
             }
         }
-        Request::Check(file) if status == 0 => push_warnings(text, alloc, file, shelf, rt),
+        Request::Check(file) if status == 0 => push_warnings(text, file, evidence),
         _ if status == 5 => push(text, MORE_STEPS),
         _ => Ok(()),
     }
@@ -80,32 +77,17 @@ pub(crate) fn push_advice<R: Files + AllocGlobal, S: Shelf>(
 // Adds what may be meant otherwise in a description that is right.
 fn push_warnings<R: Files, S: Shelf>(
     text: &mut Vec<u8>,
-    alloc: Global,
     file: &str,
-    shelf: &S,
-    rt: &R,
+    evidence: &Evidence<'_, R, S>,
 ) -> Result<(), AllocError> {
-    if !is_plain(rt, file) {
+    if !is_plain(evidence.rt, file) {
         return Ok(());
     }
-    let Ok(bytes) = shelf.load(alloc, file) else {
+    let Ok(bytes) = evidence.shelf.load(evidence.alloc, file) else {
         return Ok(());
     };
-    let told = warnings_text(alloc, file, &bytes)?;
+    let told = warnings_text(evidence.alloc, file, &bytes)?;
     text.extend_from_slice(&told)
-}
-
-// The network of a file, if it can be read once more.
-fn plain_document<R: Files, S: Shelf>(
-    alloc: Global,
-    file: &str,
-    shelf: &S,
-    rt: &R,
-) -> Option<Document> {
-    if !is_plain(rt, file) {
-        return None;
-    }
-    load_document(alloc, shelf, file).ok()
 }
 
 // Adds what an outcome means.
@@ -121,27 +103,26 @@ fn push_outcome(text: &mut Vec<u8>, status: u8) -> Result<(), AllocError> {
 // Adds what the report of a run means, which is what it wrote.
 fn push_run<R: Files, S: Shelf>(
     text: &mut Vec<u8>,
-    alloc: Global,
     run: &RunRequest<'_>,
     document: &Document,
-    shelf: &S,
-    rt: &R,
     status: u8,
-    known: &SeenBytes<'_>,
+    evidence: &Evidence<'_, R, S>,
 ) -> Result<(), AllocError> {
     push_unfed(text, document, &run.sources)?;
     push_named_dash(text, run)?;
     if status == 5 {
-        return push_looks(text, alloc, run, document, shelf, rt);
+        return push_looks(text, run, document, evidence);
     }
-    let report = text_of(known.written);
-    let waits = waits_in(alloc, document, report)?;
-    waits.push_rings(text, document)?;
+    let report = text_of(evidence.known.written);
+    let waits = waits_in(evidence.alloc, document, report)?;
+    waits.push_rings(text, document, &[])?;
     let inputs = FedFiles {
         file: run.file,
         sources: &run.sources,
     };
-    push_faults(text, alloc, report, Some(inputs), shelf, rt)?;
+    if push_faults(text, report, Some(inputs), evidence)? {
+        push_meaning(text, &[])?;
+    }
     if status != 3 && status != 4 {
         return Ok(());
     }
@@ -150,7 +131,7 @@ fn push_run<R: Files, S: Shelf>(
     if has_sinks && waits.are_sinks_complete(document) {
         return push(text, COMPLETE);
     }
-    push_room(text, alloc, document, run.file, &waits, status, shelf)?;
+    push_room(text, document, run.file, &waits, status, evidence)?;
     if has_sinks {
         push(text, STORED)?;
     }
@@ -170,28 +151,28 @@ const DASH: &str = "\
 The file `-` was written: a run has no other meaning for this name. Give it `/dev/stdout`, or use `kpn stream`.
 ";
 
-// Adds what the summary of a stream means.
+// Adds what the summary of a stream means, but for what was said while it ran.
 fn push_stream<R: Files, S: Shelf>(
     text: &mut Vec<u8>,
-    alloc: Global,
     stream: &StreamRequest<'_>,
     document: &Document,
-    shelf: &S,
-    rt: &R,
     status: u8,
-    known: &SeenBytes<'_>,
+    evidence: &Evidence<'_, R, S>,
 ) -> Result<(), AllocError> {
     let summary = text_of(if stream.quiet {
-        known.unsaid
+        evidence.known.unsaid
     } else {
-        known.told
+        evidence.known.told
     });
-    let waits = waits_in(alloc, document, summary)?;
-    waits.push_rings(text, document)?;
+    let waits = waits_in(evidence.alloc, document, summary)?;
+    waits.push_rings(text, document, evidence.known.said)?;
     let inputs = lines_of_stream(stream.file, &stream.sources, &stream.formats, document);
-    push_faults(text, alloc, summary, inputs, shelf, rt)?;
+    let faults = unsaid_faults(evidence.alloc, summary, evidence.known.said)?;
+    if push_faults(text, text_of(&faults), inputs, evidence)? {
+        push_meaning(text, evidence.known.said)?;
+    }
     match status {
-        3 | 4 => push_room(text, alloc, document, stream.file, &waits, status, shelf),
+        3 | 4 => push_room(text, document, stream.file, &waits, status, evidence),
         5 => push_others(text, document, &waits),
         _ => Ok(()),
     }

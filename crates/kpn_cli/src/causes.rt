@@ -5,7 +5,7 @@ use crate::named::NamedFiles;
 use crate::pieces::{
     file_in, has_name, is_end, is_plain, name_in, push, push_ends, push_name, text_of, word_of,
 };
-use crate::words::SeenBytes;
+use crate::words::{Evidence, SeenBytes};
 use kpn_command_base::{Conclusion, EndKind, Refusal, load_document};
 use kpn_command_explain::{
     bad_line_text, explain_command, explain_items_command, explain_trace_command,
@@ -23,29 +23,26 @@ use std::rt::Files;
 /// Adds what is wrong with the first file of a request that is wrong.
 pub(crate) fn push_causes<R: Files, S: Shelf>(
     text: &mut Vec<u8>,
-    alloc: Global,
     request: &Request<'_>,
-    known: &SeenBytes<'_>,
-    shelf: &S,
-    rt: &R,
+    evidence: &Evidence<'_, R, S>,
 ) -> Result<(), AllocError> {
-    let line = ErrorLine::in_text(text_of(known.told));
+    let line = ErrorLine::in_text(text_of(evidence.known.told));
     let Some(named) = NamedFiles::of(request) else {
-        return push_wrong_input(text, alloc, line, known);
+        return push_wrong_input(text, evidence.alloc, line, evidence.known);
     };
-    if push_wrong_description(text, alloc, &named, shelf, rt)? {
+    if push_wrong_description(text, &named, evidence)? {
         return Ok(());
     }
-    let Ok(document) = load_document(alloc, shelf, named.file) else {
+    let Ok(document) = load_document(evidence.alloc, evidence.shelf, named.file) else {
         return Ok(());
     };
     if push_wrong_name(text, &document, EndKind::Sources, named.sources)?
         || push_wrong_name(text, &document, EndKind::Sinks, named.sinks)?
-        || push_wrong_end(text, alloc, &named, line, known, shelf, rt)?
-        || push_wrong_items(text, alloc, &named, line, shelf, rt)?
-        || push_wrong_trace(text, alloc, &named, shelf, rt)?
-        || push_wrong_part(text, alloc, &named, known, shelf, rt)?
-        || push_unwritable(text, rt, &named)?
+        || push_wrong_end(text, &named, line, evidence)?
+        || push_wrong_items(text, &named, line, evidence)?
+        || push_wrong_trace(text, &named, evidence)?
+        || push_wrong_part(text, &named, evidence)?
+        || push_unwritable(text, evidence.rt, &named)?
     {
         return Ok(());
     }
@@ -55,11 +52,15 @@ pub(crate) fn push_causes<R: Files, S: Shelf>(
 // Adds what is wrong with a description, if something is. It returns whether nothing more can be said.
 fn push_wrong_description<R: Files, S: Shelf>(
     text: &mut Vec<u8>,
-    alloc: Global,
     named: &NamedFiles<'_, '_>,
-    shelf: &S,
-    rt: &R,
+    evidence: &Evidence<'_, R, S>,
 ) -> Result<bool, AllocError> {
+    let Evidence {
+        alloc,
+        shelf,
+        rt,
+        ..
+    } = *evidence;
     Ok(
         push_unread(text, rt, named.file, MOST_FILE_BYTES)?
             || !is_plain(rt, named.file)
@@ -72,11 +73,8 @@ fn push_wrong_description<R: Files, S: Shelf>(
 // Adds what is wrong with the first part that is wrong, or why the parts are not joined.
 fn push_wrong_part<R: Files, S: Shelf>(
     text: &mut Vec<u8>,
-    alloc: Global,
     named: &NamedFiles<'_, '_>,
-    known: &SeenBytes<'_>,
-    shelf: &S,
-    rt: &R,
+    evidence: &Evidence<'_, R, S>,
 ) -> Result<bool, AllocError> {
     if named.parts.is_empty() {
         return Ok(false);
@@ -84,13 +82,13 @@ fn push_wrong_part<R: Files, S: Shelf>(
     for r in 0..named.parts.len() / 2 {
         let (part, trace) = (named.parts[2 * r], named.parts[2 * r + 1]);
         let part = NamedFiles::traced(part, Some(trace), named.steps);
-        if push_wrong_description(text, alloc, &part, shelf, rt)?
-            || push_wrong_trace(text, alloc, &part, shelf, rt)?
+        if push_wrong_description(text, &part, evidence)?
+            || push_wrong_trace(text, &part, evidence)?
         {
             return Ok(true);
         }
     }
-    push(text, unjoined(text_of(known.written)))?;
+    push(text, unjoined(text_of(evidence.known.written)))?;
     Ok(true)
 }
 
@@ -157,17 +155,12 @@ const MARKED: &str =
 // Adds what has failed at an end of a stream, if something has.
 fn push_wrong_end<R: Files, S: Shelf>(
     text: &mut Vec<u8>,
-    alloc: Global,
     named: &NamedFiles<'_, '_>,
     line: Option<ErrorLine<'_>>,
-    known: &SeenBytes<'_>,
-    shelf: &S,
-    rt: &R,
+    evidence: &Evidence<'_, R, S>,
 ) -> Result<bool, AllocError> {
     match (named.stream, line) {
-        (Some(stream), Some(line)) => {
-            push_failed_end(text, alloc, stream, line, known, shelf, rt)
-        }
+        (Some(stream), Some(line)) => push_failed_end(text, stream, line, evidence),
         _ => Ok(false),
     }
 }
@@ -264,20 +257,18 @@ fn push_wrong_name(
 // Adds what is wrong with the first file of items that is wrong.
 fn push_wrong_items<R: Files, S: Shelf>(
     text: &mut Vec<u8>,
-    alloc: Global,
     named: &NamedFiles<'_, '_>,
     line: Option<ErrorLine<'_>>,
-    shelf: &S,
-    rt: &R,
+    evidence: &Evidence<'_, R, S>,
 ) -> Result<bool, AllocError> {
     for option in named.sources {
         let file = file_in(option);
         if named.stream.is_some() {
             // A stream reads on as long as bytes come.
-            if file != STANDARD && push_unread(text, rt, file, u64::MAX)? {
+            if file != STANDARD && push_unread(text, evidence.rt, file, u64::MAX)? {
                 return Ok(true);
             }
-        } else if push_wrong_file(text, alloc, name_in(option), file, line, shelf, rt)? {
+        } else if push_wrong_file(text, name_in(option), file, line, evidence)? {
             return Ok(true);
         }
     }
@@ -287,25 +278,23 @@ fn push_wrong_items<R: Files, S: Shelf>(
 // Adds what is wrong with the file of a source that is read whole: why it can't be read, or its first bad line.
 fn push_wrong_file<R: Files, S: Shelf>(
     text: &mut Vec<u8>,
-    alloc: Global,
     source: &str,
     file: &str,
     line: Option<ErrorLine<'_>>,
-    shelf: &S,
-    rt: &R,
+    evidence: &Evidence<'_, R, S>,
 ) -> Result<bool, AllocError> {
-    if push_unread(text, rt, file, MOST_FILE_BYTES)? {
+    if push_unread(text, evidence.rt, file, MOST_FILE_BYTES)? {
         if file == STANDARD {
             push(text, NO_STANDARD)?;
         }
         return Ok(true);
     }
-    if is_plain(rt, file) {
-        return push_bad_line(text, alloc, source, file, shelf);
+    if is_plain(evidence.rt, file) {
+        return push_bad_line(text, evidence.alloc, source, file, evidence.shelf);
     }
     match line {
         Some(line) if line.number == "25" => {
-            push_unseen(text, alloc, source, file, line.place)?;
+            push_unseen(text, evidence.alloc, source, file, line.place)?;
             Ok(true)
         }
         _ => Ok(false),
@@ -340,24 +329,22 @@ fn push_bad_line<S: Shelf>(
 // Adds what is wrong with the trace that is read.
 fn push_wrong_trace<R: Files, S: Shelf>(
     text: &mut Vec<u8>,
-    alloc: Global,
     named: &NamedFiles<'_, '_>,
-    shelf: &S,
-    rt: &R,
+    evidence: &Evidence<'_, R, S>,
 ) -> Result<bool, AllocError> {
     let Some(trace) = named.read else {
         return Ok(false);
     };
-    if push_unread(text, rt, trace, MOST_FILE_BYTES)? {
+    if push_unread(text, evidence.rt, trace, MOST_FILE_BYTES)? {
         return Ok(true);
     }
-    if named.has_explained || !is_plain(rt, trace) {
+    if named.has_explained || !is_plain(evidence.rt, trace) {
         return Ok(false);
     }
     let (file, steps) = (named.file, named.steps);
     push_told(
         text,
-        explain_trace_command(alloc, file, trace, steps, shelf),
+        explain_trace_command(evidence.alloc, file, trace, steps, evidence.shelf),
     )
 }
 

@@ -4,7 +4,7 @@
 use crate::causes::push_unread;
 use crate::keeping::MOST_GIVEN;
 use crate::pieces::{file_in, is_plain, name_in, push, push_made, push_name};
-use crate::words::SeenBytes;
+use crate::words::{Evidence, SeenBytes};
 use kpn_command_base::{EndKind, StreamRequest};
 use kpn_command_explain::bad_line_text;
 use kpn_command_stream::word_for;
@@ -73,20 +73,19 @@ impl<'t> FailedEnd<'t> {
 /// Adds what has failed at the end that a line names. It returns whether it names one.
 pub(crate) fn push_failed_end<R: Files, S: Shelf>(
     text: &mut Vec<u8>,
-    alloc: Global,
     stream: &StreamRequest<'_>,
     line: ErrorLine<'_>,
-    known: &SeenBytes<'_>,
-    shelf: &S,
-    rt: &R,
+    evidence: &Evidence<'_, R, S>,
 ) -> Result<bool, AllocError> {
     let Some(end) = line.end else {
         return Ok(false);
     };
     let word = word_for(&stream.formats, end.name);
     match end.ends {
-        EndKind::Sources => push_failed_source(text, alloc, word, end, line, known, shelf, rt)?,
-        EndKind::Sinks if line.number == "54" => push_unfit(text, alloc, end, word, line.place)?,
+        EndKind::Sources => push_failed_source(text, word, end, line, evidence)?,
+        EndKind::Sinks if line.number == "54" => {
+            push_unfit(text, evidence.alloc, end, word, line.place)?
+        }
         EndKind::Sinks => push_shown(text, end.file, "Standard output", TAKES_NO_MORE)?,
     }
     Ok(true)
@@ -99,20 +98,18 @@ const CLOSED: &str = " can't be read: is it closed?\n";
 // Adds what has failed at a source whose format has this word.
 fn push_failed_source<R: Files, S: Shelf>(
     text: &mut Vec<u8>,
-    alloc: Global,
     word: &str,
     end: FailedEnd<'_>,
     line: ErrorLine<'_>,
-    known: &SeenBytes<'_>,
-    shelf: &S,
-    rt: &R,
+    evidence: &Evidence<'_, R, S>,
 ) -> Result<(), AllocError> {
+    let alloc = evidence.alloc;
     match line.number {
-        "25" if word == "lines" => push_bad_line(text, alloc, end, line.place, known, shelf, rt),
+        "25" if word == "lines" => push_bad_line(text, end, line.place, evidence),
         "25" => push_bad_sample(text, alloc, end, line.place),
-        "29" => push_cut(text, alloc, end, word, length_of(end.file, known, rt)),
+        "29" => push_cut(text, alloc, end, word, length_of(end.file, evidence)),
         "55" => push_bad_head(text, alloc, end, line.place),
-        _ if end.file != STANDARD && push_unread(text, rt, end.file, u64::MAX)? => Ok(()),
+        _ if end.file != STANDARD && push_unread(text, evidence.rt, end.file, u64::MAX)? => Ok(()),
         _ => push_shown(text, end.file, "Standard input", CLOSED),
     }
 }
@@ -134,18 +131,16 @@ fn push_shown(
 // Adds the line of a source that spells no item, and what helps.
 fn push_bad_line<R: Files, S: Shelf>(
     text: &mut Vec<u8>,
-    alloc: Global,
     end: FailedEnd<'_>,
     place: &str,
-    known: &SeenBytes<'_>,
-    shelf: &S,
-    rt: &R,
+    evidence: &Evidence<'_, R, S>,
 ) -> Result<(), AllocError> {
+    let alloc = evidence.alloc;
     if end.file == STANDARD {
-        return push_given(text, alloc, end.name, place, known);
+        return push_given(text, alloc, end.name, place, evidence.known);
     }
-    if is_plain(rt, end.file) {
-        if let (Ok(bytes), Ok(line)) = (shelf.load(alloc, end.file), place.parse()) {
+    if is_plain(evidence.rt, end.file) {
+        if let (Ok(bytes), Ok(line)) = (evidence.shelf.load(alloc, end.file), place.parse()) {
             let told = bad_line_text(alloc, end.file, &bytes, line, end.name)?;
             return text.extend_from_slice(&told);
         }
@@ -236,11 +231,11 @@ const OTHER_SOUNDS: &str = "\
 ";
 
 // How many bytes an input has, if it can be told.
-fn length_of<R: Files>(file: &str, known: &SeenBytes<'_>, rt: &R) -> Option<u64> {
+fn length_of<R: Files, S>(file: &str, evidence: &Evidence<'_, R, S>) -> Option<u64> {
     if file == STANDARD {
-        return Some(known.count);
+        return Some(evidence.known.count);
     }
-    match fs::metadata(rt, file) {
+    match fs::metadata(evidence.rt, file) {
         Ok(found) if found.is_file() => Some(found.len()),
         _ => None,
     }

@@ -2,8 +2,9 @@
 //! The network is run once more for that, and so are these processes, if what it read are plain files.
 ghost use Rattle.std.specs.Prelude.{◌<◌, length};
 
-use crate::pieces::{file_in, has_name, is_of, push, push_name};
-use crate::stopped::is_short;
+use crate::pieces::{file_in, has_name, is_of, is_said, push, push_name, text_of};
+use crate::stopped::are_short;
+use crate::words::Evidence;
 use kpn_book::{Limits, run_here};
 use kpn_command_base::{EndKind, QUOTA, load_inputs};
 use kpn_command_explain::{GottenItems, fault_text};
@@ -23,29 +24,50 @@ pub(crate) struct FedFiles<'r, 'a> {
     pub(crate) sources: &'r [&'a str],
 }
 
-/// Adds which processes have ended by a fault, as the lines `fault INSTANCE CAUSE` of a report tell, and what it means.
-/// Where it was is told if there are these inputs.
+/// Adds which processes have ended by a fault, as the lines `fault INSTANCE CAUSE` of a report tell. Where it was is told
+/// if there are these inputs. It returns whether there are some.
 pub(crate) fn push_faults<R: Files, S: Shelf>(
     text: &mut Vec<u8>,
-    alloc: Global,
     report: &str,
     inputs: Option<FedFiles<'_, '_>>,
-    shelf: &S,
-    rt: &R,
-) -> Result<(), AllocError> {
+    evidence: &Evidence<'_, R, S>,
+) -> Result<bool, AllocError> {
     let mut has_fault = false;
     for (cause, said) in &FAULTS {
         if push_faulted(text, report, cause, said)? {
             has_fault = true;
         }
     }
-    if !has_fault {
+    if has_fault {
+        if let Some(inputs) = inputs {
+            push_places(text, report, inputs, evidence)?;
+        }
+    }
+    Ok(has_fault)
+}
+
+/// Adds what a fault means, unless one was said before.
+pub(crate) fn push_meaning(text: &mut Vec<u8>, said: &[u8]) -> Result<(), AllocError> {
+    if text_of(said).lines().any(|line| fault_in(line).is_some()) {
         return Ok(());
     }
-    if let Some(inputs) = inputs {
-        push_places(text, alloc, report, inputs, shelf, rt)?;
-    }
     push(text, FAULTED)
+}
+
+/// The lines of a report that tell faults which were not said.
+pub(crate) fn unsaid_faults(
+    alloc: Global,
+    report: &str,
+    said: &[u8],
+) -> Result<Vec<u8>, AllocError> {
+    let mut unsaid = Vec::new(alloc);
+    for line in report.lines() {
+        if fault_in(line).is_some() && !is_said(said, line) {
+            push(&mut unsaid, line)?;
+            push(&mut unsaid, "\n")?;
+        }
+    }
+    Ok(unsaid)
 }
 
 /// The inputs of a stream, if they can be read as those of a run: lines of plain files.
@@ -70,19 +92,17 @@ pub(crate) fn lines_of_stream<'r, 'a>(
 // Adds the place of each fault that a report tells.
 fn push_places<R: Files, S: Shelf>(
     text: &mut Vec<u8>,
-    alloc: Global,
     report: &str,
     inputs: FedFiles<'_, '_>,
-    shelf: &S,
-    rt: &R,
+    evidence: &Evidence<'_, R, S>,
 ) -> Result<(), AllocError> {
-    let FedFiles { file, sources } = inputs;
-    if !sources.iter().all(|source| is_short(rt, file_in(source))) {
+    let (alloc, FedFiles { file, sources }) = (evidence.alloc, inputs);
+    if !are_short(evidence.rt, sources) {
         return Ok(());
     }
     let (Ok(loaded), Ok(bytes)) = (
-        load_inputs(alloc, shelf, file, sources),
-        shelf.load(alloc, file),
+        load_inputs(alloc, evidence.shelf, file, sources),
+        evidence.shelf.load(alloc, file),
     ) else {
         return Ok(());
     };

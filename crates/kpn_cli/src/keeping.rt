@@ -15,7 +15,7 @@ pub(crate) const MOST_GIVEN: usize = 4_096;
 /// A writer, and the end of what went through it, as far as there was memory for it.
 #[derive(Drop)]
 pub struct EndKeeper<W: Drop> {
-    inner: W,
+    pub(crate) inner: W,
     keeps: bool,
     kept: Vec<u8>,
 }
@@ -30,6 +30,11 @@ impl<W: Drop> EndKeeper<W> {
             keeps,
             kept: Vec::new(alloc),
         }
+    }
+
+    /// The writer.
+    pub fn into_inner(self) -> W {
+        self.inner
     }
 
     /// The end of what was written.

@@ -1,10 +1,8 @@
 //! What is wrong with options: one that a command has not, and one that says a format.
 
-use crate::pieces::{
-    has_name, is_end, is_plain, name_in, push, push_ends, push_made, push_name, text_of,
-};
-use crate::words::SeenBytes;
-use kpn_command_base::{EndKind, StreamRequest, load_document};
+use crate::pieces::{has_name, is_end, name_in, push, push_ends, push_made, push_name, text_of};
+use crate::words::{Evidence, SeenBytes};
+use kpn_command_base::{EndKind, StreamRequest};
 use kpn_shelf::Shelf;
 use kpn_stream_devices::ItemFormat;
 use kpn_text::Document;
@@ -49,10 +47,8 @@ pub(crate) fn push_unclear(
 /// Adds what is wrong with the first word behind a `--format` that is wrong.
 pub(crate) fn push_wrong_format<R: Files, S: Shelf>(
     text: &mut Vec<u8>,
-    alloc: Global,
     stream: &StreamRequest<'_>,
-    shelf: &S,
-    rt: &R,
+    evidence: &Evidence<'_, R, S>,
 ) -> Result<(), AllocError> {
     for word in &stream.formats {
         let format = match word.split_once('=') {
@@ -63,12 +59,9 @@ pub(crate) fn push_wrong_format<R: Files, S: Shelf>(
             return push_name(text, "There is no format ", format, ".\n");
         }
     }
-    if !is_plain(rt, stream.file) {
-        return Ok(());
-    }
-    match load_document(alloc, shelf, stream.file) {
-        Ok(document) => push_wrong_end(text, &document, &stream.formats),
-        Err(_) => Ok(()),
+    match evidence.plain_document(stream.file) {
+        Some(document) => push_wrong_end(text, &document, &stream.formats),
+        None => Ok(()),
     }
 }
 

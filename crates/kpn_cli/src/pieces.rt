@@ -73,6 +73,11 @@ pub(crate) fn text_of(kept: &[u8]) -> &str {
     str::from_utf8(kept).unwrap_or("")
 }
 
+/// Whether this is a line of what was said.
+pub(crate) fn is_said(said: &[u8], line: &str) -> bool {
+    text_of(said).lines().any(|told| told == line)
+}
+
 /// Whether a path leads to a plain file. Another one may not be read twice.
 pub(crate) fn is_plain<R: Files>(rt: &R, path: &str) -> bool {
     fs::metadata(rt, path).is_ok_and(|found| found.is_file())

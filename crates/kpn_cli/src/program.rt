@@ -7,6 +7,7 @@ ghost use Rattle.kpn_cli.specs.Command.{RunsProgram, TellsTimeline};
 use crate::concluding::conclude;
 use crate::here::{Progress, answer_here};
 use crate::usage::refuse;
+use kpn_command_base::Teller;
 use kpn_command_line::read_words;
 use kpn_command_stream::stream_command;
 use kpn_command_views::timeline_command;
@@ -30,7 +31,7 @@ pub fn command<
     S: Shelf + Ports,
     I: NonblockingRead,
     O: Write,
-    E: Write,
+    E: Write + Teller,
 >(
     rt: &R,
     alloc: Global,
@@ -43,7 +44,7 @@ pub fn command<
 ) -> u8
     ensures { RunsProgram S.may_give S.may_alias
         (names_of S.are_two_inputs S.may_share S.comes_from S.goes_to)
-        I.remaining S.Input.remaining O.contents S.Output.contents E.contents
+        I.remaining S.Input.remaining O.contents S.Output.contents E.contents E.tells
         (map string_bytes words.now) shelf.old shelf.new input.old input.new out.old out.new
         err.old err.new result }
 {

@@ -2,6 +2,7 @@
 
 use crate::pieces::{push, push_made};
 use crate::waits::NetworkWaits;
+use crate::words::Evidence;
 use kpn_command_explain::{SettingLines, setting_lines};
 use kpn_limits::MAX_CAPACITY;
 use kpn_net::Policy;
@@ -15,16 +16,16 @@ const AT_MOST: &str = "\
 
 /// Adds which channels are full at the end of a run that is clogged or jammed, by its status, and what to write in the
 /// file of its description.
-pub(crate) fn push_room<S: Shelf>(
+pub(crate) fn push_room<R, S: Shelf>(
     text: &mut Vec<u8>,
-    alloc: Global,
     document: &Document,
     file: &str,
     waits: &NetworkWaits,
     status: u8,
-    shelf: &S,
+    evidence: &Evidence<'_, R, S>,
 ) -> Result<(), AllocError> {
-    let Ok(bytes) = shelf.load(alloc, file) else {
+    let alloc = evidence.alloc;
+    let Ok(bytes) = evidence.shelf.load(alloc, file) else {
         return Ok(());
     };
     let lines = setting_lines(alloc, &bytes)?;

@@ -4,7 +4,7 @@ ghost use Rattle.std.specs.Prelude.{◌<◌};
 
 use crate::keeping::MOST_GIVEN;
 use crate::pieces::{file_in, is_of, is_plain, name_in, push, push_made};
-use crate::words::SeenBytes;
+use crate::words::Evidence;
 use kpn_command_base::{EndKind, StreamRequest};
 use kpn_command_stream::{USUAL_RATE, word_for};
 use kpn_shelf::STANDARD;
@@ -27,21 +27,20 @@ struct Sound {
 }
 
 /// Adds what the heads of WAV files say that differs from what sinks write, or that samples have 8 bits.
-pub(crate) fn push_sounds<R: Files>(
+pub(crate) fn push_sounds<R: Files, S>(
     text: &mut Vec<u8>,
-    alloc: Global,
     stream: &StreamRequest<'_>,
     document: &Document,
-    known: &SeenBytes<'_>,
-    rt: &R,
+    evidence: &Evidence<'_, R, S>,
 ) -> Result<(), AllocError> {
+    let alloc = evidence.alloc;
     if stream.quiet {
         return Ok(());
     }
     for channel in 0..document.network().channels() {
         if is_sound(document, EndKind::Sources, channel, stream) {
             let name = document.channel_name(channel);
-            if let Some(sound) = sound_at(file_of(stream, name), known, rt) {
+            if let Some(sound) = sound_at(file_of(stream, name), evidence) {
                 push_channels(text, alloc, stream, name, sound)?;
                 push_rate(text, alloc, stream, document, name, sound)?;
                 push_bits(text, alloc, name, sound)?;
@@ -136,15 +135,15 @@ fn push_bits(
 }
 
 // What the head of an input says: of a plain file, or of standard input as far as it was kept.
-fn sound_at<R: Files>(file: &str, known: &SeenBytes<'_>, rt: &R) -> Option<Sound> {
+fn sound_at<R: Files, S>(file: &str, evidence: &Evidence<'_, R, S>) -> Option<Sound> {
     if file == STANDARD {
-        return sound_in(known.given);
+        return sound_in(evidence.known.given);
     }
-    if !is_plain(rt, file) {
+    if !is_plain(evidence.rt, file) {
         return None;
     }
     let mut bytes = [0; MOST_GIVEN];
-    let count = fs::open(rt, file).ok()?.read(&mut bytes).ok()?;
+    let count = fs::open(evidence.rt, file).ok()?.read(&mut bytes).ok()?;
     sound_in(&bytes[..count])
 }
 

@@ -4,6 +4,7 @@ ghost use Rattle.kpn_net.specs.Iteration.{sources};
 
 use crate::pieces::{file_in, push, push_name};
 use crate::waits::{NetworkWaits, waits_among};
+use crate::words::Evidence;
 use kpn_book::{Limits, run_here};
 use kpn_command_base::{QUOTA, RunRequest, load_inputs};
 use kpn_history::State;
@@ -34,27 +35,22 @@ struct Seen {
 /// Adds which processes loop without an event, and which others have gone on to the end.
 pub(crate) fn push_looks<R: Files, S: Shelf>(
     text: &mut Vec<u8>,
-    alloc: Global,
     run: &RunRequest<'_>,
     document: &Document,
-    shelf: &S,
-    rt: &R,
+    evidence: &Evidence<'_, R, S>,
 ) -> Result<(), AllocError> {
-    if !run
-        .sources
-        .iter()
-        .all(|source| is_short(rt, file_in(source)))
-    {
+    let alloc = evidence.alloc;
+    if !are_short(evidence.rt, &run.sources) {
         return Ok(());
     }
-    let Ok(inputs) = load_inputs(alloc, shelf, run.file, &run.sources) else {
+    let Ok(inputs) = load_inputs(alloc, evidence.shelf, run.file, &run.sources) else {
         return Ok(());
     };
     let network = inputs.document.network();
     let commits = run.commits.min(MOST_COMMITS);
     let first = look(alloc, network, &inputs.given, run.take, commits / 2)?;
     let last = look(alloc, network, &inputs.given, run.take, commits)?;
-    waits_among(alloc, last.states.as_slice())?.push_rings(text, document)?;
+    waits_among(alloc, last.states.as_slice())?.push_rings(text, document, &[])?;
     let turns = TURNS_OF_LOOP.saturating_mul(network.instances() as u64);
     let can_tell = turns <= commits / 2;
     if can_tell && push_ready(text, document, &first, &last, Some(true))? {
@@ -82,9 +78,12 @@ const GO_ON: &str = " went on after 20,000 commits.\n";
 
 const WENT_ON: &str = " went on to the end.\n";
 
-/// Whether a file is plain and has few bytes.
-pub(crate) fn is_short<R: Files>(rt: &R, file: &str) -> bool {
-    fs::metadata(rt, file).is_ok_and(|found| found.is_file() && found.len() <= MOST_SOURCE_BYTES)
+/// Whether the files of these options are plain and have few bytes.
+pub(crate) fn are_short<R: Files>(rt: &R, options: &[&str]) -> bool {
+    options.iter().all(|option| {
+        fs::metadata(rt, file_in(option)).is_ok_and(|found| found.is_file()
+            && found.len() <= MOST_SOURCE_BYTES)
+    })
 }
 
 // A run with so many commits at most.

@@ -1,6 +1,6 @@
 //! Which processes wait, as the lines of a report say, and what follows from it.
 
-use crate::pieces::{push, push_name};
+use crate::pieces::{is_said, push, push_name, text_of};
 use kpn_history::State;
 use kpn_net::End;
 use kpn_text::Document;
@@ -76,18 +76,37 @@ pub(crate) fn waits_among(alloc: Global, states: &[State]) -> Result<NetworkWait
 }
 
 impl NetworkWaits {
-    /// Adds a line for each ring: a cycle of processes that each wait for an item of the next one.
+    /// Adds a line for each ring that was not said: a cycle of processes that each wait for an item of the next one.
     pub(crate) fn push_rings(
         &self,
         text: &mut Vec<u8>,
         document: &Document,
+        said: &[u8],
     ) -> Result<(), AllocError> {
         for start in 0..self.of.len() {
             if self.begins_ring(document, start) {
-                self.push_ring(text, document, start)?;
+                let mut line = Vec::new(*text.allocator());
+                self.push_ring(&mut line, document, start)?;
+                if !is_said(said, text_of(&line)) {
+                    text.extend_from_slice(&line)?;
+                    push(text, "\n")?;
+                }
             }
         }
         Ok(())
+    }
+
+    /// Whether a process stands in a ring.
+    pub(crate) fn is_in_ring(&self, document: &Document, p: usize) -> bool {
+        let mut at = p;
+        for _turn in 0..self.of.len() {
+            match self.next(document, at) {
+                Some(next) if next == p => return true,
+                Some(next) => at = next,
+                None => return false,
+            }
+        }
+        false
     }
 
     // Whether a process stands in a ring, and is the first of it in order of number.
@@ -206,8 +225,7 @@ impl NetworkWaits {
 }
 
 const FIRST_ITEM: &str = "\
-; one of them has to write before it reads (a first item before its loop)
-";
+; one of them has to write before it reads (a first item before its loop)";
 
 // The process that writes a channel.
 fn writer(document: &Document, channel: usize) -> Option<usize> {

@@ -6,9 +6,12 @@
 use crate::advice::push_advice;
 use crate::causes::push_causes;
 use crate::options::{push_unclear, push_wrong_format};
+use crate::pieces::is_plain;
+use kpn_command_base::load_document;
 use kpn_command_line::{Request, read_words};
-use kpn_shelf::{FileShelf, System};
-use std::alloc::AllocError;
+use kpn_shelf::{FileShelf, Shelf, System};
+use kpn_text::Document;
+use std::alloc::{AllocError, Global};
 use std::fs;
 use std::rt::Files;
 use std::thread::Threads;
@@ -60,11 +63,46 @@ pub struct SeenBytes<'k> {
     pub written: &'k [u8],
     /// The end of what it told where faults go.
     pub told: &'k [u8],
+    /// What was said of a stream while it ran.
+    pub said: &'k [u8],
     /// What a quiet stream would have told of its end.
     pub unsaid: &'k [u8],
     /// The beginning of what it read of standard input, and how many bytes it read there.
     pub given: &'k [u8],
     pub count: u64,
+}
+
+impl SeenBytes<'static> {
+    /// Nothing is known.
+    pub(crate) fn nothing() -> SeenBytes<'static> {
+        SeenBytes {
+            written: &[],
+            told: &[],
+            said: &[],
+            unsaid: &[],
+            given: &[],
+            count: 0,
+        }
+    }
+}
+
+/// What words are found from: plain files, and what is known of the command.
+#[derive(Drop)]
+pub(crate) struct Evidence<'e, R, S> {
+    pub(crate) alloc: Global,
+    pub(crate) rt: &'e R,
+    pub(crate) shelf: &'e S,
+    pub(crate) known: &'e SeenBytes<'e>,
+}
+
+impl<'e, R: Files, S: Shelf> Evidence<'e, R, S> {
+    /// The network of a file, if it can be read once more.
+    pub(crate) fn plain_document(&self, file: &str) -> Option<Document> {
+        if !is_plain(self.rt, file) {
+            return None;
+        }
+        load_document(self.alloc, self.shelf, file).ok()
+    }
 }
 
 /// The words behind what a command has told that came to this status. There are none if there is nothing to say, or no
@@ -94,9 +132,15 @@ fn push_words<R: System + AllocGlobal + Threads>(
         return push_unclear(text, alloc, words, known);
     };
     let shelf = FileShelf::new(rt);
+    let evidence = Evidence {
+        alloc,
+        rt,
+        shelf: &shelf,
+        known,
+    };
     match (status, &request) {
-        (1, _) => push_causes(text, alloc, &request, known, &shelf, rt),
-        (2, Request::Stream(stream)) => push_wrong_format(text, alloc, stream, &shelf, rt),
-        _ => push_advice(text, &request, &shelf, rt, status, known),
+        (1, _) => push_causes(text, &request, &evidence),
+        (2, Request::Stream(stream)) => push_wrong_format(text, stream, &evidence),
+        _ => push_advice(text, &request, status, &evidence),
     }
 }

@@ -1,5 +1,5 @@
 -- Outputs that are apart, one more at a time, and outputs that are refused.
-use Rattle.std.proofs.Common.{◌≡◌, ◌≢◌, ◌<◌, ◌+◌, ℕ, suc, List, Bor, [], ◌∷◌, ◌++◌, All, Option, Some, map, length, get_or, take, drop, refl, inl, inr, sym, ap, subst, ◌∙◌, drop-cons}
+use Rattle.std.proofs.Common.{◌≡◌, ◌<◌, ◌+◌, ℕ, suc, List, Bor, [], ◌∷◌, ◌++◌, All, Option, Some, map, length, get_or, take, drop, refl, inl, inr, sym, ap, subst, ◌∙◌, drop-cons}
 use Rattle.std.proofs.lemmas.List.{take-append-drop, take_more, map-append}
 use Rattle.std.proofs.lemmas.List.Elements.{All-push}
 use Rattle.std.proofs.lemmas.List.Quantifiers.{all_pairs_push}
@@ -9,7 +9,7 @@ use Rattle.kpn_command_base.specs.declared.refusal.Refusal.TheVariants.{TraceWor
 use Rattle.kpn_shelf.specs.Shelf.{Loads, Aliases}
 use Rattle.kpn_command_base.specs.Inputs.{IsRefusalOfRunInputs}
 use Rattle.kpn_command_base.specs.Sources.{name_in}
-use Rattle.kpn_command_base.specs.Outputs.{FileWords, words_of, IsApart, AreNamesApart, AreOutputsApart, trace_name, outputs_of, MayMeet, IsRefusalOfOutput, IsRefusalOfSome, HasInputs, IsUnready, IsUnprepared}
+use Rattle.kpn_command_base.specs.Outputs.{FileWords, words_of, IsApart, AreTwoOutputs, AreNamesApart, AreOutputsApart, trace_name, outputs_of, MayMeet, IsRefusalOfOutput, IsRefusalOfSome, HasInputs, IsUnready, IsUnprepared}
 
 abbrev pub now : Bor (List ℕ) → List ℕ
 now word = word.now
@@ -24,10 +24,10 @@ one_more P words i word below before more =
 module _ (asked : FileWords) where
   -- one more output
   pub apart_more : (outputs : List (List ℕ)) (name : List ℕ) → AreNamesApart asked outputs → IsApart asked name
-      → All (λ other. name ≢ other) outputs → AreNamesApart asked (outputs ++ name ∷ [])
+      → All (λ other. AreTwoOutputs other name) outputs → AreNamesApart asked (outputs ++ name ∷ [])
   apart_more outputs name apart is new = record {
     no_inputs = All-push (IsApart asked) outputs name apart.no_inputs is;
-    each_other = all_pairs_push (λ (earlier later : List ℕ). later ≢ earlier) outputs name apart.each_other new;
+    each_other = all_pairs_push AreTwoOutputs outputs name apart.each_other new;
   }
 
 module _ (may_alias : Aliases) (asked : FileWords) where

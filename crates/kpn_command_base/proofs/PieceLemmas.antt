@@ -8,8 +8,3 @@ pub three_pieces : (start a b c one two three : List ℕ) → one ≡ start ++ a
     → three ≡ start ++ (a ++ b ++ c)
 three_pieces start a b c one two three first second third =
     two_pieces start (a ++ b) c two three (two_pieces start a b one two first second) third
-
-pub four_pieces : (start a b c d one two three four : List ℕ) → one ≡ start ++ a → two ≡ one ++ b → three ≡ two ++ c
-    → four ≡ three ++ d → four ≡ start ++ (a ++ b ++ c ++ d)
-four_pieces start a b c d one two three four first second third fourth =
-    two_pieces start (a ++ b ++ c) d three four (three_pieces start a b c one two three first second third) fourth

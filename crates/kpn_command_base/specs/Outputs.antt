@@ -35,10 +35,14 @@ words_of request = record {
 abbrev pub IsApart : FileWords → (name : List ℕ) → Type 0
 IsApart asked name = (name ≢ asked.file) × All (λ word. HasEquals word → name ≢ file_in word) asked.sources
 
--- none of these outputs has the name of an input, and no two have one name
+-- two outputs have two names, or that of the device that keeps nothing
+abbrev pub AreTwoOutputs : (earlier later : List ℕ) → Type 0
+AreTwoOutputs earlier later = (later ≢ earlier) ⊎ (later ≡ codes "/dev/null")
+
+-- none of these outputs has the name of an input, and no two have one name but that of this device
 pub record AreNamesApart (asked : FileWords) (outputs : List (List ℕ)) : Type 0 where
   pub no_inputs : All (IsApart asked) outputs
-  pub each_other : AllPairs (λ (earlier later : List ℕ). later ≢ earlier) outputs
+  pub each_other : AllPairs AreTwoOutputs outputs
 
 -- the name of the trace, if one was asked for
 abbrev pub trace_name : (trace : Option (List ℕ)) → List (List ℕ)

@@ -1,5 +1,6 @@
 -- How a file is stored, or why it is not.
-use Rattle.std.specs.Prelude.{◌≡◌, List, Result, Ok, Err}
+use Rattle.std.specs.Prelude.{◌≡◌, ◌≤◌, ℕ, List, length, Result, Ok, Err}
+use Rattle.kpn_limits.specs.declared.TheConstants.{MAX_INPUT_BYTES}
 use Rattle.kpn_shelf.specs.Shelf.{Loads, KeepsOthers}
 use Rattle.kpn_command_base.specs.declared.refusal.Refusal.{Refusal}
 use Rattle.kpn_command_base.specs.declared.refusal.Refusal.TheVariants.{NoMemory, Output}
@@ -18,3 +19,7 @@ Stores may_give file shelf kept (Ok done) = IsStored may_give file shelf kept
 Stores may_give file shelf kept (Err NoMemory) = kept ≡ shelf
 Stores may_give file shelf kept (Err (Output fault)) = KeepsOthers (may_give shelf) (may_give kept) file.name
 Stores may_give file shelf kept (Err other) = ⊥
+
+-- so many bytes are read of a file
+abbrev pub IsReadable : (bytes : List ℕ) → Type 0
+IsReadable bytes = length bytes ≤ MAX_INPUT_BYTES

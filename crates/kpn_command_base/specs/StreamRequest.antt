@@ -4,7 +4,8 @@ use Rattle.std.specs.Prelude.{Bool, ℕ, List, Option}
 -- the file of the description, the words behind the `--source` options, those behind the `--sink` options and those
 -- behind the `--format` options, whether sinks get the nearest items that fit, how many items of each channel a second
 -- of a WAV file has, how many channels it has, the most commits, how many items the stream wants of each sink, the file
--- for the trace, whether nothing is told of the end, and whether tables of the channels and the processes are
+-- for the trace, whether nothing is told of the end, whether tables of the channels and the processes are, and whether
+-- it ends once a process has faulted
 pub record StreamRequest : Type 0 where
   pub file : List ℕ
   pub sources : List (List ℕ)
@@ -18,3 +19,4 @@ pub record StreamRequest : Type 0 where
   pub trace : Option (List ℕ)
   pub quiet : Bool
   pub stats : Bool
+  pub stops : Bool

@@ -22,7 +22,8 @@ pub fn has_fault(states: &[State]) -> bool
     states.iter().any(|state| is_faulted(*state))
 }
 
-fn is_faulted(state: State) -> bool
+/// Whether a process in this state ended by a fault.
+pub fn is_faulted(state: State) -> bool
     ensures { result ≡ is_faulted state }
 {
     match state {

@@ -5,7 +5,7 @@ ghost use Rattle.kpn_net.specs.Iteration.{sources};
 ghost use Rattle.kpn_command_base.specs.Inputs.{AreInputs};
 ghost use Rattle.kpn_command_base.specs.Sources.{HasEquals, name_in, file_in};
 ghost use Rattle.kpn_command_base.specs.SourceRefusals.{IsRefusalOfWords};
-ghost use Rattle.kpn_command_base.specs.Outputs.{AreAllApart, AreNamesApart, AreOutputsApart, AreSinksNamed, IsApart, IsRefusalOfOutput, IsRefusalOfOutputs, IsRefusalOfSome, IsUnprepared, IsUnready, MayBeOne, MayBeStandard, MayGiveItems, MayOverwrite, outputs_of, trace_name, words_of};
+ghost use Rattle.kpn_command_base.specs.Outputs.{AreAllApart, AreNamesApart, AreOutputsApart, AreSinksNamed, AreTwoOutputs, IsApart, IsRefusalOfOutput, IsRefusalOfOutputs, IsRefusalOfSome, IsUnprepared, IsUnready, MayBeOne, MayBeStandard, MayGiveItems, MayOverwrite, outputs_of, trace_name, words_of};
 
 use crate::inputs::{RunInputs, load_run_inputs};
 use crate::refusal::Refusal;
@@ -271,21 +271,24 @@ fn is_standard<S: Shelf>(shelf: &S, name: &str) -> Result<bool, AllocError>
     shelf.is_same_file(name, "/dev/stderr")
 }
 
+// The device that keeps nothing. Any number of outputs may have its name.
+const NULL_DEVICE: &str = "/dev/null";
+
 // Whether two outputs would be written into one file.
 fn is_one_output<S: Shelf>(shelf: &S, name: &str, other: &str) -> Result<bool, AllocError>
-    ensures apart { IfOk result (λ is. is ≡ false → name.now ≢ other.now) }
+    ensures apart { IfOk result (λ is. is ≡ false → AreTwoOutputs other.now name.now) }
     ensures one { IfOk result (λ is. is ≡ true → MayBeOne (S.may_alias shelf.now) name.now other.now) }
 {
-    if name == other {
-        return Ok(true);
+    if name != other {
+        return shelf.is_one_output(name, other);
     }
-    shelf.is_one_output(name, other)
+    Ok(name != NULL_DEVICE)
 }
 
 // Whether an output would be written into the file of any of the earlier ones.
 fn is_any_output<S: Shelf>(shelf: &S, name: &str, earlier: &[&str]) -> Result<bool, AllocError>
     ensures apart { IfOk result (λ any. any ≡ false
-        → All (λ other. name.now ≢ other.now) earlier.now) }
+        → All (λ other. AreTwoOutputs other.now name.now) earlier.now) }
     ensures one { IfOk result (λ any. any ≡ true
         → Any (MayBeOne (S.may_alias shelf.now) name.now) (map (λ other. other.now) earlier.now)) }
 {

@@ -29,6 +29,8 @@ pub struct StreamRequest<'a> {
     pub quiet: bool,
     /// Whether tables of the channels and the processes are told at the end.
     pub stats: bool,
+    /// Whether it ends once a process has faulted.
+    pub stops: bool,
 }
 
 impl<'a> Model for StreamRequest<'a> {
@@ -50,5 +52,6 @@ impl<'a> Model for StreamRequest<'a> {
       trace = option_map (λ name. name.now) r.trace;
       quiet = r.quiet;
       stats = r.stats;
+      stops = r.stops;
     } };
 }

@@ -1,12 +1,14 @@
 //! The text of the trace of a run, and its file.
-ghost use Rattle.std.specs.Prelude.{◌≡◌, IfOk, IfErr};
+ghost use Rattle.std.specs.Prelude.{◌≡◌, IfOk, IfErr, OnOk};
 ghost use Rattle.kpn_trace.specs.TraceText.{trace_text};
-ghost use Rattle.kpn_command_base.specs.Stored.{Stores};
+ghost use Rattle.kpn_command_base.specs.Stored.{IsReadable, Stores};
 
 use crate::refusal::Refusal;
 use kpn_history::{History, Version};
+use kpn_limits::MAX_INPUT_BYTES;
 use kpn_net::Network;
 use kpn_shelf::Shelf;
+use kpn_text_items::WriteFault;
 use kpn_trace::write_trace;
 use std::alloc::Global;
 
@@ -28,7 +30,7 @@ pub fn trace_of(alloc: Global, network: &Network, history: &History) -> Result<V
     }
 }
 
-/// Stores the text of a trace under this name.
+/// Stores the text of a trace under this name, unless it has more bytes than are read of a file.
 pub fn store_trace<S: Shelf>(
     alloc: Global,
     name: &str,
@@ -36,7 +38,9 @@ pub fn store_trace<S: Shelf>(
     history: &History,
     shelf: &mut S,
 ) -> Result<(), Refusal>
-    ensures { let t = network.now in Stores S.may_give
+    ensures readable { let t = network.now in OnOk result
+        (IsReadable (trace_text Version.Two t.policy t.growth history.now.events)) }
+    ensures stores { let t = network.now in Stores S.may_give
         (record {
           name = name.now;
           bytes = trace_text Version.Two t.policy t.growth history.now.events;
@@ -46,6 +50,9 @@ pub fn store_trace<S: Shelf>(
         Ok(bytes) => bytes,
         Err(refusal) => return Err(refusal),
     };
+    if bytes.len() > MAX_INPUT_BYTES {
+        return Err(Refusal::Output(WriteFault::Write));
+    }
     match shelf.store(name, &bytes) {
         Ok(()) => Ok(()),
         Err(fault) => Err(Refusal::Output(fault)),

@@ -1,7 +1,6 @@
 -- Where a token stands in a description that follows the grammar. Processes and the network begin with reserved words
 -- that stand nowhere else, so a walk over the tokens needs no tree.
-use Rattle.std.specs.Prelude.{ℕ, Bool, true, false, ◌||◌, nat_eq, nat_lt, if◌then◌else◌, List, [], ◌∷◌, fold}
-use Rattle.std.specs.Str.{bytes_eq}
+use Rattle.std.specs.Prelude.{ℕ, Bool, true, false, nat_eq, if◌then◌else◌, List, [], ◌∷◌}
 use Rattle.kpn_text_tokens.specs.declared.tokens.Keyword.{Keyword}
 use Rattle.kpn_text_tokens.specs.declared.tokens.Keyword.TheVariants as word
 use Rattle.kpn_text_tokens.specs.declared.tokens.Lexeme.{Lexeme}
@@ -11,7 +10,6 @@ use Rattle.kpn_text_tokens.specs.declared.tokens.Token.{Token}
 use Rattle.kpn_text_tokens.specs.declared.tokens.Token.TheVariants as token
 use Rattle.kpn_command_explain.specs.declared.spots.TokenSpot.{TokenSpot}
 use Rattle.kpn_command_explain.specs.declared.spots.TokenSpot.TheVariants as spot
-use Rattle.kpn_command_explain.specs.Names.{name_beginning_at}
 
 -- ---- from token to token
 

@@ -4,7 +4,8 @@
 use crate::trace_names::{channel, process};
 use kpn_audit::Audit;
 use kpn_command_base::Pushed;
-use kpn_net::{End, Wait};
+use kpn_deadlock::awaited;
+use kpn_net::{End, Network, Wait};
 use kpn_text::Document;
 
 /// A line for each sink, and for each process that waits for room.
@@ -18,40 +19,8 @@ pub(crate) fn push_not_exact(text: &mut String, document: &Document, audit: &Aud
     Ok(())
 }
 
-// Whether one of the processes can continue: it has not ended, and waits for nobody.
-fn can_one_continue(audit: &Audit) -> bool {
-    let ends = audit.ends.as_slice();
-    for (p, wait) in audit.waits.as_slice().iter().enumerate() {
-        if *wait == Wait::Nobody && ends.get(p).copied().unwrap_or(None).is_none() {
-            return true;
-        }
-    }
-    false
-}
-
-// Whether one of the processes waits for an item of a source that is still open.
-fn does_one_await_input(document: &Document, audit: &Audit) -> bool {
-    for wait in audit.waits.as_slice() {
-        if let Wait::Empty(c) = *wait {
-            let is_complete = audit.complete.as_slice().get(c).copied().unwrap_or(false);
-            if !is_complete && document.network().is_source(c) {
-                return true;
-            }
-        }
-    }
-    false
-}
-
-// Which sinks are complete, and what gives more on the others: turns, if a process can continue; input, if one waits
-// for it; or else room.
+// Which sinks are complete, and what gives more on the others.
 fn push_sinks(text: &mut String, document: &Document, audit: &Audit) -> Pushed {
-    let rest = if can_one_continue(audit) {
-        "a longer run may put more there"
-    } else if does_one_await_input(document, audit) {
-        "more input may put more there"
-    } else {
-        "more room (`cap`, `limit`) may put more there"
-    };
     for (c, is_complete) in audit.complete.as_slice().iter().enumerate() {
         if !document.network().is_sink(c) {
             continue;
@@ -60,10 +29,44 @@ fn push_sinks(text: &mut String, document: &Document, audit: &Audit) -> Pushed {
         if *is_complete {
             write!(text, "{sink} is complete: nothing more is ever put there\n")?;
         } else {
-            write!(text, "{sink} is not complete: {rest}\n")?;
+            let lacking = lacking_for(document.network(), audit, c);
+            write!(
+                text,
+                "{sink} is not complete: {lacking} may put more there\n"
+            )?;
         }
     }
     Ok(())
+}
+
+// What gives more on a channel that is not complete: turns, if it waits for a process that can continue; input, if it
+// waits for a source that is open; or else room. Its writer waits for it, or for a process that waits for it, and so on.
+fn lacking_for(network: &Network, audit: &Audit, c: usize) -> &'static str {
+    let mut wait = Wait::Empty(c);
+    for _step in 0..=network.instances() {
+        let Some(p) = awaited(network, wait) else {
+            break;
+        };
+        let has_ended = matches!(audit.ends.as_slice().get(p), Some(Some(_)));
+        wait = audit
+            .waits
+            .as_slice()
+            .get(p)
+            .copied()
+            .unwrap_or(Wait::Nobody);
+        match wait {
+            Wait::Nobody if !has_ended => return "a longer run",
+            Wait::Empty(d) if is_open(network, audit, d) => return "more input",
+            _ => {}
+        }
+    }
+    "more room (`cap`, `limit`)"
+}
+
+// Whether a channel is a source that is still open.
+fn is_open(network: &Network, audit: &Audit, c: usize) -> bool {
+    let is_complete = audit.complete.as_slice().get(c).copied().unwrap_or(false);
+    network.is_source(c) && !is_complete
 }
 
 // Why nobody reads a full channel.

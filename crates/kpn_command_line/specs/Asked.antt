@@ -136,7 +136,7 @@ GivesToCommand given (Stream stream) =
     × (number_for 32 (codes "RATE") given ≡ stream.rate) × (number_for 16 (codes "CHANNELS") given ≡ stream.channels)
     × (number_for 64 (codes "MAX_COMMITS") given ≡ stream.commits) × (number_for 64 (codes "K") given ≡ stream.take)
     × (text_for (codes "TRACE") given ≡ stream.trace) × (is_set (codes "QUIET") given ≡ stream.quiet)
-    × (is_set (codes "STATS") given ≡ stream.stats)
+    × (is_set (codes "STATS") given ≡ stream.stats) × (is_set (codes "STOP_ON_FAULT") given ≡ stream.stops)
 GivesToCommand given (Audit file trace steps) =
     (text_for (codes "FILE") given ≡ Some file.now) × (text_for (codes "TRACE") given ≡ Some trace.now)
     × (steps_for given ≡ steps)

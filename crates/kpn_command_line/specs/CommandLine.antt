@@ -113,6 +113,9 @@ stats_flag = flag (codes "STATS") (codes "stats")
 abbrev pub strict_flag : Rule
 strict_flag = flag (codes "STRICT") (codes "strict")
 
+abbrev pub stop_flag : Rule
+stop_flag = flag (codes "STOP_ON_FAULT") (codes "stop-on-fault")
+
 abbrev pub across_flag : Rule
 across_flag = flag (codes "ACROSS") (codes "across")
 
@@ -149,7 +152,7 @@ abbrev pub stream_words : App
 stream_words =
     command (codes "stream")
     (file_word ∷ source_option ∷ sink_option ∷ format_option ∷ clip_flag ∷ rate_option ∷ channels_option ∷ take_option
-    ∷ commits_option ∷ trace_option ∷ quiet_flag ∷ stats_flag ∷ [])
+    ∷ commits_option ∷ trace_option ∷ quiet_flag ∷ stats_flag ∷ stop_flag ∷ [])
 
 abbrev pub audit_words : App
 audit_words = command (codes "audit") (file_word ∷ trace_word ∷ steps_option ∷ [])

@@ -68,6 +68,8 @@ pub(crate) const STATS: &str = "STATS";
 
 pub(crate) const STRICT: &str = "STRICT";
 
+pub(crate) const STOP_ON_FAULT: &str = "STOP_ON_FAULT";
+
 pub(crate) const ACROSS: &str = "ACROSS";
 
 // The commands and their words.
@@ -404,8 +406,10 @@ fn stream_words<'a>(alloc: Global) -> Result<Command<'a>, AllocError>
         count(alloc, MAX_COMMITS, "max-commits", "N", commits),
     );
     let words = and(words, option(alloc, TRACE, "trace", "OUT", trace));
+    let stop = "Ends the stream once a process has faulted, before another item is read";
     let words = and(words, flag(alloc, QUIET, "quiet", quiet));
-    and(words, stats_word(alloc))
+    let words = and(words, stats_word(alloc));
+    and(words, flag(alloc, STOP_ON_FAULT, "stop-on-fault", stop))
 }
 
 // The `--format` options of `kpn stream`.
@@ -500,15 +504,16 @@ fn join_words<'a>(alloc: Global) -> Result<Command<'a>, AllocError>
 
 const STATS_HELP: &str = "\
 Counts the events of a trace that `kpn run --trace` has stored. Writes how long the run is if each get
-and put takes one tick, with the capacities and without any, which processes bind it to this length, a
-table of the channels, a table of the processes, and advice on capacities. It is for speed: clogged runs
-may need more.
+and put takes one tick, with the capacities and without any, which processes bind it to this length and
+which make most steps, a table of the channels, a table of the processes, and advice on capacities. It
+is for speed: clogged runs may need more.
 
 Of each channel: the items that were put and read, those that are left unread, the most that lay
 unread, the capacity at first and at last, how often it grew, how often its reader came to wait for an
 item and its writer for room, whether it is complete, and the capacity that a run without capacities
-makes use of. Of each process: the items that it got and put, how often it came to wait for an item
-and for room, how it ended or what it waits for, for how many ticks it binds the run, and its parameters.
+makes use of. Of each process: the items that it got and put, its steps, how often it came to wait for
+an item and for room, how it ended or what it waits for, for how many ticks it binds the run, and its
+parameters.
 
 With --tsv one of the tables is written for other programs: a line of names, then a line for each
 channel or process, with a tab between two entries. A trace that is not legal is answered as by

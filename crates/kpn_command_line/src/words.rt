@@ -11,7 +11,8 @@ ghost use Rattle.kpn_command_line.specs.Asked.{is_across};
 
 use crate::command_line::{
     ACROSS, CHANNELS, CLIP, FILE, FORMAT, FROM, ITEMS, MAX_COMMITS, NAME, PARTS, QUIET, RATE,
-    ROUNDS, SINK, SOURCE, STATS, STEPS, STRICT, SVG, TABLE, TAKE, TO, TRACE, WORKERS, program,
+    ROUNDS, SINK, SOURCE, STATS, STEPS, STOP_ON_FAULT, STRICT, SVG, TABLE, TAKE, TO, TRACE,
+    WORKERS, program,
 };
 use crate::request::{Request, WordsFault};
 use clap::error::ErrorKind;
@@ -199,6 +200,7 @@ fn stream_request<'a>(
         trace: text_of(stream, TRACE),
         quiet: is_set(stream, QUIET),
         stats: is_set(stream, STATS),
+        stops: is_set(stream, STOP_ON_FAULT),
     }))
 }
 

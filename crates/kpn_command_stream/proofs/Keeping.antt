@@ -1,5 +1,5 @@
 -- The devices of a stream keep the references to standard input and output.
-use Rattle.std.proofs.Common.{◌≡◌, ◌∙◌, ℕ, ℤ, List, Option, Some, None, Result, Ok, Err, refl, ap, subst}
+use Rattle.std.proofs.Common.{◌≡◌, ◌∙◌, ℕ, Bool, false, ℤ, List, Option, Some, None, Result, Ok, Err, refl, ap, subst}
 use Rattle.kpn_history.specs.declared.event.Event.{Event}
 use Rattle.kpn_stream.specs.declared.faults.SourceFault.{SourceFault}
 use Rattle.kpn_stream.specs.declared.faults.SinkFault.{SinkFault}
@@ -10,6 +10,10 @@ use Rattle.kpn_stream_devices.specs.declared.outputs.SinkOutputs.{SinkOutputs}
 use Rattle.kpn_stream_devices.specs.SourceInputs.{InputsGive, InputsLook, by_input, by_none, at_input, at_none}
 use Rattle.kpn_stream_devices.specs.SinkOutputs as outputs
 use Rattle.kpn_stream_devices.specs.SinkOutputs.{OutputRel, OutputsDo}
+use Rattle.kpn_stream.specs.Watching.{Watched, not_yet_seen, by_steps, by_reads, seen}
+use Rattle.kpn_text.specs.Document.{Document}
+use Rattle.kpn_command_stream.specs.declared.watching.StreamWatcher.{StreamWatcher}
+use Rattle.kpn_command_stream.specs.Watching.{KnowsEnded, LooksAt}
 use Rattle.kpn_command_stream.specs.Command as command
 use Rattle.kpn_net.specs.Tables.{Tables}
 use Rattle.kpn_book.specs.Book.{Book}
@@ -17,6 +21,25 @@ use Rattle.kpn_book.specs.declared.outcome.Limits.{Limits}
 use Rattle.kpn_stream.specs.declared.ending.StreamEnding.{StreamEnding}
 use Rattle.kpn_command_stream.specs.declared.running.Lost.{Lost}
 use Rattle.kpn_command_stream.specs.Command.{HandedOn, KnownOfDevices, RanOver}
+
+-- a watcher keeps the reference to the place for faults
+pub watched_keeps : {E : Type 0} (hears : E → Document → Book → E → Type 0) (t : Tables) (first : StreamWatcher E)
+    (H : List Event) (halted : Bool) (now : StreamWatcher E)
+    → Watched t KnowsEnded (LooksAt hears) first H halted now → now.err.ghost_name ≡ first.err.ghost_name
+watched_keeps hears t first H halted now not_yet_seen = refl
+watched_keeps hears t first H halted now (by_steps G es n so_far none) =
+    watched_keeps hears t first G false n so_far
+watched_keeps hears t first H halted now (by_reads b es n so_far same book known none) =
+    watched_keeps hears t first b.history false n so_far
+watched_keeps hears t first H halted now (seen b halts before n so_far same book looks) =
+    looks.name ∙ watched_keeps hears t first b.history false before so_far
+
+-- the looks at the run of the network that a document describes
+pub watched_by : {E : Type 0} (hears : E → Document → Book → E → Type 0) (t u : Tables) (first : StreamWatcher E)
+    (H : List Event) (halted : Bool) (now : StreamWatcher E) → t ≡ u
+    → Watched t KnowsEnded (LooksAt hears) first H halted now → Watched u KnowsEnded (LooksAt hears) first H halted now
+watched_by hears t u first H halted now same watched =
+    subst (λ (x : Tables). Watched x KnowsEnded (LooksAt hears) first H halted now) same watched
 
 module _ (t : Tables) {S N : Type 0} (gives : S → ℕ → Result (Option ℤ) SourceFault → S → Type 0)
     (looks : S → ℕ → S → Type 0) (name : S → N)

@@ -5,3 +5,4 @@ pub mod Counted
 pub mod Worded
 pub mod Refusing
 pub mod Ended
+pub mod Faulting

@@ -1,6 +1,6 @@
 -- What `kpn stream` does.
 use Rattle.std.specs.Prelude.{◌≡◌, ◌≢◌, ℕ, ◌-◌, ◌≤◌, ◌^◌, if◌then◌else◌, Bool, true, false, List, [], ◌∷◌, ◌++◌, map, All, Option, Some, None}
-use Rattle.std.specs.Prelude.{⊤, unwrap_or, IfOk, IfSome, Result, Ok, Err}
+use Rattle.std.specs.Prelude.{⊤, unwrap_or, IfOk, OnOk, IfSome, Result, Ok, Err}
 use Rattle.std.specs.List.{AllZip}
 use Rattle.std.specs.Global.{Vec}
 use Rattle.kpn_net.specs.Tables.{Tables}
@@ -15,7 +15,7 @@ use Rattle.kpn_history.specs.declared.keeping.Keeping.TheVariants as keeping
 use Rattle.kpn_book.specs.declared.outcome.Limits.{Limits}
 use Rattle.kpn_command_base.specs.StreamRequest.{StreamRequest}
 use Rattle.kpn_command_base.specs.declared.refusal.Refusal.{Refusal}
-use Rattle.kpn_command_base.specs.Stored.{Stores}
+use Rattle.kpn_command_base.specs.Stored.{IsReadable, Stores}
 use Rattle.kpn_shelf.specs.Shelf.{Loads, Aliases}
 use Rattle.kpn_command_base.specs.Description.{IsDescribed}
 use Rattle.kpn_stream.specs.declared.faults.SinkFault.{SinkFault}
@@ -44,6 +44,7 @@ use Rattle.kpn_command_stream.specs.Refusal.{summary_fault, first_status}
 use Rattle.kpn_command_stream.specs.Formats.{AreForEnds}
 use Rattle.kpn_command_stream.specs.EndPlaces.{standard, HaveOwnInputs}
 use Rattle.kpn_command_stream.specs.Causes.{AreSinkPlaces, AreSourcePlaces, AreWordsRight, EndWords, IsUnbegun, end_words_of}
+use Rattle.kpn_command_stream.specs.Watching.{WasTold}
 use Rattle.kpn_command_stream.specs.declared.summary.SinkEnd.{SinkEnd}
 use Rattle.kpn_command_stream.specs.Summary.{stream_status, stream_summary_text}
 use Rattle.kpn_command_stream.specs.Ending.{IsOver}
@@ -221,13 +222,15 @@ pub record RanAt {S I F O G : Type 0} (may_give : Loads) (names : DeviceNames S 
 
 -- ---- the end
 
--- The trace is stored, if one is asked for, or it is not, for this cause. No other file changes.
+-- The trace is stored, if one is asked for, or it is not, for this cause. No other file changes. One that is stored has
+-- no more bytes than are read of a file.
 abbrev pub IsTraceKept : {S : Type 0} → (may_give : S → Loads) (trace : Option (List ℕ)) → Tables → Over
     → (shelf kept : S) → Result (Unit {0}) Refusal → Type 0
 IsTraceKept may_give None t over shelf kept stored = (kept ≡ shelf) × (stored ≡ Ok tt)
 IsTraceKept may_give (Some name) t over shelf kept stored =
     Stores may_give
     (record { name = name; bytes = trace_text version.Two t.policy t.growth over.history.events }) shelf kept stored
+    × OnOk stored (IsReadable (trace_text version.Two t.policy t.growth over.history.events))
 
 -- The status at the end: that of the first fault that is told. They are told in this order: what has ended the stream,
 -- what outputs have lost, the trace that could not be stored, the summary if there was no memory for it. Without a
@@ -281,9 +284,10 @@ pub record AreAskedFor (request : StreamRequest) (d : Document) (places : EndPla
   pub formats : AreForEnds d request.formats
 
 -- A stream of this network. Given are the shelf, standard input and output, and the place for faults, each as it was
--- and as it is afterwards.
+-- and as it is afterwards. The place for faults hears of the stream while it runs, and then of its end.
 pub record IsStreamedOf {S I F O G E : Type 0} (may_give : S → Loads) (names : DeviceNames S F G)
-    (known : KnownOfDevices I F O G) (tells : E → Option (List ℕ)) (request : StreamRequest) (d : Document)
+    (known : KnownOfDevices I F O G) (tells : E → Option (List ℕ)) (hears : E → Document → Book → E → Type 0)
+    (request : StreamRequest) (d : Document)
     (shelf kept : S) (input read : I) (out written : O) (err told : E) (status : ℕ) : Type 0 where
   pub places : EndPlaces
   pub asked_for : AreAskedFor request d places
@@ -293,16 +297,19 @@ pub record IsStreamedOf {S I F O G E : Type 0} (may_give : S → Loads) (names :
   pub lost : List Lost
   pub ran : RanAt (may_give shelf) names known request d.tables places input read out written ending book lost
   pub remembers : Remembers (keeping_for request.trace) book
-  pub concluded : IsStreamConcluded may_give tells request d ending book lost shelf kept err told status
+  pub heard : E
+  pub was_told : WasTold hears request d ending book err heard
+  pub concluded : IsStreamConcluded may_give tells request d ending book lost shelf kept heard told status
 
 -- A stream of what is asked for.
 pub record IsStreamed {S I F O G E : Type 0} (may_give : S → Loads) (names : DeviceNames S F G)
-    (known : KnownOfDevices I F O G) (tells : E → Option (List ℕ)) (request : StreamRequest) (shelf kept : S)
+    (known : KnownOfDevices I F O G) (tells : E → Option (List ℕ)) (hears : E → Document → Book → E → Type 0)
+    (request : StreamRequest) (shelf kept : S)
     (input read : I) (out written : O) (err told : E) (status : ℕ) : Type 0 where
   pub document : Document
   pub described : IsDescribed (may_give shelf) request.file document
   pub words : AreWordsRight request
-  pub streamed : IsStreamedOf may_give names known tells request document shelf kept input read out written err told
+  pub streamed : IsStreamedOf may_give names known tells hears request document shelf kept input read out written err told
       status
 
 -- nothing was begun: the shelf, standard input and standard output are as they were
@@ -314,16 +321,17 @@ pub record NothingBegun {S I O : Type 0} (shelf kept : S) (input read : I) (out 
 -- A stream; or nothing is begun for a cause that holds, the place for faults gets the line of the refusal, and this
 -- gives the status.
 pub data Streams {S I F O G E : Type 0} (may_give : S → Loads) (may_alias : S → Aliases) (names : DeviceNames S F G)
-    (known : KnownOfDevices I F O G) (tells : E → Option (List ℕ)) (request : StreamRequest) (shelf kept : S)
+    (known : KnownOfDevices I F O G) (tells : E → Option (List ℕ)) (hears : E → Document → Book → E → Type 0)
+    (request : StreamRequest) (shelf kept : S)
     (input read : I) (out written : O) (err told : E) (status : ℕ) : Type 0 where
-  streamed : IsStreamed may_give names known tells request shelf kept input read out written err told status →
-      Streams may_give may_alias names known tells request shelf kept input read out written err told status
+  streamed : IsStreamed may_give names known tells hears request shelf kept input read out written err told status →
+      Streams may_give may_alias names known tells hears request shelf kept input read out written err told status
   refused : (refusal : StreamRefusal) →
       IsUnbegun (may_give shelf) (may_alias shelf) (names.may_share shelf) request refusal →
       NothingBegun shelf kept input read out written →
       IsLineTold (tells err) (tells told) (refusal_text refusal ++ 10 ∷ []) →
       status ≡ refusal_status refusal →
-      Streams may_give may_alias names known tells request shelf kept input read out written err told status
+      Streams may_give may_alias names known tells hears request shelf kept input read out written err told status
 
 -- ---- scaffolding
 

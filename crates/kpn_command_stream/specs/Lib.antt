@@ -6,4 +6,5 @@ pub mod Counters
 pub mod Ending
 pub mod Words
 pub mod Causes
+pub mod Watching
 pub mod Command

@@ -15,7 +15,7 @@ use crate::places::{EndPlaces, is_dash, places_of, share_an_input, writes_an_inp
 use crate::refusal::StreamRefusal;
 use crate::running::run;
 use kpn_command_base::{
-    EndKind, FileOption, FileWords, Refusal, StreamRequest, check_outputs, load_document,
+    EndKind, FileOption, FileWords, Refusal, StreamRequest, Teller, check_outputs, load_document,
     options_of,
 };
 use kpn_shelf::{NonblockingRead, Ports, STANDARD, Shelf};
@@ -25,7 +25,7 @@ use std::io::Write;
 
 /// What `kpn stream FILE` does. It returns the status of the program. What it would tell of the end if it were not to be
 /// quiet is added to `unsaid`, as far as there is memory for it.
-pub fn stream_command<S: Shelf + Ports, I: NonblockingRead, O: Write, E: Write>(
+pub fn stream_command<S: Shelf + Ports, I: NonblockingRead, O: Write, E: Write + Teller>(
     alloc: Global,
     request: &StreamRequest<'_>,
     shelf: &mut S,
@@ -36,7 +36,7 @@ pub fn stream_command<S: Shelf + Ports, I: NonblockingRead, O: Write, E: Write>(
 ) -> u8
     ensures { Streams S.may_give S.may_alias
         (names_of S.are_two_inputs S.may_share S.comes_from S.goes_to)
-        (known_of I.remaining S.Input.remaining O.contents S.Output.contents) E.contents
+        (known_of I.remaining S.Input.remaining O.contents S.Output.contents) E.contents E.tells
         request.now shelf.old shelf.new input.old input.new out.old out.new
         err.old err.new result }
 {
@@ -47,7 +47,7 @@ pub fn stream_command<S: Shelf + Ports, I: NonblockingRead, O: Write, E: Write>(
 }
 
 /// The same, with no report of a refusal.
-fn carry_out<S: Shelf + Ports, I: NonblockingRead, O: Write, E: Write>(
+fn carry_out<S: Shelf + Ports, I: NonblockingRead, O: Write, E: Write + Teller>(
     alloc: Global,
     request: &StreamRequest<'_>,
     shelf: &mut S,
@@ -58,7 +58,7 @@ fn carry_out<S: Shelf + Ports, I: NonblockingRead, O: Write, E: Write>(
 ) -> Result<u8, StreamRefusal>
     ensures streamed { IfOk result (IsStreamed S.may_give
         (names_of S.are_two_inputs S.may_share S.comes_from S.goes_to)
-        (known_of I.remaining S.Input.remaining O.contents S.Output.contents) E.contents
+        (known_of I.remaining S.Input.remaining O.contents S.Output.contents) E.contents E.tells
         request.now shelf.old shelf.new input.old input.new out.old out.new err.old err.new) }
     ensures refused { OnErr result
         (NothingBegun shelf.old shelf.new input.old input.new out.old out.new) }
@@ -78,7 +78,7 @@ fn carry_out<S: Shelf + Ports, I: NonblockingRead, O: Write, E: Write>(
 
 /// Streams a network between the inputs and outputs that these words name, and concludes.
 // It owns no document: a function that owns one and may fail behind it is dear to prove.
-fn stream_document<S: Shelf + Ports, I: NonblockingRead, O: Write, E: Write>(
+fn stream_document<S: Shelf + Ports, I: NonblockingRead, O: Write, E: Write + Teller>(
     alloc: Global,
     request: &StreamRequest<'_>,
     words: &Words<'_>,
@@ -92,7 +92,7 @@ fn stream_document<S: Shelf + Ports, I: NonblockingRead, O: Write, E: Write>(
     requires { AreWordsOf request.now words.now }
     ensures streamed { IfOk result (IsStreamedOf S.may_give
         (names_of S.are_two_inputs S.may_share S.comes_from S.goes_to)
-        (known_of I.remaining S.Input.remaining O.contents S.Output.contents) E.contents
+        (known_of I.remaining S.Input.remaining O.contents S.Output.contents) E.contents E.tells
         request.now document.now shelf.old shelf.new input.old input.new out.old out.new
         err.old err.new) }
     ensures refused { OnErr result
@@ -105,7 +105,7 @@ fn stream_document<S: Shelf + Ports, I: NonblockingRead, O: Write, E: Write>(
     make_ready(shelf, request.trace)?;
     let mut lost = Vec::with_capacity(alloc, places.sinks.len())?;
     let streamed = run(
-        alloc, request, document, &places, shelf, input, out, &mut lost,
+        alloc, request, document, &places, shelf, input, out, err, &mut lost,
     )?;
     Ok(conclude(
         alloc, request, document, streamed, &lost, &places, shelf, err, unsaid,

@@ -12,6 +12,7 @@ mod refusal;
 mod running;
 mod stats;
 mod summary;
+mod watching;
 
 pub use command::stream_command;
 pub use devices::USUAL_RATE;

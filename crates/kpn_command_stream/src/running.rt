@@ -1,12 +1,16 @@
 //! The run of a stream between its inputs and outputs.
-ghost use Rattle.std.specs.Prelude.{◌≡◌, ◌≤◌, ◌<◌, ◌++◌, [], length, vec_capacity, IfOk, IfErr, OnErr};
+ghost use Rattle.std.specs.Prelude.{◌≡◌, ◌≤◌, ◌<◌, ◌++◌, [], length, vec_capacity, Some, IfOk, IfErr, OnErr};
 ghost use Rattle.kpn_book.specs.Remembering.{Remembers};
 ghost use Rattle.kpn_command_stream.specs.Causes.{IsDeviceRefusal};
+ghost use Rattle.kpn_stream.specs.Ending.{is_halted};
+ghost use Rattle.kpn_stream.specs.Watching.{Watched};
+ghost use Rattle.kpn_command_stream.specs.Watching.{KnowsEnded, LooksAt, WasTold};
 ghost use Rattle.kpn_command_stream.specs.Command.{HandedOn, RanOverFiles, RanAt, RanOver, flushes_of, keeping_for, known_of, most_commits, stream_limits_of, losses, names_of, sinks_of};
 
 use crate::devices::{empty_outputs, open_inputs, open_outputs};
 use crate::places::EndPlaces;
-use kpn_command_base::{QUOTA, Refusal, StreamRequest};
+use crate::watching::StreamWatcher;
+use kpn_command_base::{QUOTA, Refusal, StreamRequest, Teller};
 use kpn_net::Network;
 use kpn_shelf::{NonblockingRead, Ports, Shelf};
 use kpn_stream::{Keeping, Limits, SinkFault, Sinks, Streamed, stream};
@@ -52,7 +56,7 @@ pub(crate) struct Lost {
 }
 
 /// Opens the inputs and the outputs, and runs the network between them. It lists what is lost at the end.
-pub(crate) fn run<'n, S: Shelf + Ports, I: NonblockingRead, O: Write>(
+pub(crate) fn run<'n, S: Shelf + Ports, I: NonblockingRead, O: Write, E: Teller>(
     alloc: Global,
     request: &StreamRequest<'_>,
     document: &'n Document,
@@ -60,6 +64,7 @@ pub(crate) fn run<'n, S: Shelf + Ports, I: NonblockingRead, O: Write>(
     shelf: &S,
     input: &mut I,
     out: &mut O,
+    err: &mut E,
     lost: &mut Vec<Lost>,
 ) -> Result<Streamed<'n>, Refusal>
     requires none { lost.old.items ≡ [] }
@@ -71,6 +76,9 @@ pub(crate) fn run<'n, S: Shelf + Ports, I: NonblockingRead, O: Write>(
         streamed.ending streamed.book lost.new.items) }
     ensures kept { IfOk result (λ streamed.
         Remembers (keeping_for request.now.trace) streamed.book) }
+    ensures told { IfOk result (λ streamed. WasTold E.tells request.now document.now
+        streamed.ending streamed.book err.old err.new) }
+    ensures untold { OnErr result (err.new ≡ err.old) }
     ensures input { OnErr result (input.new ≡ input.old) }
     ensures output { OnErr result (out.new ≡ out.old) }
     ensures cause { IfErr result IsDeviceRefusal }
@@ -87,12 +95,20 @@ pub(crate) fn run<'n, S: Shelf + Ports, I: NonblockingRead, O: Write>(
         &mut outputs,
         input,
         out,
+        err,
         lost,
     )
 }
 
 /// Runs the network between these inputs and outputs.
-fn run_between<'n, I: NonblockingRead, F: NonblockingRead + Drop, O: Write, G: Write + Drop>(
+fn run_between<
+    'n,
+    I: NonblockingRead,
+    F: NonblockingRead + Drop,
+    O: Write,
+    G: Write + Drop,
+    E: Teller,
+>(
     alloc: Global,
     request: &StreamRequest<'_>,
     document: &'n Document,
@@ -101,6 +117,7 @@ fn run_between<'n, I: NonblockingRead, F: NonblockingRead + Drop, O: Write, G: W
     outputs: &mut Vec<SinkOutput<G>>,
     input: &mut I,
     out: &mut O,
+    err: &mut E,
     lost: &mut Vec<Lost>,
 ) -> Result<Streamed<'n>, Refusal>
     requires none { lost.old.items ≡ [] }
@@ -112,6 +129,9 @@ fn run_between<'n, I: NonblockingRead, F: NonblockingRead + Drop, O: Write, G: W
         streamed.ending streamed.book lost.new.items) }
     ensures kept { IfOk result (λ streamed.
         Remembers (keeping_for request.now.trace) streamed.book) }
+    ensures told { IfOk result (λ streamed. WasTold E.tells request.now document.now
+        streamed.ending streamed.book err.old err.new) }
+    ensures untold { OnErr result (err.new ≡ err.old) }
     ensures input { OnErr result (input.new ≡ input.old) }
     ensures output { OnErr result (out.new ≡ out.old) }
     ensures cause { IfErr result IsDeviceRefusal }
@@ -124,6 +144,12 @@ fn run_between<'n, I: NonblockingRead, F: NonblockingRead + Drop, O: Write, G: W
         standard: out,
         each: outputs,
     };
+    let mut watcher = StreamWatcher {
+        document,
+        err,
+        ended: 0,
+        stops: request.stops,
+    };
     let limits = limits_of(request);
     let network = document.network();
     let streamed = run_over(
@@ -134,13 +160,21 @@ fn run_between<'n, I: NonblockingRead, F: NonblockingRead + Drop, O: Write, G: W
         keeping_of(request),
         &mut sources,
         &mut sinks,
+        &mut watcher,
         lost,
     )?;
     Ok(streamed)
 }
 
 /// Runs the network over devices. At the end the outputs hand on what they kept.
-fn run_over<'n, I: NonblockingRead, F: NonblockingRead + Drop, O: Write, G: Write + Drop>(
+fn run_over<
+    'n,
+    I: NonblockingRead,
+    F: NonblockingRead + Drop,
+    O: Write,
+    G: Write + Drop,
+    E: Teller,
+>(
     alloc: Global,
     network: &'n Network,
     places: &EndPlaces<'_>,
@@ -148,6 +182,7 @@ fn run_over<'n, I: NonblockingRead, F: NonblockingRead + Drop, O: Write, G: Writ
     keeping: Keeping,
     sources: &mut SourceInputs<'_, I, F>,
     sinks: &mut SinkOutputs<'_, O, G>,
+    watcher: &mut StreamWatcher<'_, E>,
     lost: &mut Vec<Lost>,
 ) -> Result<Streamed<'n>, AllocError>
     requires none { lost.old.items ≡ [] }
@@ -158,10 +193,14 @@ fn run_over<'n, I: NonblockingRead, F: NonblockingRead + Drop, O: Write, G: Writ
         sources.old sources.new sinks.old sinks.new
         streamed.ending streamed.book lost.new.items) }
     ensures kept { IfOk result (λ streamed. Remembers keeping streamed.book) }
+    ensures watched { IfOk result (λ streamed. Watched network.now KnowsEnded (LooksAt E.tells)
+        watcher.old streamed.book.history (is_halted (Some streamed.ending)) watcher.new) }
+    ensures same_err { watcher.new.err.ghost_name ≡ watcher.old.err.ghost_name }
+    ensures no_look { OnErr result (watcher.new ≡ watcher.old) }
     ensures no_source { OnErr result (sources.new ≡ sources.old) }
     ensures no_sink { OnErr result (sinks.new ≡ sinks.old) }
 {
-    let streamed = stream(alloc, network, sources, sinks, limits, keeping)?;
+    let streamed = stream(alloc, network, sources, sinks, limits, keeping, watcher)?;
     flush_each(places, sinks, lost);
     Ok(streamed)
 }

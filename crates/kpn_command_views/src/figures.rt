@@ -44,6 +44,26 @@ pub(crate) struct Figures {
     pub(crate) processes: Sequence<ProcessFigures>,
 }
 
+impl Figures {
+    /// The figures of channel `c`; empty if there is none.
+    pub(crate) fn of_channel(&self, c: usize) -> ChannelFigures {
+        self.channels
+            .as_slice()
+            .get(c)
+            .copied()
+            .unwrap_or(EMPTY_CHANNEL)
+    }
+
+    /// The figures of process `p`; empty if there is none.
+    pub(crate) fn of_process(&self, p: usize) -> ProcessFigures {
+        self.processes
+            .as_slice()
+            .get(p)
+            .copied()
+            .unwrap_or(EMPTY_PROCESS)
+    }
+}
+
 const EMPTY_CHANNEL: ChannelFigures = ChannelFigures {
     put: 0,
     read: 0,

@@ -2,7 +2,6 @@
 //! gets and puts take place.
 #![tactic(auto)]
 
-mod bound;
 mod boxes;
 mod counters;
 mod digits;
@@ -14,11 +13,14 @@ mod frame;
 mod knots;
 mod measured;
 mod picture;
+mod rates;
 mod scale;
 mod sending;
+mod shares;
 mod slices;
 mod stats;
 mod stats_text;
+mod steps;
 mod svg_command;
 mod timeline;
 mod timelines;

@@ -4,7 +4,7 @@ ghost use Rattle.kpn_command_base.specs.Conclusion.{TellsOnly};
 ghost use Rattle.kpn_command_base.specs.Audited.{IsAnyToldOf, IsAnyTextFor, IsRefusalOfAudit};
 
 use crate::measured::measure;
-use crate::stats_text::text_of;
+use crate::stats_text::{MeasuredRun, text_of};
 use kpn_command_base::{Audited, Conclusion, Finding, Refusal, StatsTables, load_audited};
 use kpn_shelf::Shelf;
 use std::alloc::{AllocError, Global};
@@ -24,7 +24,7 @@ pub fn stats_command<S: Shelf>(
     ensures refused { IfErr result (IsRefusalOfAudit (S.may_give shelf.now) file.now trace.now) }
 {
     let audited = load_audited(alloc, shelf, file, trace, steps)?;
-    let conclusion = conclusion_of(alloc, tables, &audited)?;
+    let conclusion = conclusion_of(alloc, tables, &audited, steps)?;
     Ok(conclusion)
 }
 
@@ -33,13 +33,21 @@ fn conclusion_of(
     alloc: Global,
     tables: StatsTables,
     audited: &Audited,
+    steps: u64,
 ) -> Result<Conclusion, AllocError>
     ensures { IfOk result (TellsOnly (IsAnyTextFor audited.now.finding)) }
 {
     match &audited.finding {
         Finding::Legal(audit) => {
-            let measured = measure(alloc, &audited.document, &audited.trace)?;
-            let text = text_of(alloc, tables, &audited.document, audit, &measured)?;
+            let (document, trace) = (&audited.document, &audited.trace);
+            let measured = measure(alloc, document, trace, steps)?;
+            let told = MeasuredRun {
+                document,
+                trace,
+                audit,
+                measured: &measured,
+            };
+            let text = text_of(alloc, tables, told)?;
             Ok(Conclusion {
                 text,
                 status: 0,

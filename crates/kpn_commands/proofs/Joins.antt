@@ -20,8 +20,6 @@ use Rattle.kpn_net.specs.Tables.{Tables}
 use Rattle.kpn_net.specs.Faults.{IsNetwork}
 use Rattle.kpn_net.specs.Iteration.{lists_of}
 use Rattle.kpn_history.specs.declared.event.Event.{Event}
-use Rattle.kpn_history.specs.declared.stored.Version.TheVariants.{Two}
-use Rattle.kpn_history.specs.declared.stored.Trace.{Trace}
 use Rattle.kpn_history.specs.Channels.{written_on, capacity_after}
 use Rattle.kpn_history.specs.Legal.{Legal}
 use Rattle.kpn_history.proofs.Legality.{Legal-nil}
@@ -29,7 +27,6 @@ use Rattle.kpn_history.specs.Ends.{IsQuiet}
 use Rattle.kpn_history.specs.Waiting.{wait_of}
 use Rattle.kpn_audit.specs.declared.findings.Audit.{Audit}
 use Rattle.kpn_audit.specs.Audit.{IsAudit}
-use Rattle.kpn_audit.specs.Stored.{audited_under, history_of}
 use Rattle.kpn_parts.specs.declared.order.PartEvent.{PartEvent}
 use Rattle.kpn_parts.specs.declared.link.ChannelHome.{ChannelHome}
 use Rattle.kpn_parts.specs.Cut.{Part, whole_channel, empty_part, part_at, IsCut}
@@ -41,7 +38,6 @@ use Rattle.kpn_parts.proofs.Whole.{journal_same, journal_begins}
 use Rattle.kpn_parts.proofs.Rest.{waited_there}
 use Rattle.kpn_text.specs.Document.{Document}
 use Rattle.kpn_shelf.specs.Shelf.{Loads}
-use Rattle.kpn_command_base.specs.Audited.{IsFoundLegal}
 use Rattle.kpn_command_base.specs.declared.conclusion.Conclusion.{Conclusion}
 use Rattle.kpn_command_base.specs.declared.refusal.Refusal.{Refusal}
 use Rattle.kpn_command_base.specs.Conclusion.{TellsOnly}
@@ -50,7 +46,7 @@ use Rattle.kpn_command_base.specs.AuditText.{channel_line, exact_line}
 use Rattle.kpn_command_base.specs.Description.{IsDescribed}
 use Rattle.kpn_commands.specs.declared.join.LoadedParts.{LoadedParts}
 use Rattle.kpn_commands.specs.Join.{part_file, trace_file, HasEvents, AreRead, capacity_at, IsFlawOf, TellsOfFlaw, IsPartRefused, IsRefusalOfPart}
-use Rattle.kpn_commands.specs.JoinParts.{IsUnloaded, AreAudited, AreLoaded, LoadsPart, HasTables, journal_in, audited_journal, audited_capacity, AreIn, has_all, is_settled, is_part_at_rest}
+use Rattle.kpn_commands.specs.JoinParts.{AreAudited, AreLoaded, LoadsPart, HasTables, journal_in, audited_journal, audited_capacity, AreIn, has_all, is_settled, is_part_at_rest}
 
 -- ---- lists
 
@@ -114,19 +110,6 @@ both_true true true is = (refl, refl)
 both_true true false is = absurd cc
 both_true false b is = absurd cc
 
--- the tables of one part more
-pub tables_next : (cut : List Part) (documents : List Document) (r : ℕ) (part : Part) (d : Document)
-    → r < length documents → HasTables cut (take r documents) → part.tables ≡ (get_or documents r d).tables
-    → HasTables (cut ++ part ∷ []) (take (r + 1) documents)
-tables_next cut documents r part d below h same =
-    let first : Part → Tables = λ it. it.tables in
-    let second : Document → Tables = λ it. it.tables in
-    map-append first cut (part ∷ []) ∙ ap (λ xs. xs ++ part.tables ∷ []) h
-    ∙ ap (λ x. map second (take r documents) ++ x ∷ []) same
-    ∙ sym
-    (ap (map second) (take_more documents r d below)
-    ∙ map-append second (take r documents) (get_or documents r d ∷ []))
-
 -- what is shown of one home more
 pub shown_next : {Y : Type 0} (f : ChannelHome → Y) (homes : List ChannelHome) (c : ℕ) (d : ChannelHome) (ys : List Y)
     (y : Y) → c < length homes → ys ≡ map f (take c homes) → y ≡ f (get_or homes c d)
@@ -134,18 +117,6 @@ pub shown_next : {Y : Type 0} (f : ChannelHome → Y) (homes : List ChannelHome)
 shown_next f homes c d ys y below h same =
     ap (λ xs. xs ++ y ∷ []) h ∙ ap (λ x. map f (take c homes) ++ x ∷ []) same
     ∙ sym (ap (map f) (take_more homes c d below) ∙ map-append f (take c homes) (get_or homes c d ∷ []))
-
--- a journal and a capacity where a channel is written
-module _ (audits : List (Audit Global)) (home : ChannelHome) (a : Audit Global) (there : home.part < length audits) where
-  pub journal_shown : get_or (get_or audits home.part a).journals home.channel [] ≡ audited_journal audits home
-  journal_shown =
-      let journals : Audit Global → List (List ℤ) = λ it. it.journals in
-      ap (λ xs. get_or xs home.channel []) (sym (get_or-map journals audits home.part a [] there))
-
-  pub capacity_shown : get_or (get_or audits home.part a).caps home.channel None ≡ audited_capacity audits home
-  capacity_shown =
-      let caps : Audit Global → List (Option ℕ) = λ it. it.caps in
-      ap (λ xs. get_or xs home.channel None) (sym (get_or-map caps audits home.part a [] there))
 
 -- whether a part rests, by its audit
 pub part_rests : (part : Part) (homes : List ChannelHome) (audits : List (Audit Global)) (r : ℕ) (audit a : Audit Global)
@@ -161,25 +132,6 @@ part_rests part homes audits r audit a below is rests =
     ∙ ap (list_all q) (get_or-map waits audits r a [] below ∙ ap waits (sym is)))
 
 -- ---- loading
-
-pub loaded_start : (may_give : Loads) (words : List (List ℕ)) (loaded : LoadedParts) → IsUnloaded loaded
-    → AreLoaded may_give words 0 loaded
-loaded_start may_give words loaded empty =
-    record {
-      count = ap length empty.0;
-      audited =
-          record {
-            histories = ap length empty.1 ∙ sym (ap length empty.0);
-            audits = ap length empty.2 ∙ sym (ap length empty.0);
-            each = λ r d H audit below.
-                absurd (none (subst (λ xs. r < length xs) empty.0 below));
-          };
-      described = λ r d below. absurd (none below);
-      traced = λ r H below. absurd (none below);
-    }
-  where
-    none : {r : ℕ} → r < 0 → ⊥
-    none below = absurd omega (arith, below)
 
 pub loaded_next : (may_give : Loads) (words : List (List ℕ)) (n : ℕ) (old new : LoadedParts)
     → AreLoaded may_give words n old → LoadsPart may_give (part_file words n) (trace_file words n) old new
@@ -245,12 +197,6 @@ loaded_next may_give words n old new h part =
         (ap (λ xs. get_or xs r a) part.audits
         ∙ at_before old.audits.items part.audit n r a (h.audited.audits ∙ h.count) there)
         (h.audited.each r d H a (subst (λ k. r < k) (sym h.count) there))
-
--- a trace of version 2 is audited as it stands
-pub audited_as_it_stands : (t : Tables) (trace : Trace Global) (steps : ℕ) (audit : Audit Global)
-    → IsFoundLegal t trace steps audit → trace.version ≡ Two → IsAudit t trace.events audit
-audited_as_it_stands t trace steps audit found version =
-    subst (λ v. IsAudit (audited_under v t) (history_of v (audited_under v t) trace.events) audit) version found.audited
 
 -- ---- words
 

@@ -1,28 +1,26 @@
 -- A ring is final. No member has an event, since it is blocked. No event of another puts an item on the channel that a
 -- member waits on, since the next member writes it.
 use Rattle.std.specs.Prelude.{Contains}
-use Rattle.std.proofs.Common.{◌≡◌, ◌⊎◌, ℕ, true, false, cond, eqb, eq-eqb, List, [], ◌∷◌, ◌++◌, Some, refl, sym, ap, ◌∙◌, subst, inl, inr, append_assoc}
-use Rattle.std.proofs.lemmas.Bool.{both_ways, false_from_ne_true, eqb-true}
+use Rattle.std.proofs.Common.{◌≡◌, ◌⊎◌, ℕ, false, cond, List, [], ◌∷◌, ◌++◌, Some, refl, sym, ap, ◌∙◌, subst, inl, inr, append_assoc}
+use Rattle.std.proofs.lemmas.Bool.{false_from_ne_true}
 use Rattle.kpn_lang.proofs.Prefixes.{IsPrefix-append}
 use Rattle.kpn_net.specs.declared.wait.Wait.{Wait}
 use Rattle.kpn_net.specs.declared.wait.Wait.TheVariants.{Nobody, Empty}
-use Rattle.kpn_net.specs.declared.tables.End.{End}
-use Rattle.kpn_net.specs.declared.tables.End.TheVariants.{Process, Source, Sink}
+use Rattle.kpn_net.specs.declared.tables.End.TheVariants.{Process, Source}
 use Rattle.kpn_net.specs.Tables.{Tables, writer_of}
 use Rattle.kpn_net.specs.Faults.{IsNetwork}
 use Rattle.kpn_net.specs.Waits.{wait_at, process_at, awaited, WaitsFor, WaitInTurn}
-use Rattle.kpn_net.proofs.Networks.{writer_of-source, writer_of-Writes}
 use Rattle.kpn_net.proofs.Cycles.{Contains-first, Contains-later, Contains-cases, Contains-none, cycle_below}
 use Rattle.kpn_history.specs.declared.event.Event.{Event}
-use Rattle.kpn_history.specs.declared.event.Event.TheVariants.{Put, Feed}
 use Rattle.kpn_history.specs.Talks.{is_of}
 use Rattle.kpn_history.specs.Waiting.{wait_of, waits_of}
 use Rattle.kpn_history.specs.WaitsAfter.{wait_made}
 use Rattle.kpn_history.specs.Waking.{wakes_reader, wait_then}
 use Rattle.kpn_history.specs.Legal.{Legal}
 use Rattle.kpn_history.specs.Complete.{PutsNoMore, IsFinished}
-use Rattle.kpn_history.proofs.Legality.{can_go, Legal-last, Legal-prefix, onward}
-use Rattle.kpn_history.proofs.Ownership.{Owns-last}
+use Rattle.kpn_history.proofs.Legality.{can_go, Legal-prefix, onward}
+use Rattle.kpn_history.proofs.CompleteStays.{no_item_comes}
+use Rattle.kpn_history.proofs.OwedSets.{process_of_end}
 use Rattle.kpn_history.proofs.EarlierWaits.{wait_at-waits_of}
 use Rattle.kpn_history.proofs.Waking.{wait_of-then}
 use Rattle.kpn_deadlock.specs.Ring.{IsRing}
@@ -81,11 +79,6 @@ record HasWriter (t : Tables) (H : List Event) (members : List ℕ) (q : ℕ) : 
   pub writes : writer_of t channel ≡ Process writer
   pub among : Contains members writer
 
-process_of_end : (end : End) (q : ℕ) → process_at end ≡ Some q → end ≡ Process q
-process_of_end (Process p) q e = let same : p ≡ q = cc in ap Process same
-process_of_end Source q e = absurd cc
-process_of_end Sink q e = absurd cc
-
 has_writer : (t : Tables) (H : List Event) (p : ℕ) (others : List ℕ) → IsRing t (waits_of t H) p others → (q : ℕ)
     → Contains (p ∷ others) q → HasWriter t H (p ∷ others) q
 has_writer t H p others ring q h =
@@ -121,28 +114,13 @@ module _ (t : Tables) (network : IsNetwork t) (p : ℕ) (others : List ℕ) wher
 
     -- no item comes to a channel that a member writes
     no_item : (c r : ℕ) → writer_of t c ≡ Process r → Contains (p ∷ others) r → wakes_reader c e ≡ false
-    no_item c r writes among = by_event e refl
-      where
-        by_event : (f : Event) → e ≡ f → wakes_reader c f ≡ false
-        by_event (Put q d v) is =
-            false_from_ne_true (eqb d c)
-            (λ here.
-            let legal' : Legal t (B ++ Put q d v ∷ []) = subst (λ x. Legal t (B ++ x ∷ [])) is legal in
-            let writer : writer_of t c ≡ Process q =
-            subst (λ x. writer_of t x ≡ Process q) (eqb-true d c here)
-            (writer_of-Writes t network q d (Owns-last t network B (Put q d v) legal')) in
-            let both : Process r ≡ Process q = sym writes ∙ writer in
-            let same : r ≡ q = cc in
-            both_ways (is_of r e) (still r among) (ap (is_of r) is ∙ eq-eqb q r (sym same)))
-        by_event (Feed d v) is =
-            false_from_ne_true (eqb d c)
-            (λ here.
-            let may = (Legal-last t B (Feed d v) (subst (λ x. Legal t (B ++ x ∷ [])) is legal)).due in
-            let source : writer_of t c ≡ Source =
-            subst (λ x. writer_of t x ≡ Source) (eqb-true d c here) (writer_of-source t d may.source) in
-            let clash : Process r ≡ Source = sym writes ∙ source in
-            absurd cc)
-        by_event event is = refl
+    no_item c r writes among =
+        no_item_comes t network B e legal c
+        (λ q writer.
+        let both : Process r ≡ Process q = sym writes ∙ writer in
+        let same : r ≡ q = cc in
+        subst (λ x. is_of x e ≡ false) same (still r among))
+        (λ source. let clash : Process r ≡ Source = sym writes ∙ source in absurd cc)
 
     waits_on : (q : ℕ) → Contains (p ∷ others) q → wait_of t (B ++ e ∷ []) q ≡ wait_of t B q
     waits_on q h =

@@ -58,9 +58,6 @@ module _ (t : Tables) (waits : List Wait) where
   pub ring_there : (p : ℕ) (others : List ℕ) → IsRingFrom t waits p others → p < length t.instances
   ring_there p others h = cycle_there p others (as_cycle p others h)
 
-  pub no_ring_without : (p : ℕ) → FindsFrom (IsCycleFrom t waits) p None → FindsFrom (IsRingFrom t waits) p None
-  no_ring_without p none = λ others h. none others (as_cycle p others h)
-
   module _ (p : ℕ) (members : List ℕ) (found : FindsFrom (IsCycleFrom t waits) p (Some members)) where
     pub ring_of : all_await_items waits members ≡ true → FindsFrom (IsRingFrom t waits) p (Some members)
     ring_of all = (

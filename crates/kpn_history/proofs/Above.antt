@@ -2,32 +2,15 @@
 -- process puts on them.
 use Rattle.std.proofs.Common.{◌≡◌, ℕ, ◌<◌, Bool, true, false, ◌||◌, cond, List, [], ◌∷◌, ◌++◌, length, Option, Some, None, refl, sym, ap, ◌∙◌, subst, inl, inr, arith, length-drop}
 use Rattle.std.proofs.lemmas.Bool.{cases_Bool, eqb-true, false≢true, or_cases}
-use Rattle.kpn_lang.specs.Prefix.{IsPrefix}
-use Rattle.kpn_lang.specs.Alone.{put_at}
+use Rattle.kpn_history.proofs.Common.{IsPrefix, put_at, End, Process, Source, Sink, Nobody, Empty, Full, Tables, writer_of, IsNetwork, Family, IsFamilyPrefix, talk_on, written_by, IsClosed, How, Done, Overflow, ZeroDivisor, Index, Shift, Event, WaitEmpty, WaitFull, Ended, is_of, last_event, talk_of, is_end_of, has_ended, written_on, read_on, unread_on, fed, is_empty, is_full, wait_of_last, Legal, ending_of, IsQuiet}
 use Rattle.kpn_lang.proofs.Prefixes.{IsPrefix-trans, IsPrefix-same, same_from_prefix}
 use Rattle.kpn_lang.proofs.Talks.{put_at-prefix}
-use Rattle.kpn_net.specs.declared.tables.End.{End}
-use Rattle.kpn_net.specs.declared.tables.End.TheVariants.{Process, Source, Sink}
-use Rattle.kpn_net.specs.declared.wait.Wait.TheVariants.{Nobody, Empty, Full}
-use Rattle.kpn_net.specs.Tables.{Tables, writer_of}
-use Rattle.kpn_net.specs.Faults.{IsNetwork}
-use Rattle.kpn_net.specs.Process.{Family, IsFamilyPrefix, talk_on}
-use Rattle.kpn_net.specs.Iteration.{written_by, IsClosed}
 use Rattle.kpn_net.proofs.Networks.{Reads, reader_of-Reads, Writes-writer_of}
-use Rattle.kpn_history.specs.declared.event.How.{How}
-use Rattle.kpn_history.specs.declared.event.How.TheVariants.{Done, Overflow, ZeroDivisor, Index, Shift}
-use Rattle.kpn_history.specs.declared.event.Event.{Event}
-use Rattle.kpn_history.specs.declared.event.Event.TheVariants.{WaitEmpty, WaitFull, Ended}
-use Rattle.kpn_history.specs.Talks.{is_of, last_event, talk_of, is_end_of, has_ended}
-use Rattle.kpn_history.specs.Channels.{written_on, read_on, unread_on, fed, is_empty, is_full}
-use Rattle.kpn_history.specs.Waiting.{wait_of_last}
-use Rattle.kpn_history.specs.Legal.{Legal, ending_of}
-use Rattle.kpn_history.specs.Ends.{IsQuiet}
 use Rattle.kpn_history.proofs.Events.{Some-event, last_event-own, last_event-other, talk_of-grows, has_ended-push, read_on-grows, read_on-same}
 use Rattle.kpn_history.proofs.Legality.{Legal-last, by_events}
 use Rattle.kpn_history.proofs.Running.{IsLast, talk_settled-last, talk_settled-starved}
 use Rattle.kpn_history.proofs.Ownership.{Owns-last}
-use Rattle.kpn_history.proofs.Journals.{written_on-put, read_in-other, reads_begin_writes}
+use Rattle.kpn_history.proofs.Journals.{put_by_owner, read_in-other, reads_begin_writes, IsSpoken, IsSpoken-legal}
 use Rattle.kpn_history.proofs.Below.{fed-source}
 
 -- ---- a process that has ended says no more
@@ -171,42 +154,60 @@ empty_wait t H (Some (WaitFull q d)) c e = absurd (full_if (is_full t H d) d c e
 empty_wait t H (Some event) c e = absurd cc
 
 -- on an empty channel all was read
-pub all_read : (t : Tables) (H : List Event) → Legal t H → (c : ℕ) → is_empty H c ≡ true
+pub read_if_empty : (H : List Event) → IsFamilyPrefix (read_on H) (written_on H) → (c : ℕ) → is_empty H c ≡ true
     → read_on H c ≡ written_on H c
-all_read t H legal c empty =
+read_if_empty H in_order c empty =
     let none : length (unread_on H c) ≡ 0 = eqb-true _ _ empty in
     let rest = length-drop (length (read_on H c)) (written_on H c) in
-    same_from_prefix (read_on H c) (written_on H c) (reads_begin_writes t H legal c) (omega arith)
+    same_from_prefix (read_on H c) (written_on H c) (in_order c) (omega arith)
 
--- ---- a quiet history
+pub all_read : (t : Tables) (H : List Event) → Legal t H → (c : ℕ) → is_empty H c ≡ true
+    → read_on H c ≡ written_on H c
+all_read t H legal = read_if_empty H (reads_begin_writes t H legal)
 
--- on the journals each process says no more than it said
-pub said_all : (t : Tables) → IsNetwork t → (H : List Event) → Legal t H → IsQuiet t H → (p : ℕ)
-    → p < length t.instances → (n : ℕ) → IsPrefix (talk_on t p n (written_on H)) (talk_of H p)
-said_all t network H legal quiet p below n =
-    elim (quiet.each p below) [
-      | inl ended ↦ (HasSaidAll-ended t p H legal ended).whole n (written_on H) (reads_begin_writes t H legal)
-      | inr waits ↦
-          let w = empty_wait t H (last_event H p) waits.channel waits.blocked in
-          (IsStarved-last t network p H legal w.process waits.channel w.is).whole n (written_on H)
-          (reads_begin_writes t H legal)
-          (sym (all_read t H legal waits.channel w.empty))
-    ]
+-- ---- lists of events in which each process has said all that it can say
 
-pub IsClosed-quiet : (t : Tables) → IsNetwork t → (H : List Event) → Legal t H → IsQuiet t H
-    → IsClosed t (fed t H) (written_on H)
-IsClosed-quiet t network H legal quiet =
+-- a process that has ended says no more, and one whose last event is a wait on an empty channel says no more until
+-- items come there
+pub record SaysAll (t : Tables) (H : List Event) : Type 0 where
+  pub spoken : IsSpoken t H
+  pub ended : (p : ℕ) → p < length t.instances → has_ended H p ≡ true → HasSaidAll t H p
+  pub starved : (p q c : ℕ) → p < length t.instances → last_event H p ≡ Some (WaitEmpty q c) → IsStarved t H p c
+
+pub SaysAll-legal : (t : Tables) → IsNetwork t → (H : List Event) → Legal t H → SaysAll t H
+SaysAll-legal t network H legal =
     record {
-      fed = λ c source. sym (fed-source t H c source);
-      contains = λ n c other. by_writer n c (writer_of t c) refl;
+      spoken = IsSpoken-legal t network H legal;
+      ended = λ p below. HasSaidAll-ended t p H legal;
+      starved = λ p q c below. IsStarved-last t network p H legal q c;
     }
-  where
-    by_writer : (n c : ℕ) (end : End) → writer_of t c ≡ end
-        → IsPrefix (written_by t n (written_on H) c end) (written_on H c)
-    by_writer n c (Process p) w =
-        let below = (Writes-writer_of t p c w).process in
-        IsPrefix-trans _ (put_at (talk_of H p) c) (written_on H c)
-        (put_at-prefix (talk_on t p n (written_on H)) (talk_of H p) c (said_all t network H legal quiet p below n))
-        (IsPrefix-same _ _ (sym (written_on-put t network c p w H legal)))
-    by_writer n c Source w = tt
-    by_writer n c Sink w = tt
+
+module _ (t : Tables) (network : IsNetwork t) (H : List Event) (says : SaysAll t H) where
+  -- on the journals of a quiet one each process says no more than it said
+  said_all : IsQuiet t H → (p : ℕ) → p < length t.instances → (n : ℕ)
+      → IsPrefix (talk_on t p n (written_on H)) (talk_of H p)
+  said_all quiet p below n =
+      elim (quiet.each p below) [
+        | inl ended ↦ (says.ended p below ended).whole n (written_on H) says.spoken.in_order
+        | inr waits ↦
+            let w = empty_wait t H (last_event H p) waits.channel waits.blocked in
+            (says.starved p w.process waits.channel below w.is).whole n (written_on H) says.spoken.in_order
+            (sym (read_if_empty H says.spoken.in_order waits.channel w.empty))
+      ]
+
+  pub IsClosed-quiet : IsQuiet t H → IsClosed t (fed t H) (written_on H)
+  IsClosed-quiet quiet =
+      record {
+        fed = λ c source. sym (fed-source t H c source);
+        contains = λ n c other. by_writer n c (writer_of t c) refl;
+      }
+    where
+      by_writer : (n c : ℕ) (end : End) → writer_of t c ≡ end
+          → IsPrefix (written_by t n (written_on H) c end) (written_on H c)
+      by_writer n c (Process p) w =
+          IsPrefix-trans _ (put_at (talk_of H p) c) (written_on H c)
+          (put_at-prefix (talk_on t p n (written_on H)) (talk_of H p) c
+          (said_all quiet p (Writes-writer_of t p c w).process n))
+          (IsPrefix-same _ _ (sym (put_by_owner t network c p w H says.spoken.own)))
+      by_writer n c Source w = tt
+      by_writer n c Sink w = tt

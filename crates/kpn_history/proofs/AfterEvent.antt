@@ -4,14 +4,7 @@ use Rattle.std.proofs.lemmas.Bool.{false≢true}
 use Rattle.std.proofs.lemmas.List.Folds.{list_any-append}
 use Rattle.std.proofs.lemmas.List.Sums.{sum_by_push}
 use Rattle.std.specs.List.{list_any}
-use Rattle.kpn_net.specs.declared.tables.End.{End}
-use Rattle.kpn_net.specs.declared.tables.End.TheVariants.{Process, Source, Sink}
-use Rattle.kpn_net.specs.Tables.{Tables, reader_of}
-use Rattle.kpn_history.specs.declared.event.Event.{Event}
-use Rattle.kpn_history.specs.declared.event.Event.TheVariants.{Get, Put, WaitEmpty, WaitFull, Ended}
-use Rattle.kpn_history.specs.Talks.{is_of, is_of_process, process_events, is_end_of, has_ended}
-use Rattle.kpn_history.specs.Channels.{is_close_of, is_leave_of, is_closed, is_left, lives, reader_lives}
-use Rattle.kpn_history.specs.AfterEvent.{takes_end, takes_reader}
+use Rattle.kpn_history.proofs.Common.{End, Process, Source, Sink, Tables, reader_of, Event, Get, Put, WaitEmpty, WaitFull, Ended, is_of, is_of_process, process_events, is_end_of, has_ended, is_close_of, is_leave_of, is_closed, is_left, lives, reader_lives, takes_end, takes_reader}
 
 -- ---- marks
 

@@ -3,16 +3,8 @@ use Rattle.std.proofs.Common.{◌≡◌, ℕ, ◌+◌, ◌<◌, true, List, leng
 use Rattle.std.specs.Prelude.{Contains}
 use Rattle.std.specs.List.{range_with_len}
 use Rattle.std.proofs.lemmas.List.FromFn.{length-range_with_len, get_or-range_with_len}
-use Rattle.kpn_net.specs.declared.tables.End.{End}
-use Rattle.kpn_net.specs.declared.tables.End.TheVariants.{Process, Source, Sink}
-use Rattle.kpn_net.specs.Tables.{Tables, channel_at, is_source, writer_of}
-use Rattle.kpn_net.specs.Faults.{IsNetwork}
+use Rattle.kpn_history.proofs.Common.{End, Process, Source, Sink, Tables, channel_at, is_source, writer_of, IsNetwork, Event, is_closed, Legal, IsQuiet, PutsNoMore, AreFinished, IsFinished}
 use Rattle.kpn_net.proofs.Networks.{Writes-writer_of, source-writer_of, writer_is_no_sink}
-use Rattle.kpn_history.specs.declared.event.Event.{Event}
-use Rattle.kpn_history.specs.Channels.{is_closed}
-use Rattle.kpn_history.specs.Legal.{Legal}
-use Rattle.kpn_history.specs.Ends.{IsQuiet}
-use Rattle.kpn_history.specs.Complete.{PutsNoMore, AreFinished, IsFinished}
 use Rattle.kpn_history.proofs.OwnWaits.{wait_on_empty}
 
 -- the numbers below n

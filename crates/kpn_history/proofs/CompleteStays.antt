@@ -1,24 +1,10 @@
 -- No legal longer history puts anything more on a complete channel, and the channel stays complete: its writer has ended
 -- or waits, and what it waits for does not come.
-use Rattle.std.proofs.Common.{◌≡◌, ◌⊎◌, ℕ, Bool, true, false, ◌||◌, cond, eqb, eq-eqb, List, [], ◌∷◌, ◌++◌, ℤ, refl, sym, ap, ◌∙◌, subst, inl, inr}
+use Rattle.std.proofs.Common.{◌≡◌, ℕ, true, false, cond, eqb, eq-eqb, List, [], ◌∷◌, ◌++◌, ℤ, refl, sym, ap, ◌∙◌, subst, inl, inr}
 use Rattle.std.specs.Prelude.{Contains}
-use Rattle.std.proofs.lemmas.Bool.{cases_Bool, both_ways, false_from_ne_true, eqb-true, or_left}
-use Rattle.kpn_net.specs.declared.wait.Wait.{Wait}
-use Rattle.kpn_net.specs.declared.wait.Wait.TheVariants.{Nobody, Empty}
-use Rattle.kpn_net.specs.declared.tables.End.{End}
-use Rattle.kpn_net.specs.declared.tables.End.TheVariants.{Process, Source, Sink}
-use Rattle.kpn_net.specs.Tables.{Tables, channel_at, is_source, writer_of}
-use Rattle.kpn_net.specs.Faults.{IsNetwork}
+use Rattle.std.proofs.lemmas.Bool.{both_ways, false_from_ne_true, eqb-true, or_left}
+use Rattle.kpn_history.proofs.Common.{Nobody, Empty, End, Process, Source, Sink, Tables, writer_of, IsNetwork, Event, Put, Feed, is_of, is_end_of, has_ended, written_in, written_on, is_close_of, is_closed, wait_of, wait_made, wakes_reader, wait_then, Legal, PutsNoMore, AreFinished, IsFinished, IsComplete}
 use Rattle.kpn_net.proofs.Networks.{writer_of-source, writer_of-Writes}
-use Rattle.kpn_history.specs.declared.event.Event.{Event}
-use Rattle.kpn_history.specs.declared.event.Event.TheVariants.{Put, Feed}
-use Rattle.kpn_history.specs.Talks.{is_of, is_end_of, has_ended}
-use Rattle.kpn_history.specs.Channels.{written_in, written_on, is_close_of, is_closed}
-use Rattle.kpn_history.specs.Waiting.{wait_of}
-use Rattle.kpn_history.specs.WaitsAfter.{wait_made}
-use Rattle.kpn_history.specs.Waking.{wakes_reader, wakes, wait_then}
-use Rattle.kpn_history.specs.Legal.{Legal}
-use Rattle.kpn_history.specs.Complete.{PutsNoMore, StarvesAmong, AreFinished, IsFinished, IsComplete}
 use Rattle.kpn_history.proofs.Events.{written_on-same}
 use Rattle.kpn_history.proofs.Legality.{can_go, Legal-last, onward}
 use Rattle.kpn_history.proofs.Ownership.{Owns-last}
@@ -44,9 +30,10 @@ module _ (t : Tables) (network : IsNetwork t) (B : List Event) (e : Event) (lega
         | inr w ↦ let clash : Nobody ≡ Empty w.channel = sym go.free ∙ w.waits in absurd cc
       ])
 
-  -- nothing is put on a complete channel
-  wakes_no_reader : (c : ℕ) → IsComplete t B c → wakes_reader c e ≡ false
-  wakes_no_reader c complete = by_event e refl
+  -- no item comes to a channel whose writer rests, or whose source is closed
+  pub no_item_comes : (c : ℕ) → ((q : ℕ) → writer_of t c ≡ Process q → is_of q e ≡ false)
+      → (writer_of t c ≡ Source → is_closed B c ≡ true) → wakes_reader c e ≡ false
+  no_item_comes c rests shut = by_event e refl
     where
       by_event : (f : Event) → e ≡ f → wakes_reader c f ≡ false
       by_event (Put q d v) is =
@@ -56,18 +43,22 @@ module _ (t : Tables) (network : IsNetwork t) (B : List Event) (e : Event) (lega
           let writer : writer_of t c ≡ Process q =
           subst (λ x. writer_of t x ≡ Process q) (eqb-true d c here)
           (writer_of-Writes t network q d (Owns-last t network B (Put q d v) legal')) in
-          let still = finished_is_still q (complete-process t B c q writer complete) in
-          both_ways (is_of q e) still (ap (is_of q) is ∙ eq-eqb q q refl))
+          both_ways (is_of q e) (rests q writer) (ap (is_of q) is ∙ eq-eqb q q refl))
       by_event (Feed d v) is =
           false_from_ne_true (eqb d c)
           (λ here.
           let may = (Legal-last t B (Feed d v) (subst (λ x. Legal t (B ++ x ∷ [])) is legal)).due in
           let source : writer_of t c ≡ Source =
           subst (λ x. writer_of t x ≡ Source) (eqb-true d c here) (writer_of-source t d may.source) in
-          let closed : is_closed B c ≡ true = subst (PutsNoMore (IsFinished t B) B c) source complete in
           both_ways (is_closed B d) may.not_closed
-          (subst (λ x. is_closed B x ≡ true) (sym (eqb-true d c here)) closed))
+          (subst (λ x. is_closed B x ≡ true) (sym (eqb-true d c here)) (shut source)))
       by_event event is = refl
+
+  -- nothing is put on a complete channel
+  wakes_no_reader : (c : ℕ) → IsComplete t B c → wakes_reader c e ≡ false
+  wakes_no_reader c complete =
+      no_item_comes c (λ q writes. finished_is_still q (complete-process t B c q writes complete))
+      (λ source. subst (PutsNoMore (IsFinished t B) B c) source complete)
 
   written_no_more : (c : ℕ) → IsComplete t B c → written_on (B ++ e ∷ []) c ≡ written_on B c
   written_no_more c complete = written_on-same B e c (unwritten c e (wakes_no_reader c complete))

@@ -8,16 +8,9 @@ use Rattle.std.proofs.lemmas.Bool.{cases_Bool, both_ways, eqb-true, ne_eqb}
 use Rattle.std.proofs.lemmas.Map.Steps.{length-le_from_distinct_below}
 use Rattle.std.proofs.lemmas.Map.Views.{Contains-from_any, list_any-from_Contains}
 use Rattle.std.specs.Cmp.{nat_eq_equiv}
-use Rattle.kpn_net.specs.declared.tables.End.TheVariants.{Process, Source}
-use Rattle.kpn_net.specs.declared.wait.Wait.TheVariants.{Empty}
-use Rattle.kpn_net.specs.Tables.{Tables, writer_of}
+use Rattle.kpn_history.proofs.Common.{Process, Source, Empty, Tables, writer_of, Event, has_ended, is_closed, wait_of, PutsNoMore, StarvesAmong, AreFinished, IsFinished, IsComplete}
 use Rattle.kpn_net.proofs.Networks.{Writes-writer_of}
 use Rattle.kpn_net.proofs.Cycles.{Contains-first, Contains-later, Contains-cases, Contains-none}
-use Rattle.kpn_history.specs.declared.event.Event.{Event}
-use Rattle.kpn_history.specs.Talks.{has_ended}
-use Rattle.kpn_history.specs.Channels.{is_closed}
-use Rattle.kpn_history.specs.Waiting.{wait_of}
-use Rattle.kpn_history.specs.Complete.{PutsNoMore, StarvesAmong, AreFinished, IsFinished, IsComplete}
 use Rattle.kpn_history.proofs.Finished.{StarvesAmong-later, finished_cases, finished_if_ended, finished_if_starved, complete-process, process-complete}
 
 -- the processes that a walk has passed before it came to a channel: distinct ones, as many as its steps. Each waits as

@@ -5,19 +5,8 @@ use Rattle.std.proofs.Common.{◌≡◌, ◌≢◌, ℕ, ◌<◌, Bool, true, fa
 use Rattle.std.specs.List.{cons_option}
 use Rattle.std.proofs.lemmas.Bool.{cases_Bool, eqb-true}
 use Rattle.std.proofs.lemmas.List.FromFn.{get_or-map-range_with_len}
-use Rattle.kpn_net.specs.declared.wait.Wait.{Wait}
-use Rattle.kpn_net.specs.declared.wait.Wait.TheVariants.{Nobody, Empty, Full}
-use Rattle.kpn_net.specs.Tables.{Tables}
-use Rattle.kpn_net.specs.Faults.{IsNetwork}
-use Rattle.kpn_net.specs.Waits.{wait_at, awaited, full_channel, full_channels, WaitInTurn}
+use Rattle.kpn_history.proofs.Common.{Wait, Nobody, Empty, Full, Tables, IsNetwork, wait_at, awaited, full_channel, full_channels, WaitInTurn, Event, WaitEmpty, WaitFull, is_of, is_empty, is_full, wait_of, waits_of, IsBlockedCycle, full_in_cycle, wait_made, wait_kept, waiter, Legal}
 use Rattle.kpn_net.proofs.Cycles.{Contains-first, Contains-later, cycle_below}
-use Rattle.kpn_history.specs.declared.event.Event.{Event}
-use Rattle.kpn_history.specs.declared.event.Event.TheVariants.{WaitEmpty, WaitFull}
-use Rattle.kpn_history.specs.Talks.{is_of}
-use Rattle.kpn_history.specs.Channels.{is_empty, is_full}
-use Rattle.kpn_history.specs.Waiting.{wait_of, waits_of, IsBlockedCycle, full_in_cycle}
-use Rattle.kpn_history.specs.WaitsAfter.{wait_made, wait_kept}
-use Rattle.kpn_history.specs.Legal.{waiter, Legal}
 use Rattle.kpn_history.proofs.WaitsAfter.{wait_of-more}
 
 -- ---- a blocked process was blocked before

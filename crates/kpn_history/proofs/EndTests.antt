@@ -2,16 +2,8 @@
 use Rattle.std.specs.Prelude.{Contains}
 use Rattle.std.proofs.Common.{◌≡◌, ℕ, ◌<◌, ◌⊎◌, inl, inr, Bool, true, false, not, ◌&&◌, ◌||◌, List, [], ◌∷◌, length, Some, refl, subst}
 use Rattle.std.proofs.lemmas.Bool.{and_parts, or_cases, not-true, not-false, not_from_false, both_ways, cases_Bool}
-use Rattle.kpn_net.specs.declared.wait.Wait.{Wait}
-use Rattle.kpn_net.specs.declared.wait.Wait.TheVariants.{Nobody, Empty, Full}
-use Rattle.kpn_net.specs.Tables.{Tables, channel_at, is_source, is_sink}
-use Rattle.kpn_history.specs.declared.event.Event.{Event}
-use Rattle.kpn_history.specs.declared.state.Verdict.{Verdict}
+use Rattle.kpn_history.proofs.Common.{Wait, Nobody, Empty, Full, Tables, channel_at, is_source, is_sink, Event, Verdict, has_ended, is_empty, is_closed, is_left, wait_of, waits_of, full_in_cycle, HasFullCycle, WaitsOnEmpty, WaitsOnFull, IsQuiet, IsSettled, HasFullWait, IsVerdict}
 use Rattle.kpn_history.specs.declared.state.Verdict.TheVariants as verdict
-use Rattle.kpn_history.specs.Talks.{has_ended}
-use Rattle.kpn_history.specs.Channels.{is_empty, is_closed, is_left}
-use Rattle.kpn_history.specs.Waiting.{wait_of, waits_of, full_in_cycle, HasFullCycle}
-use Rattle.kpn_history.specs.Ends.{WaitsOnEmpty, WaitsOnFull, IsQuiet, IsSettled, HasFullWait, IsVerdict}
 use Rattle.kpn_net.proofs.Cycles.{Contains-first, Contains-none, cycle_below}
 use Rattle.kpn_history.proofs.Searching.{each_below, each_below-at, each_below-fails, way-ends, Way, Round, Off, Lost, Allows}
 use Rattle.kpn_history.proofs.Checking.{way_round, way_round-allows, way_round-cycle, is_nobody}

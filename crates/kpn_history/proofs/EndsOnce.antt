@@ -3,13 +3,8 @@ use Rattle.std.specs.Prelude.{Contains, slice_get}
 use Rattle.std.proofs.Common.{◌≡◌, ◌↔◌, ◌⊎◌, ℕ, zero, suc, true, eq-eqb, List, [], ◌∷◌, ◌++◌, length, Option, Some, refl, sym, ap, ◌∙◌, subst, inl, inr}
 use Rattle.std.proofs.lemmas.Bool.{both_ways, eqb-true, false≢true, or_cases, or_left, or_right}
 use Rattle.std.proofs.lemmas.Option.{slice_get_within, get_or_from_slice_get, slice_get-get_or}
-use Rattle.kpn_net.specs.Tables.{Tables}
+use Rattle.kpn_history.proofs.Common.{Tables, How, Event, Ended, is_of, is_end_of, has_ended, Legal}
 use Rattle.kpn_net.proofs.Cycles.{Contains-first, Contains-later, Contains-cases, Contains-none}
-use Rattle.kpn_history.specs.declared.event.How.{How}
-use Rattle.kpn_history.specs.declared.event.Event.{Event}
-use Rattle.kpn_history.specs.declared.event.Event.TheVariants.{Ended}
-use Rattle.kpn_history.specs.Talks.{is_of, is_end_of, has_ended}
-use Rattle.kpn_history.specs.Legal.{Legal}
 use Rattle.kpn_history.proofs.Legality.{by_events}
 use Rattle.kpn_history.proofs.WaitsAfter.{alive_before}
 

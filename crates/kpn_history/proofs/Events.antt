@@ -4,13 +4,8 @@ use Rattle.std.specs.List.{filter, flat_map, last_or}
 use Rattle.std.proofs.lemmas.List.{flat_map_more, append-nil}
 use Rattle.std.proofs.lemmas.List.Elements.{filter-append}
 use Rattle.std.proofs.lemmas.List.Folds.{list_any-append}
-use Rattle.kpn_lang.specs.declared.talk.Said.{Said}
-use Rattle.kpn_lang.specs.Prefix.{IsPrefix}
+use Rattle.kpn_history.proofs.Common.{Said, IsPrefix, Event, Get, Put, is_of, last_event, said_in, talk_of, is_end_of, has_ended, written_in, read_in, written_on, read_on}
 use Rattle.kpn_lang.proofs.Prefixes.{IsPrefix-append}
-use Rattle.kpn_history.specs.declared.event.Event.{Event}
-use Rattle.kpn_history.specs.declared.event.Event.TheVariants.{Get, Put}
-use Rattle.kpn_history.specs.Talks.{is_of, last_event, said_in, talk_of, is_end_of, has_ended}
-use Rattle.kpn_history.specs.Channels.{written_in, read_in, written_on, read_on}
 
 pub Some-event : (a b : Event) → ◌≡◌ {A = Option Event} (Some a) (Some b) → a ≡ b
 Some-event a b e = cc

@@ -2,15 +2,8 @@
 -- finished stay so if more are taken to be finished.
 use Rattle.std.proofs.Common.{◌≡◌, ◌↔◌, ◌⊎◌, ℕ, true, List, [], ◌∷◌, refl, sym, subst, inl, inr}
 use Rattle.std.specs.Prelude.{Contains}
-use Rattle.kpn_net.specs.declared.tables.End.{End}
-use Rattle.kpn_net.specs.declared.tables.End.TheVariants.{Process, Source, Sink}
-use Rattle.kpn_net.specs.declared.wait.Wait.TheVariants.{Empty}
-use Rattle.kpn_net.specs.Tables.{Tables, writer_of}
+use Rattle.kpn_history.proofs.Common.{End, Process, Source, Sink, Empty, Tables, writer_of, Event, has_ended, wait_of, PutsNoMore, StarvesAmong, AreFinished, IsFinished, IsComplete, WaitsOnComplete}
 use Rattle.kpn_net.proofs.Cycles.{Contains-first, Contains-later, Contains-cases, Contains-none}
-use Rattle.kpn_history.specs.declared.event.Event.{Event}
-use Rattle.kpn_history.specs.Talks.{has_ended}
-use Rattle.kpn_history.specs.Waiting.{wait_of}
-use Rattle.kpn_history.specs.Complete.{PutsNoMore, StarvesAmong, AreFinished, IsFinished, IsComplete, WaitsOnComplete}
 
 -- what puts no more if these processes are finished puts no more if those are
 pub PutsNoMore-if : (P Q : ℕ → Type 0) (H : List Event) (c : ℕ) → ((p : ℕ) → P p → Q p) → (writer : End)

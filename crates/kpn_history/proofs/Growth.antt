@@ -6,19 +6,8 @@ use Rattle.std.specs.List.{last_or}
 use Rattle.std.proofs.Common.{◌≡◌, ℕ, ◌<◌, ◌≤◌, ◌⊎◌, Bool, true, false, cond, List, [], ◌∷◌, ◌++◌, length, Option, Some, None, refl, sym, ap, ◌∙◌, subst, inl, inr, arith}
 use Rattle.std.proofs.lemmas.List.Sorted.{Contains-permutation, IsPermutation-sym}
 use Rattle.std.proofs.lemmas.Bool.{and_parts, both_ways, cases_Bool, leb-true}
-use Rattle.kpn_net.specs.declared.wait.Wait.{Wait}
-use Rattle.kpn_net.specs.declared.wait.Wait.TheVariants.{Nobody, Empty, Full}
-use Rattle.kpn_net.specs.Tables.{Tables, larger_capacity}
-use Rattle.kpn_net.specs.Faults.{IsNetwork}
-use Rattle.kpn_net.specs.Waits.{wait_at, awaited, full_channel, full_channels, WaitInTurn, IsSmallest}
+use Rattle.kpn_history.proofs.Common.{Wait, Nobody, Empty, Full, Tables, larger_capacity, IsNetwork, wait_at, awaited, full_channel, full_channels, WaitInTurn, IsSmallest, Event, WaitEmpty, WaitFull, Grow, reaches, unread_on, reader_lives, is_empty, capacity_after, capacity_or_zero, is_full, wait_of_last, wait_of, waits_of, full_in_cycle, waiter, waiter_of_last, OwesCycleGrowth, OwesGrowth, Legal, last_event, OwesNothing, OwesNoCycleGrowth, CanGrow}
 use Rattle.kpn_net.proofs.Cycles.{Contains-cases, Contains-none, smallest_among, smallest_unique, full_at, rotated, cycle_unique, cycle_below}
-use Rattle.kpn_history.specs.declared.event.Event.{Event}
-use Rattle.kpn_history.specs.declared.event.Event.TheVariants.{WaitEmpty, WaitFull, Grow}
-use Rattle.kpn_history.specs.Channels.{reaches, unread_on, reader_lives, is_empty, capacity_after, capacity_or_zero, is_full}
-use Rattle.kpn_history.specs.Waiting.{wait_of_last, wait_of, waits_of, full_in_cycle}
-use Rattle.kpn_history.specs.Legal.{waiter, waiter_of_last, OwesCycleGrowth, OwesGrowth, Legal}
-use Rattle.kpn_history.specs.Talks.{last_event}
-use Rattle.kpn_history.specs.Stops.{OwesNothing, OwesNoCycleGrowth, CanGrow}
 use Rattle.kpn_history.proofs.Events.{last_or-push}
 use Rattle.kpn_history.proofs.Legality.{Legal-last, Legal-before, Legal-consistent, by_events}
 use Rattle.kpn_history.proofs.Capacities.{capacity_grows, capacity_of_growth, larger_by_growth}

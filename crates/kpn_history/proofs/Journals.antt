@@ -1,24 +1,14 @@
 -- In a legal history the journal of a channel is what its writer put there, what was read from it is what its reader
 -- got, and only channels of the network are read.
-use Rattle.std.proofs.Common.{◌≡◌, ℕ, ◌≤◌, Bool, true, false, ℤ, cond, eqb, eq-eqb, List, [], ◌∷◌, ◌++◌, length, drop, refl, sym, ap, ◌∙◌, subst, inl, inr, arith}
+use Rattle.std.proofs.Common.{◌≡◌, ℕ, ◌<◌, ◌≤◌, Bool, true, false, ℤ, cond, eqb, eq-eqb, List, [], ◌∷◌, ◌++◌, length, drop, refl, sym, ap, ◌∙◌, subst, inl, inr, arith}
 use Rattle.std.proofs.lemmas.Bool.{false_from_ne_true, false≢true, eqb-true, ne_eqb, both_ways, cases_lt}
 use Rattle.kpn_lang.specs.declared.talk.Said.TheVariants as said
-use Rattle.kpn_lang.specs.Prefix.{IsPrefix}
-use Rattle.kpn_lang.specs.Alone.{got_at, put_at}
+use Rattle.kpn_history.proofs.Common.{IsPrefix, got_at, put_at, Process, Source, Sink, Tables, channel_at, is_source, is_sink, writer_of, reader_of, IsNetwork, IsFamilyPrefix, ProcessCanSay, Event, Get, Put, Feed, Take, is_of, said_in, talk_of, written_in, read_in, written_on, read_on, unread_on, HasNumbers, Legal}
 use Rattle.kpn_lang.proofs.Talks.{got_at-append, put_at-append}
-use Rattle.kpn_net.specs.declared.tables.End.TheVariants.{Process, Source, Sink}
-use Rattle.kpn_net.specs.Tables.{Tables, channel_at, is_source, is_sink, writer_of, reader_of}
-use Rattle.kpn_net.specs.Faults.{IsNetwork}
-use Rattle.kpn_net.specs.Process.{IsFamilyPrefix}
 use Rattle.kpn_net.proofs.Networks.{Reads, Writes, writer_of-Writes, reader_of-Reads, writer_of-source, reader_of-sink}
-use Rattle.kpn_history.specs.declared.event.Event.{Event}
-use Rattle.kpn_history.specs.declared.event.Event.TheVariants.{Get, Put, Feed, Take}
-use Rattle.kpn_history.specs.Talks.{is_of, said_in, talk_of}
-use Rattle.kpn_history.specs.Channels.{written_in, read_in, written_on, read_on, unread_on}
-use Rattle.kpn_history.specs.Legal.{HasNumbers, Legal}
-use Rattle.kpn_history.proofs.Events.{talk_of-push, written_on-push, read_on-push, read_on-same}
+use Rattle.kpn_history.proofs.Events.{talk_of-push, read_on-push, read_on-same}
 use Rattle.kpn_history.proofs.Legality.{Legal-last, Legal-consistent, by_events}
-use Rattle.kpn_history.proofs.Ownership.{Owns, Owns-last}
+use Rattle.kpn_history.proofs.Ownership.{Owns, Owns-last, AreOwn, AreOwn-legal}
 
 -- ---- ends of channels
 
@@ -71,15 +61,17 @@ written_in-put t network c p w (Feed d v) o = none_elsewhere d c v (no_source t 
 written_in-put t network c p w event o = refl
 
 -- the journal of a channel is what its writer put there
+pub put_by_owner : (t : Tables) → IsNetwork t → (c p : ℕ) → writer_of t c ≡ Process p → (H : List Event) → AreOwn t H
+    → written_on H c ≡ put_at (talk_of H p) c
+put_by_owner t network c p w [] own = refl
+put_by_owner t network c p w (e ∷ H) own =
+    ap (λ xs. xs ++ written_on H c) (written_in-put t network c p w e own.0)
+    ∙ ap (λ xs. put_at (said_in p e) c ++ xs) (put_by_owner t network c p w H own.1)
+    ∙ sym (put_at-append (said_in p e) (talk_of H p) c)
+
 pub written_on-put : (t : Tables) → IsNetwork t → (c p : ℕ) → writer_of t c ≡ Process p → (H : List Event) → Legal t H
     → written_on H c ≡ put_at (talk_of H p) c
-written_on-put t network c p w =
-    by_events t (λ H. written_on H c ≡ put_at (talk_of H p) c) refl
-    (λ B e legal h.
-    written_on-push B e c
-    ∙ ap (λ xs. xs ++ written_in c e) h
-    ∙ ap (λ xs. put_at (talk_of B p) c ++ xs) (written_in-put t network c p w e (Owns-last t network B e legal))
-    ∙ sym (ap (λ talk. put_at talk c) (talk_of-push B e p) ∙ put_at-append (talk_of B p) (said_in p e) c))
+written_on-put t network c p w H legal = put_by_owner t network c p w H (AreOwn-legal t network H legal)
 
 -- ---- what the reader got
 
@@ -150,3 +142,20 @@ prefix_and_rest (x ∷ xs) (y ∷ ys) p = let e = p.0 in let r = prefix_and_rest
 pub read_then_unread : (t : Tables) (H : List Event) → Legal t H → (c : ℕ)
     → read_on H c ++ unread_on H c ≡ written_on H c
 read_then_unread t H legal c = prefix_and_rest (read_on H c) (written_on H c) (reads_begin_writes t H legal c)
+
+-- ---- what Kahn's theorem needs of a list of events
+
+-- It is less than that the list is legal: each process can say what it said on what it read, what was read begins what
+-- was written, and each event belongs to whatever made it.
+pub record IsSpoken (t : Tables) (H : List Event) : Type 0 where
+  pub said : (p : ℕ) → p < length t.instances → ProcessCanSay t p (read_on H) (talk_of H p)
+  pub in_order : IsFamilyPrefix (read_on H) (written_on H)
+  pub own : AreOwn t H
+
+pub IsSpoken-legal : (t : Tables) → IsNetwork t → (H : List Event) → Legal t H → IsSpoken t H
+IsSpoken-legal t network H legal =
+    record {
+      said = (Legal-consistent t H legal).said;
+      in_order = reads_begin_writes t H legal;
+      own = AreOwn-legal t network H legal;
+    }

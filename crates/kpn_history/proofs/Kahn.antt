@@ -2,20 +2,12 @@
 -- processes' equations, whatever the order in which the processes go.
 use Rattle.std.proofs.Common.{◌≡◌, ℕ, ◌≤◌, ◌⊎◌, max, List, length, take, refl, sym, ap, ◌∙◌, inl, inr, arith}
 use Rattle.std.proofs.lemmas.List.{take-append-le}
-use Rattle.kpn_lang.specs.Prefix.{IsPrefix}
+use Rattle.kpn_history.proofs.Common.{IsPrefix, Tables, IsNetwork, Family, iterate, IsPrefixOnSources, AgreeOnSources, IsBelowLeast, IsLeast, Event, written_on, read_on, fed, Legal, IsQuiet}
 use Rattle.kpn_lang.proofs.Prefixes.{IsPrefix-trans, IsPrefix-same, IsPrefix-antisym, rest_of_prefix, prefixes_of_one, length_of_prefix}
-use Rattle.kpn_net.specs.Tables.{Tables}
-use Rattle.kpn_net.specs.Faults.{IsNetwork}
-use Rattle.kpn_net.specs.Process.{Family}
-use Rattle.kpn_net.specs.Iteration.{iterate, IsPrefixOnSources, AgreeOnSources, IsBelowLeast, IsLeast}
 use Rattle.kpn_net.proofs.Monotone.{iterate-grows, IsPrefixOnSources-refl, IsPrefixOnSources-agree, round-depends_on_sources, closed_below-IsLeast}
-use Rattle.kpn_history.specs.declared.event.Event.{Event}
-use Rattle.kpn_history.specs.Channels.{written_on, read_on, fed}
-use Rattle.kpn_history.specs.Legal.{Legal}
-use Rattle.kpn_history.specs.Ends.{IsQuiet}
 use Rattle.kpn_history.proofs.Journals.{reads_begin_writes}
 use Rattle.kpn_history.proofs.Below.{IsBelowIterate, journals_below, fed_on_sources}
-use Rattle.kpn_history.proofs.Above.{IsClosed-quiet}
+use Rattle.kpn_history.proofs.Above.{SaysAll-legal, IsClosed-quiet}
 
 -- the first items of a list and of one that it begins are the same
 pub take-prefix : {A : Type 0} (xs ys : List A) → IsPrefix xs ys → (k : ℕ) → k ≤ length xs → take k xs ≡ take k ys
@@ -58,7 +50,7 @@ module _ (t : Tables) (network : IsNetwork t) where
 
   pub least_if_quiet : (H : List Event) → Legal t H → IsQuiet t H → (c : ℕ) → IsLeast t (fed t H) c (written_on H c)
   least_if_quiet H legal quiet =
-      closed_below-IsLeast t (fed t H) (written_on H) (IsClosed-quiet t network H legal quiet)
+      closed_below-IsLeast t (fed t H) (written_on H) (IsClosed-quiet t network H (SaysAll-legal t network H legal) quiet)
       (below_least_fed H legal)
 
   -- the journals of a quiet history are each iterate from one on

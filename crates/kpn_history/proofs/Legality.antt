@@ -2,13 +2,8 @@
 use Rattle.std.proofs.Common.{◌≡◌, ℕ, true, List, [], ◌∷◌, ◌++◌, sym, subst, inl, inr, append_assoc, arith}
 use Rattle.std.proofs.lemmas.Bool.{false≢true, eqb-true}
 use Rattle.std.proofs.lemmas.List.{append-nil, same_from_push}
-use Rattle.kpn_lang.specs.Prefix.{IsPrefix}
+use Rattle.kpn_history.proofs.Common.{IsPrefix, Tables, Event, Get, Put, WaitEmpty, WaitFull, Ended, is_of, CanGo, IsConsistent, MayFollow, Legal}
 use Rattle.kpn_lang.proofs.Prefixes.{IsPrefix-refl, IsPrefix-trans, IsPrefix-append, nil_from_prefix, prefix_of_push}
-use Rattle.kpn_net.specs.Tables.{Tables}
-use Rattle.kpn_history.specs.declared.event.Event.{Event}
-use Rattle.kpn_history.specs.declared.event.Event.TheVariants.{Get, Put, WaitEmpty, WaitFull, Ended}
-use Rattle.kpn_history.specs.Talks.{is_of}
-use Rattle.kpn_history.specs.Legal.{CanGo, IsConsistent, MayFollow, Legal}
 
 -- a list that ends with one more event is no beginning of the empty list
 push_is_no_prefix_of_nil : (B : List Event) (e : Event) → IsPrefix (B ++ e ∷ []) [] → ⊥

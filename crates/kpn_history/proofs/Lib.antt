@@ -1,3 +1,4 @@
+pub mod Common
 pub mod Events
 pub mod Legality
 pub mod Running

@@ -7,27 +7,12 @@ use Rattle.std.proofs.Common.{◌≡◌, ℕ, ◌+◌, ◌<◌, ◌≤◌, ◌�
 use Rattle.std.specs.Option.{unwrap_or}
 use Rattle.std.proofs.lemmas.Bool.{cases_lt, eqb-true, both_ways, false≢true}
 use Rattle.std.proofs.lemmas.List.Sums.{sum_by_push}
-use Rattle.kpn_lang.specs.Prefix.{IsPrefix}
-use Rattle.kpn_lang.specs.Alone.{got_at, put_at}
+use Rattle.kpn_history.proofs.Common.{IsPrefix, got_at, put_at, Full, End, Process, Source, Sink, Tables, channel_at, is_source, writer_of, reader_of, IsNetwork, Family, How, Event, Put, Feed, Ended, Grow, talk_of, written_in, written_on, read_on, fed, is_closed, is_left, is_growth_of, capacity_or_zero, wait_of, OwesGrowth, Legal, growths_of, IsRunFrom, IsFinalRun, HasMadeNoMore, EndAlike}
 use Rattle.kpn_lang.proofs.Prefixes.{IsPrefix-trans, IsPrefix-same, IsPrefix-antisym}
 use Rattle.kpn_lang.proofs.Talks.{got_at-prefix, put_at-prefix}
-use Rattle.kpn_net.specs.declared.wait.Wait.TheVariants.{Full}
-use Rattle.kpn_net.specs.declared.tables.End.{End}
-use Rattle.kpn_net.specs.declared.tables.End.TheVariants.{Process, Source, Sink}
-use Rattle.kpn_net.specs.Tables.{Tables, channel_at, is_source, writer_of, reader_of}
-use Rattle.kpn_net.specs.Faults.{IsNetwork}
-use Rattle.kpn_net.specs.Process.{Family}
 use Rattle.kpn_net.proofs.Awaited.{in_range}
 use Rattle.kpn_net.proofs.Cycles.{Contains-first, Contains-later}
 use Rattle.kpn_net.proofs.Networks.{writer_of-Writes, Writes-writer_of, Reads-reader_of, writer_of-source, source-writer_of, sink-reader_of, source_there, sink_there, reader_is_no_source}
-use Rattle.kpn_history.specs.declared.event.How.{How}
-use Rattle.kpn_history.specs.declared.event.Event.{Event}
-use Rattle.kpn_history.specs.declared.event.Event.TheVariants.{Put, Feed, Ended, Grow}
-use Rattle.kpn_history.specs.Talks.{talk_of}
-use Rattle.kpn_history.specs.Channels.{written_in, written_on, read_on, fed, is_closed, is_left, is_growth_of, capacity_or_zero}
-use Rattle.kpn_history.specs.Waiting.{wait_of}
-use Rattle.kpn_history.specs.Legal.{OwesGrowth, Legal}
-use Rattle.kpn_history.specs.OneEnd.{growths_of, IsRunFrom, IsFinalRun, HasMadeNoMore, EndAlike}
 use Rattle.kpn_history.proofs.Legality.{Legal-last, by_events}
 use Rattle.kpn_history.proofs.Events.{written_on-same}
 use Rattle.kpn_history.proofs.Ownership.{Owns, Owns-last}

@@ -3,31 +3,13 @@
 use Rattle.std.specs.Option.{unwrap_or}
 use Rattle.std.proofs.Common.{◌≡◌, ◌↔◌, ℕ, ◌<◌, ◌≤◌, Bool, true, false, eq-eqb, List, [], ◌∷◌, ◌++◌, length, Some, refl, sym, ap, ◌∙◌, subst, inl, inr, arith}
 use Rattle.std.proofs.lemmas.Bool.{both_ways, cases_lt, false≢true}
-use Rattle.kpn_limits.specs.declared.TheConstants.{MAX_CAPACITY}
-use Rattle.kpn_net.specs.declared.found.Found.{Found}
+use Rattle.kpn_history.proofs.Common.{MAX_CAPACITY, Found, Tables, IsNetwork, End, Process, Cycles, All, wait_at, full_channel, awaited_as_full, IsSmallestOfCycle, Finds, Event, Get, Put, Feed, Grow, is_of, is_end_of, has_ended, capacity_after, capacity_or_zero, wait_of, waits_of, wait_made, wait_then, IsSettled, waiter, OwesCycleGrowth, OwesGrowth, Legal, OwesNothing, OwesNoCycleGrowth, OwesNoStopGrowth, lets_go_on, IsAwaitedByWriter, HasCapacityBelow}
 use Rattle.kpn_net.specs.declared.found.Found.TheVariants.{Full}
-use Rattle.kpn_net.specs.Tables.{Tables}
-use Rattle.kpn_net.specs.Faults.{IsNetwork}
-use Rattle.kpn_net.specs.declared.tables.End.{End}
-use Rattle.kpn_net.specs.declared.tables.End.TheVariants.{Process}
-use Rattle.kpn_net.specs.declared.tables.Policy.TheVariants.{Cycles, All}
 use Rattle.kpn_net.specs.declared.wait.Wait.TheVariants as wait
-use Rattle.kpn_net.specs.Waits.{wait_at, full_channel, awaited_as_full}
-use Rattle.kpn_net.specs.Finding.{IsSmallestOfCycle, Finds}
 use Rattle.kpn_net.proofs.Awaited.{awaited_among, awaited_by}
 use Rattle.kpn_net.proofs.Cycles.{full_at, cycle_below, smallest_among, smallest_unique}
 use Rattle.kpn_net.proofs.Findings.{finding_unique}
 use Rattle.kpn_net.proofs.Networks.{limit_in_range}
-use Rattle.kpn_history.specs.declared.event.Event.{Event}
-use Rattle.kpn_history.specs.declared.event.Event.TheVariants.{Get, Put, Feed, Grow}
-use Rattle.kpn_history.specs.Talks.{is_of, is_end_of, has_ended}
-use Rattle.kpn_history.specs.Channels.{capacity_after, capacity_or_zero}
-use Rattle.kpn_history.specs.Waiting.{wait_of, waits_of}
-use Rattle.kpn_history.specs.WaitsAfter.{wait_made}
-use Rattle.kpn_history.specs.Waking.{wait_then}
-use Rattle.kpn_history.specs.Ends.{IsSettled}
-use Rattle.kpn_history.specs.Legal.{waiter, OwesCycleGrowth, OwesGrowth, Legal}
-use Rattle.kpn_history.specs.Stops.{OwesNothing, OwesNoCycleGrowth, OwesNoStopGrowth, lets_go_on, IsAwaitedByWriter, HasCapacityBelow}
 use Rattle.kpn_history.proofs.Legality.{Legal-last, Legal-before}
 use Rattle.kpn_history.proofs.AfterEvent.{has_ended-next, is_closed-next}
 use Rattle.kpn_history.proofs.EarlierWaits.{wait_at-waits_of}

@@ -7,28 +7,10 @@ use Rattle.std.proofs.Common.{◌≡◌, ℕ, ◌<◌, ◌⊎◌, List, [], ◌�
 use Rattle.std.specs.Option.{option_map, unwrap_or}
 use Rattle.std.proofs.lemmas.List.Sorted.{Contains-permutation, IsPermutation-sym}
 use Rattle.kpn_lang.proofs.Prefixes.{IsPrefix-antisym}
-use Rattle.kpn_net.specs.declared.wait.Wait.{Wait}
-use Rattle.kpn_net.specs.declared.wait.Wait.TheVariants.{Nobody, Empty, Full}
-use Rattle.kpn_net.specs.declared.tables.End.{End}
-use Rattle.kpn_net.specs.declared.tables.End.TheVariants.{Process, Source, Sink}
-use Rattle.kpn_net.specs.Tables.{Tables, channel_at, capacity, writer_of, reader_of}
-use Rattle.kpn_net.specs.Faults.{IsNetwork}
-use Rattle.kpn_net.specs.Process.{Family}
-use Rattle.kpn_net.specs.Waits.{wait_at, process_at, awaited, full_channel, full_channels, WaitInTurn}
+use Rattle.kpn_history.proofs.Common.{Wait, Nobody, Empty, Full, End, Process, Source, Sink, Tables, channel_at, capacity, writer_of, reader_of, IsNetwork, Family, wait_at, process_at, awaited, full_channel, full_channels, WaitInTurn, Event, WaitEmpty, WaitFull, Ended, last_event, talk_of, after_growths, capacity_after, capacity_or_zero, wait_of, waits_of, IsBlockedCycle, full_in_cycle, wait_made, OwesGrowth, Legal, HasStopped, IsSettled, PutsNoMore, CanGrow, growths_of, IsRunFrom}
 use Rattle.kpn_net.proofs.Awaited.{awaited_among}
 use Rattle.kpn_net.proofs.Cycles.{Contains-first, Contains-later, Contains-cases, Contains-none, IsNoLarger, full_at, rotated, cycle_below}
 use Rattle.kpn_net.proofs.Networks.{source-writer_of, Writes-writer_of, writer_is_no_sink}
-use Rattle.kpn_history.specs.declared.event.Event.{Event}
-use Rattle.kpn_history.specs.declared.event.Event.TheVariants.{WaitEmpty, WaitFull, Ended}
-use Rattle.kpn_history.specs.Talks.{last_event, talk_of}
-use Rattle.kpn_history.specs.Channels.{after_growths, capacity_after, capacity_or_zero}
-use Rattle.kpn_history.specs.Waiting.{wait_of, waits_of, IsBlockedCycle, full_in_cycle}
-use Rattle.kpn_history.specs.WaitsAfter.{wait_made}
-use Rattle.kpn_history.specs.Legal.{OwesGrowth, Legal}
-use Rattle.kpn_history.specs.Ends.{HasStopped, IsSettled}
-use Rattle.kpn_history.specs.Complete.{PutsNoMore}
-use Rattle.kpn_history.specs.Stops.{CanGrow}
-use Rattle.kpn_history.specs.OneEnd.{growths_of, IsRunFrom}
 use Rattle.kpn_history.proofs.Above.{empty_wait}
 use Rattle.kpn_history.proofs.EarlierWaits.{KeepsWaits, turn_kept, full_kept, wait_at-waits_of}
 use Rattle.kpn_history.proofs.Growth.{full_wait, blocked_in_table, no_cycle_can_grow}
@@ -105,7 +87,7 @@ full_among waits (p ∷ members) q c h is =
 
 -- ---- they stand still
 
-process_of_end : (end : End) (q : ℕ) → process_at end ≡ Some q → end ≡ Process q
+pub process_of_end : (end : End) (q : ℕ) → process_at end ≡ Some q → end ≡ Process q
 process_of_end (Process p) q e = let same : p ≡ q = cc in ap Process same
 process_of_end Source q e = absurd cc
 process_of_end Sink q e = absurd cc

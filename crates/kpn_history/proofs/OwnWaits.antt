@@ -2,20 +2,8 @@
 use Rattle.std.proofs.Common.{◌≡◌, ℕ, Bool, true, false, cond, List, length, Option, Some, None, refl, sym, ap, ◌∙◌, subst}
 use Rattle.std.proofs.lemmas.Bool.{eqb-true}
 use Rattle.std.proofs.lemmas.List.FromFn.{length-map-range_with_len}
-use Rattle.kpn_net.specs.declared.wait.Wait.{Wait}
-use Rattle.kpn_net.specs.declared.wait.Wait.TheVariants.{Nobody, Empty, Full}
-use Rattle.kpn_net.specs.declared.tables.End.TheVariants.{Process}
-use Rattle.kpn_net.specs.Tables.{Tables, writer_of, reader_of}
-use Rattle.kpn_net.specs.Faults.{IsNetwork}
-use Rattle.kpn_net.specs.Waits.{IsOwnWait, AreWaits}
+use Rattle.kpn_history.proofs.Common.{Wait, Nobody, Empty, Full, Process, Tables, writer_of, reader_of, IsNetwork, IsOwnWait, AreWaits, Event, WaitEmpty, WaitFull, last_event, is_empty, is_full, wait_of_last, wait_of, waits_of, MayWaitOnEmpty, MayWaitOnFull, Legal}
 use Rattle.kpn_net.proofs.Networks.{reader_of-Reads, writer_of-Writes, Reads-reader_of, Writes-writer_of, Reads-below, Writes-below}
-use Rattle.kpn_history.specs.declared.event.Event.{Event}
-use Rattle.kpn_history.specs.declared.event.Event.TheVariants.{WaitEmpty, WaitFull}
-use Rattle.kpn_history.specs.Talks.{last_event}
-use Rattle.kpn_history.specs.Channels.{is_empty, is_full}
-use Rattle.kpn_history.specs.Waiting.{wait_of_last, wait_of, waits_of}
-use Rattle.kpn_history.specs.Waking.{MayWaitOnEmpty, MayWaitOnFull}
-use Rattle.kpn_history.specs.Legal.{Legal}
 use Rattle.kpn_history.proofs.WaitsAfter.{last_is_own}
 use Rattle.kpn_history.proofs.Above.{empty_wait}
 use Rattle.kpn_history.proofs.EarlierWaits.{wait_at-waits_of}

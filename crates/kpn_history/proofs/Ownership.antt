@@ -1,19 +1,10 @@
 -- The channel of each event of a legal history belongs to whatever made the event.
 use Rattle.std.proofs.Common.{◌≡◌, ℕ, ◌<◌, true, cond, eqb, eq-eqb, List, [], ◌∷◌, ◌++◌, length, refl, ap, ◌∙◌, subst}
-use Rattle.kpn_lang.specs.declared.talk.Said.{Said}
+use Rattle.kpn_history.proofs.Common.{Said, Tables, channel_at, is_source, is_sink, IsNetwork, ProcessCanSay, Event, Get, Put, WaitEmpty, WaitFull, Ended, Feed, Close, Take, Leave, Grow, said_in, talk_of, read_on, Legal, IsOwn}
 use Rattle.kpn_lang.specs.declared.talk.Said.TheVariants as said
-use Rattle.kpn_net.specs.Tables.{Tables, channel_at, is_source, is_sink}
-use Rattle.kpn_net.specs.Faults.{IsNetwork}
-use Rattle.kpn_net.specs.Process.{ProcessCanSay}
 use Rattle.kpn_net.proofs.Networks.{Reads, Writes, reader_of-Reads, writer_of-Writes}
-use Rattle.kpn_history.specs.declared.event.Event.{Event}
-use Rattle.kpn_history.specs.declared.event.Event.TheVariants.{Get, Put, WaitEmpty, WaitFull, Ended, Feed, Close, Take, Leave, Grow}
-use Rattle.kpn_history.specs.Talks.{said_in, talk_of}
-use Rattle.kpn_history.specs.Channels.{read_on}
-use Rattle.kpn_history.specs.Legal.{Legal}
-use Rattle.kpn_history.specs.OneMore.{IsOwn}
 use Rattle.kpn_history.proofs.Events.{talk_of-push}
-use Rattle.kpn_history.proofs.Legality.{Legal-last, Legal-consistent}
+use Rattle.kpn_history.proofs.Legality.{Legal-last, Legal-consistent, by_events}
 use Rattle.kpn_history.proofs.Running.{CanSay-reads, CanSay-writes, ComesTo-reads}
 
 -- a process reads the channels that it gets from and waits on as empty. It writes those that it puts on and waits on as
@@ -62,6 +53,19 @@ Owns-last t network B (Close c) legal = (Legal-last t B (Close c) legal).due.sou
 Owns-last t network B (Take c v) legal = (Legal-last t B (Take c v) legal).due.sink
 Owns-last t network B (Leave c) legal = (Legal-last t B (Leave c) legal).due.sink
 Owns-last t network B (Grow p d n) legal = (Legal-last t B (Grow p d n) legal).numbers.0
+
+-- each event belongs to whatever made it
+abbrev pub AreOwn : Tables → List Event → Type 0
+AreOwn t [] = Unit {0}
+AreOwn t (e ∷ H) = Owns t e × AreOwn t H
+
+pub AreOwn-append : (t : Tables) (G H : List Event) → AreOwn t G → AreOwn t H → AreOwn t (G ++ H)
+AreOwn-append t [] H g h = h
+AreOwn-append t (e ∷ G) H g h = (g.0, AreOwn-append t G H g.1 h)
+
+pub AreOwn-legal : (t : Tables) → IsNetwork t → (H : List Event) → Legal t H → AreOwn t H
+AreOwn-legal t network =
+    by_events t (AreOwn t) tt (λ B e legal h. AreOwn-append t B (e ∷ []) h (Owns-last t network B e legal, tt))
 
 IsOwn-from : (t : Tables) → IsNetwork t → (e : Event) → Owns t e → IsOwn t e
 IsOwn-from t network (Get p c v) o = reader_of-Reads t network p c o

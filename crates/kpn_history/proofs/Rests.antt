@@ -5,36 +5,17 @@ use Rattle.std.proofs.Common.{◌≡◌, ℕ, ◌<◌, ◌≤◌, ◌⊎◌, max
 use Rattle.std.proofs.lemmas.Bool.{cases_Bool, both_ways, eqb-true, or_left, or_right}
 use Rattle.std.proofs.lemmas.List.{get_or_default}
 use Rattle.std.proofs.lemmas.List.Elements.{Contains-push_cases}
-use Rattle.kpn_lang.specs.declared.talk.Said.{Said}
+use Rattle.kpn_history.proofs.Common.{Said, Ending, IsPrefix, got_at, put_at, Process, Nobody, Empty, Full, Tables, instance_at, program_of, reader_of, writer_of, IsNetwork, Family, IsFamilyPrefix, AgreeOnIns, at_channel, ends_at_channel, ran_on, talk_on, ProcessCanSay, ProcessComesTo, iterate, IsPrefixOnSources, How, Event, WaitEmpty, WaitFull, Ended, is_of, last_event, said_in, talk_of, how_of, is_end_of, has_ended, read_in, written_on, read_on, fed, is_empty, is_full, wait_of_last, wait_of, wait_made, ending_of, Legal, HasStopped, IsHalt}
 use Rattle.kpn_lang.specs.declared.talk.Said.TheVariants as said
-use Rattle.kpn_lang.specs.declared.talk.Ending.{Ending}
 use Rattle.kpn_lang.specs.declared.talk.Ending.TheVariants as ending
-use Rattle.kpn_lang.specs.Prefix.{IsPrefix}
-use Rattle.kpn_lang.specs.Alone.{got_at, put_at}
 use Rattle.kpn_lang.proofs.Prefixes.{IsPrefix-trans, IsPrefix-same, IsPrefix-refl, length_of_prefix, prefix_of_push, prefix_after}
 use Rattle.kpn_lang.proofs.Talks.{put_at-append, put_at-prefix}
 use Rattle.kpn_lang.proofs.Sequential.{IsSequential-alone}
-use Rattle.kpn_net.specs.declared.tables.End.TheVariants.{Process}
-use Rattle.kpn_net.specs.declared.wait.Wait.TheVariants.{Nobody, Empty, Full}
-use Rattle.kpn_net.specs.Tables.{Tables, instance_at, program_of, reader_of, writer_of}
-use Rattle.kpn_net.specs.Faults.{IsNetwork}
-use Rattle.kpn_net.specs.Process.{Family, IsFamilyPrefix, AgreeOnIns, at_channel, ends_at_channel, ran_on, talk_on, ProcessCanSay, ProcessComesTo}
-use Rattle.kpn_net.specs.Iteration.{iterate, IsPrefixOnSources}
 use Rattle.kpn_net.proofs.Cycles.{Contains-none}
 use Rattle.kpn_net.proofs.Monotone.{talk_on-grows, iterate-grows}
 use Rattle.kpn_net.proofs.Networks.{Reads, reader_of-Reads, writer_of-Writes}
 use Rattle.kpn_net.proofs.OwnIns.{CanSay-own_ins, ComesTo-own_ins, CanSay-longer, CanSay-comparable}
-use Rattle.kpn_history.specs.declared.event.How.{How}
 use Rattle.kpn_history.specs.declared.event.How.TheVariants as how
-use Rattle.kpn_history.specs.declared.event.Event.{Event}
-use Rattle.kpn_history.specs.declared.event.Event.TheVariants.{WaitEmpty, WaitFull, Ended}
-use Rattle.kpn_history.specs.Talks.{is_of, last_event, said_in, talk_of, how_of, is_end_of, has_ended}
-use Rattle.kpn_history.specs.Channels.{read_in, written_on, read_on, fed, is_empty, is_full}
-use Rattle.kpn_history.specs.Waiting.{wait_of_last, wait_of}
-use Rattle.kpn_history.specs.WaitsAfter.{wait_made}
-use Rattle.kpn_history.specs.Legal.{ending_of, Legal}
-use Rattle.kpn_history.specs.Ends.{HasStopped}
-use Rattle.kpn_history.specs.Progress.{IsHalt}
 use Rattle.kpn_history.proofs.Events.{Some-event, last_event-own, last_event-other, flat_map-same, said_in-other, read_on-same}
 use Rattle.kpn_history.proofs.Legality.{Legal-last, Legal-consistent, by_events}
 use Rattle.kpn_history.proofs.AfterEvent.{has_ended-next}

@@ -1,21 +1,9 @@
 -- What two runs that end alike have in common: their verdict and their complete channels.
 use Rattle.std.specs.Prelude.{Contains}
 use Rattle.std.proofs.Common.{◌≡◌, ℕ, ◌<◌, true, List, ◌∷◌, length, Some, refl, sym, ap, ◌∙◌, subst, inl, inr}
-use Rattle.kpn_net.specs.declared.tables.End.{End}
-use Rattle.kpn_net.specs.declared.tables.End.TheVariants.{Process, Source, Sink}
-use Rattle.kpn_net.specs.Tables.{Tables, writer_of}
-use Rattle.kpn_net.specs.Faults.{IsNetwork}
-use Rattle.kpn_net.specs.Process.{Family}
-use Rattle.kpn_net.specs.Waits.{wait_at, IsCycle, full_channels}
+use Rattle.kpn_history.proofs.Common.{End, Process, Source, Sink, Tables, writer_of, IsNetwork, Family, wait_at, IsCycle, full_channels, Event, Verdict, has_ended, wait_of, HasFullCycle, IsSettled, HasFullWait, IsVerdict, PutsNoMore, IsFinished, IsComplete, IsFinalRun, EndAlike}
 use Rattle.kpn_net.proofs.Networks.{Reads-reader_of, source-writer_of, source_there}
-use Rattle.kpn_history.specs.declared.event.Event.{Event}
-use Rattle.kpn_history.specs.declared.state.Verdict.{Verdict}
 use Rattle.kpn_history.specs.declared.state.Verdict.TheVariants as verdict
-use Rattle.kpn_history.specs.Talks.{has_ended}
-use Rattle.kpn_history.specs.Waiting.{wait_of, HasFullCycle}
-use Rattle.kpn_history.specs.Ends.{IsSettled, HasFullWait, IsVerdict}
-use Rattle.kpn_history.specs.Complete.{PutsNoMore, IsFinished, IsComplete}
-use Rattle.kpn_history.specs.OneEnd.{IsFinalRun, EndAlike}
 use Rattle.kpn_history.proofs.EarlierWaits.{wait_at-waits_of}
 use Rattle.kpn_history.proofs.OwnWaits.{wait_on_empty}
 use Rattle.kpn_history.proofs.EndsOnce.{ended_by, end_among}

@@ -2,20 +2,8 @@
 use Rattle.std.proofs.Common.{◌≡◌, ℕ, ◌<◌, Bool, true, false, not, List, length, map, get_or, count_by, refl, sym, ap, ◌∙◌, subst, inl, inr}
 use Rattle.std.proofs.lemmas.Bool.{both_ways, false_from_ne_true, false≢true}
 use Rattle.std.proofs.lemmas.List.{ext_get_or}
-use Rattle.kpn_net.specs.declared.tables.End.{End}
-use Rattle.kpn_net.specs.declared.tables.End.TheVariants.{Process, Source, Sink}
-use Rattle.kpn_net.specs.Tables.{Tables, reader_of}
-use Rattle.kpn_net.specs.Faults.{channel_numbers}
-use Rattle.kpn_history.specs.declared.event.Event.{Event}
-use Rattle.kpn_history.specs.declared.state.State.{State}
+use Rattle.kpn_history.proofs.Common.{End, Process, Source, Sink, Tables, reader_of, channel_numbers, Event, State, View, has_ended, written_on, read_on, is_left, lives, reader_lives, capacity_after, Legal, HaveStopped, IsStateOf, is_stopped, is_ready, is_held, waits_empty, waits_full, is_ended, Agrees, EndAlike}
 use Rattle.kpn_history.specs.declared.state.State.TheVariants.{Ready, Held, WaitsEmpty, WaitsFull, Ended}
-use Rattle.kpn_history.specs.declared.state.View.{View}
-use Rattle.kpn_history.specs.Talks.{has_ended}
-use Rattle.kpn_history.specs.Channels.{written_on, read_on, is_left, lives, reader_lives, capacity_after}
-use Rattle.kpn_history.specs.Legal.{Legal}
-use Rattle.kpn_history.specs.Ends.{HaveStopped}
-use Rattle.kpn_history.specs.Views.{IsStateOf, is_stopped, is_ready, is_held, waits_empty, waits_full, is_ended, Agrees}
-use Rattle.kpn_history.specs.OneEnd.{EndAlike}
 use Rattle.kpn_history.proofs.OwedSets.{same_capacity}
 use Rattle.kpn_history.proofs.SameEnds.{EndAlike-sym, same_waits, same_ended}
 use Rattle.kpn_history.proofs.States.{stopped_states, one_state}

@@ -7,10 +7,8 @@ use Rattle.std.proofs.lemmas.Map.Keys.{IsDistinct-cons}
 use Rattle.std.proofs.lemmas.Map.Steps.{length-le_from_distinct_below}
 use Rattle.std.proofs.lemmas.Map.Views.{Contains-from_any}
 use Rattle.std.proofs.lemmas.Bool.{and_parts, and_cases, or_cases, or_parts, or_left, or_right, eqb-false, eqb-true, eq-eqb, ne_eqb, cases_eq, false_from_ne_true}
-use Rattle.kpn_net.specs.declared.wait.Wait.{Wait}
-use Rattle.kpn_net.specs.Tables.{Tables}
+use Rattle.kpn_history.proofs.Common.{Wait, Tables, wait_at, awaited, WaitInTurn, AreDistinct}
 use Rattle.kpn_net.proofs.Cycles.{Contains-first, Contains-later, Contains-cases, Contains-none, awaited_below}
-use Rattle.kpn_net.specs.Waits.{wait_at, awaited, WaitInTurn, AreDistinct}
 
 -- ---- all numbers below one
 

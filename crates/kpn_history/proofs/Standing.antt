@@ -3,27 +3,11 @@
 use Rattle.std.proofs.Common.{◌≡◌, ℕ, zero, suc, ◌<◌, ◌≤◌, true, false, not, cond, eqb, List, [], ◌∷◌, ◌++◌, length, Option, Some, None, refl, sym, ap, ◌∙◌, subst, inl, inr, arith, length-append}
 use Rattle.std.specs.Option.{option_map}
 use Rattle.std.proofs.lemmas.Bool.{cases_lt, cases_eq, eqb-true, both_ways, and_from, not-true, not_from_false, false_from_ne_true, le-leb, or_left}
-use Rattle.kpn_lang.specs.Prefix.{IsPrefix}
-use Rattle.kpn_lang.specs.Alone.{got_at, put_at}
+use Rattle.kpn_history.proofs.Common.{IsPrefix, got_at, put_at, End, Process, Source, Sink, Growth, Full, Tables, channel_at, capacity, grown_capacity, larger_capacity, writer_of, reader_of, IsNetwork, Family, Event, Put, WaitEmpty, WaitFull, Ended, Feed, talk_of, has_ended, written_in, written_on, read_on, unread_on, fed, is_close_of, is_closed, lives, reader_lives, after_growths, capacity_after, reaches, is_full, wait_of, Legal, PutsNoMore, IsFinished, IsComplete, growths_of, IsRunFrom}
 use Rattle.kpn_lang.proofs.Prefixes.{IsPrefix-trans, IsPrefix-same, IsPrefix-antisym, length_of_prefix}
 use Rattle.kpn_lang.proofs.Talks.{got_at-prefix, put_at-prefix}
-use Rattle.kpn_net.specs.declared.tables.End.{End}
-use Rattle.kpn_net.specs.declared.tables.End.TheVariants.{Process, Source, Sink}
-use Rattle.kpn_net.specs.declared.tables.Growth.{Growth}
 use Rattle.kpn_net.specs.declared.tables.Growth.TheVariants.{One, Double}
-use Rattle.kpn_net.specs.declared.wait.Wait.TheVariants.{Full}
-use Rattle.kpn_net.specs.Tables.{Tables, channel_at, capacity, grown_capacity, larger_capacity, writer_of, reader_of}
-use Rattle.kpn_net.specs.Faults.{IsNetwork}
-use Rattle.kpn_net.specs.Process.{Family}
 use Rattle.kpn_net.proofs.Networks.{Writes, capacity_in_range, source-writer_of, writer_of-source, writer_of-Writes}
-use Rattle.kpn_history.specs.declared.event.Event.{Event}
-use Rattle.kpn_history.specs.declared.event.Event.TheVariants.{Put, WaitEmpty, WaitFull, Ended, Feed}
-use Rattle.kpn_history.specs.Talks.{talk_of, has_ended}
-use Rattle.kpn_history.specs.Channels.{written_in, written_on, read_on, unread_on, fed, is_close_of, is_closed, lives, reader_lives, after_growths, capacity_after, reaches, is_full}
-use Rattle.kpn_history.specs.Waiting.{wait_of}
-use Rattle.kpn_history.specs.Legal.{Legal}
-use Rattle.kpn_history.specs.Complete.{PutsNoMore, IsFinished, IsComplete}
-use Rattle.kpn_history.specs.OneEnd.{growths_of, IsRunFrom}
 use Rattle.kpn_history.proofs.Events.{written_on-push, written_on-grows, written_on-same, read_on-same}
 use Rattle.kpn_history.proofs.Legality.{Legal-before}
 use Rattle.kpn_history.proofs.AfterEvent.{is_closed-next}

@@ -3,19 +3,8 @@
 use Rattle.std.proofs.Common.{◌≡◌, ◌↔◌, ◌⊎◌, ℕ, zero, suc, ◌<◌, true, false, cond, List, [], ◌∷◌, length, get_or, count_by, refl, sym, ap, ◌∙◌, inl, inr, arith}
 use Rattle.std.proofs.lemmas.Bool.{both_ways, false≢true}
 use Rattle.std.proofs.lemmas.List.Sums.{sum_by-cons}
-use Rattle.kpn_net.specs.declared.wait.Wait.{Wait}
-use Rattle.kpn_net.specs.declared.wait.Wait.TheVariants.{Nobody, Empty, Full}
-use Rattle.kpn_net.specs.Tables.{Tables}
-use Rattle.kpn_history.specs.declared.event.Event.{Event}
-use Rattle.kpn_history.specs.declared.event.How.{How}
-use Rattle.kpn_history.specs.declared.state.State.{State}
+use Rattle.kpn_history.proofs.Common.{Wait, Nobody, Empty, Full, Tables, Event, How, State, View, has_ended, wait_of, HasStopped, HaveStopped, IsStateOf, is_stopped, is_ready, is_held, Agrees, Legal}
 use Rattle.kpn_history.specs.declared.state.State.TheVariants.{Ready, Held, WaitsEmpty, WaitsFull, Ended}
-use Rattle.kpn_history.specs.declared.state.View.{View}
-use Rattle.kpn_history.specs.Talks.{has_ended}
-use Rattle.kpn_history.specs.Waiting.{wait_of}
-use Rattle.kpn_history.specs.Ends.{HasStopped, HaveStopped}
-use Rattle.kpn_history.specs.Views.{IsStateOf, is_stopped, is_ready, is_held, Agrees}
-use Rattle.kpn_history.specs.Legal.{Legal}
 use Rattle.kpn_history.proofs.EndsOnce.{ended_by, ends_one_way}
 
 -- ---- a state that has stopped

@@ -4,26 +4,10 @@ use Rattle.std.specs.Prelude.{Contains}
 use Rattle.std.specs.Option.{unwrap_or}
 use Rattle.std.proofs.Common.{◌≡◌, ◌≢◌, ℕ, suc, ℤ, ◌<◌, ◌≤◌, true, false, not, List, [], ◌∷◌, ◌++◌, length, Option, Some, None, refl, sym, ap, ◌∙◌, subst, inl, inr, arith}
 use Rattle.std.proofs.lemmas.Bool.{and_parts, both_ways, cases_lt, not-true, eqb-true, false≢true}
-use Rattle.kpn_net.specs.declared.wait.Wait.{Wait}
-use Rattle.kpn_net.specs.declared.wait.Wait.TheVariants.{Nobody, Empty, Full}
-use Rattle.kpn_net.specs.declared.tables.End.{End}
-use Rattle.kpn_net.specs.declared.tables.End.TheVariants.{Process, Source, Sink}
-use Rattle.kpn_net.specs.Tables.{Tables, reader_of}
-use Rattle.kpn_net.specs.Faults.{IsNetwork}
-use Rattle.kpn_net.specs.Waits.{awaited, process_at}
+use Rattle.kpn_history.proofs.Common.{Wait, Nobody, Empty, Full, End, Process, Source, Sink, Tables, reader_of, IsNetwork, awaited, process_at, Event, Get, Put, WaitEmpty, WaitFull, Ended, Feed, Close, Take, Leave, Grow, Verdict, has_ended, last_event, unread_on, lives, reader_lives, reaches, capacity_after, is_full, is_left, wait_of, waits_of, full_in_cycle, HasFullCycle, CanGo, MayFeed, MayTake, Legal, WaitsOnFull, IsQuiet, IsSettled, IsVerdict, IsOldest, OwesNothing, IsJammedAtLimit, WaitsForBlocked}
 use Rattle.kpn_net.proofs.Networks.{Reads-reader_of, Reads-below, sink-reader_of, sink_there}
 use Rattle.kpn_net.proofs.Cycles.{full_at, cycle_below}
-use Rattle.kpn_history.specs.declared.event.Event.{Event}
-use Rattle.kpn_history.specs.declared.event.Event.TheVariants.{Get, Put, WaitEmpty, WaitFull, Ended, Feed, Close, Take, Leave, Grow}
-use Rattle.kpn_history.specs.declared.state.Verdict.{Verdict}
 use Rattle.kpn_history.specs.declared.state.Verdict.TheVariants as verdict
-use Rattle.kpn_history.specs.Talks.{has_ended, last_event}
-use Rattle.kpn_history.specs.Channels.{unread_on, lives, reader_lives, reaches, capacity_after, is_full, is_left}
-use Rattle.kpn_history.specs.Waiting.{wait_of, waits_of, full_in_cycle, HasFullCycle}
-use Rattle.kpn_history.specs.Legal.{CanGo, MayFeed, MayTake, Legal}
-use Rattle.kpn_history.specs.Ends.{WaitsOnFull, IsQuiet, IsSettled, IsVerdict}
-use Rattle.kpn_history.specs.OneMore.{IsOldest}
-use Rattle.kpn_history.specs.Stops.{OwesNothing, IsJammedAtLimit, WaitsForBlocked}
 use Rattle.kpn_history.proofs.Legality.{Legal-last}
 use Rattle.kpn_history.proofs.Capacities.{in_limit}
 use Rattle.kpn_history.proofs.OneMore.{KeepsConsistent-last}

@@ -15,6 +15,5 @@ pub mod Remainders
 pub mod Remaining
 pub mod Rules
 pub mod Sequential
-pub mod Setting
 pub mod Spotted
 pub mod Talks

@@ -9,7 +9,7 @@ use std::alloc::{AllocFailed, Allocator, Global};
 use std::marker::Model;
 use std::slice;
 
-/// A list of items. It is made from a `Vec` and given back as one without taking memory.
+/// A list of items. It is made from a `Vec` without taking memory.
 #[derive(Debug, Drop)]
 pub struct Sequence<T, A: Allocator = Global> {
     items: Vec<T, A>,
@@ -60,14 +60,6 @@ impl<T, A: Allocator> Sequence<T, A> {
         ensures { result.now ≡ self.now }
     {
         self.items.as_slice()
-    }
-
-    /// The items in order, as the `Vec` that has them. It takes no memory.
-    pub fn into_vec(self) -> Vec<T, A>
-        ensures { result.items ≡ self }
-    {
-        let Sequence { items } = self;
-        items
     }
 
     /// An iterator over the items in order.

@@ -1,8 +1,7 @@
 -- The second list of capacities: it stays the same if one channel becomes another of the same capacity.
-use Rattle.std.proofs.Common.{◌≡◌, ℕ, ap, sym, ◌∙◌, refl, Bool, true, false, cond, Result, Ok, Err, IsOk, is_ok, IsSomeAnd, List, length, map, set, get_or, Option, Some, None}
+use Rattle.std.proofs.Common.{◌≡◌, ℕ, ap, sym, ◌∙◌, refl, Bool, true, false, cond, List, length, map, set, get_or, Some}
 use Rattle.std.proofs.lemmas.List.{map-set, length-map}
 use Rattle.std.specs.Option.{unwrap_or}
-use Rattle.std.proofs.lemmas.Bool.{false≢true}
 use Rattle.std.proofs.Math.Seq.{map-set_same}
 use Rattle.kpn_chan.specs.Channel.{ChannelState, with_room}
 
@@ -16,11 +15,6 @@ pub room_same : (b : Bool) (channel : ChannelState) → (cond b (with_room chann
 room_same true channel = refl
 room_same false channel = refl
 
--- a value that exists
-pub there_is : {E : Type 0} {X : Type 0} (r : Result Unit E) (a b : X) → IsOk r → cond (is_ok r) a b ≡ a
-there_is (Ok x) a b h = refl
-there_is (Err e) a b h = absurd (false≢true h)
-
 pub mirror_length : (channels : List ChannelState) (caps : List ℕ)
     → caps ≡ map (λ x. unwrap_or x.capacity 0) channels → length caps ≡ length channels
 mirror_length channels caps mirror = ap length mirror ∙ length-map channels (λ x. unwrap_or x.capacity 0)
@@ -33,10 +27,6 @@ mirror_grows channels caps d larger channel mirror is =
     ap (λ cs. set cs d larger) mirror
     ∙ ap (λ o. set (map (λ x. unwrap_or x.capacity 0) channels) d (unwrap_or o 0)) (sym is)
     ∙ sym (map-set (λ x. unwrap_or x.capacity 0) channels d channel)
-
-pub some_of : (P : ℕ → Type 0) (o : Option ℕ) → IsSomeAnd o P → (n : ℕ) × (o ≡ Some n)
-some_of P None h = absurd h
-some_of P (Some n) h = (n, refl)
 
 pub mirror_kept : (channels : List ChannelState) (caps : List ℕ) (c : ℕ) (channel before : ChannelState)
     → caps ≡ map (λ x. unwrap_or x.capacity 0) channels → channel.capacity ≡ before.capacity

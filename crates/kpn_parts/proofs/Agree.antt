@@ -25,7 +25,6 @@ use Rattle.kpn_parts.proofs.Whole.{is_spoken}
 use Rattle.kpn_parts.proofs.Below.{below_one_iterate}
 use Rattle.kpn_parts.proofs.Ended.{says_all}
 use Rattle.kpn_parts.proofs.Rest.{least_if_quiet}
-use Rattle.kpn_parts.proofs.Complete.{least_if_complete}
 
 -- two lists of the least solution are one
 pub same_least : (t : Tables) (given : Family) (c : ℕ) (xs ys : List _) → IsLeast t given c xs → IsLeast t given c ys
@@ -93,7 +92,7 @@ module _ (t : Tables) (network : IsNetwork t) (cut : List Part) (is : IsCut t cu
   pub complete_least : (given : Family) → IsFedFrom t (whole_history t cut order) given → (c : ℕ)
       → IsComplete t (whole_history t cut order) c → IsLeast t given c (written_on (whole_history t cut order) c)
   complete_least given f c complete =
-      least_if_complete t network (whole_history t cut order) (says_all t network cut is order joined) given
+      one.least_where_complete t network (whole_history t cut order) (says_all t network cut is order joined) given
       (below_one_iterate t network cut is given order joined f.begun) f c complete
 
   -- at rest the journals are those of a run in one piece that is at rest

@@ -11,12 +11,11 @@ use Rattle.kpn_net.specs.Process.{Family}
 use Rattle.kpn_net.specs.Iteration.{iterate, IsPrefixOnSources, IsBelowLeast}
 use Rattle.kpn_history.specs.declared.event.Event.{Event}
 use Rattle.kpn_history.specs.Channels.{written_in, written_on, fed}
-use Rattle.kpn_history.proofs.Below.{IsBelowIterate, fed_on_sources}
+use Rattle.kpn_history.proofs.Journals.{IsSpoken}
+use Rattle.kpn_history.proofs.Below.{IsBelowIterate, one_more, fed_on_sources}
 use Rattle.kpn_parts.specs.declared.order.PartEvent.{PartEvent}
 use Rattle.kpn_parts.specs.Cut.{Part, whole_channel, part_at, IsCut}
 use Rattle.kpn_parts.specs.Joined.{events_of_part, in_whole, is_of_whole, whole_event, whole_history, IsJoined}
-use Rattle.kpn_parts.proofs.Spoken.{IsSpoken}
-use Rattle.kpn_parts.proofs.Least.{one_more}
 use Rattle.kpn_parts.proofs.Orders.{whole_history-push, joined-prefix, owns_last, by_joined}
 use Rattle.kpn_parts.proofs.Whole.{own_in_whole, journal_begins, is_spoken}
 

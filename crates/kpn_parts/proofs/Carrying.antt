@@ -2,8 +2,6 @@
 use Rattle.std.proofs.Common.{◌≡◌, ◌↔◌, ℕ, ◌+◌, ◌<◌, ◌≤◌, Bool, true, false, ℤ, List, [], ◌∷◌, ◌++◌, length, get_or, set, Option, Some, None, refl, sym, ap, ◌∙◌, subst, inl, inr, arith}
 use Rattle.std.proofs.lemmas.Bool.{cases_eq, both_ways}
 use Rattle.std.proofs.lemmas.List.{get_or_default, length-set, get_or-set_same, get_or-set_other}
-use Rattle.std.proofs.Math.ListN.{get_or-append}
-use Rattle.std.proofs.Math.Seq.{get_or-append_seam}
 use Rattle.kpn_lang.proofs.Prefixes.{IsPrefix-refl, length_of_prefix}
 use Rattle.kpn_parts.specs.declared.order.PartEvent.{PartEvent}
 use Rattle.kpn_parts.specs.declared.link.PartLink.{PartLink}
@@ -72,14 +70,6 @@ carried_sent links order (c ∷ carried) h l x below = (h.each l x c below).sent
 
 -- ---- the loops
 
-pub more_start : (links : List PartLink) (e : PartEvent) (carried : List Carried) → CarryMore links e carried carried 0
-more_start links e carried =
-    record {
-      same = refl;
-      below = λ l x d below. absurd omega (arith, below);
-      above = λ l d past. refl;
-    }
-
 pub more_next : (links : List PartLink) (e : PartEvent) (old new : List Carried) (n : ℕ) (y : PartLink) (c b : Carried)
     → CarryMore links e old new n → n < length links → n < length old → c ≡ get_or new n b → (after : Carried)
     → ((order : List PartEvent) → IsCarried (get_or links n y) order c
@@ -108,28 +98,6 @@ more_next links e old new n y c b h below there at after step =
       above = λ l d past.
           get_or-set_other new n l after d (λ same. omega (arith, same, past)) ∙ h.above l d (omega (arith, past));
     }
-
-pub nothing_next : (carried : List Carried) (n : ℕ) (c : Carried) → CarryNothing carried n → c.items.items ≡ []
-    → c.fed ≡ 0 → CarryNothing (carried ++ c ∷ []) (n + 1)
-nothing_next carried n c h none zero' =
-    record {
-      count = length_push carried c ∙ ap (λ k. k + 1) h.count;
-      each = λ l d below. elim (cases_eq l n) [
-        | inl same ↦
-            subst
-            (λ k. ((get_or (carried ++ c ∷ []) k d).items.items ≡ []) × ((get_or (carried ++ c ∷ []) k d).fed ≡ 0))
-            (h.count ∙ sym same)
-            (subst (λ x. (x.items.items ≡ []) × (x.fed ≡ 0)) (sym (get_or-append_seam carried c [] d)) (none, zero'))
-        | inr differ ↦
-            subst (λ x. (x.items.items ≡ []) × (x.fed ≡ 0))
-            (sym (get_or-append carried (c ∷ []) d l (subst (λ k. l < k) (sym h.count) (omega (arith, below, differ)))))
-            (h.each l d (omega (arith, below, differ)))
-      ];
-    }
-  where
-    length_push : (xs : List Carried) (x : Carried) → length (xs ++ x ∷ []) ≡ length xs + 1
-    length_push [] x = refl
-    length_push (y ∷ xs) x = let e = length_push xs x in omega (arith, e)
 
 -- ---- the test of an event
 

@@ -19,15 +19,15 @@ use Rattle.kpn_history.specs.Talks.{is_of, talk_of, last_event, is_end_of, has_e
 use Rattle.kpn_history.specs.Channels.{read_on}
 use Rattle.kpn_history.proofs.Ownership.{Owns}
 use Rattle.kpn_history.proofs.Journals.{read_on-outside}
-use Rattle.kpn_history.proofs.Above.{HasSaidAll, HasSaidAll-ended, IsStarved, IsStarved-last}
+use Rattle.kpn_history.proofs.Rests.{reads_if_contained}
+use Rattle.kpn_history.proofs.Above.{HasSaidAll, HasSaidAll-ended, IsStarved, IsStarved-last, SaysAll}
 use Rattle.kpn_parts.specs.declared.order.PartEvent.{PartEvent}
 use Rattle.kpn_parts.specs.Cut.{Part, whole_process, whole_channel, part_at, IsCut}
 use Rattle.kpn_parts.specs.Joined.{events_of_part, in_whole, counted, whole_history, AreLegal, IsJoined}
-use Rattle.kpn_parts.proofs.Spoken.{SaysAll}
 use Rattle.kpn_parts.proofs.Renaming.{said_in_whole, seen_by, talk_same, reads_in_whole}
 use Rattle.kpn_parts.proofs.Ends.{part_of, by_reader}
 use Rattle.kpn_parts.proofs.Orders.{seen}
-use Rattle.kpn_parts.proofs.Whole.{counts_all, counts_none, same_process, other_process, read_same, talk_of_same, reads_if_contained, is_spoken}
+use Rattle.kpn_parts.proofs.Whole.{counts_all, counts_none, same_process, other_process, read_same, talk_of_same, is_spoken}
 
 -- ---- lists
 

@@ -1,5 +1,3 @@
-pub mod Spoken
-pub mod Least
 pub mod Renaming
 pub mod Ends
 pub mod Orders
@@ -7,7 +5,6 @@ pub mod Whole
 pub mod Below
 pub mod Ended
 pub mod Rest
-pub mod Complete
 pub mod Agree
 pub mod Links
 pub mod Sending

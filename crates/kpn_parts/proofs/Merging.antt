@@ -39,12 +39,6 @@ part_next history r first order after k d e before below part event more =
           ∙ before.other s differ;
     }
 
-pub part_all : (history : List Event) (r : ℕ) (first order : List PartEvent) (k to : ℕ)
-    → PartSoFar history r first order k → length history ≤ k → length history ≤ to
-    → events_of_part r order ≡ take to history
-part_all history r first order k to before past there =
-    before.own ∙ take_all k history past ∙ sym (take_all to history there)
-
 -- the same, with what the links carry
 pub record GoesOn (history : List Event) (r : ℕ) (links : List PartLink) (first order : List PartEvent)
     (carried : List Carried) (k : ℕ) : Type 0 where
@@ -237,27 +231,3 @@ comes_in_none histories links at order carried h stuck r left =
           none_behind histories links at order h.each (carried_sent links order carried h.on_links) stuck other begin sent
           r;
     }
-
--- ---- the test
-
-pub used_next : (histories : List (List Event)) (at : List ℕ) (r : ℕ) (d : List Event)
-    → ((j : ℕ) → j < r → length (history_at histories j) ≤ get_or at j 0) → r < length histories
-    → length (get_or histories r d) ≤ get_or at r 0
-    → (j : ℕ) → j < r + 1 → length (history_at histories j) ≤ get_or at j 0
-used_next histories at r d before below now j h =
-    elim (cases_eq j r) [
-      | inl same ↦
-          subst (λ k. length (history_at histories k) ≤ get_or at k 0) (sym same)
-          (subst (λ xs. length xs ≤ get_or at r 0) (get_or_default histories r d [] below) now)
-      | inr differ ↦ before j (omega arith)
-    ]
-
-pub used_all : (histories : List (List Event)) (at : List ℕ) (r : ℕ) → length histories ≤ r
-    → ((j : ℕ) → j < r → length (history_at histories j) ≤ get_or at j 0) → UsesAll histories at
-used_all histories at r past before j =
-    elim (cases_lt j r) [
-      | inl below ↦ before j below
-      | inr above ↦
-          subst (λ xs. length xs ≤ get_or at j 0) (sym (get_or_past histories j [] (omega (arith, past, above))))
-          (omega arith)
-    ]

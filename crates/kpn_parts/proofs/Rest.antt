@@ -1,77 +1,29 @@
 -- The whole at rest. If it is quiet, its journals contain what each process puts on them, so they are the least
 -- solution. It is quiet if each part is and nothing is on the way.
-use Rattle.std.proofs.Common.{◌≡◌, ◌⊎◌, ℕ, ◌<◌, true, cond, eqb, List, length, drop, refl, sym, ap, ◌∙◌, subst, inl, inr, arith, length-drop}
+use Rattle.std.proofs.Common.{◌≡◌, ◌⊎◌, ℕ, ◌<◌, true, cond, eqb, List, length, drop, sym, ap, ◌∙◌, subst, inl, inr}
 use Rattle.std.specs.Option.{option_map}
-use Rattle.std.proofs.lemmas.Bool.{cases_Bool, eqb-true, both_ways}
-use Rattle.kpn_lang.specs.Prefix.{IsPrefix}
-use Rattle.kpn_lang.specs.Alone.{put_at}
-use Rattle.kpn_lang.proofs.Prefixes.{IsPrefix-trans, IsPrefix-same, same_from_prefix}
-use Rattle.kpn_lang.proofs.Talks.{put_at-prefix}
-use Rattle.kpn_net.specs.declared.tables.End.{End}
-use Rattle.kpn_net.specs.declared.tables.End.TheVariants.{Process, Source, Sink}
+use Rattle.std.proofs.lemmas.Bool.{cases_Bool, both_ways}
+use Rattle.kpn_lang.proofs.Prefixes.{IsPrefix-trans, IsPrefix-same}
 use Rattle.kpn_net.specs.declared.wait.Wait.TheVariants.{Nobody, Empty}
-use Rattle.kpn_net.specs.Tables.{Tables, channel_at, is_source, writer_of}
+use Rattle.kpn_net.specs.Tables.{Tables, channel_at, is_source}
 use Rattle.kpn_net.specs.Faults.{IsNetwork}
-use Rattle.kpn_net.specs.Process.{Family, talk_on}
-use Rattle.kpn_net.specs.Iteration.{written_by, iterate, AgreeOnSources, IsClosed, IsLeast}
+use Rattle.kpn_net.specs.Process.{Family}
+use Rattle.kpn_net.specs.Iteration.{iterate, AgreeOnSources, IsLeast}
 use Rattle.kpn_net.proofs.Monotone.{closed_below-IsLeast, IsPrefixOnSources-refl, IsPrefixOnSources-agree, round-depends_on_sources}
-use Rattle.kpn_net.proofs.Networks.{Writes-writer_of, Reads-below}
-use Rattle.kpn_history.specs.declared.event.Event.{Event}
-use Rattle.kpn_history.specs.Talks.{talk_of, last_event, has_ended}
-use Rattle.kpn_history.specs.Channels.{written_on, read_on, unread_on, fed, is_empty}
+use Rattle.kpn_net.proofs.Networks.{Reads-below}
+use Rattle.kpn_history.specs.Talks.{last_event, has_ended}
+use Rattle.kpn_history.specs.Channels.{written_on, read_on, fed, is_empty}
 use Rattle.kpn_history.specs.Waiting.{wait_of, wait_of_last}
 use Rattle.kpn_history.specs.Ends.{WaitsOnEmpty, IsQuiet}
-use Rattle.kpn_history.proofs.Below.{fed-source}
-use Rattle.kpn_history.proofs.Above.{empty_wait, IsStarved-last}
+use Rattle.kpn_history.proofs.Above.{empty_wait, IsStarved-last, IsClosed-quiet}
 use Rattle.kpn_parts.specs.declared.order.PartEvent.{PartEvent}
 use Rattle.kpn_parts.specs.Cut.{Part, whole_process, whole_channel, part_at, IsCut, IsCutSource}
 use Rattle.kpn_parts.specs.Joined.{events_of_part, in_whole, whole_history, IsJoined, HasAll, IsDelivered, AreQuiet, AreAtRest}
-use Rattle.kpn_parts.proofs.Spoken.{SaysAll, written_on-put}
 use Rattle.kpn_parts.proofs.Renaming.{reads_in_whole}
 use Rattle.kpn_parts.proofs.Ends.{part_of, by_reader}
 use Rattle.kpn_parts.proofs.Whole.{journal_same, read_same}
 use Rattle.kpn_parts.proofs.Ended.{last_same, ended_same, says_all}
 use Rattle.kpn_parts.proofs.Below.{below_least}
-
--- ---- lists of events in which each process has said all
-
-module _ (t : Tables) (network : IsNetwork t) (H : List Event) (says : SaysAll t H) where
-  -- on an empty channel all was read
-  pub all_read : (c : ℕ) → is_empty H c ≡ true → read_on H c ≡ written_on H c
-  all_read c empty =
-      let none : length (unread_on H c) ≡ 0 = eqb-true _ _ empty in
-      let rest = length-drop (length (read_on H c)) (written_on H c) in
-      same_from_prefix (read_on H c) (written_on H c) (says.spoken.in_order c) (omega arith)
-
-  said_all : IsQuiet t H → (p : ℕ) → p < length t.instances → (n : ℕ)
-      → IsPrefix (talk_on t p n (written_on H)) (talk_of H p)
-  said_all quiet p below n =
-      elim (quiet.each p below) [
-        | inl ended ↦ (says.ended p below ended).whole n (written_on H) says.spoken.in_order
-        | inr waits ↦
-            let w = empty_wait t H (last_event H p) waits.channel waits.blocked in
-            (says.starved p w.process waits.channel below w.is).whole n (written_on H) says.spoken.in_order
-            (sym (all_read waits.channel w.empty))
-      ]
-
-  IsClosed-quiet : IsQuiet t H → IsClosed t (fed t H) (written_on H)
-  IsClosed-quiet quiet =
-      record {
-        fed = λ c source. sym (fed-source t H c source);
-        contains = λ n c other. by_writer n c (writer_of t c) refl;
-      }
-    where
-      by_writer : (n c : ℕ) (end : End) → writer_of t c ≡ end
-          → IsPrefix (written_by t n (written_on H) c end) (written_on H c)
-      by_writer n c (Process p) w =
-          IsPrefix-trans _ (put_at (talk_of H p) c) (written_on H c)
-          (put_at-prefix (talk_on t p n (written_on H)) (talk_of H p) c
-          (said_all quiet p (Writes-writer_of t p c w).process n))
-          (IsPrefix-same _ _ (sym (written_on-put t network c p w H says.spoken.own)))
-      by_writer n c Source w = tt
-      by_writer n c Sink w = tt
-
--- ---- the whole
 
 module _ (t : Tables) (network : IsNetwork t) (cut : List Part) (is : IsCut t cut) (order : List PartEvent)
     (joined : IsJoined t cut order) where

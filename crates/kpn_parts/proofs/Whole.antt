@@ -1,31 +1,30 @@
 -- The history of the whole shows the journals, the reads and the talks that the parts have, so it has all that Kahn's
 -- theorem needs.
-use Rattle.std.proofs.Common.{◌≡◌, ℕ, ◌<◌, true, false, Bool, ℤ, cond, eqb, eq-eqb, List, [], ◌∷◌, ◌++◌, length, map, refl, sym, ap, ◌∙◌, subst, inl, inr}
-use Rattle.std.specs.Prelude.{Contains}
+use Rattle.std.proofs.Common.{◌≡◌, ℕ, ◌<◌, ◌≤◌, true, false, Bool, ℤ, cond, eqb, eq-eqb, List, [], ◌∷◌, ◌++◌, length, map, refl, sym, ap, ◌∙◌, subst, inl, inr, arith}
 use Rattle.std.specs.List.{flat_map}
 use Rattle.std.proofs.lemmas.Bool.{cases_Bool, cases_eq, cases_lt, ne_eqb, both_ways}
-use Rattle.std.proofs.lemmas.List.{append-nil, map-append, get_or_default}
+use Rattle.std.proofs.lemmas.List.{append-nil, map-append}
 use Rattle.kpn_lang.specs.declared.talk.Said.{Said}
 use Rattle.kpn_lang.specs.declared.talk.Said.TheVariants as said
 use Rattle.kpn_lang.specs.Prefix.{IsPrefix}
 use Rattle.kpn_lang.proofs.Prefixes.{IsPrefix-refl, IsPrefix-trans, IsPrefix-same}
-use Rattle.kpn_net.specs.Tables.{Tables, instance_at, channel_at, is_source, is_sink}
+use Rattle.kpn_net.specs.Tables.{Tables, channel_at, is_source, is_sink}
 use Rattle.kpn_net.specs.Faults.{IsNetwork}
 use Rattle.kpn_net.specs.Process.{IsFamilyPrefix, AgreeOnIns, ProcessCanSay, talk_on}
 use Rattle.kpn_net.proofs.Monotone.{map-prefix}
 use Rattle.kpn_net.proofs.OwnIns.{CanSay-own_ins}
-use Rattle.kpn_net.proofs.Networks.{Reads, Reads-below, Writes-below, source_there, sink_there}
+use Rattle.kpn_net.proofs.Networks.{Reads-below, Writes-below, source_there, sink_there}
 use Rattle.kpn_history.specs.declared.event.Event.{Event}
 use Rattle.kpn_history.specs.declared.event.Event.TheVariants.{Get, Put, WaitEmpty, WaitFull, Ended, Feed, Close, Take, Leave, Grow}
 use Rattle.kpn_history.specs.Talks.{said_in, talk_of}
 use Rattle.kpn_history.specs.Channels.{written_in, read_in, written_on, read_on}
 use Rattle.kpn_history.proofs.Legality.{Legal-consistent}
-use Rattle.kpn_history.proofs.Ownership.{Owns}
-use Rattle.kpn_history.proofs.Journals.{none_elsewhere, reads_begin_writes}
+use Rattle.kpn_history.proofs.Ownership.{Owns, AreOwn, AreOwn-append}
+use Rattle.kpn_history.proofs.Journals.{none_elsewhere, reads_begin_writes, IsSpoken}
+use Rattle.kpn_history.proofs.Rests.{reads_if_contained}
 use Rattle.kpn_parts.specs.declared.order.PartEvent.{PartEvent}
 use Rattle.kpn_parts.specs.Cut.{Part, whole_process, whole_channel, part_at, IsCut, IsCutSource}
 use Rattle.kpn_parts.specs.Joined.{events_of_part, in_whole, is_of_whole, counted, whole_event, whole_history, IsSent, AreLegal, IsJoined}
-use Rattle.kpn_parts.proofs.Spoken.{AreOwn, AreOwn-append, IsSpoken, read_on-outside}
 use Rattle.kpn_parts.proofs.Renaming.{said_in_whole, seen_by, talk_same, reads_in_whole, writes_in_whole}
 use Rattle.kpn_parts.proofs.Ends.{part_of, by_process, ReadsIn, by_reader, written_once, read_once, feeds_in, writes_in, takes_in, reads_in_there, no_cut_sink, is_read}
 use Rattle.kpn_parts.proofs.Orders.{whole_history-push, owns_last, by_legal, seen}
@@ -50,6 +49,23 @@ map-flat_map f g [] = refl
 map-flat_map f g (x ∷ xs) =
     ap (λ ys. map f (g x) ++ ys) (map-flat_map f g xs) ∙ sym (map-append f (g x) (flat_map g xs))
 
+-- ---- nothing is read from a channel that is not there
+
+read_in-outside : (t : Tables) → IsNetwork t → (c : ℕ) → length t.channels ≤ c → (e : Event) → Owns t e
+    → read_in c e ≡ []
+read_in-outside t network c past (Get p d v) o =
+    none_elsewhere d c v (λ e. let below = Reads-below t network p d o in absurd omega (arith, e, below, past))
+read_in-outside t network c past (Take d v) o =
+    none_elsewhere d c v (λ e. let below = sink_there t d o in absurd omega (arith, e, below, past))
+read_in-outside t network c past event o = refl
+
+read_on-outside : (t : Tables) → IsNetwork t → (c : ℕ) → length t.channels ≤ c → (H : List Event) → AreOwn t H
+    → read_on H c ≡ []
+read_on-outside t network c past [] own = refl
+read_on-outside t network c past (e ∷ H) own =
+    ap (λ xs. xs ++ read_on H c) (read_in-outside t network c past e own.0)
+    ∙ read_on-outside t network c past H own.1
+
 -- ---- events that count in the whole
 
 module _ {X : Type 0} (t : Tables) (f : Event → List X) where
@@ -65,19 +81,6 @@ module _ {X : Type 0} (t : Tables) (f : Event → List X) where
 
   pub dropped : (e : Event) → is_of_whole t e ≡ false → flat_map f (counted t e) ≡ []
   dropped e is = ap (λ b. flat_map f (cond b (e ∷ []) [])) is
-
--- a process reads the channels at its in ports
-pub reads_if_contained : (u : Tables) (q : ℕ) → q < length u.instances → (c : ℕ)
-    → Contains (instance_at u q).ins c → Reads u q c
-reads_if_contained u q there c (k, inside, e) =
-    record {
-      process = there;
-      place = record {
-        port = k;
-        there = inside;
-        is = get_or_default (instance_at u q).ins k 0 c inside ∙ e;
-      };
-    }
 
 module _ (t : Tables) (network : IsNetwork t) (cut : List Part) (is : IsCut t cut) where
   -- ---- numbers in a part and in the whole
@@ -241,9 +244,6 @@ module _ (t : Tables) (network : IsNetwork t) (cut : List Part) (is : IsCut t cu
   -- ---- what a process said
 
   module _ (r p : ℕ) (below : p < length (part_at cut r).tables.instances) where
-    talk_in : Event → List Said
-    talk_in e = map (said_in_whole (part_at cut r)) (said_in p e)
-
     said_one : (q : ℕ) (spoken : Said) → q < length (part_at cut r).tables.instances
         → cond (eqb (whole_process (part_at cut r) q) (whole_process (part_at cut r) p))
         (said_in_whole (part_at cut r) spoken ∷ []) []

@@ -12,9 +12,6 @@ use Rattle.kpn_book.specs.Book.{Book}
 use Rattle.kpn_pool.specs.Fed.{AreFedBelow, AreSourcesClosedBelow, AreSinksKeptBelow}
 
 module _ {A : Type 0} (t : Tables) (lists : List (List ℤ)) (view : View A) where
-  pub none_fed : AreFedBelow t lists view 0
-  none_fed c below source = absurd (omega arith)
-
   pub fed_skip : (k : ℕ) → is_source (channel_at t k) ≡ false → AreFedBelow t lists view k
       → AreFedBelow t lists view (k + 1)
   fed_skip k none so_far c below source =
@@ -33,9 +30,6 @@ module _ {A : Type 0} (t : Tables) (lists : List (List ℤ)) (view : View A) whe
       ]
 
 module _ (t : Tables) (H : List Event) where
-  pub none_closed : AreSourcesClosedBelow t H 0
-  none_closed c below source = absurd (omega arith)
-
   -- the next channel is no source, or is closed
   pub closed_more : (k : ℕ) → (is_source (channel_at t k) ≡ true → is_closed H k ≡ true) → AreSourcesClosedBelow t H k
       → AreSourcesClosedBelow t H (k + 1)

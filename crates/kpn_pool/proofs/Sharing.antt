@@ -124,7 +124,7 @@ book_send κ =
 
 module _ (κ : NamedLft) (J : RattleType) (g : job.Ghosts J.Denot) (l : ledger.Ghosts J.Denot) where
   desk_send : IsSend (Desk.the_field κ J heap.the_row g l ghosts).row
-  desk_send = let book = book_send κ in search (total.the_send, crosses, sendable) depth 40
+  desk_send = let book = book_send κ in search (total.the_send, crosses, sendable) depth 40 fits 20000
 
   pub shared_sync : IsSync (Shared.the_field κ J heap.the_row g l ghosts).row
   shared_sync = let desk = desk_send in search (crosses, sendable) depth 40

@@ -135,7 +135,7 @@ impl<'n, J: Job, A: Allocator> Shared<'n, J, A> {
         self.lock(rt).run_on(processors);
     }
 
-    /// From now on workers that make turns in a row take what comes to the sinks, as `Desk::let_workers_take` says.
+    /// From now on workers that run regions take what comes to the sinks, as `Desk::let_workers_take` says.
     pub(crate) fn let_workers_take<R: Wait>(&self, rt: &R, wanted: Option<u64>) {
         self.lock(rt).let_workers_take(wanted);
     }

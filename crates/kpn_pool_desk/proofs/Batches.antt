@@ -21,7 +21,6 @@ use Rattle.kpn_pool_desk.specs.declared.gate.Go.{Go}
 use Rattle.kpn_pool_desk.specs.declared.gate.Go.TheVariants.{On, Abandon}
 use Rattle.kpn_pool_desk.specs.HeldTurns.{Turn, HeldTurns, IsTurnOf, made_of, steps_of, CommitsOrDrops, PutsBack, InTurn, IsEnd, SettlesTurns, claimed_by, ComesBackWithTurns}
 use Rattle.kpn_pool_desk.specs.Gate.{LetsThrough}
-use Rattle.kpn_pool_desk.specs.Rows.{GoesInRows}
 
 -- ---- one turn more
 
@@ -175,18 +174,12 @@ foreign_unless p x b refused.SinkLeft why other = absurd why
 
 -- ---- a worker that is back
 
--- its batch is settled, the network may be cut, and rows are made
-pub comes_back : (may_answer : (worker process : ℕ) → Go → Type 0) (quota most : ℕ) (b : HeldTurns) (then : NextMove)
-    (before between cut rows after : Desk) → SettlesTurns b None before between → cut ≡ between
-    → GoesInRows may_answer quota most cut rows → after ≡ rows → EndsFor rows most then
-    → ComesBackWithTurns may_answer quota most b then before after
-comes_back may_answer quota most b then before between cut rows after settles same goes is ends = record {
+-- its batch is settled, and nothing else changes
+pub comes_back : (most : ℕ) (b : HeldTurns) (then : NextMove) (before between cut after : Desk)
+    → SettlesTurns b None before between → cut ≡ between → after ≡ cut → EndsFor cut most then
+    → ComesBackWithTurns most b then before after
+comes_back most b then before between cut after settles same is ends = record {
   why = None;
-  between = between;
-  settles = settles;
-  goes_on = (
-    subst (λ d. GoesInRows may_answer quota most d after) same
-        (subst (λ d. GoesInRows may_answer quota most cut d) (sym is) goes),
-    subst (λ d. EndsFor d most then) (sym is) ends,
-  );
+  settles = subst (SettlesTurns b None before) (sym (is ∙ same)) settles;
+  goes_on = subst (λ d. EndsFor d most then) (sym is) ends;
 }

@@ -1,5 +1,5 @@
--- Regions are claimed and committed: the network stays, and commits are only added.
-use Rattle.std.proofs.Common.{◌≡◌, ℕ, ◌+◌, Bool, true, false, Option, Some, None, refl, ap, ◌∙◌, arith}
+-- Regions are committed: the network stays, and commits are only added. Then items are taken from sinks.
+use Rattle.std.proofs.Common.{◌≡◌, ℕ, ◌+◌, ◌≤◌, ℤ, Bool, true, false, Option, Some, None, refl, ap, ◌∙◌, subst, arith}
 use Rattle.kpn_step.specs.declared.stop.Stop.{Stop}
 use Rattle.kpn_region.specs.Batch.{Batch}
 use Rattle.kpn_book.specs.declared.answers.Done.{Done}
@@ -7,38 +7,20 @@ use Rattle.kpn_book.specs.Book.{Book, with_one_commit}
 use Rattle.kpn_book.specs.Commits.{HandlesStop, ready_if_paused}
 use Rattle.kpn_book.specs.Regions.{commits_or_not, goes_to, settles_if, has_part, SettleBelow, none_yet, one_more}
 use Rattle.kpn_book.specs.RegionCalls.{CommitsRegion}
-use Rattle.kpn_book.specs.RegionClaims.{IsSameBook, ClaimsRegion}
 use Rattle.kpn_book.proofs.Appended.{base_tables, base_commits, commits_stay, tables_stay}
+use Rattle.kpn_book.specs.Refusals.{Takes}
 use Rattle.kpn_region.specs.Batch.{stop_in}
-use Rattle.kpn_pool_desk.proofs.InARow.{IsFurther}
-
--- ---- a claim
-
-pub same_book : (b : Book) → IsSameBook b b
-same_book b = record {
-  same = refl;
-  rest = refl;
-  count = refl;
-  channels = λ c. record { same = refl; reserved = λ is. is; roomy = λ is. is };
-}
-
-pub same_network : (before after : Book) → IsSameBook before after → after.tables ≡ before.tables
-same_network before after is = ap (λ (b : Book). b.tables) is.same
-
-pub same_commits : (before after : Book) → IsSameBook before after → after.commits ≡ before.commits
-same_commits before after is = ap (λ (b : Book). b.commits) is.same
-
-pub claimed_network : (of : _) (most : ℕ) (drains : Bool) (batch : Batch) (before after : Book)
-    → ClaimsRegion of most drains batch before after → after.tables ≡ before.tables
-claimed_network of most drains batch before after is =
-    ap (λ (b : Book). b.tables) is.held ∙ same_network before is.roomy is.same
-
-pub claimed_commits : (of : _) (most : ℕ) (drains : Bool) (batch : Batch) (before after : Book)
-    → ClaimsRegion of most drains batch before after → after.commits ≡ before.commits
-claimed_commits of most drains batch before after is =
-    ap (λ (b : Book). b.commits) is.held ∙ same_commits before is.roomy is.same
+use Rattle.kpn_pool_desk.specs.declared.taking.Takers.{Takers}
+use Rattle.kpn_pool_desk.specs.declared.taking.Takers.TheVariants.{Workers}
+use Rattle.kpn_pool_desk.specs.Desk.{Desk, with_book}
+use Rattle.kpn_pool_desk.specs.RegionTurn.{TakesOn, no_take, one_take_more}
 
 -- ---- a commit
+
+-- the network is the same, and no commit is taken back
+pub record IsFurther (before after : Book) : Type 0 where
+  pub tables : after.tables ≡ before.tables
+  pub commits : before.commits ≤ after.commits
 
 stays : (before after : Book) → after ≡ before → IsFurther before after
 stays before after same =
@@ -94,3 +76,25 @@ region_further batch memory before after is =
     let rest = settled_further batch _ is.settle in
     let more = rest.commits in
     record { tables = rest.tables; commits = omega (arith, more) }
+
+-- ---- takes
+
+-- one take more, if the workers take
+pub one_take_on : (takers : Takers) (wanted : Option ℕ) (sink : ℕ) (first before after : Book)
+    → takers ≡ Workers wanted → TakesOn takers first before → (item : ℤ) × Takes sink (Some item) before after
+    → TakesOn takers first after
+one_take_on takers wanted sink first before after may so_far take =
+    one_take_more before after wanted sink take.0 may so_far take.1
+
+takes_then : (takers : Takers) (first between : Book) {b : Book} → TakesOn takers first between
+    → TakesOn takers between b → TakesOn takers first b
+takes_then takers first between one no_take = one
+takes_then takers first between one (one_take_more before after wanted sink item may so_far take) =
+    one_take_more before after wanted sink item may (takes_then takers first between one so_far) take
+
+pub takes_on_from : (first before after : Desk) → before ≡ with_book before.book first
+    → TakesOn first.takers first.book before.book → TakesOn before.takers before.book after.book
+    → TakesOn first.takers first.book after.book
+takes_on_from first before after same one two =
+    takes_then first.takers first.book before.book one
+    (subst (λ takers. TakesOn takers before.book after.book) (ap (λ d. d.takers) same) two)

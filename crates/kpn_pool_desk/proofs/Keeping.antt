@@ -6,7 +6,7 @@ use Rattle.kpn_net.specs.declared.tables.ChannelSpec.{ChannelSpec}
 use Rattle.kpn_net.specs.Tables.{Tables, channel_at, is_source, is_sink}
 use Rattle.kpn_history.specs.declared.event.Event.{Event}
 use Rattle.kpn_history.specs.declared.keeping.Keeping.{Keeping}
-use Rattle.kpn_book.specs.Book.{Book, IsClaimed}
+use Rattle.kpn_book.specs.Book.{Book}
 use Rattle.kpn_book.specs.Kept.{IsBook}
 use Rattle.kpn_book.specs.Appending.{Appends, Happens}
 use Rattle.kpn_book.specs.declared.answers.Refused.{Refused}
@@ -14,7 +14,7 @@ use Rattle.kpn_book.specs.declared.answers.Refused.TheVariants.{NoMemory, NoSuch
 use Rattle.kpn_book.specs.Refusals.{RefusesFeed, RefusesClose, RefusesTake, RefusesLeave, closes_by, takes_item, leaves_by}
 use Rattle.kpn_book.specs.Remembering.{RemembersAsMuch}
 use Rattle.kpn_book.proofs.Appended.{commits_stay, tables_stay}
-use Rattle.kpn_book.proofs.Remembered.{same_much, appends_much, happens_much, claimed_much}
+use Rattle.kpn_book.proofs.Remembered.{same_much, appends_much, happens_much}
 use Rattle.kpn_pool_desk.specs.Desk.{Desk, IsDesk, with_book, with_total}
 use Rattle.kpn_pool_desk.specs.OutsideSeats.{MayRefuseFeed, MayRefuseEnd, MayRefuseTake}
 
@@ -56,13 +56,6 @@ takes c (Some v) before after h = happens _ before after h.1
 pub leaves : (left : Bool) (c : ℕ) (before after : Book) → leaves_by left c before after → KeepsCount before after
 leaves true c before after h = stays before after h
 leaves false c before after h = happens _ before after h
-
-pub claimed : (p : ℕ) (before after : Book) → IsClaimed p before after → KeepsCount before after
-claimed p before after is = record {
-  tables = ap (λ b. b.tables) is.same;
-  commits = ap (λ b. b.commits) is.same;
-  remembers = claimed_much p before after is;
-}
 
 -- ---- a desk whose book has changed is still one of the same run
 

@@ -10,10 +10,10 @@ use Rattle.kpn_book.specs.Kept.{IsBook}
 use Rattle.kpn_book.specs.Remembering.{Remembers}
 use Rattle.kpn_pool_desk.specs.declared.phases.NextMove.{NextMove}
 use Rattle.kpn_pool_desk.specs.declared.phases.NextMove.TheVariants as next
-use Rattle.kpn_pool_desk.specs.declared.rows.Takers.{Takers}
-use Rattle.kpn_pool_desk.specs.declared.rows.Takers.TheVariants.{Seats}
 use Rattle.kpn_pool_desk.specs.declared.seat.Why.{Why}
 use Rattle.kpn_pool_desk.specs.declared.seat.Why.TheVariants.{Halted, Settled, Limit}
+use Rattle.kpn_pool_desk.specs.declared.taking.Takers.{Takers}
+use Rattle.kpn_pool_desk.specs.declared.taking.Takers.TheVariants.{Seats}
 
 -- the book of the run, the total of the ledger in which commits are counted, the mark that the workers have to end, how
 -- many workers there are, how many of them have not ended, and who takes what comes to the sinks

@@ -11,11 +11,9 @@ use Rattle.kpn_book.specs.Commits.{IsOwnAdvance, Commits}
 use Rattle.kpn_pool_desk.specs.declared.turn.Stepped.{Stepped}
 use Rattle.kpn_pool_desk.specs.declared.seat.Why.{Why}
 use Rattle.kpn_pool_desk.specs.declared.seat.Why.TheVariants.{Abandoned, NoMemory}
-use Rattle.kpn_pool_desk.specs.declared.gate.Go.{Go}
 use Rattle.kpn_pool_desk.specs.declared.phases.NextMove.{NextMove}
 use Rattle.kpn_pool_desk.specs.declared.phases.NextMove.TheVariants as next
 use Rattle.kpn_pool_desk.specs.Desk.{Desk, EndsFor, KeepsWorkers}
-use Rattle.kpn_pool_desk.specs.Rows.{GoesInRows}
 
 -- the process that was claimed last, if one was, with its frame, and the steps from there, if they are made
 pub record Turn : Type 0 where
@@ -121,18 +119,13 @@ pub record SettlesTurns (b : HeldTurns) (why : Option Why) (before after : Desk)
 
 -- ---- a worker that is back
 
--- after a batch was settled, a worker ends if there is a reason for that; else it makes turns in a row, and if it ends
--- then, there is a reason too
-abbrev pub GoesOnAfter : (may_answer : (worker process : ℕ) → Go → Type 0) → (quota most : ℕ) → Option Why → NextMove
-    → (between after : Desk) → Type 0
-GoesOnAfter may_answer quota most (Some why) then between after = (then ≡ next.End why) × (after ≡ between)
-GoesOnAfter may_answer quota most None then between after =
-    GoesInRows may_answer quota most between after × EndsFor after most then
+-- after a batch was settled, a worker ends if there is a reason for that, and else only if the desk has one
+abbrev pub GoesOnAfter : (most : ℕ) → Option Why → NextMove → Desk → Type 0
+GoesOnAfter most (Some why) then after = then ≡ next.End why
+GoesOnAfter most None then after = EndsFor after most then
 
 -- its batch is settled, and it goes on after that
-pub record ComesBackWithTurns (may_answer : (worker process : ℕ) → Go → Type 0) (quota most : ℕ) (b : HeldTurns)
-    (then : NextMove) (before after : Desk) : Type 0 where
+pub record ComesBackWithTurns (most : ℕ) (b : HeldTurns) (then : NextMove) (before after : Desk) : Type 0 where
   pub why : Option Why
-  pub between : Desk
-  pub settles : SettlesTurns b why before between
-  pub goes_on : GoesOnAfter may_answer quota most why then between after
+  pub settles : SettlesTurns b why before after
+  pub goes_on : GoesOnAfter most why then after

@@ -1,6 +1,5 @@
 pub mod Gate
 pub mod Desk
-pub mod Rows
 pub mod RegionTurn
 pub mod Seat
 pub mod Invariant

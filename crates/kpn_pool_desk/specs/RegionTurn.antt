@@ -1,20 +1,20 @@
 -- What a worker does with a region between two holds of the lock.
-use Rattle.std.specs.Prelude.{◌≡◌, ℕ, ◌⊎◌, Bool, true, false, List, Option, Some, None}
+use Rattle.std.specs.Prelude.{◌≡◌, ℕ, ◌⊎◌, Bool, true, false, ℤ, List, Option, Some, None}
 use Rattle.kpn_region.specs.Batch.{Batch, RunsOn}
 use Rattle.kpn_book.specs.declared.answers.Refused.{Refused}
 use Rattle.kpn_book.specs.declared.answers.Refused.TheVariants as refused
 use Rattle.kpn_book.specs.Book.{Book}
 use Rattle.kpn_book.specs.RegionClaims.{ClaimsRegion}
 use Rattle.kpn_book.specs.RegionCalls.{CommitsRegion, RefusesRegion}
+use Rattle.kpn_book.specs.Refusals.{Takes}
 use Rattle.kpn_book.specs.Regions.{batch_put_back}
 use Rattle.kpn_pool_desk.specs.declared.phases.NextMove.{NextMove}
 use Rattle.kpn_pool_desk.specs.declared.phases.NextMove.TheVariants as next
-use Rattle.kpn_pool_desk.specs.declared.rows.Takers.{Takers}
-use Rattle.kpn_pool_desk.specs.declared.rows.Takers.TheVariants.{Seats, Workers}
 use Rattle.kpn_pool_desk.specs.declared.seat.Why.{Why}
 use Rattle.kpn_pool_desk.specs.declared.seat.Why.TheVariants.{NoMemory}
+use Rattle.kpn_pool_desk.specs.declared.taking.Takers.{Takers}
+use Rattle.kpn_pool_desk.specs.declared.taking.Takers.TheVariants.{Seats, Workers}
 use Rattle.kpn_pool_desk.specs.Desk.{Desk, EndsFor, KeepsWorkers, with_book}
-use Rattle.kpn_pool_desk.specs.Rows.{TakesOn}
 
 -- the region in hand, if one is held
 abbrev pub held_of : (is_held : Bool) → Option Batch → Option Batch
@@ -65,6 +65,12 @@ pub record SettlesRegion (hand : Option Batch) (why : Option Why) (before after 
   pub in_hand : hand ≡ Some batch
   pub ends : EndsSettled batch why before after
   pub keeps : KeepsWorkers before after
+
+-- takes from sinks lead from the first book to this one, if the workers take
+pub data TakesOn (takers : Takers) (first : Book) : Book → Type 0 where
+  no_take : TakesOn takers first first
+  one_take_more : (before after : Book) (wanted : Option ℕ) (sink : ℕ) (item : ℤ) → takers ≡ Workers wanted
+      → TakesOn takers first before → Takes sink (Some item) before after → TakesOn takers first after
 
 -- after a region was settled, a worker ends if there is a reason for that; else it takes from the sinks, if the workers
 -- take, and if it ends then, there is a reason too

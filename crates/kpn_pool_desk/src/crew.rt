@@ -10,12 +10,10 @@
 //! A worker that joins claims its part of the processes that are ready, by the number of workers and rounded up, but no
 //! more than eight: so others find some too. A process of such a batch waits for the turns of those before it.
 //!
-//! A worker joins if a process is ready and fewer workers are busy than pays. No more pay than there are processors. It
-//! joins in any case if it has rested in vain: nobody has committed since it left the lock, so the gate or long turns hold
-//! those that are busy. If it has looked on in vain, it joins if there is a processor for it.
-//!
-//! If no more than one worker pays, that one makes turns in a row while it has the lock. Once the network is cut into
-//! regions, workers claim these in place of processes, and each counts as one turn (`division.rt`).
+//! A worker joins if there is something to claim and fewer workers are busy than there are processors. It joins in any
+//! case if it has rested in vain: nobody has committed since it left the lock, so the gate or long turns hold those that
+//! are busy. If it has looked on in vain, it joins if there is a processor for it. Where there are regions, workers claim
+//! these in place of processes (`division.rt`).
 //!
 //! **No notification is lost.** A worker is counted as one that rests, or as one that was notified, under the lock. A
 //! `Condvar` that is notified once the lock is free wakes a worker that began to rest before that. So each one that is
@@ -34,10 +32,7 @@
 ghost use Rattle.std.specs.Prelude.{◌≡◌, ◌<◌, ◌-◌, true, max};
 ghost use Rattle.kpn_pool_desk.specs.Desk.{share_of};
 
-use crate::tuning::{
-    FIRST_HOLD_NANOSECONDS, HOLDS_WITHOUT_ROW, LONGEST_HOLD_NANOSECONDS, LONGEST_TURN_NANOSECONDS,
-    PARTS_OF_THE_MEAN, REST_MILLISECONDS, TURNS_PER_BATCH, WATCH_MILLISECONDS,
-};
+use crate::tuning::{REST_MILLISECONDS, TURNS_PER_BATCH, WATCH_MILLISECONDS};
 use std::mem;
 use std::time::Duration;
 
@@ -59,7 +54,7 @@ pub enum Awaited {
     Ended,
 }
 
-/// How many workers there are of each kind, what their turns take, and whether somebody outside waits.
+/// How many workers there are of each kind, and whether somebody outside waits.
 #[derive(Clone, Copy, Default)]
 pub(crate) struct Crew {
     // those that have not ended
@@ -73,14 +68,8 @@ pub(crate) struct Crew {
     notified: usize,
     // one of those that rest keeps watch
     is_watched: bool,
-    // so many processes were ready when somebody last claimed or the outside last called
+    // so many were left to claim when somebody last claimed or the outside last called
     left: usize,
-    // the mean of the nanoseconds for which a turn leaves the lock free
-    away: u32,
-    // and of those for which it keeps the lock
-    hold: u32,
-    // whole regions are claimed, each of which pays
-    goes_by_regions: bool,
     // somebody outside sleeps until the outside is called
     is_awaited: bool,
     // somebody of those sleeps until a sink has an item
@@ -89,8 +78,6 @@ pub(crate) struct Crew {
     awaits_room: bool,
     // the next one that lets the lock go is to call the outside
     owes_call: bool,
-    // the outside was called and has not come: so many times more, a worker that is back makes no row before it
-    yields: u32,
 }
 
 /// How many processes one of so many workers claims if so many are ready: its part of them, but no more than a batch.
@@ -98,17 +85,6 @@ pub(crate) fn share(workers: usize, ready: usize) -> usize
     ensures { result ≡ share_of (max workers 1) ready }
 {
     ready.div_ceil(workers.max(1)).min(TURNS_PER_BATCH)
-}
-
-/// The mean of nanoseconds, with so many turns more, which took this time together. A mean of 0 is of none.
-fn mean_with(mean: u32, taken: Duration, turns: usize, longest: u32) -> u32
-    requires { 0 < turns }
-{
-    let nanos = u32::try_from(taken.as_nanos() / turns as u128).unwrap_or(longest);
-    if mean == 0 {
-        return nanos.min(longest);
-    }
-    (mean - mean / PARTS_OF_THE_MEAN).saturating_add(nanos.min(longest) / PARTS_OF_THE_MEAN)
 }
 
 impl Crew {
@@ -119,7 +95,6 @@ impl Crew {
         Crew {
             working: workers,
             most: workers,
-            hold: FIRST_HOLD_NANOSECONDS,
             ..Crew::default()
         }
     }
@@ -136,23 +111,9 @@ impl Crew {
         self.working == 0
     }
 
-    /// Whether a worker may join if so many processes are ready. One that has waited in vain may.
-    pub(crate) fn has_place(&self, ready: usize, in_vain: bool) -> bool {
-        ready > 0 && (in_vain || self.busy < self.paying())
-    }
-
-    /// How many busy workers pay.
-    fn paying(&self) -> usize {
-        if self.goes_by_regions {
-            return self.most;
-        }
-        self.fitting().min(self.most)
-    }
-
-    /// How many turns fit into the time that one of them takes with its hold: so many workers pay if there are as many
-    /// processors.
-    fn fitting(&self) -> usize {
-        (self.away / self.hold.max(1)) as usize + 1
+    /// Whether a worker may join if there are so many to claim. One that has waited in vain may.
+    pub(crate) fn has_place(&self, claimable: usize, in_vain: bool) -> bool {
+        claimable > 0 && (in_vain || self.has_processor())
     }
 
     /// There are so many processors.
@@ -172,19 +133,6 @@ impl Crew {
         self.busy < self.most
     }
 
-    /// Whether a worker that is back makes turns in a row while it has the lock: they are too short to pay for it, and
-    /// the outside does not wait for the lock. Before turns were measured it makes none.
-    pub(crate) fn makes_rows(&self) -> bool {
-        self.away > 0 && self.fitting() == 1 && self.yields == 0
-    }
-
-    /// From now on workers claim whole regions, or processes.
-    pub(crate) fn go_by_regions(&mut self, goes_by_regions: bool)
-        ensures { self.new.working ≡ self.old.working }
-    {
-        self.goes_by_regions = goes_by_regions;
-    }
-
     /// A worker is busy from now on.
     pub(crate) fn join(&mut self)
         ensures { self.new.working ≡ self.old.working }
@@ -192,27 +140,12 @@ impl Crew {
         self.busy = self.busy.saturating_add(1);
     }
 
-    /// A worker is back from so many turns, which left the lock free for so long if they were measured; from none if it
-    /// comes for the first time.
-    pub(crate) fn come_back(&mut self, turns: usize, away: Option<Duration>)
-        ensures { self.new.working ≡ self.old.working }
-    {
-        if turns == 0 {
-            return;
-        }
-        self.yields = self.yields.saturating_sub(1);
-        self.busy = self.busy.saturating_sub(1);
-        if let Some(away) = away {
-            self.away = mean_with(self.away, away, turns, LONGEST_TURN_NANOSECONDS);
-        }
-    }
-
-    /// A worker has had the lock for so long to commit so many turns and to claim the next ones.
-    pub(crate) fn held(&mut self, turns: usize, held: Duration)
+    /// A worker is back from so many turns; from none if it comes for the first time.
+    pub(crate) fn come_back(&mut self, turns: usize)
         ensures { self.new.working ≡ self.old.working }
     {
         if turns > 0 {
-            self.hold = mean_with(self.hold, held, turns, LONGEST_HOLD_NANOSECONDS);
+            self.busy = self.busy.saturating_sub(1);
         }
     }
 
@@ -271,20 +204,17 @@ impl Crew {
         self.owes_call = true;
     }
 
-    /// A worker claims or ends, or a call of the outside was made, and so many processes are left ready. Returns
-    /// whether one of those that rest is to be notified, and counts it.
-    pub(crate) fn notify(&mut self, ready: usize, is_call: bool) -> bool
+    /// A worker claims or ends, or a call of the outside was made, and so many are left to claim. Returns whether one of
+    /// those that rest is to be notified, and counts it.
+    pub(crate) fn notify(&mut self, claimable: usize, is_call: bool) -> bool
         ensures { self.new.working ≡ self.old.working }
     {
-        if is_call {
-            self.yields = 0;
-        }
-        let are_more = ready > mem::replace(&mut self.left, ready);
+        let are_more = claimable > mem::replace(&mut self.left, claimable);
         let coming = self.looking.saturating_add(self.notified);
         let awake = self.busy.saturating_add(coming);
-        let pays = awake < self.paying().min(self.busy.saturating_add(ready));
-        let is_alone = ready > 0 && coming == 0 && (is_call && are_more || !self.is_watched);
-        let is_wanted = self.resting > self.notified && (pays || is_alone);
+        let has_place = awake < self.most.min(self.busy.saturating_add(claimable));
+        let is_alone = claimable > 0 && coming == 0 && (is_call && are_more || !self.is_watched);
+        let is_wanted = self.resting > self.notified && (has_place || is_alone);
         if is_wanted {
             self.notified = self.notified.saturating_add(1);
         }
@@ -341,7 +271,6 @@ impl Crew {
         let calls = self.is_to_call();
         self.owes_call = false;
         if calls {
-            self.yields = HOLDS_WITHOUT_ROW;
             self.is_awaited = false;
             self.awaits_item = false;
             self.awaits_room = false;

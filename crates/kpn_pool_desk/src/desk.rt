@@ -19,12 +19,13 @@ use crate::crew::{Awaited, Crew, Need, share};
 use crate::division::Division;
 use crate::job::Job;
 use crate::outside_seats::SinkSeat;
-use crate::rows::Takers;
 use crate::seat::{Why, WorkerSeat};
+use crate::taking::Takers;
 use kpn_book::laws::{a_quiet_book, growths, journals, the_history};
-use kpn_book::{Book, Counts, Done, Event, Keeping, Refused, View};
+use kpn_book::{Book, Counts, Done, Keeping, Refused, View};
 use kpn_chan::Unread;
 use kpn_net::Network;
+use kpn_step::Stop;
 use std::alloc::{AllocError, Allocator, Global};
 use std::marker::Model;
 use std::sync::ledger;
@@ -303,30 +304,14 @@ impl<'n, J: Job, A: Allocator> Desk<'n, J, A> {
         }
     }
 
-    /// Whether the last event was a put that the outside is to take: its sink is half full, or somebody waits for an
-    /// item.
-    fn has_filled(&self) -> bool {
-        match self.book.history().last() {
-            Some(Event::Put(_, c, _)) => self.is_filled(usize::from(c), self.crew.awaits_item()),
-            _ => false,
-        }
-    }
-
-    /// Whether the last event has read from a source.
-    fn has_drained(&self) -> bool {
-        match self.book.history().last() {
-            Some(Event::Get(_, c, _)) => self.book.network().is_source(usize::from(c)),
-            _ => false,
-        }
-    }
-
-    /// Notes that the outside is to be called, if a commit that did this may have ended its wait: it has put an item on
-    /// a sink that is half full or awaited, or has made room at a source that is awaited.
-    pub(crate) fn note(&mut self, done: Done)
+    /// Notes that the outside is to be called, if a commit of process `p` that did this at its stop may have ended a
+    /// wait of the outside: it has put an item on a sink that is half full or awaited, or has made room at a source
+    /// that is awaited.
+    pub(crate) fn note(&mut self, p: usize, stop: Stop, done: Done)
         ensures { self.new ≡ self.old }
     {
         let owes = match done {
-            Done::Put | Done::Got(_) => self.has_served(),
+            Done::Put | Done::Got(_) => self.has_served(p, stop),
             Done::Ended => self.crew.awaits_room(),
             _ => false,
         };
@@ -344,28 +329,34 @@ impl<'n, J: Job, A: Allocator> Desk<'n, J, A> {
         }
     }
 
-    /// Notes the same of turns in a row, which may have read from a source. If there is enough, the outside is called.
-    pub(crate) fn note_rows(&mut self)
-        ensures { self.new ≡ self.old }
-    {
-        if self.crew.awaits_room() || self.have_taken_enough() {
-            self.crew.owe_call();
-        }
-    }
-
-    /// Notes the same of a region, which may have put items on all sinks.
+    /// Notes the same of a region, which may have put items on all sinks and read from a source. If there is enough, the
+    /// outside is called.
     pub(crate) fn note_sinks(&mut self)
         ensures { self.new ≡ self.old }
     {
         'channels: for c in 0..self.book.network().channels() {
             self.note_put(c);
         }
-        self.note_rows();
+        if self.crew.awaits_room() || self.have_taken_enough() {
+            self.crew.owe_call();
+        }
     }
 
-    /// Whether the last event was a put or a get that somebody outside waits for.
-    fn has_served(&self) -> bool {
-        self.has_filled() || self.crew.awaits_room() && self.has_drained()
+    /// Whether a get or put of process `p` at this stop is one that somebody outside waits for.
+    fn has_served(&self, p: usize, stop: Stop) -> bool {
+        let network = self.book.network();
+        if p >= network.instances() {
+            return false;
+        }
+        let channel = match stop {
+            Stop::WantWrite(port, _item) => network.outs(p).get(port),
+            Stop::WantRead(port) if self.crew.awaits_room() => network.ins(p).get(port),
+            _ => None,
+        };
+        match channel {
+            Some(c) => network.is_source(*c) || self.is_filled(*c, self.crew.awaits_item()),
+            None => false,
+        }
     }
 
     /// The workers have to end.

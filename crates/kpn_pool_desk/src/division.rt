@@ -2,12 +2,13 @@
 //!
 //! Where turns are short, the lock costs more than they do. So a worker then claims the processes of a whole region,
 //! runs them with the lock free, and commits what they have done together. Before that, the first turns of a run are
-//! timed, and the network is cut by what each process took.
+//! timed. Then the whole network is one region, and later it is cut by what each process took.
 //!
 //! Regions are claimed while the limit of commits is so far that each of those that are held, and one more, may use all
-//! of its budget. Nearer to it, the workers make turns, or rows of them, once no region is held. While one is held, a
-//! worker waits rather than claim a single process: one of a held region that moves by itself would make the region's
-//! batch lost, which is put back then.
+//! of its budget. Nearer to it, the workers make turns, once no region is held. While one is held, a worker waits rather
+//! than claim a single process: one of a held region that moves by itself would make the region's batch lost, which is
+//! put back then. While others hold single processes, it waits for theirs, so that their regions can be claimed, unless
+//! it has waited in vain.
 ghost use Rattle.std.specs.Prelude.{◌≡◌, ◌<◌, true, false, IfOk, IfSome, OnErr};
 ghost use Rattle.std.specs.List.{All};
 ghost use Rattle.kpn_book.specs.RegionClaims.{IsSameBook};
@@ -18,7 +19,7 @@ ghost use Rattle.kpn_pool_desk.specs.RegionTurn.{DrainsFor, ClaimsFor};
 use crate::desk::Desk;
 use crate::job::Job;
 use crate::regions::{Regions, Times};
-use crate::rows::Takers;
+use crate::taking::Takers;
 use crate::tuning::{
     COMMITS_BEFORE_CUT, COMMITS_FACTOR_OF_NEXT_CUT, EVENTS_PER_REGION, LONGEST_TURN_NANOSECONDS,
     TIMED_COMMITS,
@@ -59,7 +60,7 @@ impl<A: Allocator> Division<A> {
             limit: 0,
             taken: Vec::new(alloc),
             turns: Vec::new(alloc),
-            due: COMMITS_BEFORE_CUT,
+            due: TIMED_COMMITS,
             from: 0,
             regions: None,
             held: 0,
@@ -100,7 +101,7 @@ impl<A: Allocator> Division<A> {
             return;
         }
         if let Some(taken) = self.taken.get_mut(process) {
-            *taken = taken.saturating_add(nanos.min(u64::from(LONGEST_TURN_NANOSECONDS)));
+            *taken = taken.saturating_add(nanos.min(LONGEST_TURN_NANOSECONDS));
         }
         if let Some(turns) = self.turns.get_mut(process) {
             *turns = turns.saturating_add(1);
@@ -116,19 +117,26 @@ impl<A: Allocator> Division<A> {
         if self.limit == 0 || self.held > 0 || commits < self.due {
             return;
         }
-        self.due = commits.saturating_mul(COMMITS_FACTOR_OF_NEXT_CUT);
-        match self.cut(book, drains, workers) {
+        // what has gone through so far says little of the parts of the network
+        let is_whole = commits < COMMITS_BEFORE_CUT;
+        self.due = if is_whole {
+            COMMITS_BEFORE_CUT
+        } else {
+            commits.saturating_mul(COMMITS_FACTOR_OF_NEXT_CUT)
+        };
+        match self.cut(book, drains, workers, is_whole) {
             Ok(regions) => self.regions = regions,
             Err(_error) => self.stop(),
         }
     }
 
-    /// Cuts the network by what was timed and what its channels have carried.
+    /// Cuts the network by what was timed and what its channels have carried, or makes one region of it.
     fn cut(
         &self,
         book: &Book<'_, A>,
         drains: bool,
         workers: usize,
+        is_whole: bool,
     ) -> Result<Option<Regions<A>>, AllocError>
     where
         A: Copy,
@@ -149,6 +157,7 @@ impl<A: Allocator> Division<A> {
             times,
             drains,
             workers,
+            is_whole,
         )
     }
 
@@ -220,23 +229,17 @@ impl<'n, J: Job, A: Allocator> Desk<'n, J, A> {
         let drains = self.drains();
         self.division
             .cut_if_due(&self.book, drains, self.crew.most());
-        let goes_by_regions = self.goes_by_regions();
-        self.crew.go_by_regions(goes_by_regions);
     }
 
-    /// Whether a worker that has the lock makes turns in a row.
-    pub(crate) fn makes_rows(&self) -> bool {
-        self.crew.makes_rows() && !self.goes_by_regions() && !self.times()
-    }
-
-    /// How many there are to claim: regions, or, where none is held and none may be claimed, processes.
-    pub(crate) fn claimable(&self) -> usize {
+    /// How many there are to claim: regions, or processes where there are none. A worker that has waited in vain for
+    /// those who hold single processes claims such too.
+    pub(crate) fn claimable(&self, in_vain: bool) -> usize {
         let ready = self.ready();
         if ready == 0 || !self.goes_by_regions() {
             return ready;
         }
         let regions = self.claimable_regions();
-        if regions == 0 && self.division.held == 0 {
+        if regions == 0 && in_vain && self.division.held == 0 {
             return ready;
         }
         regions

@@ -63,7 +63,7 @@ impl<'n, J: Job, A: Allocator> Desk<'n, J, A> {
         if let Some(why) = self.reason_to_end(most) {
             return NextMove::End(why);
         }
-        if self.crew.has_place(self.claimable(), in_vain) {
+        if self.crew.has_place(self.claimable(in_vain), in_vain) {
             return NextMove::Claim;
         }
         let commits = self.book.commits();
@@ -105,24 +105,22 @@ impl<'n, J: Job, A: Allocator> Desk<'n, J, A> {
         self.next(most, in_vain, is_notified)
     }
 
-    /// A worker steps what it has claimed from now on. It has had the lock for so long, if that was measured, to commit
-    /// so many turns and for the claim. A worker is notified if one is wanted beside this one, and the outside if a
-    /// sink is to be taken from. Returns this, and how many commits there are.
-    pub fn join(&mut self, turns: usize, held: Option<Duration>) -> (Notices, u64)
+    /// A worker steps what it has claimed from now on. A worker is notified if one is wanted beside this one, and the
+    /// outside if a sink is to be taken from. Returns this.
+    pub fn join(&mut self) -> Notices
         ensures { self.new ≡ self.old }
     {
-        let claimable = self.claimable();
-        if let Some(held) = held {
-            self.crew.held(turns, held);
-        }
+        let claimable = self.claimable(false);
         self.crew.join();
         let workers = if self.crew.notify(claimable, false) {
             Workers::One
         } else {
             Workers::Nobody
         };
-        let outside = self.crew.call();
-        (Notices { workers, outside }, self.book.commits())
+        Notices {
+            workers,
+            outside: self.crew.call(),
+        }
     }
 
     /// A call of the outside was made. A worker is notified if the call has made a process ready, and all if the run is
@@ -130,7 +128,7 @@ impl<'n, J: Job, A: Allocator> Desk<'n, J, A> {
     pub fn tell(&mut self) -> Notices
         ensures { self.new ≡ self.old }
     {
-        let claimable = self.claimable();
+        let claimable = self.claimable(false);
         let notifies = self.crew.notify(claimable, true);
         let workers = if self.book.verdict().is_some() {
             Workers::All
@@ -151,7 +149,8 @@ impl<'n, J: Job, A: Allocator> Desk<'n, J, A> {
         match seats {
             Some(seats) => self.are_due(seats),
             None => {
-                self.crew.has_place(self.claimable(), false) || self.reason_to_end(most).is_some()
+                self.crew.has_place(self.claimable(false), false)
+                    || self.reason_to_end(most).is_some()
             }
         }
     }

@@ -8,7 +8,6 @@ ghost use Rattle.kpn_pool_desk.specs.RegionTurn.{ClaimsOne, Runs, SettlesRegion,
 use crate::desk::Desk;
 use crate::gate::Gate;
 use crate::job::Job;
-use crate::pace::Pace;
 use crate::phases::NextMove;
 use crate::seat::{Why, WorkerSeat};
 use crate::tuning::{CLAIMS_OF_ONE_REGION, EVENTS_PER_REGION, STEPS_PER_SHORT_TURN};
@@ -142,13 +141,13 @@ impl<'n, J: Job, A: Allocator> RegionTurn<'n, J, A> {
         }
     }
 
-    /// A worker is back from this region. It commits what the region has done, and takes from the sinks, if the workers
-    /// take. Returns what it does next, if `most` commits are allowed.
+    /// A worker is back from this region, which it claimed after so many commits. It commits what the region has done,
+    /// and takes from the sinks, if the workers take. Returns what it does next, if `most` commits are allowed.
     pub fn come_back(
         &mut self,
         desk: &mut Desk<'n, J, A>,
         seat: &mut WorkerSeat<J>,
-        pace: &Pace,
+        commits: u64,
         most: u64,
     ) -> NextMove
     where
@@ -159,9 +158,9 @@ impl<'n, J: Job, A: Allocator> RegionTurn<'n, J, A> {
         ensures commits { seat.old.commits ≤ seat.new.commits }
         ensures does { ComesBackFromRegion most self.old result desk.old desk.new }
     {
-        let is_alone = desk.book.commits() == pace.commits;
+        let is_alone = desk.book.commits() == commits;
         let before = seat.commits();
-        desk.crew.come_back(1, pace.away);
+        desk.crew.come_back(1);
         desk.division.release();
         let why = self.settle(desk, seat);
         self.is_held = false;

@@ -16,7 +16,8 @@ pub(crate) struct Regions<A: Allocator> {
 
 impl<A: Allocator + Copy> Regions<A> {
     /// Cuts a network for so many workers, by how many items each of its channels has carried and how long its turns
-    /// took: into one region, or several. `None` if turns are faster. The error is that memory ran out.
+    /// took: into one region, or several if it need not stay whole. `None` if turns are faster. The error is that
+    /// memory ran out.
     pub(crate) fn cut(
         alloc: A,
         network: &Network,
@@ -24,11 +25,14 @@ impl<A: Allocator + Copy> Regions<A> {
         times: Times<'_>,
         drains: bool,
         workers: usize,
+        is_whole: bool,
     ) -> Result<Option<Self>, AllocError> {
         let flows = flows(alloc, network, carried)?;
         let by_turns = time_by_turns(alloc, network, carried, times, workers)?;
         let in_regions = loads(alloc, network, carried, times, Way::Regions { drains })?;
-        match Cut::best(alloc, &in_regions, &flows, workers, by_turns)? {
+        // for one worker no cut is better than none
+        let at_once = if is_whole { 1 } else { workers };
+        match Cut::best(alloc, &in_regions, &flows, at_once, by_turns)? {
             Some(cut) => Ok(Some(Regions::of(alloc, cut.regions())?)),
             None => Ok(None),
         }

@@ -1,12 +1,11 @@
 //! The seat of a worker: what it knows of its own work.
-ghost use Rattle.std.specs.Prelude.{◌≡◌, ◌+◌, ◌-◌, ◌<◌, ◌≤◌, ◌^◌, max, IfOk, IfErr, OnErr, OnOk, Some, None};
+ghost use Rattle.std.specs.Prelude.{◌≡◌, ◌+◌, ◌-◌, ◌<◌, ◌^◌, IfOk, IfErr, OnErr, OnOk, Some, None};
 ghost use Rattle.kpn_net.specs.Tables.{program_of};
 ghost use Rattle.kpn_step.specs.Stops.{IsAdvance, IsAtPort, advanced_of};
 ghost use Rattle.kpn_book.specs.Commits.{Commits};
 ghost use Rattle.kpn_book.specs.Refusals.{RefusesCommit};
 ghost use Rattle.kpn_book.specs.RegionCalls.{CommitsRegion, RefusesRegion};
 ghost use Rattle.kpn_pool_desk.specs.Desk.{with_commit, with_total, without_worker};
-ghost use Rattle.kpn_pool_desk.specs.Rows.{MakesRow};
 ghost use Rattle.kpn_pool_desk.specs.Seat.{new_seat, ended, with_commits};
 
 use crate::desk::Desk;
@@ -122,30 +121,6 @@ impl<J: Job> WorkerSeat<J> {
         desk.book.known();
         self.count(&mut desk.total, 1);
         Ok(done)
-    }
-
-    /// Makes turns in a row, until one has put an item on a sink, no process is ready or memory is refused, and as long
-    /// as the commits are below this number. Returns that sink. If memory is refused, the commit of a next turn says so.
-    pub(crate) fn make_row<A: Allocator + Copy>(
-        &mut self,
-        desk: &mut Desk<'_, J, A>,
-        quota: u32,
-        limit: u64,
-    ) -> Option<usize>
-        ensures made { MakesRow quota result desk.old.book desk.new.book }
-        ensures within { desk.new.book.commits ≤ max desk.old.book.commits limit }
-        ensures same { desk.new ≡ with_total desk.new.book desk.new.total desk.old }
-        ensures share { self.new ≡ with_commits
-            (self.old.commits + (desk.new.book.commits - desk.old.book.commits)) self.old }
-    {
-        desk.known();
-        let before = desk.book.commits();
-        let held = desk.book.counts().held as u64;
-        let most = limit.saturating_sub(before).min(u64::MAX - before - held);
-        let sink = desk.book.run_on(quota, most);
-        desk.book.known();
-        self.count(&mut desk.total, desk.book.commits() - before);
-        sink.unwrap_or(None)
     }
 
     /// Commits what a region has done. Returns whether there was memory for the stop of each of its processes. The book's

@@ -6,54 +6,20 @@
 /// A worker claims no more processes in one hold: so many share its price, and others find enough that are ready.
 pub(crate) const TURNS_PER_BATCH: usize = 8;
 
-/// A worker makes no more commits in a row before it looks what it does next: short ones take some 30 us together.
-pub(crate) const COMMITS_PER_ROW: u64 = 512;
-
-/// Turns of more steps are made in no row and in no region: a step takes 4 to 35 ns (`bench/step/run.py`), and one long
-/// turn after many short ones would keep the lock, or the region, for long.
+/// A process makes no more steps in a region between two gets or puts: a step takes 4 to 35 ns (`bench/step/run.py`), and
+/// one long turn after many short ones would keep the region for long.
 pub(crate) const STEPS_PER_SHORT_TURN: u32 = 1_000;
-
-/// For so long a worker makes turns in a row before it lets the lock go. The outside may have to wait for that: twice as
-/// long as it takes to wake up.
-pub const ROWS_MICROSECONDS: u64 = 100;
-
-/// So many holds of workers make no row, until the outside has come that was called: 64 short ones outlast the 50 us
-/// that it takes to wake up.
-pub(crate) const HOLDS_WITHOUT_ROW: u32 = 64;
 
 /// So many items are fed in one hold: they take some tenths of a millisecond.
 pub const ITEMS_PER_FEED: usize = 16_384;
-
-// ---- how many workers pay
-
-/// What a turn keeps the lock from others, by its commit and its claim, until that is measured: 415 to 667 instructions
-/// (callgrind).
-pub(crate) const FIRST_HOLD_NANOSECONDS: u32 = 450;
-
-/// No hold counts for more: one that was interrupted weighs little.
-pub(crate) const LONGEST_HOLD_NANOSECONDS: u32 = 2_000;
-
-/// No turn counts for more: at so much there pay more workers than a run may have, and one that was interrupted weighs
-/// little.
-pub(crate) const LONGEST_TURN_NANOSECONDS: u32 = 16_000;
-
-/// No turn counts for less: few steps take as long (`bench/step/run.py`).
-pub(crate) const SHORTEST_TURN_NANOSECONDS: u64 = 20;
-
-/// A turn is one part of so many of the mean, which so follows within some hundred turns.
-pub(crate) const PARTS_OF_THE_MEAN: u32 = 8;
-
-/// One of so many batches is measured, since a look at the clock costs as much as a short turn. An even number would
-/// always meet the same processes of 8 or 16.
-pub const BATCHES_PER_MEASURED: u32 = 31;
 
 // ---- how workers wait
 
 /// So many tries to take the lock take some microseconds: less than a sleep and a wake.
 pub const LOCK_TRIES: u32 = 400;
 
-/// Those outside try for longer than a worker that makes turns in a row has the lock, and so get it when it is free for
-/// a moment.
+/// Those outside try for longer than a worker has the lock that commits a region, and so get it when it is free for a
+/// moment.
 pub const LOCK_TRIES_OUTSIDE: u32 = 16_000;
 
 /// Who looks on reads the clock so many times before each try, so that those that are busy get the lock.
@@ -74,9 +40,15 @@ pub(crate) const REST_MILLISECONDS: u64 = 1_000;
 
 // ---- when the network is cut into regions
 
-/// Before so many commits the workers make single turns, which are timed: 20 of each of 100
-/// processes.
+/// Before so many commits the workers make single turns, which are timed: 20 of each of 100 processes. Then the network
+/// is one region.
 pub(crate) const TIMED_COMMITS: u64 = 2_000;
+
+/// No turn counts for more: one that was interrupted weighs little.
+pub(crate) const LONGEST_TURN_NANOSECONDS: u64 = 16_000;
+
+/// No turn counts for less: few steps take as long (`bench/step/run.py`).
+pub(crate) const SHORTEST_TURN_NANOSECONDS: u64 = 20;
 
 /// The network is cut at so many commits, which take some milliseconds.
 pub(crate) const COMMITS_BEFORE_CUT: u64 = 20_000;

@@ -169,7 +169,7 @@ impl<'n, J: Job> Turn<'n, J> {
         };
         match seat.commit(desk, self.process, &last.claim.frame, &last.to, made) {
             Ok(done) => {
-                desk.note(done);
+                desk.note(self.process, made.1, done);
                 true
             }
             Err(cause) => are_foreign(cause),

@@ -8,10 +8,8 @@ use crate::desk::Desk;
 use crate::gate::Gate;
 use crate::held_turns::HeldTurns;
 use crate::job::Job;
-use crate::pace::Pace;
 use crate::phases::NextMove;
 use crate::region_turn::RegionTurn;
-use crate::rows::go_in_rows;
 use crate::seat::{Why, WorkerSeat};
 use std::alloc::Allocator;
 use std::time::Clock;
@@ -21,9 +19,12 @@ use std::time::Clock;
 pub struct Worker<'n, J: Job> {
     pub seat: WorkerSeat<J>,
     pub turns: HeldTurns<'n, J>,
-    pub pace: Pace,
     /// The most steps of a process in a turn.
     pub quota: u32,
+    // how many commits there were when it let the lock go
+    commits: u64,
+    // whether the steps of each process are timed
+    is_timed: bool,
 }
 
 impl<'n, J: Job> Worker<'n, J> {
@@ -34,8 +35,9 @@ impl<'n, J: Job> Worker<'n, J> {
         Worker {
             seat,
             turns: HeldTurns::new(),
-            pace: Pace::new(),
             quota,
+            commits: u64::MAX,
+            is_timed: false,
         }
     }
 
@@ -62,15 +64,14 @@ impl<'n, J: Job> Worker<'n, J> {
         let worker = self.seat.number();
         if region.is_held() {
             region.run(self.quota);
-        } else if self.pace.is_timed {
+        } else if self.is_timed {
             self.turns.step_timed(rt, gate, worker, self.quota);
         } else {
             self.turns.step(gate, worker, self.quota);
         }
     }
 
-    /// The worker is back. It commits what it has in hand: after turns, it makes others in a row. Returns what it does
-    /// next, if `most` commits are allowed.
+    /// The worker is back, and commits what it has in hand. Returns what it does next, if `most` commits are allowed.
     pub fn come_back<A: Allocator + Copy, G: Gate>(
         &mut self,
         desk: &mut Desk<'n, J, A>,
@@ -86,12 +87,13 @@ impl<'n, J: Job> Worker<'n, J> {
             → LetsAll (G.may_answer gate.now) }
     {
         if region.is_held() {
-            return region.come_back(desk, &mut self.seat, &self.pace, most);
+            return region.come_back(desk, &mut self.seat, self.commits, most);
         }
         self.come_back_with_turns(desk, gate, most)
     }
 
-    /// The same with turns in hand. Those that the gate was not asked for are committed only if it lets all through.
+    /// The same with turns in hand: those that the gate has let through are committed. If it lets all through, the
+    /// network may be cut.
     pub fn come_back_with_turns<A: Allocator + Copy, G: Gate>(
         &mut self,
         desk: &mut Desk<'n, J, A>,
@@ -100,13 +102,11 @@ impl<'n, J: Job> Worker<'n, J> {
     ) -> NextMove
         ensures number { self.new.seat.number ≡ self.old.seat.number }
         ensures commits { self.old.seat.commits ≤ self.new.seat.commits }
-        ensures asked { self.old.seat.commits + self.old.turns.passed < self.new.seat.commits
-            → LetsAll (G.may_answer gate.now) }
-        ensures does { ComesBackWithTurns (G.may_answer gate.now) self.old.quota most self.old.turns result
-            desk.old desk.new }
+        ensures asked { self.new.seat.commits ≤ self.old.seat.commits + self.old.turns.passed }
+        ensures does { ComesBackWithTurns most self.old.turns result desk.old desk.new }
     {
-        let is_alone = desk.book.commits() == self.pace.commits;
-        desk.crew.come_back(self.turns.len(), self.pace.away);
+        let is_alone = desk.book.commits() == self.commits;
+        desk.crew.come_back(self.turns.len());
         self.turns.note(desk);
         if let Some(why) = self.turns.settle(desk, &mut self.seat) {
             return NextMove::End(why);
@@ -114,7 +114,6 @@ impl<'n, J: Job> Worker<'n, J> {
         if gate.lets_all() {
             desk.cut();
         }
-        go_in_rows(gate, desk, &mut self.seat, self.quota, most);
         desk.next(most, is_alone, true)
     }
 
@@ -130,9 +129,9 @@ impl<'n, J: Job> Worker<'n, J> {
         ensures seat { self.new.seat ≡ self.old.seat }
         ensures region { IsSome region.new → LetsAll (G.may_answer gate.now) }
     {
-        self.pace.is_timed = desk.times();
+        self.is_timed = desk.times();
+        self.commits = desk.book.commits();
         if region.claim(desk, gate) {
-            self.pace.measure();
             return None;
         }
         match self.turns.claim(desk) {

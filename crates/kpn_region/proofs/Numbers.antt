@@ -1,5 +1,5 @@
 -- Processes and channels of a network have small numbers, and those at its ports are there.
-use Rattle.std.proofs.Common.{◌≡◌, ℕ, ◌<◌, List, length, subst, arith}
+use Rattle.std.proofs.Common.{ℕ, ◌<◌, List, length, subst, arith}
 use Rattle.std.specs.List.{Contains}
 use Rattle.std.proofs.lemmas.List.Elements.{Contains-get_or}
 use Rattle.kpn_net.specs.Tables.{Tables, instance_at}
@@ -17,9 +17,6 @@ module _ (t : Tables) (network : IsNetwork t) where
 
   pub out_there : (p port c : ℕ) → IsChannelAt (instance_at t p).outs port c → c < length t.channels
   out_there p port c at = out_is_there t network p c (among (instance_at t p).outs port c at)
-
-  pub process_fits : (p : ℕ) → p < length t.instances → p < 65536
-  process_fits p there = let few = (sizes t network).instances in omega (arith, few, there)
 
   pub channel_fits : (c : ℕ) → c < length t.channels → c < 65536
   channel_fits c there = let few = (sizes t network).channels in omega (arith, few, there)

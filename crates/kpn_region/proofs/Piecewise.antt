@@ -227,9 +227,6 @@ module _ (b : Batch) (before : Machine) where
 
   module _ (n : ℕ) (between after : Machine) (so_far : JoinsChannels b n before between)
       (there : n < length before.channels) (next : JoinsChannel b n between after) where
-    here_too : n < length between.channels
-    here_too = subst (λ k. n < k) (sym so_far.channels) there
-
     channels_are : after.channels
         ≡ (with_channel n (channel_in after n) between).channels
     channels_are = ap (λ (s : Machine). s.channels) next.rest

@@ -1,5 +1,5 @@
 -- What steps and events of a process do to the state of its region, and what follows for its turn.
-use Rattle.std.proofs.Common.{◌≡◌, ℕ, ◌+◌, ◌*◌, ◌<◌, ◌≤◌, ℤ, true, cond, IsTrue, List, [], ◌∷◌, ◌++◌, length, map, slice_set, Option, Some, None, refl, sym, ap, ◌∙◌, subst, arith, append-nil, append_assoc, length-append, length-set, add-zero}
+use Rattle.std.proofs.Common.{◌≡◌, ℕ, ◌+◌, ◌<◌, ℤ, true, cond, IsTrue, List, [], ◌∷◌, ◌++◌, length, map, slice_set, Option, Some, None, refl, sym, ap, ◌∙◌, subst, arith, append-nil, append_assoc, length-append, length-set, add-zero}
 use Rattle.std.proofs.lemmas.List.{get_or-set_same, set-set, set-get_or, map-set, get_or-map, length-map}
 use Rattle.std.proofs.lemmas.List.Sums.{sum_by-append}
 use Rattle.kpn_net.specs.Tables.{Tables, program_of}
@@ -228,12 +228,3 @@ module _ (t : Tables) (p c : ℕ) (v : ℤ) (f g : Frame) (sides : List SideStat
       → IsPutOn p c v sides events then more → MakesEvents t p 1 f sides events g then more
   goes_by_put then more passes put =
       put_and_taken then more passes put.room put.claimed put.taken put.drained put.takes
-
--- ---- how many events there are
-
-pub few_events : (t : Tables) (p n : ℕ) (f g : Frame) (sides then : List SideState) (events more : List Event)
-    → MakesEvents t p n f sides events g then more → length more ≤ length events + 2 * n
-few_events t p n f g sides then events more goes =
-    let few = goes.few in
-    let long = ap length goes.events_are ∙ length-append events goes.more in
-    omega (arith, few, long)

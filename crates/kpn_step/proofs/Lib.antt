@@ -4,7 +4,6 @@ pub mod Along
 pub mod AtOnce
 pub mod Behind
 pub mod Blocks
-pub mod Changing
 pub mod Going
 pub mod Leaving
 pub mod MayStep

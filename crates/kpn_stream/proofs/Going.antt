@@ -25,18 +25,18 @@ use Rattle.kpn_book.proofs.Stepped.{step_tables, step_history}
 use Rattle.kpn_stream.specs.declared.faults.SourceFault.{SourceFault}
 use Rattle.kpn_stream.specs.declared.faults.SinkFault.{SinkFault}
 use Rattle.kpn_stream.specs.declared.ending.StreamEnding.{StreamEnding}
-use Rattle.kpn_stream.specs.declared.ending.StreamEnding.TheVariants.{SourceFailed, SinkFailed}
+use Rattle.kpn_stream.specs.declared.ending.StreamEnding.TheVariants.{Halted, SourceFailed, SinkFailed}
 use Rattle.kpn_stream.specs.Ending.{end_numbers, AreTaken, failed_sink}
 use Rattle.kpn_stream.specs.Devices.{is_of_outside, is_elsewhere, is_no_growth, NoneIs, is_of_source, is_of_sink, Fed, by_others, by_look, ServedSince, none_yet, meanwhile, took, took_not, took_in_vain, flushed, flushed_not, left, left_not, had_enough, had_enough_not, IsFlushed, AreFlushed, AreFlushedLast, EndsFlushed, AreLookedAt, not_yet, once_more, Called, by_process, by_sinks, looked, read_at_once, waited_for}
-use Rattle.kpn_stream.specs.Streaming.{HappensBesides, MayEnd, MayEndWell, StepsWithinLimits, Serves, MayFail, ReadsSource, ReadsInTurn, none_yet_read, once_more_read, ReadsAtHand, not_read, is_read, StreamGoesOn}
+use Rattle.kpn_stream.specs.Streaming.{HappensBesides, MayEnd, MayHalt, MayEndWell, StepsWithinLimits, Serves, MayFail, ReadsSource, ReadsInTurn, none_yet_read, once_more_read, ReadsAtHand, not_read, is_read, StreamGoesOn}
 
 -- ---- events of other kinds
 
-none_join : (kind : Event → Bool) (es fs : List Event) → NoneIs kind es → NoneIs kind fs → NoneIs kind (es ++ fs)
+pub none_join : (kind : Event → Bool) (es fs : List Event) → NoneIs kind es → NoneIs kind fs → NoneIs kind (es ++ fs)
 none_join kind [] fs first second = second
 none_join kind (e ∷ es) fs first second = (first.0, none_join kind es fs first.1 second)
 
-none_weaker : (f g : Event → Bool) → ((e : Event) → f e ≡ false → g e ≡ false) → (es : List Event) → NoneIs f es
+pub none_weaker : (f g : Event → Bool) → ((e : Event) → f e ≡ false → g e ≡ false) → (es : List Event) → NoneIs f es
     → NoneIs g es
 none_weaker f g weaker [] none = tt
 none_weaker f g weaker (e ∷ es) none = (weaker e none.0, none_weaker f g weaker es none.1)
@@ -540,6 +540,11 @@ may_end limits c ended b may taken =
       | inr (fault, over) ↦ subst (λ e. MayEnd limits e b) (sym over) (tt, taken)
     ]
 
+may_halt : (limits : Limits) (ended : Option StreamEnding) (b : Book) → MayEnd limits ended b → MayHalt limits ended b
+may_halt limits None b may = may
+may_halt limits (Some Halted) b may = absurd may
+may_halt limits (Some ending) b may = may
+
 module _ {S K : Type 0} (gives : S → ℕ → Result (Option ℤ) SourceFault → S → Type 0) (looks : S → ℕ → S → Type 0)
     (at_hand : S → ℕ → Type 0) (takes : K → ℕ → ℤ → Result (Unit {0}) SinkFault → K → Type 0)
     (flushes : K → ℕ → Result (Unit {0}) SinkFault → K → Type 0) (limits : Limits) where
@@ -595,7 +600,7 @@ module _ {S K : Type 0} (gives : S → ℕ → Result (Option ℤ) SourceFault �
         (subst (λ X. ServedSince takes flushes limits.take a.history i X (failed_sink ended) j) is.besides.history
         is.sinks_go_on)
         is.besides.none);
-    ending = is.ending;
+    ending = may_halt limits ended b is.ending;
     flushed = is.flushed;
   }
 
@@ -648,7 +653,7 @@ module _ {S K : Type 0} (gives : S → ℕ → Result (Option ℤ) SourceFault �
     calls_go_on = λ t same u j called.
         called_then c ended a b r s k is t u j
         (read_at_once a.history is.events c is.answer r s k called hand is.answers is.follows);
-    ending = may_end limits c ended b is.ends is.taken;
+    ending = may_halt limits ended b (may_end limits c ended b is.ends is.taken);
     flushed = unflushed takes flushes limits.take a.history k b.tables c ended b.history k is.ends;
   }
 
@@ -696,7 +701,7 @@ module _ {S K : Type 0} (gives : S → ℕ → Result (Option ℤ) SourceFault �
         (all ∙ ap (end_numbers is_sink) (sym same)) handed_on)
         (subst (λ x. HaveStopped x b.history) (serves.besides.tables ∙ sym same) stopped) around is.answers
         is.follows);
-    ending = may_end limits c ended d is.ends is.taken;
+    ending = may_halt limits ended d (may_end limits c ended d is.ends is.taken);
     flushed = unflushed takes flushes limits.take a.history i d.tables c ended d.history j is.ends;
   }
 

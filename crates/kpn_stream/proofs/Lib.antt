@@ -7,3 +7,4 @@ pub mod Looks
 pub mod Moments
 pub mod Order
 pub mod Rows
+pub mod Seeing

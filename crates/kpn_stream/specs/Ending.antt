@@ -15,7 +15,7 @@ use Rattle.kpn_book.specs.Outcomes.{IsOutcome}
 use Rattle.kpn_stream.specs.declared.faults.SourceFault.{SourceFault}
 use Rattle.kpn_stream.specs.declared.faults.SinkFault.{SinkFault}
 use Rattle.kpn_stream.specs.declared.ending.StreamEnding.{StreamEnding}
-use Rattle.kpn_stream.specs.declared.ending.StreamEnding.TheVariants.{Outcome, Resting, Left, NoMemory, SourceFailed, SinkFailed}
+use Rattle.kpn_stream.specs.declared.ending.StreamEnding.TheVariants.{Outcome, Resting, Left, Halted, NoMemory, SourceFailed, SinkFailed}
 
 -- the channels that are ends of this kind, in order of number
 abbrev pub end_numbers : (ChannelSpec → Bool) → Tables → List ℕ
@@ -64,9 +64,15 @@ abbrev pub IsEnding : Limits → StreamEnding → Book → Type 0
 IsEnding limits (Outcome outcome) b = IsOutcome b.tables b.history b.commits limits (Some outcome)
 IsEnding limits Resting b = IsResting b × HasNoOutcome limits b
 IsEnding limits Left b = HasSink b.tables × AreLeft b.tables b.history × HasNoOutcome limits b
+IsEnding limits Halted b = Unit {0}
 IsEnding limits NoMemory b = Unit {0}
 IsEnding limits (SourceFailed c fault) b = Unit {0}
 IsEnding limits (SinkFailed c fault) b = Unit {0}
+
+-- the watcher wanted the end
+abbrev pub is_halted : Option StreamEnding → Bool
+is_halted (Some Halted) = true
+is_halted ending = false
 
 -- the source whose device failed, if the stream has ended so
 abbrev pub failed_source : Option StreamEnding → Option (ℕ × SourceFault)

@@ -3,3 +3,4 @@ pub mod Ending
 pub mod Lists
 pub mod Streaming
 pub mod Closing
+pub mod Watching

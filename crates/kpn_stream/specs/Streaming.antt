@@ -1,6 +1,6 @@
 -- Scaffolding: what the parts of a stream do to its book. Only contracts of private functions use it.
-use Rattle.std.specs.Prelude.{◌≡◌, ◌⊎◌, ℕ, ◌≤◌, Bool, true, ℤ, List, ◌++◌, map, length, is_some, Option, Some, None, Result}
-use Rattle.kpn_net.specs.Tables.{Tables}
+use Rattle.std.specs.Prelude.{◌≡◌, ◌⊎◌, ℕ, ◌≤◌, Bool, true, false, ℤ, List, ◌++◌, map, length, is_some, Option, Some, None, Result}
+use Rattle.kpn_net.specs.Tables.{Tables, is_sink}
 use Rattle.kpn_history.specs.declared.event.Event.{Event}
 use Rattle.kpn_history.specs.declared.event.Event.TheVariants.{Leave, Feed}
 use Rattle.kpn_book.specs.Book.{Book}
@@ -11,10 +11,11 @@ use Rattle.kpn_stream.specs.declared.faults.SourceFault.TheVariants as source_fa
 use Rattle.kpn_stream.specs.declared.faults.SinkFault.{SinkFault}
 use Rattle.kpn_stream.specs.declared.faults.SinkFault.TheVariants as sink_fault
 use Rattle.kpn_stream.specs.declared.ending.StreamEnding.{StreamEnding}
-use Rattle.kpn_stream.specs.declared.ending.StreamEnding.TheVariants.{SourceFailed, SinkFailed}
+use Rattle.kpn_stream.specs.declared.ending.StreamEnding.TheVariants.{Halted, SourceFailed, SinkFailed}
 use Rattle.kpn_book.specs.declared.outcome.Limits.{Limits}
-use Rattle.kpn_stream.specs.Devices.{is_of_sink, is_of_outside, is_elsewhere, is_no_growth, NoneIs, MayRead, Fed, ServedSince, EndsFlushed, AreLookedAt, IsAnswered, Called}
-use Rattle.kpn_stream.specs.Ending.{AreLeft, IsSinkTaken, AreTaken, LeavesNothing, IsEnding, failed_source, failed_sink}
+use Rattle.kpn_history.specs.Talks.{is_of_process}
+use Rattle.kpn_stream.specs.Devices.{is_of_sink, is_of_outside, is_elsewhere, is_no_growth, NoneIs, MayRead, Fed, ServedSince, AreFlushed, EndsFlushed, AreLookedAt, IsAnswered, Called}
+use Rattle.kpn_stream.specs.Ending.{end_numbers, AreLeft, IsSinkTaken, AreTaken, LeavesNothing, IsEnding, failed_source, failed_sink, is_halted}
 
 -- events happened, but none of this kind
 pub record HappensBesides (kind : Event → Bool) (before after : Book) : Type 0 where
@@ -25,9 +26,14 @@ pub record HappensBesides (kind : Event → Bool) (before after : Book) : Type 0
   pub remembers : RemembersAsMuch before after
 
 -- the stream goes on, or has ended so
+abbrev pub MayHalt : Limits → Option StreamEnding → Book → Type 0
+MayHalt limits None b = Unit {0}
+MayHalt limits (Some ending) b = IsEnding limits ending b × LeavesNothing ending b
+
+-- the same, but the watcher has not ended it
 abbrev pub MayEnd : Limits → Option StreamEnding → Book → Type 0
-MayEnd limits None b = Unit {0}
-MayEnd limits (Some ending) b = IsEnding limits ending b × LeavesNothing ending b
+MayEnd limits (Some Halted) b = ⊥
+MayEnd limits ended b = MayHalt limits ended b
 
 -- the stream goes on, or has ended in such a way, but no device has failed
 pub record MayEndWell (limits : Limits) (ended : Option StreamEnding) (b : Book) : Type 0 where
@@ -63,6 +69,21 @@ pub record Serves {K : Type 0} (takes : K → ℕ → ℤ → Result (Unit {0}) 
   pub stay_taken : (c : ℕ) → IsSinkTaken before.history c → IsSinkTaken after.history c
   pub ending : MayEnd limits ended after
   pub flushed : EndsFlushed takes flushes limits.take after.tables before.history sinks ended after.history served
+
+-- The sinks are served; or all are flushed, and the watcher wanted the end.
+pub data ServesOrHalts {K : Type 0} (takes : K → ℕ → ℤ → Result (Unit {0}) SinkFault → K → Type 0)
+    (flushes : K → ℕ → Result (Unit {0}) SinkFault → K → Type 0) (limits : Limits) (ended : Option StreamEnding)
+    (before after : Book) (sinks served : K) : Type 0 where
+  serves_them : Serves takes flushes limits ended before after sinks served →
+      ServesOrHalts takes flushes limits ended before after sinks served
+  is_over : ended ≡ Some Halted → Serves takes flushes limits None before after sinks served →
+      AreFlushed flushes (end_numbers is_sink before.tables) before.history sinks after.history served →
+      ServesOrHalts takes flushes limits ended before after sinks served
+
+-- no process makes a step, and the watcher has not ended the stream
+pub record IsStepless (ended : Option StreamEnding) (before after : Book) : Type 0 where
+  pub besides : HappensBesides is_of_process before after
+  pub unhalted : is_halted ended ≡ false
 
 -- the stream goes on, or source c has failed
 abbrev pub MayFail : (c : ℕ) → Option StreamEnding → Type 0
@@ -135,5 +156,5 @@ pub record StreamGoesOn {S K : Type 0} (gives : S → ℕ → Result (Option ℤ
   pub calls_go_on : (t : Tables) → t ≡ before.tables → (s : S) (k : K)
       → Called t gives looks at_hand takes flushes limits.take s k before.history sources sinks
       → Called t gives looks at_hand takes flushes limits.take s k after.history read served
-  pub ending : MayEnd limits ended after
+  pub ending : MayHalt limits ended after
   pub flushed : EndsFlushed takes flushes limits.take after.tables before.history sinks ended after.history served

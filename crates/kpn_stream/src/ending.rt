@@ -13,6 +13,8 @@ pub enum StreamEnding {
     Resting,
     /// There are sinks, and each was left.
     Left,
+    /// The watcher wanted the end.
+    Halted,
     /// Memory ran out in the run.
     NoMemory,
     /// The device of this source failed. It is `SourceFault::NoMemory` too if memory ran out before what the device

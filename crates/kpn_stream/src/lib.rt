@@ -9,10 +9,12 @@ mod ends;
 mod faults;
 pub mod laws;
 mod looking;
+mod pace;
 mod reading;
 mod running;
 mod stepping;
 mod taking;
+mod watching;
 
 pub use closing::close_sources;
 pub use devices::{Readiness, Sinks, Sources};
@@ -21,3 +23,4 @@ pub use ends::{EndNumbers, end_numbers_of};
 pub use faults::{SinkFault, SourceFault};
 pub use kpn_book::{Keeping, Limits, Outcome};
 pub use running::stream;
+pub use watching::{Unwatched, Watcher};

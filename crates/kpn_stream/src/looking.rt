@@ -4,7 +4,7 @@ ghost use Rattle.kpn_net.specs.Tables.{channel_at, is_source, is_sink};
 ghost use Rattle.kpn_stream.specs.declared.devices.Readiness.TheVariants as look;
 ghost use Rattle.kpn_stream.specs.Devices.{MayRead, AreLookedAt};
 ghost use Rattle.kpn_stream.specs.Ending.{end_numbers, AreTaken};
-ghost use Rattle.kpn_stream.specs.Streaming.{StreamGoesOn, ReadsAtHand};
+ghost use Rattle.kpn_stream.specs.Streaming.{IsStepless, StreamGoesOn, ReadsAtHand};
 
 use crate::devices::{Readiness, Sinks, Sources};
 use crate::ending::StreamEnding;
@@ -30,6 +30,7 @@ pub(crate) fn end_stretch<S: Sources, K: Sinks>(
     ensures goes_on { StreamGoesOn S.gives S.looks S.at_hand K.takes K.flushes limits.now result
         book.old book.new sources.old sources.new sinks.old sinks.new }
     ensures taken { AreTaken book.new.tables book.new.history }
+    ensures stepless { IsStepless result book.old book.new }
 {
     let ended = flush_all(book, ends, sinks, limits);
     if ended.is_some() {

@@ -7,13 +7,14 @@ ghost use Rattle.kpn_history.specs.Legal.{MayFeed};
 ghost use Rattle.kpn_book.specs.Appending.{Happens};
 ghost use Rattle.kpn_stream.specs.Devices.{IsAwaited, IsStuckUnderAll, MayRead};
 ghost use Rattle.kpn_stream.specs.Ending.{end_numbers, IsUnwanted, AreTaken};
-ghost use Rattle.kpn_stream.specs.Streaming.{StreamGoesOn, IsUnfed, MayEndWell, ReadsSource, ReadsInTurn, WasRead, Serves};
+ghost use Rattle.kpn_stream.specs.Streaming.{IsStepless, StreamGoesOn, IsUnfed, MayEndWell, ReadsSource, ReadsInTurn, WasRead, Serves};
 
 use crate::devices::{Sinks, Sources};
 use crate::ending::StreamEnding;
 use crate::ends::EndNumbers;
 use crate::faults::SourceFault;
 use crate::looking::first_to_come;
+use crate::pace::StreamPace;
 use crate::running::ending_of;
 use crate::stepping::{is_idle, is_order_seen};
 use crate::taking::flush_all;
@@ -31,6 +32,7 @@ pub(crate) fn read_one<S: Sources, K: Sinks>(
     sources: &mut S,
     sinks: &mut K,
     limits: &Limits,
+    pace: &mut StreamPace,
 ) -> Option<StreamEnding>
     requires sources { ends.now.sources.items ≡ end_numbers is_source book.old.tables }
     requires sinks { ends.now.sinks.items ≡ end_numbers is_sink book.old.tables }
@@ -38,6 +40,7 @@ pub(crate) fn read_one<S: Sources, K: Sinks>(
     ensures goes_on { StreamGoesOn S.gives S.looks S.at_hand K.takes K.flushes limits.now result
         book.old book.new sources.old sources.new sinks.old sinks.new }
     ensures taken { AreTaken book.new.tables book.new.history }
+    ensures stepless { IsStepless result book.old book.new }
 {
     let Some(c) = source_due(book, ends) else {
         return rest(book, ends, sinks, limits);
@@ -45,17 +48,18 @@ pub(crate) fn read_one<S: Sources, K: Sinks>(
     if sources.is_at_hand(c) {
         return read_in_turn(book, sources, c, limits);
     }
-    wait_for_one(book, ends, sources, sinks, limits)
+    wait_for_one(book, ends, sources, sinks, limits, pace)
 }
 
 /// Reads a source that is due once the devices of the sinks have handed on all that they kept. A sink that was left
-/// then may have woken a process, which goes first.
+/// then may have woken a process, which goes first. So does the watcher, which looks once before the stream waits.
 fn wait_for_one<S: Sources, K: Sinks>(
     book: &mut Book<'_>,
     ends: &EndNumbers,
     sources: &mut S,
     sinks: &mut K,
     limits: &Limits,
+    pace: &mut StreamPace,
 ) -> Option<StreamEnding>
     requires sources { ends.now.sources.items ≡ end_numbers is_source book.old.tables }
     requires sinks { ends.now.sinks.items ≡ end_numbers is_sink book.old.tables }
@@ -63,12 +67,16 @@ fn wait_for_one<S: Sources, K: Sinks>(
     ensures goes_on { StreamGoesOn S.gives S.looks S.at_hand K.takes K.flushes limits.now result
         book.old book.new sources.old sources.new sinks.old sinks.new }
     ensures taken { AreTaken book.new.tables book.new.history }
+    ensures stepless { IsStepless result book.old book.new }
 {
     let ended = flush_all(book, ends, sinks, limits);
     if ended.is_some() {
         return ended;
     }
     if !is_idle(book) {
+        return None;
+    }
+    if !pace.may_wait() {
         return None;
     }
     let Some(least) = source_due(book, ends) else {

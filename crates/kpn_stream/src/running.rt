@@ -5,16 +5,19 @@ ghost use Rattle.kpn_history.specs.Ends.{IsSettled};
 ghost use Rattle.kpn_book.specs.Kept.{IsBook};
 ghost use Rattle.kpn_book.specs.Remembering.{Remembers};
 ghost use Rattle.kpn_stream.specs.Devices.{Fed, Served, EndsFlushed, Called};
-ghost use Rattle.kpn_stream.specs.Ending.{end_numbers, failed_source, failed_sink, IsEnding, HasNoOutcome, AreTaken, LeavesNothing};
-ghost use Rattle.kpn_stream.specs.Streaming.{StreamGoesOn, MayEndWell, Serves};
+ghost use Rattle.kpn_stream.specs.Ending.{end_numbers, failed_source, failed_sink, is_halted, IsEnding, HasNoOutcome, AreTaken, LeavesNothing};
+ghost use Rattle.kpn_stream.specs.Streaming.{IsStepless, StreamGoesOn, MayEndWell, Serves, ServesOrHalts};
+ghost use Rattle.kpn_stream.specs.Watching.{Watched, Watches};
 
 use crate::devices::{Sinks, Sources};
 use crate::ending::{StreamEnding, Streamed};
 use crate::ends::{EndNumbers, end_numbers_of};
 use crate::looking::end_stretch;
+use crate::pace::StreamPace;
 use crate::reading::read_one;
 use crate::stepping::{STRETCH, is_idle, step_stretch};
 use crate::taking::{flush_all, take_all};
+use crate::watching::Watcher;
 use kpn_book::{Book, Keeping, Limits, outcome_of};
 use kpn_net::Network;
 use std::alloc::{AllocError, Global};
@@ -32,16 +35,21 @@ use std::alloc::{AllocError, Global};
 /// source is read once whose answer is at hand. No source is waited for while a process is ready.
 ///
 /// A sink is left once nobody reads what its device hands on, and once it has given the items that the limits want of
-/// it and its device has handed them on. If a device fails, the call returns at once: what the devices of the sinks
+/// it and its device has handed them on.
+///
+/// The watcher is asked in each turn whether it has to look, before a source is read. It also looks before the stream
+/// waits for a source, and in each 1,024th turn. Each time the devices of the sinks hand on all that they took before.
+/// If it wants the end, the stream ends there. If a device fails, the call returns at once: what the devices of the sinks
 /// keep is for the caller to flush. If memory runs out, that is an ending too, and the book is that of the run so far.
 /// The error is that memory ran out before the run: no device was called.
-pub fn stream<'n, S: Sources, K: Sinks>(
+pub fn stream<'n, S: Sources, K: Sinks, W: Watcher>(
     alloc: Global,
     network: &'n Network,
     sources: &mut S,
     sinks: &mut K,
     limits: &Limits,
     keeping: Keeping,
+    watcher: &mut W,
 ) -> Result<Streamed<'n>, AllocError>
     ensures network { IfOk result (λ streamed. streamed.book.tables ≡ network.now) }
     ensures book { IfOk result (λ streamed. IsBook streamed.book) }
@@ -59,54 +67,63 @@ pub fn stream<'n, S: Sources, K: Sinks>(
     ensures taken { IfOk result (λ streamed. LeavesNothing streamed.ending streamed.book) }
     ensures commits { IfOk result (λ streamed. streamed.book.commits ≤ limits.now.commits) }
     ensures kept { IfOk result (λ streamed. Remembers keeping streamed.book) }
+    ensures watched { IfOk result (λ streamed. Watched network.now W.knows W.sees watcher.old
+        streamed.book.history (is_halted (Some streamed.ending)) watcher.new) }
     ensures no_source { OnErr result (sources.new ≡ sources.old) }
     ensures no_sink { OnErr result (sinks.new ≡ sinks.old) }
+    ensures no_look { OnErr result (watcher.new ≡ watcher.old) }
 {
     let ends = end_numbers_of(alloc, network)?;
     let mut book = Book::keeping(alloc, network, keeping)?;
-    let ending = run(&mut book, &ends, sources, sinks, limits);
+    let ending = run(&mut book, &ends, sources, sinks, limits, watcher);
     book.known();
     Ok(Streamed { ending, book })
 }
 
 /// Makes turns until there is an ending. A run that has an outcome at the start makes none.
-fn run<S: Sources, K: Sinks>(
+fn run<S: Sources, K: Sinks, W: Watcher>(
     book: &mut Book<'_>,
     ends: &EndNumbers,
     sources: &mut S,
     sinks: &mut K,
     limits: &Limits,
+    watcher: &mut W,
 ) -> StreamEnding
     requires sources { ends.now.sources.items ≡ end_numbers is_source book.old.tables }
     requires sinks { ends.now.sinks.items ≡ end_numbers is_sink book.old.tables }
     requires start { book.old.history ≡ [] }
-    ensures { StreamGoesOn S.gives S.looks S.at_hand K.takes K.flushes limits.now (Some result)
+    ensures goes_on { StreamGoesOn S.gives S.looks S.at_hand K.takes K.flushes limits.now (Some result)
         book.old book.new sources.old sources.new sinks.old sinks.new }
+    ensures watched { Watches W.knows W.sees book.old book.new
+        watcher.old (is_halted (Some result)) watcher.new }
 {
     let over = come_to_outcome(book, ends, sinks, limits);
     if let Some(ending) = over {
         return ending;
     }
-    make_turns(book, ends, sources, sinks, limits)
+    make_turns(book, ends, sources, sinks, limits, watcher)
 }
 
 /// Makes turns until there is an ending.
-fn make_turns<S: Sources, K: Sinks>(
+fn make_turns<S: Sources, K: Sinks, W: Watcher>(
     book: &mut Book<'_>,
     ends: &EndNumbers,
     sources: &mut S,
     sinks: &mut K,
     limits: &Limits,
+    watcher: &mut W,
 ) -> StreamEnding
     requires sources { ends.now.sources.items ≡ end_numbers is_source book.old.tables }
     requires sinks { ends.now.sinks.items ≡ end_numbers is_sink book.old.tables }
     requires taken { AreTaken book.old.tables book.old.history }
-    ensures { StreamGoesOn S.gives S.looks S.at_hand K.takes K.flushes limits.now (Some result)
+    ensures goes_on { StreamGoesOn S.gives S.looks S.at_hand K.takes K.flushes limits.now (Some result)
         book.old book.new sources.old sources.new sinks.old sinks.new }
+    ensures watched { Watches W.knows W.sees book.old book.new
+        watcher.old (is_halted (Some result)) watcher.new }
 {
-    let mut goal = STRETCH;
+    let mut pace = StreamPace::new();
     'turns: for _turn in 0..u64::MAX {
-        let ended = turn(book, ends, sources, sinks, limits, &mut goal);
+        let ended = turn(book, ends, sources, sinks, limits, &mut pace, watcher);
         if let Some(ending) = ended {
             return ending;
         }
@@ -114,22 +131,25 @@ fn make_turns<S: Sources, K: Sinks>(
     out_of_memory(book, ends, sinks, limits)
 }
 
-/// One turn. The stretch is over once the commits have reached the goal.
-fn turn<S: Sources, K: Sinks>(
+/// One turn.
+fn turn<S: Sources, K: Sinks, W: Watcher>(
     book: &mut Book<'_>,
     ends: &EndNumbers,
     sources: &mut S,
     sinks: &mut K,
     limits: &Limits,
-    goal: &mut u64,
+    pace: &mut StreamPace,
+    watcher: &mut W,
 ) -> Option<StreamEnding>
     requires sources { ends.now.sources.items ≡ end_numbers is_source book.old.tables }
     requires sinks { ends.now.sinks.items ≡ end_numbers is_sink book.old.tables }
     ensures goes_on { StreamGoesOn S.gives S.looks S.at_hand K.takes K.flushes limits.now result
         book.old book.new sources.old sources.new sinks.old sinks.new }
     ensures taken { result ≡ None → AreTaken book.new.tables book.new.history }
+    ensures watched { Watches W.knows W.sees book.old book.new
+        watcher.old (is_halted result) watcher.new }
 {
-    let ran_out = step_stretch(book, limits, *goal).is_err();
+    let ran_out = step_stretch(book, limits, pace.goal).is_err();
     let ended = take_all(book, ends, sinks, limits);
     if ended.is_some() {
         return ended;
@@ -137,7 +157,69 @@ fn turn<S: Sources, K: Sinks>(
     if ran_out {
         return Some(out_of_memory(book, ends, sinks, limits));
     }
-    come_to_read(book, ends, sources, sinks, limits, goal)
+    let shown = show(book, ends, sinks, limits, pace, watcher);
+    if shown.is_some() {
+        return shown;
+    }
+    book.known();
+    come_to_read(book, ends, sources, sinks, limits, pace)
+}
+
+/// Shows the book to the watcher, if it is time for a look or something is new.
+fn show<K: Sinks, W: Watcher>(
+    book: &mut Book<'_>,
+    ends: &EndNumbers,
+    sinks: &mut K,
+    limits: &Limits,
+    pace: &mut StreamPace,
+    watcher: &mut W,
+) -> Option<StreamEnding>
+    requires ends { ends.now.sinks.items ≡ end_numbers is_sink book.old.tables }
+    requires taken { AreTaken book.old.tables book.old.history }
+    ensures serves { ServesOrHalts K.takes K.flushes limits.now result book.old book.new
+        sinks.old sinks.new }
+    ensures taken { AreTaken book.new.tables book.new.history }
+    ensures watched { Watches W.knows W.sees book.old book.new
+        watcher.old (is_halted result) watcher.new }
+    ensures known { result ≡ None → W.knows watcher.new book.new }
+{
+    if pace.is_time_to_look() {
+        return look(book, ends, sinks, limits, watcher);
+    }
+    if watcher.has_news(book) {
+        return look(book, ends, sinks, limits, watcher);
+    }
+    None
+}
+
+/// The watcher looks at the book, once the devices of the sinks have handed on all that they kept.
+#[cold]
+#[inline(never)]
+fn look<K: Sinks, W: Watcher>(
+    book: &mut Book<'_>,
+    ends: &EndNumbers,
+    sinks: &mut K,
+    limits: &Limits,
+    watcher: &mut W,
+) -> Option<StreamEnding>
+    requires ends { ends.now.sinks.items ≡ end_numbers is_sink book.old.tables }
+    requires taken { AreTaken book.old.tables book.old.history }
+    ensures serves { ServesOrHalts K.takes K.flushes limits.now result book.old book.new
+        sinks.old sinks.new }
+    ensures taken { AreTaken book.new.tables book.new.history }
+    ensures watched { Watches W.knows W.sees book.old book.new
+        watcher.old (is_halted result) watcher.new }
+    ensures known { result ≡ None → W.knows watcher.new book.new }
+{
+    let ended = flush_all(book, ends, sinks, limits);
+    if ended.is_some() {
+        return ended;
+    }
+    book.known();
+    if watcher.look(book) {
+        return Some(StreamEnding::Halted);
+    }
+    None
 }
 
 /// The end of a turn, when the sinks have nothing unread: the run may have come to its limit, or it is time to read.
@@ -147,7 +229,7 @@ fn come_to_read<S: Sources, K: Sinks>(
     sources: &mut S,
     sinks: &mut K,
     limits: &Limits,
-    goal: &mut u64,
+    pace: &mut StreamPace,
 ) -> Option<StreamEnding>
     requires sources { ends.now.sources.items ≡ end_numbers is_source book.old.tables }
     requires sinks { ends.now.sinks.items ≡ end_numbers is_sink book.old.tables }
@@ -155,18 +237,19 @@ fn come_to_read<S: Sources, K: Sinks>(
     ensures goes_on { StreamGoesOn S.gives S.looks S.at_hand K.takes K.flushes limits.now result
         book.old book.new sources.old sources.new sinks.old sinks.new }
     ensures taken { AreTaken book.new.tables book.new.history }
+    ensures stepless { IsStepless result book.old book.new }
 {
     if limits.commits <= book.commits() {
         return come_to_outcome(book, ends, sinks, limits);
     }
     if is_idle(book) {
-        *goal = book.commits().saturating_add(STRETCH);
-        return read_one(book, ends, sources, sinks, limits);
+        pace.goal = book.commits().saturating_add(STRETCH);
+        return read_one(book, ends, sources, sinks, limits, pace);
     }
-    if book.commits() < *goal {
+    if book.commits() < pace.goal {
         return None;
     }
-    *goal = book.commits().saturating_add(STRETCH);
+    pace.goal = book.commits().saturating_add(STRETCH);
     end_stretch(book, ends, sources, sinks, limits)
 }
 

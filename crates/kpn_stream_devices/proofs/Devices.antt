@@ -4,7 +4,7 @@ use Rattle.std.specs.Global.{Vec}
 use Rattle.std.specs.Prelude.{slice_set}
 use Rattle.std.proofs.Math.Nat.{ℕ_set}
 use Rattle.std.proofs.lemmas.List.{set-get_or}
-use Rattle.std.proofs.Common.{◌≡◌, ℕ, ◌≤◌, false, List, [], ◌++◌, length, take, length-take, Option, Some, None, Result, Ok, Err, refl, sym, ap, ◌∙◌, subst, arith, append_assoc, inl, inr, IfSome, get_or}
+use Rattle.std.proofs.Common.{◌≡◌, ℕ, ◌≤◌, false, List, [], ◌++◌, length, Option, Some, None, Result, Ok, Err, refl, sym, ap, ◌∙◌, subst, arith, append_assoc, inl, inr, IfSome, get_or}
 use Rattle.std.specs.Prelude.{ℤ}
 use Rattle.std.specs.Io.KnownBytes.{Keeps, Consumes, Appends, prepend_known, append_known}
 use Rattle.std.proofs.KnownBytes.{Keeps-trans, Keeps-refl, Appends-kept, append_known-grown}
@@ -102,11 +102,6 @@ fault_any (Samples sample) look_fault.Read before after xs ys = tt
 fault_any (Samples sample) look_fault.NoMemory before after xs ys = tt
 fault_any (Wav written) failed before after xs ys = wav_any (head_at before xs) failed after xs ys
 
--- a fault is kept as one thing
-abbrev kept_of : Option Failed → SourceFault
-kept_of None = Read
-kept_of (Some failed) = kept_fault failed
-
 -- it uses nothing
 pub fault_counts : (failed : Failed) (used now : ℕ) → now ≡ used → CountsUsed (Err (kept_fault failed)) used now
 fault_counts look_fault.Read used now same = same
@@ -119,14 +114,6 @@ pub device_fails : (format : ItemFormat) (failed : Failed) (first after : Window
 device_fails format failed first after device read kept =
     if_kept (λ left rest. FormatGives format first.wav left after.wav rest (Err (kept_fault failed)))
     (fault_any format failed first.wav after.wav) (left_of first device) (left_of after read) kept
-
-if_some : (P : List ℕ → List ℕ → Type 0) → ((xs ys : List ℕ) → P xs ys) → (us vs ws bytes : List ℕ)
-    (device between read : Option (List ℕ)) → Keeps (prepend_known us device) (prepend_known vs between)
-    → Consumes between read bytes → IfKnown (prepend_known us device) (prepend_known ws read) P
-if_some P all us vs ws bytes None between read kept took = tt
-if_some P all us vs ws bytes (Some ds) None read kept took = absurd kept
-if_some P all us vs ws bytes (Some ds) (Some es) None kept took = absurd took
-if_some P all us vs ws bytes (Some ds) (Some es) (Some fs) kept took = all (us ++ ds) (ws ++ fs)
 
 -- ---- no more is read than is needed
 
@@ -146,12 +133,6 @@ pub lost_none : (before left : Option (List ℕ)) → Keeps before left → IfKn
 lost_none None left kept = tt
 lost_none (Some ds) None kept = absurd kept
 lost_none (Some ds) (Some es) kept = ([], sym kept, omega arith)
-
-pub lost_some : (bytes : List ℕ) (before left : Option (List ℕ)) → length bytes ≤ most_read
-    → Consumes before left bytes → IfKnown before left Lost
-lost_some bytes None left few took = tt
-lost_some bytes (Some ds) None few took = absurd took
-lost_some bytes (Some ds) (Some es) few took = (bytes, took, few)
 
 -- what was seen, and what is left
 spared : (P : List ℕ → Type 0) (us vs : List ℕ) (device between : Option (List ℕ))
@@ -196,22 +177,6 @@ module _ {I F : Type 0} (left : I → Option (List ℕ)) (left_in : F → Option
   reads_more first between read (Some file) None after one two = absurd one
   reads_more first between read (Some file) (Some then) None one two = absurd two
   reads_more first between read (Some file) (Some then) (Some after) one two = two ∙ one
-
-  -- a look has failed before, and no device is asked
-  pub failed_before : (standard : I) (input : SourceInput F) (failed : Failed) → input.window.is_over ≡ false
-      → input.failed ≡ Some failed → FailsToRead left left_in standard input standard input (kept_fault failed)
-  failed_before standard input failed is_open is = record {
-    channel = refl;
-    format = refl;
-    only = reads_none standard input.file;
-    counted = fault_counts failed _ _ refl;
-    lost = lost_none _ _ (Keeps-refl _);
-    at_hand = λ some. (refl, refl);
-    known = λ known. known;
-    given = λ format. device_fails format failed input.window input.window _ _ (Keeps-refl _);
-    failed = refl;
-    told = λ other also. ap kept_of (sym is ∙ also);
-  }
 
   module _ (first : I) (input : SourceInput F) where
     -- So far bytes have moved from the device to the window, and none if the answer was at hand.
@@ -353,18 +318,6 @@ module _ {I F : Type 0} (left : I → Option (List ℕ)) (left_in : F → Option
   told_at_hand standard input None w tells same = tt
   told_at_hand standard input (Some v) w tells same =
       told_after standard input standard input (at_start standard input) (Ok (Some v)) w tells same
-
--- and so may memory
-pub memory_fails : (format : ItemFormat) (first w after : Window) (device between read : Option (List ℕ))
-    (bytes : List ℕ) → Keeps (left_of first device) (left_of w between) → Consumes between read bytes
-    → WindowGives format first device (Err NoMemory) after read
-memory_fails format first w after device between read bytes kept took =
-    if_some (λ left rest. FormatGives format first.wav left after.wav rest (Err NoMemory))
-    (fault_any format look_fault.NoMemory first.wav after.wav) first.unused w.unused after.unused bytes device between read kept took
-
--- a read that gave nothing has come to the end
-pub none_taken : (count : ℕ) (chunk : List ℕ) → count ≤ length chunk → take count chunk ≡ [] → count ≡ 0
-none_taken count chunk within none = omega (arith, length-take count chunk, ap length none)
 
 -- a vector whose elements are as they were
 as_it_was : {X : Type 0} (v : Vec X) (xs : List X) → v.items ≡ xs → (long : v.len ≡ length xs)

@@ -1,19 +1,17 @@
 -- What the unused bytes of a window tell.
-use Rattle.std.proofs.Common.{◌≡◌, ℕ, ◌+◌, ◌<◌, ◌≤◌, true, List, [], ◌∷◌, ◌++◌, length, take, drop, length-append, Option, Some, None, Result, Ok, Err, refl, sym, ap, ◌∙◌, subst, arith}
-use Rattle.std.specs.Prelude.{ℤ, pos, IfSome, MatchOption}
+use Rattle.std.proofs.Common.{◌≡◌, ℕ, ◌+◌, ◌<◌, ◌≤◌, true, List, [], ◌∷◌, ◌++◌, length, take, drop, Option, Some, None, Err, refl, sym, ap, subst, arith}
+use Rattle.std.specs.Prelude.{ℤ, pos, MatchOption}
 use Rattle.byteorder.specs.Endian.{twos_complement}
 use Rattle.std.specs.List.{position}
 use Rattle.std.specs.Str.Lines.{lines, strip_carriage_return}
-use Rattle.std.proofs.lemmas.List.{drop-append-le}
 use Rattle.byteorder.specs.Numbers.{little_from-append}
 use Rattle.kpn_text_items.specs.ItemLine.{SpellsItem}
-use Rattle.kpn_stream.specs.declared.faults.SourceFault.{SourceFault}
 use Rattle.kpn_stream.specs.declared.faults.SourceFault.TheVariants.{BadItem}
 use Rattle.kpn_stream_devices.specs.Floats.{float_item}
 use Rattle.kpn_stream_devices.specs.Formats.{sample_width, sample_value, signed_value}
 use Rattle.kpn_stream_devices.specs.declared.formats.SampleFormat.{SampleFormat}
 use Rattle.kpn_stream_devices.specs.declared.formats.SampleFormat.TheVariants.{U8, S8, S16, S24, S32, S64, F32}
-use Rattle.kpn_stream_devices.specs.declared.formats.ItemFormat.TheVariants.{Lines, Samples}
+use Rattle.kpn_stream_devices.specs.declared.formats.ItemFormat.TheVariants.{Lines}
 use Rattle.kpn_stream_devices.specs.Window.{Window, SpellsNone, one_after, with_one, left_of, IfKnown, IsEndKnown, LineGives, SampleGives, CountsUsed, answer_of, IsRightOf}
 use Rattle.kpn_stream_devices.specs.declared.window.Told.TheVariants.{One}
 use Rattle.kpn_stream_devices.proofs.Lines.{is_feed, feed_within, begins, first_line, only_line, long_line}
@@ -111,24 +109,3 @@ pub sample_gives : (sample : SampleFormat) (left rest : List ℕ) (item : Option
     → SampleGives sample left rest (answer_of item number)
 sample_gives sample left rest (Some v) number within past is = (within, is, past)
 sample_gives sample left rest None number within past is = (within, is)
-
--- a sample whose bytes were read
-sample_told : (w : Window) (sample : SampleFormat) → sample_width sample ≤ length w.unused
-    → IsRightOf (Samples sample) w (One (sample_value sample w.unused) (sample_width sample) w.wav)
-sample_told w sample within = (within, record { counted = counts w.used (sample_value sample w.unused); given = told })
-  where
-    told : (device : Option (List ℕ)) → IsEndKnown w device
-        → IfKnown (left_of w device) (left_of (with_one (sample_width sample) w.wav w) device)
-        (λ l r. SampleGives sample l r (answer_of (sample_value sample w.unused) (one_after w.used)))
-    told None known = tt
-    told (Some ds) known =
-        sample_gives sample (w.unused ++ ds) (drop (sample_width sample) w.unused ++ ds) (sample_value sample w.unused)
-        (one_after w.used) (omega (arith, within, length-append w.unused ds))
-        (sym (drop-append-le (sample_width sample) w.unused ds within)) (value_again sample w.unused ds within)
-
-pub sample_tells : (w : Window) (sample : SampleFormat) (item : Option ℤ) (width : ℕ) → width ≡ sample_width sample
-    → width ≤ length w.unused → item ≡ sample_value sample w.unused → IsRightOf (Samples sample) w (One item width w.wav)
-sample_tells w sample item width wide within value =
-    subst (λ (i : Option ℤ). IsRightOf (Samples sample) w (One i width w.wav)) (sym value)
-    (subst (λ (n : ℕ). IsRightOf (Samples sample) w (One (sample_value sample w.unused) n w.wav)) (sym wide)
-    (sample_told w sample (omega (arith, wide, within))))

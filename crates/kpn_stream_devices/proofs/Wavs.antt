@@ -1,22 +1,18 @@
 -- What the unused bytes of a window tell of a WAV file.
 use Rattle.std.proofs.Common.{◌≡◌, ℕ, ◌+◌, ◌-◌, ◌<◌, ◌≤◌, ◌⊎◌, true, List, [], ◌++◌, length, take, drop, length-append, length-take, Option, Some, None, Result, Ok, Err, refl, sym, ap, ◌∙◌, subst, inl, inr, arith}
-use Rattle.std.specs.Prelude.{ℤ, IfSome, min, nat_eq, ◌||◌, Bool, false, if◌then◌else◌}
+use Rattle.std.specs.Prelude.{ℤ, min, nat_eq, ◌||◌, Bool, false, if◌then◌else◌}
 use Rattle.std.proofs.lemmas.Bool.{cases_lt, lt-ltb}
 use Rattle.std.proofs.lemmas.List.{append-nil, length-drop, drop-append-le, drop-drop, drop-take, take-append-drop, take-append-le, take_all}
 use Rattle.kpn_stream.specs.declared.faults.SourceFault.{SourceFault}
 use Rattle.kpn_stream.specs.declared.faults.SourceFault.TheVariants.{BadHead, CutSample}
 use Rattle.kpn_stream_devices.specs.declared.formats.SampleFormat.{SampleFormat}
 use Rattle.kpn_stream_devices.specs.declared.formats.SampleFormat.TheVariants.{U8, S8, S16, S24, S32, S64, F32}
-use Rattle.kpn_stream_devices.specs.declared.formats.WavFormat.{WavFormat}
-use Rattle.kpn_stream_devices.specs.declared.formats.ItemFormat.{ItemFormat}
-use Rattle.kpn_stream_devices.specs.declared.formats.ItemFormat.TheVariants as item_format
 use Rattle.kpn_stream_devices.specs.declared.head.Wav.{Wav}
 use Rattle.kpn_stream_devices.specs.declared.head.Head.{Head}
 use Rattle.kpn_stream_devices.specs.declared.head.Head.TheVariants.{Open, Bad, Whole}
 use Rattle.kpn_stream_devices.specs.Formats.{sample_width, sample_value}
 use Rattle.kpn_stream_devices.specs.Head.{head_at, least_unknown}
-use Rattle.kpn_stream_devices.specs.Window.{Window, one_after, with_one, left_of, IfKnown, IsEndKnown, SampleGives, SamplesGoOn, DataGives, WavGives, answer_of, IsRightOf, IsRightOfWav, data_of, end_told, fills_up, ends_samples}
-use Rattle.kpn_stream_devices.specs.declared.window.Told.{Told}
+use Rattle.kpn_stream_devices.specs.Window.{Window, one_after, with_one, left_of, IfKnown, IsEndKnown, SampleGives, SamplesGoOn, DataGives, WavGives, answer_of, IsRightOfWav, data_of, end_told, fills_up, ends_samples}
 use Rattle.kpn_stream_devices.specs.declared.window.Told.TheVariants.{One, Other}
 use Rattle.kpn_stream_devices.proofs.Heads.{head_at_again}
 use Rattle.kpn_stream_devices.proofs.Telling.{value_again, counts, sample_gives}
@@ -220,10 +216,3 @@ module _ (w : Window) (count : ℕ) (wav : Wav) (head : head_at w.wav w.unused �
   pub few_tell : AllRead → min wav.left (length us) < sample_width wav.sample → IsRightOfWav w (Other (end_told wav us))
   few_tell all few =
       end_tells all (omega (arith, few, length-take wav.left us)) (ends_samples wav us) (same_end few)
-
--- what the bytes of any WAV file tell
-pub any_tells : (result : Option Told) (format : ItemFormat) (written : WavFormat) (w : Window)
-    → format ≡ item_format.Wav written → IfSome result (IsRightOfWav w) → IfSome result (IsRightOf format w)
-any_tells None format written w is told = tt
-any_tells (Some found) format written w is told =
-    subst (λ (f : ItemFormat). IsRightOf f w found) (sym is) (told written)

@@ -47,11 +47,6 @@ fails_with fault.NoMemory read h = tt
 fails_with (fault.Grammar at) read h = h
 fails_with (fault.TooDeep p) read h = h
 
--- a test that was passed
-pub test_ok : {A : Type 0} (b : Bool) (x y : A) (d : GrammarFault) → cond b (Ok x) (Err d) ≡ Ok y → (b ≡ true) × (x ≡ y)
-test_ok true x y d e = (refl, cc)
-test_ok false x y d e = absurd cc
-
 -- a choice by a test
 pub by_test : {A : Type 0} {P : Type 0} (b : Bool) (x y z : A) → cond b x y ≡ z → (b ≡ true → x ≡ z → P)
     → (b ≡ false → y ≡ z → P) → P
@@ -110,14 +105,6 @@ is_keyword_same k = true_same keyword_type k k refl
 
 -- ---- tokens at the front
 
--- there is a token at the front, of this kind, and these are those after it
-pub record Front (ls : List Lexeme) (t : Token) (more : List Token) : Type 0 where
-  pub lexeme : Lexeme
-  pub rest : List Lexeme
-  pub whole : ls ≡ lexeme ∷ rest
-  pub kind : lexeme.token ≡ t
-  pub after : kinds rest ≡ more
-
 head_of : Token → List Token → Token
 head_of t [] = t
 head_of t (u ∷ us) = u
@@ -134,11 +121,6 @@ pub kinds_of : (l : Lexeme) (ls : List Lexeme) (t : Token) (more : List Token) �
     → kinds ls ≡ more
 unfolding tail_of
 kinds_of l ls t more h = ap tail_of h
-
-pub front : (ls : List Lexeme) (t : Token) (more : List Token) → kinds ls ≡ t ∷ more → Front ls t more
-unfolding head_of tail_of
-front [] t more h = absurd cc
-front (l ∷ ls) t more h = record { lexeme = l; rest = ls; whole = refl; kind = ap (head_of t) h; after = ap tail_of h }
 
 -- the test of the token at the front
 pub first_kind : (test : Token → Bool) (ls : List Lexeme) (t : Token) (more : List Token) → kinds ls ≡ t ∷ more

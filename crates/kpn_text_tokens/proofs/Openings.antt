@@ -1,9 +1,8 @@
 -- Which language a text is of: its first token, and what the first bytes tell.
-use Rattle.std.proofs.Common.{◌≡◌, ℕ, zero, suc, ◌-◌, ◌<◌, ◌≤◌, List, [], ◌∷◌, ◌++◌, length, drop, codes, Some, None, refl, sym, ap, ◌∙◌, arith}
+use Rattle.std.proofs.Common.{◌≡◌, ℕ, zero, suc, ◌-◌, ◌<◌, ◌≤◌, List, [], ◌∷◌, ◌++◌, length, drop, codes, refl, sym, ap, ◌∙◌, arith}
 use Rattle.kpn_text_tokens.specs.declared.lexer.Piece.{Piece}
 use Rattle.kpn_text_tokens.specs.declared.lexer.Piece.TheVariants as piece
 use Rattle.kpn_text_tokens.specs.declared.tokens.Language.TheVariants as language
-use Rattle.kpn_text_tokens.specs.declared.tokens.Token.{Token}
 use Rattle.kpn_text_tokens.specs.Lexing.{piece_of}
 use Rattle.kpn_text_tokens.specs.Opening.{first_of, first_token, language_of}
 use Rattle.kpn_text_tokens.specs.Spelling.{keyword_of, mark_at}
@@ -28,30 +27,12 @@ rest_first n [] nonempty some = absurd (omega arith)
 rest_first zero (b ∷ bs) nonempty some = absurd (omega arith)
 rest_first (suc n) (b ∷ bs) nonempty some = ap (λ k. first_token k bs) (omega arith) ∙ first_inside n bs
 
-rest_behind : (n : ℕ) (text : List ℕ) → 0 < length text → 1 ≤ n → drop (n - 1) (drop 1 text) ≡ drop n text
-rest_behind n [] nonempty some = absurd (omega arith)
-rest_behind zero (b ∷ bs) nonempty some = absurd (omega arith)
-rest_behind (suc n) (b ∷ bs) nonempty some = ap (λ k. drop k bs) (omega arith)
-
 -- behind white space or a comment the first token is the same
 pub first_gap : (text : List ℕ) (n : ℕ) → BeginsWith language.One text (piece.Gap n)
     → first_token 0 (drop n text) ≡ first_token 0 text
 first_gap text n begins =
     let fits = begins_fits language.One text (piece.Gap n) begins in
     sym (first_by text (piece.Gap n) begins ∙ rest_first n text begins.some fits.0)
-
--- a token at the front is the first
-pub first_found : (text : List ℕ) (n : ℕ) (t : Token) → BeginsWith language.One text (piece.Token t n)
-    → first_token 0 text ≡ Some (t, drop n text)
-first_found text n t begins =
-    let fits = begins_fits language.One text (piece.Token t n) begins in
-    first_by text (piece.Token t n) begins ∙ ap (λ rest. Some (t, rest)) (rest_behind n text begins.some fits.0)
-
-pub first_none : (text : List ℕ) → BeginsWith language.One text piece.NoToken → first_token 0 text ≡ None
-first_none text begins = first_by text piece.NoToken begins
-
-pub first_long : (text : List ℕ) → BeginsWith language.One text piece.LongName → first_token 0 text ≡ None
-first_long text begins = first_by text piece.LongName begins
 
 -- ---- what the first bytes tell
 

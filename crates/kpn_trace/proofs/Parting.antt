@@ -48,11 +48,6 @@ LacksByte-append s (x ∷ xs) ys lacks also =
     let parts = either (eqb x s) (list_any (λ b. eqb b s) xs) lacks in
     both (eqb x s) (list_any (λ b. eqb b s) (xs ++ ys)) parts.0 (LacksByte-append s xs ys parts.1 also)
 
--- bytes among which one is do not lack it
-pub is_there : (s : ℕ) (xs ys : List ℕ) → LacksByte s (xs ++ s ∷ ys) → ⊥
-is_there s [] ys lacks = lacks_first s s ys lacks refl
-is_there s (x ∷ xs) ys lacks = is_there s xs ys (lacks_rest s x (xs ++ s ∷ ys) lacks)
-
 -- what comes before the first such byte, and what after it
 pub cut : (s : ℕ) (w v a b : List ℕ) → LacksByte s w → LacksByte s v → w ++ s ∷ a ≡ v ++ s ∷ b → (w ≡ v) × (a ≡ b)
 cut s [] [] a b lacks also e = (refl, cc)

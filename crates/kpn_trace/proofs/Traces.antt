@@ -20,7 +20,7 @@ use Rattle.kpn_trace.specs.declared.fault.TraceFault.TheVariants.{BadHead, BadEv
 use Rattle.kpn_trace.specs.EventLine.{line_of, IsInRange, SpellsEvent, LacksByte}
 use Rattle.kpn_trace.specs.TraceText.{version_line, rules_line, head_text, IsHead, head_lines, event_text, events_text, trace_text, HasBadHead}
 use Rattle.kpn_trace.specs.Laws.{TraceSpellsOne, SpelledIsRead, OneBadLine}
-use Rattle.kpn_trace.proofs.Parting.{cut, is_there}
+use Rattle.kpn_trace.proofs.Parting.{cut}
 use Rattle.kpn_trace.proofs.Lines.{line_spells_one, line_lacks_feed}
 
 -- ---- the first line
@@ -158,38 +158,6 @@ no_rules bytes line rest second more_lines split lacks two then few none v p g h
     by_version One is behind = absurd (cc)
     by_version Two is behind =
         none p g (cut 10 second (rules_line p g) more_lines more few (no_feed_in_rules p g) (sym then ∙ behind)).0
-
--- the same if the first line has no second one after it
-pub no_second : (bytes line rest : List ℕ) → bytes ≡ line ++ 10 ∷ rest → LacksByte 10 line
-    → line ≡ version_line Two → LacksByte 10 rest → HasBadHead bytes
-no_second bytes line rest split lacks two few v p g head more e =
-    let first =
-    cut 10 line (version_line v) rest (behind_version v p g more) lacks (no_feed_in_version v)
-    (sym split ∙ e ∙ head_is v p g more) in
-    by_version v (same_version Two v (sym two ∙ first.0)) first.1
-  where
-    by_version : (w : Version) → Two ≡ w → rest ≡ behind_version w p g more → ⊥
-    by_version One is behind = absurd (cc)
-    by_version Two is behind =
-        is_there 10 (rules_line p g) more (subst (λ t. LacksByte 10 t) behind few)
-
--- bytes without a line feed
-pub no_line : (bytes : List ℕ) → LacksByte 10 bytes → HasBadHead bytes
-no_line bytes lacks v p g head more e =
-    is_there 10 (version_line v) (behind_version v p g more)
-    (subst (λ t. LacksByte 10 t) (e ∙ head_is v p g more) lacks)
-
--- bytes that begin with the first lines
-pub head_read_one : (bytes line rest : List ℕ) → bytes ≡ line ++ 10 ∷ rest → line ≡ version_line One
-    → bytes ≡ head_text One policies.Cycles growths.One ++ rest
-head_read_one bytes line rest split one = split ∙ ap (λ t. t ++ 10 ∷ rest) one
-
-pub head_read_two : (bytes line rest second lines : List ℕ) (p : Policy) (g : Growth) → bytes ≡ line ++ 10 ∷ rest
-    → line ≡ version_line Two → rest ≡ second ++ 10 ∷ lines → second ≡ rules_line p g
-    → bytes ≡ head_text Two p g ++ lines
-head_read_two bytes line rest second lines p g split two then named =
-    split ∙ ap (λ t. t ++ 10 ∷ rest) two ∙ ap (λ t. version_line Two ++ 10 ∷ t) (then ∙ ap (λ t. t ++ 10 ∷ lines) named)
-    ∙ sym (head_is Two p g lines)
 
 -- ---- one head
 

@@ -9,7 +9,7 @@ use Rattle.kpn_command_base.specs.declared.sources.NamedEnd.{NamedEnd}
 use Rattle.kpn_command_base.specs.Description.{IsRefusalOfDescription}
 use Rattle.kpn_command_base.specs.Sources.{HasEquals, name_in, file_in, sources_named, AreGiven}
 use Rattle.kpn_command_base.specs.SourceRefusals.{IsRefusalOfWords, IsRefusalOfNames, IsRefusalOfItems}
-use Rattle.kpn_command_base.specs.declared.sources.EndKind.TheVariants.{Sources, Sinks}
+use Rattle.kpn_command_base.specs.declared.sources.EndKind.TheVariants.{Sources}
 use Rattle.kpn_command_base.proofs.SourceLemmas.{map-map}
 use Rattle.kpn_command_base.proofs.InputLemmas.{words_refused, description_refused, names_refused, sinks_refused, items_refused}
 use Rattle.kpn_command_base.proofs.inputs.load_run_inputs.Goals as goal

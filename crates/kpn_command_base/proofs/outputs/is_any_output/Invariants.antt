@@ -1,6 +1,7 @@
 -- The earlier outputs so far are not of this name.
-use Rattle.std.proofs.Common.{◌≢◌, All, take}
+use Rattle.std.proofs.Common.{All, take}
+use Rattle.kpn_command_base.specs.Outputs.{AreTwoOutputs}
 use Rattle.kpn_command_base.proofs.outputs.is_any_output.Given as goal
 
 abbrev pub invariant-loop-other : goal.invariant-loop-other
-invariant-loop-other g l = All (λ other. l.name ≢ other.now) (take l.other-index l.earlier)
+invariant-loop-other g l = All (λ other. AreTwoOutputs other.now l.name) (take l.other-index l.earlier)

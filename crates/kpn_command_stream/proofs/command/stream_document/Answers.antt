@@ -31,11 +31,13 @@ returns-clause-streamed g c =
       lost = c.run.new.lost.items;
       ran = c.in_ok-streamed.ensures.ran;
       remembers = c.in_ok-streamed.ensures.kept;
+      heard = c.run.new.err;
+      was_told = c.in_ok-streamed.ensures.told;
       concluded =
           subst
           (λ (lost : List Lost).
           IsStreamConcluded g.S.Shelf.may_give g.E.Write.contents c.args.request.now d ending book lost c.args.shelf.now
-          c.conclude.new.shelf c.args.err.now c.conclude.new.err c.conclude.result) c.deref.ensures.value
+          c.conclude.new.shelf c.run.new.err c.conclude.new.err c.conclude.result) c.deref.ensures.value
           c.conclude.ensures;
     }
 

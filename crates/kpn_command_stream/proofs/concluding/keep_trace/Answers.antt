@@ -10,4 +10,5 @@ returns g c =
     subst
     (λ (trace : Option (List ℕ)).
     IsTraceKept g.S.Shelf.may_give trace c.args.network.now c.args.over.now c.args.shelf.now c.store_trace.new.shelf
-    c.store_trace.result) (sym asked) c.store_trace.ensures
+    c.store_trace.result) (sym asked)
+    (c.store_trace.ensures.stores, c.store_trace.ensures.readable)

@@ -1,5 +1,5 @@
 -- A word that names no format says none.
-use Rattle.std.proofs.Common.{◌≡◌, ℕ, List, Option, Some, None, true, false, is_some, MatchOption, rules, subst}
+use Rattle.std.proofs.Common.{◌≡◌, ℕ, List, Option, Some, None, false, is_some, MatchOption, rules, subst}
 use Rattle.kpn_stream_devices.specs.declared.formats.ItemFormat.{ItemFormat}
 use Rattle.kpn_stream_devices.specs.Formats.{IsNoFormat, NamesFormat}
 use Rattle.kpn_command_stream.specs.Formats.{format_in}

@@ -4,7 +4,7 @@ use Rattle.kpn_stream_devices.specs.declared.inputs.SourceInputs.{SourceInputs}
 use Rattle.kpn_stream_devices.specs.declared.outputs.SinkOutputs.{SinkOutputs}
 use Rattle.kpn_stream_devices.specs.SourceInputs.{InputsGive, InputsLook}
 use Rattle.kpn_stream_devices.specs.SinkOutputs.{OutputsTake, OutputsFlush, Takes, Flushes}
-use Rattle.kpn_command_stream.proofs.Keeping.{fed_keeps, served_keeps, handed_keeps, inputs_same, looks_same, outputs_same}
+use Rattle.kpn_command_stream.proofs.Keeping.{watched_keeps, fed_keeps, served_keeps, handed_keeps, inputs_same, looks_same, outputs_same}
 use Rattle.kpn_command_stream.proofs.running.run_over.Goals as goal
 
 pub returns-clause-ran : goal.returns-clause-ran
@@ -41,3 +41,7 @@ returns-clause-ran g c =
       commits = s.commits;
       handed_on = c.flush_each.ensures;
     }
+
+pub returns-clause-same_err : goal.returns-clause-same_err
+returns-clause-same_err g c =
+    watched_keeps g.E.Teller.tells c.args.network.now c.args.watcher.now _ _ _ c.in_ok-streamed.ensures.watched

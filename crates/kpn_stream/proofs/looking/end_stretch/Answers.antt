@@ -1,9 +1,10 @@
 use Rattle.std.proofs.Common.{rules, ℕ, List, ◌≡◌, ◌<◌, length, None, sym, ap, ◌∙◌, subst}
 use Rattle.kpn_net.specs.Tables.{is_source}
 use Rattle.kpn_stream.specs.Ending.{end_numbers}
-use Rattle.kpn_stream.specs.Streaming.{StreamGoesOn}
+use Rattle.kpn_stream.specs.Streaming.{StreamGoesOn, IsStepless}
 use Rattle.kpn_stream.proofs.Going.{none_of, goes_on-refl, goes_on-trans, serves_goes_on, serves_on, serves_taken, reads_at_hand, at_hand_taken}
 use Rattle.kpn_stream.proofs.Handling.{listed}
+use Rattle.kpn_stream.proofs.Seeing.{stepless-refl, stepless-trans, stepless_serves, stepless_at_hand}
 use Rattle.kpn_stream.proofs.looking.end_stretch.Goals as goal
 
 pub returns-then-is_some-clause-goes_on : goal.returns-then-is_some-clause-goes_on
@@ -25,6 +26,7 @@ sources-init g c = record {
       serves_taken g.K.Sinks.takes g.K.Sinks.flushes c.args.limits.now c.flush_all-ended.result c.args.book.now
       c.flush_all-ended.new.book c.args.sinks.now c.flush_all-ended.new.sinks c.flush_all-ended.ensures.serves
       c.requires.taken;
+  stepless = stepless-refl c.flush_all-ended.new.book;
 }
 
 pub read_at_hand-ended-requires-clause-source : goal.read_at_hand-ended-requires-clause-source
@@ -84,6 +86,13 @@ sources-preserved g c =
           at_hand_taken g.S.Sources.gives g.S.Sources.looks g.S.Sources.at_hand c.index.result.now
           c.read_at_hand-ended.result c.sources.book c.read_at_hand-ended.new.book c.sources.sources
           c.read_at_hand-ended.new.sources c.read_at_hand-ended.ensures c.sources.invariant.taken;
+      stepless =
+          subst (λ e. IsStepless e c.flush_all-ended.new.book c.read_at_hand-ended.new.book) on
+          (stepless-trans None c.read_at_hand-ended.result c.flush_all-ended.new.book c.sources.book
+          c.read_at_hand-ended.new.book c.sources.invariant.stepless
+          (stepless_at_hand g.S.Sources.gives g.S.Sources.looks g.S.Sources.at_hand c.index.result.now
+          c.read_at_hand-ended.result c.sources.book c.read_at_hand-ended.new.book c.sources.sources
+          c.read_at_hand-ended.new.sources c.read_at_hand-ended.ensures));
     }
 
 pub returns-clause-goes_on : goal.returns-clause-goes_on
@@ -114,3 +123,34 @@ returns-then-is_some-2-clause-taken g c =
 
 pub returns-clause-taken : goal.returns-clause-taken
 returns-clause-taken g c = c.sources.invariant.taken
+
+pub returns-then-is_some-clause-stepless : goal.returns-then-is_some-clause-stepless
+returns-then-is_some-clause-stepless g c =
+    stepless_serves g.K.Sinks.takes g.K.Sinks.flushes c.args.limits.now c.flush_all-ended.result
+    c.args.book.now c.flush_all-ended.new.book c.args.sinks.now c.flush_all-ended.new.sinks
+    c.flush_all-ended.ensures.serves
+
+pub returns-then-is_some-2-clause-stepless : goal.returns-then-is_some-2-clause-stepless
+returns-then-is_some-2-clause-stepless g c =
+    stepless-trans None c.read_at_hand-ended.result c.args.book.now c.flush_all-ended.new.book
+    c.read_at_hand-ended.new.book
+    (stepless_serves g.K.Sinks.takes g.K.Sinks.flushes c.args.limits.now None
+    c.args.book.now c.flush_all-ended.new.book c.args.sinks.now c.flush_all-ended.new.sinks
+    (serves_on g.K.Sinks.takes g.K.Sinks.flushes c.args.limits.now c.flush_all-ended.result
+    c.args.book.now c.flush_all-ended.new.book c.args.sinks.now c.flush_all-ended.new.sinks
+    (sym c.is_some.ensures ∙ c.if-is_some.false) c.flush_all-ended.ensures.serves))
+    (stepless-trans None c.read_at_hand-ended.result c.flush_all-ended.new.book c.sources.book
+    c.read_at_hand-ended.new.book c.sources.invariant.stepless
+    (stepless_at_hand g.S.Sources.gives g.S.Sources.looks g.S.Sources.at_hand c.index.result.now
+    c.read_at_hand-ended.result c.sources.book c.read_at_hand-ended.new.book c.sources.sources
+    c.read_at_hand-ended.new.sources c.read_at_hand-ended.ensures))
+
+pub returns-clause-stepless : goal.returns-clause-stepless
+returns-clause-stepless g c =
+    stepless-trans None None c.args.book.now c.flush_all-ended.new.book c.sources.book
+    (stepless_serves g.K.Sinks.takes g.K.Sinks.flushes c.args.limits.now None
+    c.args.book.now c.flush_all-ended.new.book c.args.sinks.now c.flush_all-ended.new.sinks
+    (serves_on g.K.Sinks.takes g.K.Sinks.flushes c.args.limits.now c.flush_all-ended.result
+    c.args.book.now c.flush_all-ended.new.book c.args.sinks.now c.flush_all-ended.new.sinks
+    (sym c.is_some.ensures ∙ c.if-is_some.false) c.flush_all-ended.ensures.serves))
+    c.sources.invariant.stepless

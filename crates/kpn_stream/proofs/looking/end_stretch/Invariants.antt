@@ -1,7 +1,7 @@
 use Rattle.std.proofs.Common.{◌≡◌, None}
 use Rattle.kpn_net.specs.Tables.{is_source}
 use Rattle.kpn_stream.specs.Ending.{end_numbers, AreTaken}
-use Rattle.kpn_stream.specs.Streaming.{StreamGoesOn}
+use Rattle.kpn_stream.specs.Streaming.{StreamGoesOn, IsStepless}
 use Rattle.kpn_stream.proofs.looking.end_stretch.Given as goal
 
 abbrev pub invariant-sources : goal.invariant-sources
@@ -16,4 +16,5 @@ invariant-sources g l = record {
       l.sinks;
   sources : l.ends.sources.items ≡ end_numbers is_source l.book.tables;
   taken : AreTaken l.book.tables l.book.history;
+  stepless : IsStepless None l.initial.book l.book;
 }

@@ -1,5 +1,6 @@
 use Rattle.kpn_stream.proofs.Going.{serves_goes_on, serves_taken, reads_in_turn}
 use Rattle.kpn_stream.proofs.Batches.{in_turn_taken}
+use Rattle.kpn_stream.proofs.Seeing.{stepless_serves, stepless_in_turn}
 use Rattle.kpn_stream.proofs.reading.read_one.Goals as goal
 
 pub returns-in_default-clause-goes_on : goal.returns-in_default-clause-goes_on
@@ -25,3 +26,13 @@ pub returns-then-is_at_hand-clause-taken : goal.returns-then-is_at_hand-clause-t
 returns-then-is_at_hand-clause-taken g c =
     in_turn_taken g.S.Sources.gives g.S.Sources.looks g.S.Sources.at_hand c.in-Some.c c.args.book.now c.args.sources.now
     c.read_in_turn.ensures c.requires.taken
+
+pub returns-in_default-clause-stepless : goal.returns-in_default-clause-stepless
+returns-in_default-clause-stepless g c =
+    stepless_serves g.K.Sinks.takes g.K.Sinks.flushes c.args.limits.now c.rest.result c.args.book.now
+    c.rest.new.book c.args.sinks.now c.rest.new.sinks c.rest.ensures
+
+pub returns-then-is_at_hand-clause-stepless : goal.returns-then-is_at_hand-clause-stepless
+returns-then-is_at_hand-clause-stepless g c =
+    stepless_in_turn g.S.Sources.gives g.S.Sources.looks g.S.Sources.at_hand c.in-Some.c c.args.book.now
+    c.args.sources.now c.read_in_turn.ensures

@@ -1,7 +1,8 @@
-use Rattle.std.proofs.Common.{sym, ap, ◌∙◌}
+use Rattle.std.proofs.Common.{None, sym, ap, ◌∙◌}
 use Rattle.kpn_net.specs.Tables.{is_source}
 use Rattle.kpn_stream.specs.Ending.{end_numbers}
 use Rattle.kpn_stream.proofs.Going.{none_of, serves_goes_on, serves_on, serves_taken, reads_flushed}
+use Rattle.kpn_stream.proofs.Seeing.{stepless-trans, stepless_serves, stepless_read}
 use Rattle.kpn_stream.proofs.reading.wait_for_one.Goals as goal
 
 pub returns-then-is_some-clause-goes_on : goal.returns-then-is_some-clause-goes_on
@@ -73,3 +74,59 @@ returns-in_default-clause-taken g c =
 
 pub returns-clause-taken : goal.returns-clause-taken
 returns-clause-taken g c = c.read.ensures.reads.taken
+
+pub returns-then-not-may_wait-clause-goes_on : goal.returns-then-not-may_wait-clause-goes_on
+returns-then-not-may_wait-clause-goes_on g c =
+    serves_goes_on g.S.Sources.gives g.S.Sources.looks g.S.Sources.at_hand g.K.Sinks.takes g.K.Sinks.flushes
+    c.args.limits.now _
+    c.args.book.now c.flush_all-ended.new.book c.args.sources.now c.args.sinks.now c.flush_all-ended.new.sinks
+    (serves_on g.K.Sinks.takes g.K.Sinks.flushes c.args.limits.now c.flush_all-ended.result c.args.book.now
+    c.flush_all-ended.new.book c.args.sinks.now c.flush_all-ended.new.sinks (sym c.is_some.ensures ∙ c.if-is_some.false)
+    c.flush_all-ended.ensures.serves)
+
+pub returns-then-not-may_wait-clause-taken : goal.returns-then-not-may_wait-clause-taken
+returns-then-not-may_wait-clause-taken g c =
+    serves_taken g.K.Sinks.takes g.K.Sinks.flushes c.args.limits.now c.flush_all-ended.result c.args.book.now
+    c.flush_all-ended.new.book c.args.sinks.now c.flush_all-ended.new.sinks c.flush_all-ended.ensures.serves
+    c.requires.taken
+
+pub returns-then-is_some-clause-stepless : goal.returns-then-is_some-clause-stepless
+returns-then-is_some-clause-stepless g c =
+    stepless_serves g.K.Sinks.takes g.K.Sinks.flushes c.args.limits.now c.flush_all-ended.result
+    c.args.book.now c.flush_all-ended.new.book c.args.sinks.now c.flush_all-ended.new.sinks
+    c.flush_all-ended.ensures.serves
+
+pub returns-then-not-is_idle-clause-stepless : goal.returns-then-not-is_idle-clause-stepless
+returns-then-not-is_idle-clause-stepless g c =
+    stepless_serves g.K.Sinks.takes g.K.Sinks.flushes c.args.limits.now None
+    c.args.book.now c.flush_all-ended.new.book c.args.sinks.now c.flush_all-ended.new.sinks
+    (serves_on g.K.Sinks.takes g.K.Sinks.flushes c.args.limits.now c.flush_all-ended.result
+    c.args.book.now c.flush_all-ended.new.book c.args.sinks.now c.flush_all-ended.new.sinks
+    (sym c.is_some.ensures ∙ c.if-is_some.false) c.flush_all-ended.ensures.serves)
+
+pub returns-then-not-may_wait-clause-stepless : goal.returns-then-not-may_wait-clause-stepless
+returns-then-not-may_wait-clause-stepless g c =
+    stepless_serves g.K.Sinks.takes g.K.Sinks.flushes c.args.limits.now None
+    c.args.book.now c.flush_all-ended.new.book c.args.sinks.now c.flush_all-ended.new.sinks
+    (serves_on g.K.Sinks.takes g.K.Sinks.flushes c.args.limits.now c.flush_all-ended.result
+    c.args.book.now c.flush_all-ended.new.book c.args.sinks.now c.flush_all-ended.new.sinks
+    (sym c.is_some.ensures ∙ c.if-is_some.false) c.flush_all-ended.ensures.serves)
+
+pub returns-in_default-clause-stepless : goal.returns-in_default-clause-stepless
+returns-in_default-clause-stepless g c =
+    stepless_serves g.K.Sinks.takes g.K.Sinks.flushes c.args.limits.now None
+    c.args.book.now c.flush_all-ended.new.book c.args.sinks.now c.flush_all-ended.new.sinks
+    (serves_on g.K.Sinks.takes g.K.Sinks.flushes c.args.limits.now c.flush_all-ended.result
+    c.args.book.now c.flush_all-ended.new.book c.args.sinks.now c.flush_all-ended.new.sinks
+    (sym c.is_some.ensures ∙ c.if-is_some.false) c.flush_all-ended.ensures.serves)
+
+pub returns-clause-stepless : goal.returns-clause-stepless
+returns-clause-stepless g c =
+    stepless-trans None c.read.result c.args.book.now c.flush_all-ended.new.book c.read.new.book
+    (stepless_serves g.K.Sinks.takes g.K.Sinks.flushes c.args.limits.now None
+    c.args.book.now c.flush_all-ended.new.book c.args.sinks.now c.flush_all-ended.new.sinks
+    (serves_on g.K.Sinks.takes g.K.Sinks.flushes c.args.limits.now c.flush_all-ended.result
+    c.args.book.now c.flush_all-ended.new.book c.args.sinks.now c.flush_all-ended.new.sinks
+    (sym c.is_some.ensures ∙ c.if-is_some.false) c.flush_all-ended.ensures.serves))
+    (stepless_read g.S.Sources.gives g.S.Sources.looks g.S.Sources.at_hand c.first_to_come-c.result c.read.result
+    c.flush_all-ended.new.book c.read.new.book c.first_to_come-c.new.sources c.read.new.sources c.read.ensures.reads)

@@ -1,16 +1,17 @@
 use Rattle.std.proofs.Common.{Some, None, sym, ap, ◌∙◌, subst}
 use Rattle.kpn_net.specs.Tables.{is_source, is_sink}
-use Rattle.kpn_stream.specs.Ending.{end_numbers}
+use Rattle.kpn_stream.specs.Ending.{end_numbers, is_halted}
 use Rattle.kpn_stream.specs.Streaming.{Serves}
 use Rattle.kpn_stream.proofs.Going.{serves_goes_on, serves_taken, goes_on-trans}
 use Rattle.kpn_stream.proofs.Moments.{taken_at_start}
+use Rattle.kpn_stream.proofs.Seeing.{watches-trans, watches_serves}
 use Rattle.kpn_stream.proofs.running.run.Goals as goal
 
 pub come_to_outcome-over-requires-clause-taken : goal.come_to_outcome-over-requires-clause-taken
 come_to_outcome-over-requires-clause-taken g c = taken_at_start c.args.book.now c.requires.start
 
-pub returns-in-Some : goal.returns-in-Some
-returns-in-Some g c =
+pub returns-in-Some-clause-goes_on : goal.returns-in-Some-clause-goes_on
+returns-in-Some-clause-goes_on g c =
     serves_goes_on g.S.Sources.gives g.S.Sources.looks g.S.Sources.at_hand g.K.Sinks.takes g.K.Sinks.flushes
     c.args.limits.now (Some c.in-Some.ending)
     c.args.book.now c.come_to_outcome-over.new.book c.args.sources.now c.args.sinks.now c.come_to_outcome-over.new.sinks
@@ -34,8 +35,8 @@ make_turns-requires-clause-taken g c =
     c.come_to_outcome-over.new.book c.args.sinks.now c.come_to_outcome-over.new.sinks c.come_to_outcome-over.ensures
     (taken_at_start c.args.book.now c.requires.start)
 
-pub returns : goal.returns
-returns g c =
+pub returns-clause-goes_on : goal.returns-clause-goes_on
+returns-clause-goes_on g c =
     goes_on-trans g.S.Sources.gives g.S.Sources.looks g.S.Sources.at_hand g.K.Sinks.takes g.K.Sinks.flushes
     c.args.limits.now (Some c.make_turns.result)
     c.args.book.now c.come_to_outcome-over.new.book c.make_turns.new.book c.args.sources.now c.args.sources.now
@@ -48,4 +49,28 @@ returns g c =
     Serves g.K.Sinks.takes g.K.Sinks.flushes c.args.limits.now e c.args.book.now c.come_to_outcome-over.new.book
     c.args.sinks.now c.come_to_outcome-over.new.sinks)
     c.in_default.is c.come_to_outcome-over.ensures))
-    c.make_turns.ensures
+    c.make_turns.ensures.goes_on
+
+pub returns-in-Some-clause-watched : goal.returns-in-Some-clause-watched
+returns-in-Some-clause-watched g c =
+    watches_serves g.W.Watcher.knows g.W.Watcher.sees g.K.Sinks.takes g.K.Sinks.flushes c.args.limits.now (Some c.in-Some.ending) c.args.book.now
+    c.come_to_outcome-over.new.book c.args.sinks.now c.come_to_outcome-over.new.sinks c.args.watcher.now
+    (subst
+    (λ e.
+    Serves g.K.Sinks.takes g.K.Sinks.flushes c.args.limits.now e c.args.book.now c.come_to_outcome-over.new.book
+    c.args.sinks.now c.come_to_outcome-over.new.sinks)
+    c.in-Some.is c.come_to_outcome-over.ensures)
+
+pub returns-clause-watched : goal.returns-clause-watched
+returns-clause-watched g c =
+    watches-trans g.W.Watcher.knows g.W.Watcher.sees c.args.book.now c.come_to_outcome-over.new.book c.make_turns.new.book
+    c.args.watcher.now c.args.watcher.now c.make_turns.new.watcher (is_halted (Some c.make_turns.result))
+    c.come_to_outcome-over.ensures.besides.tables
+    (watches_serves g.W.Watcher.knows g.W.Watcher.sees g.K.Sinks.takes g.K.Sinks.flushes c.args.limits.now None c.args.book.now c.come_to_outcome-over.new.book
+    c.args.sinks.now c.come_to_outcome-over.new.sinks c.args.watcher.now
+    (subst
+    (λ e.
+    Serves g.K.Sinks.takes g.K.Sinks.flushes c.args.limits.now e c.args.book.now c.come_to_outcome-over.new.book
+    c.args.sinks.now c.come_to_outcome-over.new.sinks)
+    c.in_default.is c.come_to_outcome-over.ensures))
+    c.make_turns.ensures.watched

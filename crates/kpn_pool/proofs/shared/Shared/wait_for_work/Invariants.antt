@@ -4,4 +4,4 @@ use Rattle.kpn_pool.proofs.shared.Shared.wait_for_work.Given as goal
 abbrev pub invariant-loop : goal.invariant-loop
 invariant-loop g l =
     (goal.iterator-loop g).can_next l.iterator' × (goal.iterator-loop g).is_finite l.iterator'
-    × (l.worker.seat ≡ l.fn.worker.seat)
+    × (l.seat ≡ l.fn.seat)

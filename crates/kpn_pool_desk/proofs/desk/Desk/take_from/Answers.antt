@@ -1,6 +1,6 @@
 use Rattle.std.proofs.Common.{◌≡◌, true, refl, rules}
-use Rattle.kpn_pool_desk.specs.Rows.{no_take}
-use Rattle.kpn_pool_desk.proofs.InARow.{one_take_on}
+use Rattle.kpn_pool_desk.specs.RegionTurn.{no_take}
+use Rattle.kpn_pool_desk.proofs.Dividing.{one_take_on}
 use Rattle.kpn_pool_desk.proofs.Seating.{still_with_book}
 use Rattle.kpn_pool_desk.proofs.desk.Desk.take_from.Goals as goal
 

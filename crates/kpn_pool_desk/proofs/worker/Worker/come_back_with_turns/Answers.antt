@@ -13,7 +13,5 @@ returns-clause-does g c =
     let settles : SettlesTurns turns c.settle.result before between = search rules in
     let cut : c.if-lets_all.desk ≡ between =
     elim c.if-lets_all.branch [ then-lets_all w ↦ search rules | else-lets_all w ↦ search rules ] in
-    comes_back (g.G.Gate.may_answer c.args.gate.now) c.args.self.now.quota c.args.most turns c.next.result before between
-    c.if-lets_all.desk c.go_in_rows.new.desk c.next.new.self
-    (subst (λ why. SettlesTurns turns why before between) none settles) cut c.go_in_rows.ensures.goes
-    c.next.ensures.same c.next.ensures.ends
+    comes_back c.args.most turns c.next.result before between c.if-lets_all.desk c.next.new.self
+    (subst (λ why. SettlesTurns turns why before between) none settles) cut c.next.ensures.same c.next.ensures.ends

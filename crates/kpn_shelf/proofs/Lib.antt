@@ -1,2 +1,0 @@
--- Lemmas: tries that would have had to wait.
-pub mod Waiting
