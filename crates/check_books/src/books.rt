@@ -17,7 +17,7 @@ use linked_list_allocator::LocalHeap;
 use std::alloc::Global;
 use std::io::Write;
 
-/// Makes a call while so many bytes of the heap are left.
+/// Makes a call while this many bytes of the heap are left.
 fn answer_on<'n, 'h>(
     alloc: Global,
     heap: &'h LocalHeap,

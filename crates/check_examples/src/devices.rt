@@ -10,7 +10,7 @@ use std::io::{ErrorKind, Read, Write};
 pub(crate) struct Failure {
     /// How many calls succeed before one fails, or `None` if none fails any more.
     pub before: Option<u8>,
-    /// Whether each call behind that fails too.
+    /// Whether each call after that fails too.
     pub lasts: bool,
     pub kind: ErrorKind,
 }

@@ -1,12 +1,12 @@
-//! Command lines as a compared run. The program repeats each line of standard input behind `$ `. A line is one of these:
+//! Command lines as a compared run. The program repeats each line of standard input after `$ `. A line is one of these:
 //!
 //! - `kpn WORDS`, a command line over the files in this folder. Below it comes what it wrote and, if it failed, its error
-//!   line and its status. Its standard input is the file `input`, if there is one. Behind `kpn --words always WORDS`
+//!   line and its status. Its standard input is the file `input`, if there is one. After `kpn --words always WORDS`
 //!   follow the words for a person.
-//! - `first COUNT kpn WORDS`, a command line too. Only so many lines of what it wrote follow, since the rest of an audit
+//! - `first COUNT kpn WORDS`, a command line too. Only COUNT lines of what it wrote follow, since the rest of an audit
 //!   of a run by workers depends on the order of their turns.
 //! - `file NAME TEXT` makes a file. In the text `\n`, `\r` and `\0` are bytes that no line can have.
-//! - `many NAME COUNT TEXT` puts such a text so often behind what the file holds.
+//! - `many NAME COUNT TEXT` puts such a text COUNT times after what the file holds.
 //! - `cat NAME`: what the file holds follows.
 //! - `fail PLACE AT`: in each command line below, a call fails of its `input`, its `output` or its place for `errors`.
 //!   AT is how many calls succeed before that one, or `each` if all fail. Then an input gives its bytes one by one.

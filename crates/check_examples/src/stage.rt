@@ -47,7 +47,7 @@ impl<S> Stage<S> {
     }
 }
 
-/// The failure that `AT` says: each call, or the one behind so many that succeed.
+/// The failure that `AT` says: each call, or the one after `AT` that succeed.
 fn failure_at(at: &str, kind: ErrorKind) -> Result<Failure> {
     let lasts = at == "each";
     let before = Some(if lasts { 0 } else { at.parse()? });
@@ -99,7 +99,7 @@ fn words_of(alloc: Global, line: &str) -> Result<Vec<String>> {
     Ok(words)
 }
 
-// What stands in front of a command behind which words follow.
+// What stands in front of a command after which words follow.
 const WITH_WORDS: &str = "--words always ";
 
 /// Runs a command line, and returns what it wrote and, if it failed, its error lines and its status. If a call may

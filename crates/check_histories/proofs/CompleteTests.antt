@@ -81,7 +81,7 @@ module _ (t : Tables) (H : List Event) where
   leads_by leads_on c Source = not (is_closed H c)
   leads_by leads_on c Sink = false
 
-  -- in so many turns the waits lead from the channel to an open source, or to a process that waits for no item
+  -- in this many turns the waits lead from the channel to an open source, or to a process that waits for no item
   abbrev pub leads_on : (turns c : ℕ) → Bool
   leads_on zero c = false
   leads_on (suc turns) c = leads_by (leads_on turns) c (writer_of t c)

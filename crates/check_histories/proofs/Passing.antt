@@ -266,7 +266,7 @@ passes_on t n B (event ∷ rest) =
 abbrev pub passes : Tables → (n : ℕ) → List Event → Bool
 passes t n H = passes_on t n [] H
 
--- what is known of the beginnings that go on behind B
+-- what is known of the beginnings that go on after B
 record GoesOn (t : Tables) (B rest : List Event) : Type 0 where
   consistent : (C : List Event) → IsPrefix C rest → IsConsistent t (B ++ C)
   follows : (C : List Event) (event : Event) → IsPrefix (C ++ event ∷ []) rest → MayFollow t (B ++ C) event

@@ -241,12 +241,12 @@ fn written(rt: &impl Abort, writing: &Advance<'_>) -> Result<Frame, AllocError>
     }
 }
 
-// Whether it made so many steps to this stop.
+// Whether it made this many steps to this stop.
 fn came_to(advance: &Advance<'_>, steps: u32, stop: Stop) -> bool {
     advance.steps() == steps && advance.stop() == stop
 }
 
-// Where a program first stops within so many steps.
+// Where a program first stops within this many steps.
 fn first_stop(
     rt: &impl Abort,
     alloc: Global,

@@ -24,7 +24,7 @@ network {
 }
 ";
 
-/// The trace of these events, so many times one after another, under the usual rules.
+/// The trace of these events, this many times one after another, under the usual rules.
 fn trace_of(
     alloc: Global,
     version: Version,

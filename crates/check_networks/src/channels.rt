@@ -23,9 +23,9 @@ enum Call<'a> {
     Retire,
     /// Makes the channel roomy, if there is memory.
     MakeRoomy(bool),
-    /// Whether so many items can be joined.
+    /// Whether this many items can be joined.
     HasPlacesFor(usize, bool),
-    /// So many items are read and these are put, at once, while at most so many were unread.
+    /// The first number of items is read and these are put, at once, while at most the second number was unread.
     Join(usize, &'a [i64], usize),
     /// The same with the numbers from the second to before the third.
     JoinNumbers(usize, i64, i64, usize),
@@ -34,7 +34,7 @@ enum Call<'a> {
     HasRoom(bool),
     IsFull(bool),
     At(usize, Option<i64>),
-    /// The unread item after so many others.
+    /// The unread item after this many others.
     PeekAt(usize, Option<i64>),
     /// All items that a reader may get.
     Readable(&'a [i64]),

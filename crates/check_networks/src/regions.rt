@@ -290,8 +290,8 @@ fn make_ready(
     Ok(())
 }
 
-/// Whether so many items were read from each channel, so many are unread there, and so many ever were, and whether each
-/// process is where it is in the batch.
+/// Whether as many items were read from each channel, are unread there, and ever were, as these counts say, and whether
+/// each process is where it is in the batch.
 fn stands_so(
     network: &Network,
     machine: &Machine,

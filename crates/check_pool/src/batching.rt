@@ -36,7 +36,7 @@ impl Calls {
         }
     }
 
-    /// Whether so many calls were made, each for the process that was due.
+    /// Whether this many calls were made, each for the process that was due.
     fn are(&self, count: usize) -> bool {
         self.made.load(Ordering::SeqCst) == count
             && self.shares.is_raised()
@@ -95,7 +95,7 @@ fn works<J: Job + Send + Sync, R: Wait + Clock>(
     (seat, has_ended)
 }
 
-/// Whether all nine processes are ready, and the sinks of the first ones, so many, have the item, and the others none.
+/// Whether all nine processes are ready, and the sinks of the first `written` have the item, and the others none.
 fn shows(view: &Option<View>, written: usize) -> bool {
     let Some(view) = view else {
         return false;

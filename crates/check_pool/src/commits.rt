@@ -12,7 +12,7 @@ use std::test::Fail;
 use std::thread::Threads;
 use std::time::Clock;
 
-/// A description of so many processes that step for ever.
+/// A description of this many processes that step for ever.
 fn spinners(alloc: Global, processes: usize) -> Result<String, AllocError> {
     let mut text = String::from_str(alloc, "process spin() { while 1 { } } network {")?;
     for p in 0..processes {

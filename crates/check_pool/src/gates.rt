@@ -5,10 +5,10 @@ use kpn_pool_desk::{Gate, Go};
 use std::sync::atomic::{AtomicU64, Ordering};
 use std::thread;
 
-/// So many calls pass at first: some ten milliseconds, in which all workers but one come to rest.
+/// This many calls pass at first: some ten milliseconds, in which all workers but one come to rest.
 const PASSING: u64 = 100_000;
 
-/// So many additions to an atomic number take longer than anybody looks on before it sleeps.
+/// This many additions to an atomic number take longer than anybody looks on before it sleeps.
 const PAUSE: u32 = 6_000;
 
 /// Lets the first calls pass, and then holds each until three are held at once, and ends its worker.

@@ -13,7 +13,7 @@ pub struct Held {
     pub until: u64,
 }
 
-/// Holds one call until the other of two processes has come so often.
+/// Holds one call until the other of two processes has come this often.
 #[derive(Drop)]
 pub struct Holding {
     held: Held,

@@ -17,16 +17,16 @@ use std::thread;
 use std::thread::Threads;
 use std::time::{Clock, Duration};
 
-/// So many steps a worker makes at most before it comes to the gate.
+/// A worker makes at most this many steps before it comes to the gate.
 const QUOTA: u32 = 100_000_000;
 
 /// No more commits are made: a snapshot takes the longer, the more items the journal has.
 const MOST_COMMITS: u64 = 200_000;
 
-/// So many snapshots are asked for, one after another.
+/// This many snapshots are asked for, one after another.
 const LOOKS: u64 = 1_000;
 
-/// So many microseconds go by before each of these.
+/// This many microseconds go by before each of these.
 const PAUSE: u64 = 300;
 
 /// Shows that a worker has come. Lets commits through until it is shut, and then ends each worker.

@@ -19,7 +19,7 @@ use std::thread;
 use std::thread::Threads;
 use std::time::Clock;
 
-/// After so many commits the workers end.
+/// The workers end after this many commits.
 const COMMITS: u64 = 20_000;
 
 /// Whether the counts of a desk are those of three processes. A caller's proof learns what holds of every desk.

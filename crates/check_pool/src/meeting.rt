@@ -66,7 +66,7 @@ fn work_till_met<J: Job + Send + Sync, R: Threads + Wait + Clock + Sync>(
 /// Whether two workers met, why they ended, and the commits of the two seats and of the book.
 type Met = (bool, (Option<Why>, Option<Why>), (u64, u64));
 
-/// What comes of two workers, which are allowed so many commits.
+/// What comes of two workers, which are allowed this many commits.
 fn meet<J: Job + Send + Sync, R: Threads + Wait + Clock + Sync>(
     rt: &R,
     alloc: Global,

@@ -133,7 +133,7 @@ pub fn pouring(alloc: Global) -> Result<Network, Fail> {
     processes(alloc, pour, &ports, &[Sink(LIMIT)])
 }
 
-/// The sum of so many times variable 0, at least one, by as few levels as there can be.
+/// Variable 0 this many times as a sum, at least one, by as few levels as there can be.
 fn sum(alloc: Global, terms: u32) -> Result<Expr, AllocError> {
     if terms < 2 {
         return Ok(Expr::Var(0));

@@ -32,7 +32,7 @@ struct OnlyWorker<'n, 'a, J: Job> {
     worker: Worker<'n, J>,
     region: RegionTurn<'n, J, &'a LocalHeap>,
     gate: TestGate,
-    /// So many commits are allowed.
+    /// This many commits are allowed.
     most: u64,
 }
 

@@ -142,11 +142,11 @@ fn told_of(report: &Report) -> Told {
 pub struct Beside {
     workers: Result<Told, RunFault>,
     here: Told,
-    /// Both took the same items of the sinks. Where only so many are wanted, the workers may take some more.
+    /// Both took the same items of the sinks. Where only a number of them is wanted, the workers may take some more.
     has_its_items: bool,
 }
 
-/// Whether a run took the items of another one, or, where only so many are wanted, these at least.
+/// Whether a run took the items of another one, or, where only a number of them is wanted, these at least.
 fn has_items_of(report: &Report, here: &Report, limits: &Limits) -> bool {
     if limits.take.is_none() {
         return report.taken == here.taken;

@@ -31,7 +31,7 @@ const PAUSE: u64 = 50;
 /// keeps watch, so that none does.
 const START: u64 = 60;
 
-/// A run is late after so many milliseconds: half of the time for which a worker rests that keeps no watch, or for
+/// A run is late after this many milliseconds: half of the time for which a worker rests that keeps no watch, or for
 /// which the outside sleeps for all items while a worker is busy.
 const LATE: u64 = 500;
 
@@ -55,7 +55,7 @@ struct Outside {
     sinks: Vec<SinkSeat>,
 }
 
-/// Waits until so many items of the last sink were taken, or the run has ended. Returns which.
+/// Waits until this many items of the last sink were taken, or the run has ended. Returns which.
 fn await_items<J: Job, R: Wait + Clock>(
     rt: &R,
     shared: &Shared<'_, J>,

@@ -42,7 +42,7 @@ const WORKERS: usize = 3;
 /// A feeder feeds the numbers from 1 to this one.
 const LAST: i64 = 1_000;
 
-/// The client looks once for each so many items.
+/// The client looks once for this many items.
 const FOR_A_LOOK: usize = 200;
 
 /// A run that ends once nothing more can happen.
@@ -130,7 +130,7 @@ fn take_and_look<J: Job, R: Wait + Clock>(
     unreachable!()
 }
 
-/// Whether a snapshot of the run shows at least so many items at the sink.
+/// Whether a snapshot of the run shows at least this many items at the sink.
 fn shows<J: Job, R: Wait>(rt: &R, alloc: Global, shared: &Shared<'_, J>, items: usize) -> bool {
     let look = shared.look(rt);
     let desk = look.desk();

@@ -1,4 +1,4 @@
-//! The program `kpn`: the command line over the system's files, its standard input and its two outputs. Behind what a
+//! The program `kpn`: the command line over the system's files, its standard input and its two outputs. After what a
 //! command tells stand words for a person, if they are wanted.
 #![tactic(auto)]
 
@@ -59,7 +59,7 @@ fn main(rt: HostRuntime) -> ExitCode {
     ExitCode::from(status)
 }
 
-// When words are wanted. If the first two words behind the program's name say it, they are taken out.
+// When words are wanted. If the first two words after the program's name say it, they are taken out.
 fn take_wanted(rt: &(impl Env + AllocGlobal), words: &mut Vec<String>) -> Option<WordsWanted> {
     if words.len() < 2 || words[1].as_str() != WORDS_OPTION {
         return Some(usually_wanted(rt));

@@ -11,7 +11,7 @@ use Rattle.kpn_history.specs.declared.event.Event.TheVariants.{Grow}
 use Rattle.kpn_history.specs.Channels.{is_growth_of, after_growths, capacity_after}
 use Rattle.kpn_audit.specs.Stored.{one_larger, told, told_behind}
 
--- if a growth makes a capacity one larger, so many growths make it as much larger
+-- if a growth makes a capacity one larger, `times` growths make it `times` larger
 one_each : (t : Tables) → t.growth ≡ growth.One → (times cap : ℕ) → after_growths t times cap ≡ cap + times
 one_each t one zero cap = omega arith
 one_each t one (suc times) cap =
@@ -27,7 +27,7 @@ growth_told t B c e = refl
 abbrev growths : (c : ℕ) → List Event → ℕ
 growths c H = count_by (is_growth_of c) H
 
--- one growth more behind these
+-- one growth more after these
 one_more : (t : Tables) → t.growth ≡ growth.One → (B : List Event) (c n first : ℕ) → c < length t.channels
     → capacity (channel_at t c) ≡ Some first
     → (if nat_lt c (length t.channels) then one_larger (capacity_after t B c) n else n) ≡ first + (growths c B + 1)
@@ -37,7 +37,7 @@ one_more t one B c n first there is =
     ∙ ap (λ o. one_larger (option_map (after_growths t (growths c B)) o) n) is
     ∙ omega (arith, each)
 
--- a growth as event k of those behind B
+-- a growth as event k of those after B
 pub growth_behind : (t : Tables) → t.growth ≡ growth.One → (B events : List Event) (k p c n first : ℕ)
     → slice_get events k ≡ Some (Grow p c n) → c < length t.channels → capacity (channel_at t c) ≡ Some first
     → slice_get (told_behind t B events) k

@@ -62,7 +62,7 @@ abbrev pub IsFound : Tables → Event → (before after : Machine) → Judged �
 IsFound t event before after judged =
     (H : List Event) → IsRun t H before → OwesNothing t H → IsMade t H event before after judged
 
--- so many steps lead one process from where it stands to where it stands then, and all others stay
+-- a number of steps leads one process from where it stands to where it stands then, and all others stay
 pub record IsMoved (t : Tables) (p : ℕ) (before after : Machine) : Type 0 where
   pub steps : ℕ
   pub reached : Steps (program_of t p).blocks steps (frame_in before p) (frame_in after p)
@@ -76,7 +76,7 @@ StopsInTime t s quota p = IsFree s p → StopsWithin (program_of t p).blocks quo
 abbrev pub IsInTime : Tables → Machine → (quota : ℕ) → Event → Type 0
 IsInTime t s quota event = (p : ℕ) → is_of p event ≡ true → HasNumbers t event → StopsInTime t s quota p
 
--- the process of an event is free, and so many steps from where it stands it is between two of them
+-- the process of an event is free, and `quota` steps from where it stands it is between two of them
 pub record IsUnreached (t : Tables) (before : Machine) (event : Event) (quota : ℕ) : Type 0 where
   pub process : ℕ
   pub there : process < length t.instances

@@ -11,7 +11,7 @@ use Rattle.kpn_history.specs.declared.event.Event.{Event}
 use Rattle.kpn_history.specs.Talks.{is_of}
 use Rattle.kpn_machine.specs.Changes.{IsFrameAfter}
 
--- so many steps lead from the one frame to the other, and no further step can be made there: it stands at a stop
+-- this many steps lead from the one frame to the other, and no further step can be made there: it stands at a stop
 pub record ComesToStop (blocks : List (List Statement)) (steps : ℕ) (before there : Frame) : Type 0 where
   pub reached : Steps blocks steps before there
   pub stop : Stop
@@ -28,7 +28,7 @@ pub record StopsWithin (blocks : List (List Statement)) (quota : ℕ) (before : 
   pub comes : ComesToStop blocks steps before there
   pub allowed : steps ≡ quota → ¬ IsBetween (step_of blocks there)
 
--- process p makes an event: so many steps lead from its frame to where it stops, and a get or a put takes it past that
+-- process p makes an event: steps lead from its frame to where it stops, and a get or a put takes it past that
 pub record MakesEvent (t : Tables) (p : ℕ) (event : Event) (before after : Frame) : Type 0 where
   pub steps : ℕ
   pub there : Frame

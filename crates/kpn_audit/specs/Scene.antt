@@ -86,7 +86,7 @@ pub record IsGrowthOfNothing (t : Tables) (H : List Event) (event : Event) : Typ
   pub channel : ℕ
   pub growth : is_growth_of channel event ≡ true
 
--- what stands after a history, before an event, of whose process so many steps are seen
+-- what stands after a history, before an event, of whose process `quota` steps are seen
 abbrev pub IsScene : Tables → List Event → Event → (quota : ℕ) → Scene → Type 0
 IsScene t H event quota (Owes growth) = IsOwedAfter t H growth
 IsScene t H event quota NotThere = owing.OwesNothing t H × (¬ HasNumbers t event)

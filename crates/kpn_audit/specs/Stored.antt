@@ -31,13 +31,13 @@ abbrev pub one_larger : Option ℕ → (n : ℕ) → ℕ
 one_larger None n = n
 one_larger (Some cap) n = cap + 1
 
--- an event of version 1 behind the events B. Its growth makes the capacity of a channel of the network one larger: the
+-- an event of version 1 after the events B. Its growth makes the capacity of a channel of the network one larger: the
 -- new one is the first capacity and the number of the channel's growths up to this one
 abbrev pub told : Tables → (B : List Event) → Event → Event
 told t B (Grow p c n) = Grow p c (if nat_lt c (length t.channels) then one_larger (capacity_after t B c) n else n)
 told t B event = event
 
--- the events of version 1 behind B, each growth with its new capacity
+-- the events of version 1 after B, each growth with its new capacity
 abbrev pub told_behind : Tables → (B events : List Event) → List Event
 told_behind t B [] = []
 told_behind t B (event ∷ events) = told t B event ∷ told_behind t (B ++ told t B event ∷ []) events
@@ -57,7 +57,7 @@ history_in t trace = history_of trace.version (tables_for t trace) trace.events
 
 -- ---- scaffolding
 
--- an event of this version behind the events B
+-- an event of this version after the events B
 abbrev pub told_in : Version → Tables → (B : List Event) → Event → Event
 told_in One t B event = told t B event
 told_in Two t B event = event

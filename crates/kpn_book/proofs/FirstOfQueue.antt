@@ -308,7 +308,7 @@ module _ (quota p : ℕ) (b : Book) (kept : IsKept b) (holds : HoldsFirst p b.sc
 
 -- ---- turns in a row
 
--- after so many turns
+-- after this many turns
 pub record IsSoFar (quota n : ℕ) (first now : Book) : Type 0 where
   pub row : StepsInRow quota first n now
   pub kept : IsKept now
@@ -418,7 +418,7 @@ refused_in_turn quota most n first now after uncommitted so_far fewer = record {
   ends = inr uncommitted;
 }
 
--- ---- what a refused row leaves as it is behind its last step
+-- ---- what a refused row leaves as it is after its last step
 
 module _ (quota most : ℕ) (before after : Book) (vain : RunsInVain quota most before after) where
   pub refused_tables : after.tables ≡ vain.last.tables

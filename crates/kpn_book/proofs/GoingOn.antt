@@ -54,7 +54,7 @@ IsSchedule-again p s is first =
     subst IsSchedule (rotated s.states s.queue p is first (drop 1 s.queue ++ p ∷ []) refl)
     (IsSchedule-rotated s.states s.queue p is first)
 
--- who becomes ready stands behind the first
+-- who becomes ready stands after the first
 pub first_stays : (p : ℕ) (woken : Option ℕ) (s : Schedule) → slice_get s.queue 0 ≡ Some p
     → slice_get (all_made_ready (option_to_list woken) s).queue 0 ≡ Some p
 first_stays p None s first = first

@@ -1,4 +1,4 @@
--- In so many rounds of the queue the run on one thread has made what another history has made.
+-- In this many rounds of the queue the run on one thread has made what another history has made.
 use Rattle.std.proofs.Common.{◌≡◌, ◌≢◌, ℕ, zero, suc, ◌+◌, ◌*◌, ◌-◌, ◌<◌, ◌≤◌, ◌⊎◌, max, true, false, List, [], ◌∷◌, ◌++◌, length, refl, sym, ap, ◌∙◌, subst, inl, inr, arith, length-append}
 use Rattle.std.proofs.lemmas.Bool.{cases_Bool, cases_lt}
 use Rattle.std.proofs.lemmas.List.Sums.{count_by-le-length}
@@ -82,7 +82,7 @@ module _ (limits : Limits) (t : Tables) (network : IsNetwork t) (given : Family)
   abbrev quota : ℕ
   quota = max limits.quota 1
 
-  -- if the process has said no more, it has so few steps left that it pauses at most so often
+  -- if the process has said no more, it has so few steps left that it pauses at most that often
   abbrev CanPause : (left : ℕ) → Book → Type 0
   CanPause left b =
       talk_of b.history p ≡ talk_of B p

@@ -288,7 +288,7 @@ module _ (states : List State) (queue : List ℕ) (p : ℕ)
       (IsSchedule-set (set states p Held) (drop 1 queue) (IsSchedule-held states p (drop 1 queue) apart) p still
       (ap is_ready (get_or-set_same states p Held Ready there)) state neither)
 
-  -- behind it, the queue has room for it
+  -- after it, the queue has room for it
   pub few_wait : length (drop 1 queue) < length states
   few_wait =
       let long : suc (length (drop 1 queue)) ≡ count_by is_ready states = apart.count in

@@ -193,7 +193,7 @@ all_had_turns within first s k had is =
 
 module _ (within : ℕ → Bool) (first s : Schedule) (k p : ℕ) (had : HadTurns within first k s)
     (next : slice_get s.queue 0 ≡ Some p) (more : k < length first.queue) where
-  -- the process whose turn it is, and those behind it
+  -- the process whose turn it is, and those after it
   record IsNext (rest : List ℕ) : Type 0 where
     behind : List ℕ
     is : rest ≡ p ∷ behind

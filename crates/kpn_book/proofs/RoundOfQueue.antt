@@ -41,7 +41,7 @@ use Rattle.kpn_book.proofs.Progress.{IsOnWay, AreOnWay, on_way_appended, AreOfNo
 
 -- ---- turns in a row
 
--- so many turns, and then the rest
+-- this many turns, and then the rest
 pub record Split (limits : Limits) (first last : Book) (i j : ℕ) : Type 0 where
   pub mid : Book
   pub before : ℕ
@@ -404,7 +404,7 @@ module _ (quota : ℕ) (before after : Book) (ready : IsBeforeTurn before) (turn
 
 -- ---- the queue
 
--- process p has its turn in these turns, before so many are made, and has not moved before it
+-- process p has its turn in these turns, before `most` are made, and has not moved before it
 pub record HasTurn (limits : Limits) (a b : Book) (turns most p : ℕ) : Type 0 where
   pub before : Book
   pub after : Book

@@ -9,6 +9,6 @@ use Rattle.kpn_chan.specs.declared.chunks.TheConstants.{CHUNK}
 abbrev pub may_be_unread : ChannelState → ℕ
 may_be_unread c = unwrap_or c.capacity c.most
 
--- for so many items there is memory at most: those of a chunk, some to begin with, and twice as many as may be unread
+-- there is memory for this many items at most: those of a chunk, some to begin with, and twice as many as may be unread
 abbrev pub most_places : ChannelState → ℕ
 most_places c = CHUNK + FIRST_PLACES + 2 * may_be_unread c

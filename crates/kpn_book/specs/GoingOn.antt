@@ -21,7 +21,7 @@ pub data TurnsInAnyOrder (quota : ℕ) (first : Book) : (sink : Option ℕ) → 
   one_turn_more : {sink : Option ℕ} (before after : Book) → TurnsInAnyOrder quota first None before
       → IsStepInRow quota sink before after → TurnsInAnyOrder quota first sink after
 
--- at most so many turns in any order; at least one is made if a process is ready
+-- at most this many turns in any order; at least one is made if a process is ready
 pub record RunsInAnyOrder (quota most : ℕ) (sink : Option ℕ) (before after : Book) : Type 0 where
   pub turns : TurnsInAnyOrder quota before sink after
   pub within : after.commits ≤ before.commits + most

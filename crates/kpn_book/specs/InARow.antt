@@ -39,7 +39,7 @@ pub record IsStepInRow (quota : ℕ) (sink : Option ℕ) (before after : Book) :
   pub steps : StepsNext quota answer before after
   pub puts : puts_on sink answer before after
 
--- so many steps lead from the first book to this one, and none has put an item on a sink
+-- this many steps lead from the first book to this one, and none has put an item on a sink
 pub data StepsInRow (quota : ℕ) (first : Book) : ℕ → Book → Type 0 where
   no_step : StepsInRow quota first 0 first
   one_step_more : {n : ℕ} (before after : Book) → StepsInRow quota first n before
@@ -50,7 +50,7 @@ abbrev pub ends_row : (quota : ℕ) → Option ℕ → (before after : Book) →
 ends_row quota (Some c) before after = IsStepInRow quota (Some c) before after
 ends_row quota None before after = after ≡ before
 
--- at most so many steps in a row, of which only the last may have put an item on a sink, namely on this one. At least
+-- at most this many steps in a row, of which only the last may have put an item on a sink, namely on this one. At least
 -- one is made if a process is ready
 pub record RunsInRow (quota most : ℕ) (sink : Option ℕ) (before after : Book) : Type 0 where
   pub steps : ℕ
@@ -72,8 +72,8 @@ pub record StepsUncommitted (quota : ℕ) (before after : Book) : Type 0 where
   pub wants : advance.stop ≢ stop.Paused
   pub there : after ≡ standing_at process advance.to before
 
--- memory ran out behind so many steps in a row, fewer than there may be, of which none has put an item on a sink: the
--- book is that of the last step, or the process whose turn it then is has made its steps
+-- memory ran out after a number of steps in a row, fewer than there may be, of which none has put an item on a sink:
+-- the book is that of the last step, or the process whose turn it then is has made its steps
 pub record RunsInVain (quota most : ℕ) (before after : Book) : Type 0 where
   pub steps : ℕ
   pub last : Book

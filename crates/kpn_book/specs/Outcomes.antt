@@ -19,8 +19,8 @@ abbrev pub IsEnough : Tables → List Event → (wanted : Option ℕ) → Type 0
 IsEnough t H None = ⊥
 IsEnough t H (Some items) = HaveRead t H items
 
--- the outcome of a history after so many commits: enough if what was wanted was read; else the verdict if there is one;
--- else stopped if the commits have reached their limit; else none
+-- the outcome of a history after this many commits: enough if what was wanted was read; else the verdict if there is
+-- one; else stopped if the commits have reached their limit; else none
 abbrev pub IsOutcome : Tables → List Event → (commits : ℕ) → Limits → Option Outcome → Type 0
 IsOutcome t H commits limits (Some Enough) = IsEnough t H limits.take
 IsOutcome t H commits limits (Some Ended) = (¬ IsEnough t H limits.take) × IsVerdict t H (Some verdict.Ended)

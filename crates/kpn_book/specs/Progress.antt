@@ -33,7 +33,7 @@ tried_at (Stops s) = 0
 tried_at (Faults fault) = 1
 tried_at (Goes next) = 1
 
--- from this frame process p comes to a stop, and pauses at most so often on the way, if it makes so many steps at once
+-- from this frame process p comes to a stop, with at most `pauses` pauses on the way, if it makes `quota` steps at once
 pub record PausesFrom (t : Tables) (quota p : ℕ) (from : Frame) (pauses : ℕ) : Type 0 where
   pub to : Frame
   pub steps : ℕ
@@ -53,11 +53,11 @@ pub record HasJustHalted (H : List Event) (p : ℕ) : Type 0 where
   pub last : last_event H p ≡ Some event
   pub halts : IsHalt event
 
--- before its next event process p pauses at most so often: not at all after a wait
+-- before its next event process p pauses at most that often: not at all after a wait
 abbrev pub PausesAtMost : Tables → (quota : ℕ) → List Event → (p pauses : ℕ) → Type 0
 PausesAtMost t quota H p pauses = PausesAfter t quota p (talk_of H p) pauses ⊎ HasJustHalted H p
 
--- a history takes so many rounds of the queue: one for each event of a process, and one for each pause before it
+-- a history takes this many rounds of the queue: one for each event of a process, and one for each pause before it
 pub data TakesRounds (t : Tables) (quota : ℕ) : List Event → ℕ → Type 0 where
   no_event : TakesRounds t quota [] 0
   of_process : {rounds : ℕ} (B : List Event) (e : Event) (p pauses : ℕ) → TakesRounds t quota B rounds

@@ -14,7 +14,7 @@ use Rattle.kpn_book.specs.Book.{Book, IsHeld}
 use Rattle.kpn_book.specs.Regions.{SettleBelow}
 use Rattle.kpn_book.specs.BatchCommits.{with_batch}
 
--- the commits can be counted, with so many more, and one more for each process
+-- the commits can be counted, with this many more, and one more for each process
 abbrev pub CanCount : (more : ℕ) → Book → Type 0
 CanCount more book = book.commits + more + length book.tables.instances < 2 ^ 64
 
@@ -50,7 +50,7 @@ is_at_stop within (Ended p how) = within p
 is_at_stop within (Grow p c n) = true
 is_at_stop within event = false
 
--- the events of the batch are appended, and then those of the stops at which so many processes were committed. No
+-- the events of the batch are appended, and then those of the stops at which this many processes were committed. No
 -- process of the region is held any more
 pub record CommitsAtStops (b : Batch) (before after : Book) : Type 0 where
   pub tables : after.tables ≡ before.tables

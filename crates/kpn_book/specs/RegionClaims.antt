@@ -28,7 +28,7 @@ abbrev pub is_end_within : Local → End → Bool
 is_end_within s (Process p) = is_in_region s p
 is_end_within s other = false
 
--- so many items, but no more than half the capacity, rounded up, or than 512 of a source, which has none
+-- this many items, but no more than half the capacity, rounded up, or than 512 of a source, which has none
 abbrev pub at_most_half : Option ℕ → ℕ → ℕ
 at_most_half None items = min items 512
 at_most_half (Some capacity) items = min items (capacity - capacity / 2)
@@ -44,7 +44,7 @@ abbrev pub free_room : Option ℕ → (items unread : ℕ) → ℕ
 free_room None items unread = 0
 free_room (Some capacity) items unread = capacity - (unread - items)
 
--- how many items may be there and not taken, if so many are claimed: without end once the reader is gone
+-- how many items may be there and not taken, if this many are claimed: without end once the reader is gone
 abbrev pub room_claimed : (writes : Bool) → (items : ℕ) → ChannelState → ℕ
 room_claimed false items channel = 0
 room_claimed true items channel =

@@ -58,7 +58,7 @@ pub record IsBeforeTurn (b : Book) : Type 0 where
   pub nobody_held : held_count b ≡ 0
   pub served : IsCaughtUp b.tables b.history
 
--- so many turns lead from the first book to this one, and before each of them there was no outcome
+-- this many turns lead from the first book to this one, and before each of them there was no outcome
 pub data Turns (limits : Limits) (first : Book) : ℕ → Book → Type 0 where
   no_turn : Turns limits first 0 first
   one_turn_more : {n : ℕ} (before after : Book) → Turns limits first n before → IsBeforeTurn before
@@ -78,8 +78,8 @@ pub record IsNewBook (t : Tables) (b : Book) : Type 0 where
   pub schedule : b.schedule ≡ all_ready (length t.instances)
   pub commits : b.commits ≡ 0
 
--- a run on one thread of so many turns. From the start each source is fed its list and closed. Then come the turns, and
--- they lead to the last book, which has come to the outcome
+-- a run on one thread of this many turns. From the start each source is fed its list and closed. Then come the turns,
+-- and they lead to the last book, which has come to the outcome
 pub record RunsHere (t : Tables) (lists : List (List ℤ)) (limits : Limits) (turns : ℕ) (outcome : Outcome) (last : Book)
     : Type 0 where
   pub first : Book

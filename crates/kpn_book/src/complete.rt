@@ -35,7 +35,7 @@ impl Report {
                 _ => return false,
             }
         }
-        // after so many steps it goes round in a ring of empty waits, or has come to a source
+        // after this many steps it goes round in a ring of empty waits, or has come to a source
         true
     }
 }

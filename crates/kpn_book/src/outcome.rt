@@ -7,9 +7,9 @@ use kpn_history::Verdict;
 /// When a run stops, and how many steps a process makes at once.
 #[derive(Clone, Copy, Debug, PartialEq, Eq)]
 pub struct Limits {
-    /// After so many commits the run stops.
+    /// The run stops after this many commits.
     pub commits: u64,
-    /// If this is given, the run stops once so many items were read of each sink: at once if there is no sink.
+    /// If this is given, the run stops once this many items were read of each sink: at once if there is no sink.
     pub take: Option<u64>,
     /// The most steps that a process makes before it is the turn of the next. 0 counts as 1.
     pub quota: u32,

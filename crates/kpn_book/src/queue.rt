@@ -49,7 +49,7 @@ impl<A: Allocator> Queue<A> {
         self.taken += 1;
     }
 
-    /// Puts a number behind the others. There are fewer than there is room for.
+    /// Puts a number after the others. There are fewer than there is room for.
     pub(crate) fn put(&mut self, p: usize)
         requires { (room : ℕ) × IsQueue room self.old × (length (waiting self.old) < room) }
         ensures numbers { waiting self.new ≡ waiting self.old ++ p ∷ [] }

@@ -76,7 +76,7 @@ pub fn outcomes_agree()
 {}
 
 /// The first items that two runs of the same network and lists have taken from a sink are the same. If both have
-/// enough, by the same number of items, so many were taken from each sink, and these are the same.
+/// enough, by the same number of items, that many were taken from each sink, and these are the same.
 pub fn first_items_agree()
     ensures first { (t : Tables) → IsNetwork t → (lists : List (List ℤ)) (limits more : Limits)
         (report other : Report) → IsReport t lists limits report → IsReport t lists more other
@@ -96,7 +96,7 @@ pub fn first_items_agree()
 
 // ---- what an outcome means
 
-/// Of a history after so many commits there is one outcome at most.
+/// Of a history after this many commits there is one outcome at most.
 pub fn one_outcome()
     ensures { (t : Tables) (H : List Event) (commits : ℕ) (limits : Limits)
         (outcome other : Option Outcome) → IsOutcome t H commits limits outcome

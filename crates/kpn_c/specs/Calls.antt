@@ -30,7 +30,7 @@ pub record FeedsEach (source : ℕ) (items : List ℤ) (fed : FedCount) (before 
 
 -- ---- stepping
 
--- so many turns lead from the first book to this one. In each turn the front of the queue is claimed, makes no more
+-- this many turns lead from the first book to this one. In each turn the front of the queue is claimed, makes no more
 -- steps than the quota, and is committed
 pub data TurnsFrom (quota : ℕ) (first : Book) : ℕ → Book → Type 0 where
   no_turn : TurnsFrom quota first 0 first

@@ -15,7 +15,7 @@ use Rattle.kpn_c.specs.Faults.{fault_of_text}
 use Rattle.kpn_c.specs.Slices.{PutsToFront}
 use Rattle.kpn_c.specs.Texts.{IsText}
 
--- if the call succeeded, the bytes stand behind the text as it was
+-- if the call succeeded, the bytes stand after the text as it was
 abbrev pub AppendsWords : {T E Z : Type 0} → Result T E → (old new : String Z) → List ℕ → Type 0
 AppendsWords result old new bytes = OnOk result (string_bytes new ≡ string_bytes old ++ bytes)
 
@@ -24,7 +24,7 @@ AppendsWords result old new bytes = OnOk result (string_bytes new ≡ string_byt
 abbrev pub first_position : TextPosition
 first_position = record { line = 1; column = 1 }
 
--- the position behind a byte: a line feed ends its line
+-- the position after a byte: a line feed ends its line
 abbrev pub next_position : TextPosition → (byte : ℕ) → TextPosition
 next_position p b =
     if b == 10 then record { line = p.line + 1; column = 1 } else record { line = p.line; column = p.column + 1 }

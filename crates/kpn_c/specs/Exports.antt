@@ -49,7 +49,7 @@ code_of_verdict (Some Ended) = 1
 code_of_verdict (Some Clogged) = 2
 code_of_verdict (Some Jammed) = 3
 
--- so many items were fed to a source, and the number says why no more
+-- this many items were fed to a source, and the number says why no more
 pub record FeedsSource (source : ℕ) (items : List ℤ) (code count : ℕ) (before after : Session) : Type 0 where
   pub document : after.document ≡ before.document
   pub keeps : after.keeps ≡ before.keeps
@@ -57,7 +57,7 @@ pub record FeedsSource (source : ℕ) (items : List ℤ) (code count : ℕ) (bef
   pub number : code ≡ code_of_cause cause
   pub feeds : FeedsEach source items (record { count = count; cause = cause }) before.book after.book
 
--- so many items were taken from a sink, and the number says why no more
+-- this many items were taken from a sink, and the number says why no more
 pub record TakesFromSink (sink : ℕ) (room kept : List ℤ) (code count : ℕ) (before after : Session) : Type 0 where
   pub document : after.document ≡ before.document
   pub keeps : after.keeps ≡ before.keeps
@@ -65,7 +65,7 @@ pub record TakesFromSink (sink : ℕ) (room kept : List ℤ) (code count : ℕ) 
   pub number : code ≡ code_of_cause cause
   pub takes : TakesEach sink (record { count = count; cause = cause }) room kept before.book after.book
 
--- so many commits were made, and the number says whether memory ran out
+-- this many commits were made, and the number says whether memory ran out
 pub record StepsProcesses (most code commits : ℕ) (before after : Session) : Type 0 where
   pub document : after.document ≡ before.document
   pub keeps : after.keeps ≡ before.keeps

@@ -16,7 +16,7 @@ pub(crate) fn position_at(text: &[u8], at: usize) -> TextPosition
     position_behind(if at < text.len() { &text[..at] } else { text })
 }
 
-/// Where the byte behind a text would be.
+/// Where the byte after a text would be.
 fn position_behind(text: &[u8]) -> TextPosition
     ensures { result ≡ position_behind text.now }
 {

@@ -61,7 +61,7 @@ fn run_lists(
     }
 }
 
-/// What a report tells, if so many items of each sink are wanted.
+/// What a report tells, if this many items of each sink are wanted.
 fn told_of(
     alloc: Global,
     network: &Network,

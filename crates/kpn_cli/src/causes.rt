@@ -180,14 +180,14 @@ fn push_told(text: &mut Vec<u8>, answer: Result<Conclusion, Refusal>) -> Result<
     }
 }
 
-// So many bytes a file that is read whole may have.
+// A file that is read whole may have this many bytes.
 const MOST_FILE_BYTES: u64 = MAX_INPUT_BYTES as u64;
 
 const OTHER_RULES: &str = "\
 The trace is of a network with another `policy` or `grow`. Give it the description that ran.
 ";
 
-/// Adds the name of a file that can't be read, and the reason: it may have so many bytes. It returns whether it did.
+/// Adds the name of a file that can't be read, and the reason: it may have `most` bytes. It returns whether it did.
 pub(crate) fn push_unread<R: Files>(
     text: &mut Vec<u8>,
     rt: &R,
@@ -203,7 +203,7 @@ pub(crate) fn push_unread<R: Files>(
     Ok(true)
 }
 
-// Why a file can't be read that may have so many bytes.
+// Why a file can't be read that may have `most` bytes.
 fn unread<R: Files>(rt: &R, file: &str, most: u64) -> Option<&'static str> {
     match fs::metadata(rt, file) {
         Ok(found) if found.is_dir() => Some("it is a folder"),

@@ -33,7 +33,7 @@ pub(crate) fn conclude<S: Shelf, O: Write, E: Write>(
     }
 }
 
-// Stores files in their order. If one can't be stored, those before it stay, and it stores none of those behind it.
+// Stores files in their order. If one can't be stored, those before it stay, and it stores none of those after it.
 fn store_files<S: Shelf>(shelf: &mut S, files: &[OutputFile]) -> Result<(), WriteFault>
     ensures stored { OnOk result
         (AreStored S.may_give (map stored_as files.now) shelf.old shelf.new) }

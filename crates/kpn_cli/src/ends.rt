@@ -241,7 +241,7 @@ fn length_of<R: Files, S>(file: &str, evidence: &Evidence<'_, R, S>) -> Option<u
     }
 }
 
-// Adds how many bytes are left over behind the last whole sample, if the length is known.
+// Adds how many bytes are left over after the last whole sample, if the length is known.
 fn push_cut(
     text: &mut Vec<u8>,
     alloc: Global,

@@ -61,7 +61,7 @@ impl<W: Write + Drop> Write for EndKeeper<W> {
     }
 }
 
-// Keeps the end of so many first bytes, behind those before if there is room.
+// Keeps the end of the first `count` bytes, after those before if there is room.
 fn keep(kept: &mut Vec<u8>, bytes: &[u8], count: usize) {
     let from = count.saturating_sub(MOST_KEPT);
     let Some(end) = bytes.get(from..count) else {
@@ -134,7 +134,7 @@ impl<I: NonblockingRead + Drop> NonblockingRead for BeginningKeeper<I> {
     }
 }
 
-// Keeps so many first bytes behind those before, as long as there is room.
+// Keeps the first `count` bytes after those before, as long as there is room.
 fn begin(given: &mut Vec<u8>, bytes: &[u8], count: usize) {
     let room = MOST_GIVEN.saturating_sub(given.len());
     if let Some(first) = bytes.get(..count.min(room)) {

@@ -90,7 +90,7 @@ impl<'r, 'a> NamedFiles<'r, 'a> {
         }
     }
 
-    /// A description, and a trace that is read with at most so many steps before an event.
+    /// A description, and a trace that is read with at most this many steps before an event.
     pub(crate) fn traced(file: &'a str, trace: Option<&'a str>, steps: u64) -> NamedFiles<'r, 'a> {
         NamedFiles {
             read: trace,

@@ -44,7 +44,7 @@ pub(crate) fn push_unclear(
     }
 }
 
-/// Adds what is wrong with the first word behind a `--format` that is wrong.
+/// Adds what is wrong with the first word after a `--format` that is wrong.
 pub(crate) fn push_wrong_format<R: Files, S: Shelf>(
     text: &mut Vec<u8>,
     stream: &StreamRequest<'_>,

@@ -21,7 +21,7 @@ pub(crate) fn push_made(
     push(text, piece.as_str())
 }
 
-/// Adds a name between backticks, and what stands before it and behind it.
+/// Adds a name between backticks, and what stands before it and after it.
 pub(crate) fn push_name(
     text: &mut Vec<u8>,
     before: &str,
@@ -91,7 +91,7 @@ pub(crate) fn name_in<'a>(option: &&'a str) -> &'a str {
     }
 }
 
-/// What stands behind the name in an option.
+/// What stands after the name in an option.
 pub(crate) fn file_in<'a>(option: &&'a str) -> &'a str {
     match option.split_once('=') {
         Some((_, file)) => file,

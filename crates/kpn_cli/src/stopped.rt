@@ -19,10 +19,10 @@ use std::rt::Files;
 // How many commits the short run makes at most.
 const MOST_COMMITS: u64 = 20_000;
 
-// So many turns without an event are a loop.
+// This many turns without an event are a loop.
 const TURNS_OF_LOOP: u64 = 10;
 
-// So many bytes a source may have whose items are read once more.
+// A source whose items are read once more may have this many bytes.
 const MOST_SOURCE_BYTES: u64 = 16_777_216;
 
 // What the processes of a run have come to, and how many events each has made.
@@ -86,7 +86,7 @@ pub(crate) fn are_short<R: Files>(rt: &R, options: &[&str]) -> bool {
     })
 }
 
-// A run with so many commits at most.
+// A run with at most this many commits.
 fn look(
     alloc: Global,
     network: &Network,

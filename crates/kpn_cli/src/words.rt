@@ -1,4 +1,4 @@
-//! Words for a person, behind the fixed line: which file it is about, what stands there, and what to do.
+//! Words for a person, after the fixed line: which file it is about, what stands there, and what to do.
 //!
 //! What they say is found anew from the words of the command line, from plain files and from what was kept of what the
 //! program has read and written, so they change nothing of what it has done. They are tested, not proved.
@@ -26,7 +26,7 @@ pub enum WordsWanted {
 }
 
 impl WordsWanted {
-    /// What a word behind `--words` says.
+    /// What a word after `--words` says.
     pub fn of_word(word: &str) -> Option<WordsWanted> {
         match word {
             "always" => Some(WordsWanted::Always),
@@ -105,7 +105,7 @@ impl<'e, R: Files, S: Shelf> Evidence<'e, R, S> {
     }
 }
 
-/// The words behind what a command has told that came to this status. There are none if there is nothing to say, or no
+/// The words after what a command has told that came to this status. There are none if there is nothing to say, or no
 /// memory to say it.
 pub fn words_for<R: System + AllocGlobal + Threads>(
     rt: &R,

@@ -34,7 +34,7 @@ pub record IsFoundLegal (t : Tables) (trace : Trace Global) (steps : ℕ) (audit
   pub least : audit.exact ≡ true → AreLeast (tables_for t trace) (history_in t trace) audit
   pub within : AreWithinSteps (tables_for t trace) (history_in t trace) steps (length (history_in t trace))
 
--- the first event that is not legal, or the one that its process did not come to in so many steps
+-- the first event that is not legal, or the one that its process did not come to in this many steps
 abbrev pub IsFlaw : Tables → Trace Global → (steps : ℕ) → Flaw → Type 0
 IsFlaw t trace steps (Illegal k) = IsRefusal t trace steps (fault.Illegal k)
 IsFlaw t trace steps (Budget k) = IsRefusal t trace steps (fault.Budget k)

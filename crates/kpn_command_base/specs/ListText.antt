@@ -4,7 +4,7 @@ use Rattle.std.specs.Prelude.{ℕ, suc, ℤ, List, [], ◌∷◌, ◌++◌, code
 use Rattle.std.specs.List.{flat_map}
 use Rattle.std.specs.Fmt.{signed_decimal}
 
--- an item behind a space
+-- an item after a space
 abbrev pub spaced_item : ℤ → List ℕ
 spaced_item item = codes " " ++ signed_decimal item
 

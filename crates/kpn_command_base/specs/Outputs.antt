@@ -12,7 +12,7 @@ use Rattle.kpn_command_base.specs.Sources.{HasEquals, LacksEquals, name_in, file
 
 -- ---- the words that name files
 
--- the file of the description, the words behind the `--source` options and those behind the `--sink` options, and the
+-- the file of the description, the words after the `--source` options and those after the `--sink` options, and the
 -- file for the trace
 pub record FileWords : Type 0 where
   pub file : List ℕ
@@ -49,11 +49,11 @@ abbrev pub trace_name : (trace : Option (List ℕ)) → List (List ℕ)
 trace_name None = []
 trace_name (Some name) = name ∷ []
 
--- the outputs in their order: the trace, and the files that the words behind `--sink` name
+-- the outputs in their order: the trace, and the files that the words after `--sink` name
 abbrev pub outputs_of : FileWords → List (List ℕ)
 outputs_of asked = trace_name asked.trace ++ map file_in asked.sinks
 
--- each word behind `--sink` has an `=`, and the outputs are apart
+-- each word after `--sink` has an `=`, and the outputs are apart
 pub record AreAllApart (asked : FileWords) : Type 0 where
   pub cut : All HasEquals asked.sinks
   pub apart : AreNamesApart asked (outputs_of asked)
@@ -68,7 +68,7 @@ AreOutputsApart request = AreAllApart (words_of request)
 abbrev pub MayBeOne : (may_alias : Aliases) (name other : List ℕ) → Type 0
 MayBeOne may_alias name other = (name ≡ other) ⊎ may_alias name other
 
--- a word behind `--source` names a file of items that may be that of this output
+-- a word after `--source` names a file of items that may be that of this output
 abbrev pub MayGiveItems : (may_alias : Aliases) (name word : List ℕ) → Type 0
 MayGiveItems may_alias name word = HasEquals word × MayBeOne may_alias name (file_in word)
 
@@ -88,7 +88,7 @@ abbrev pub MayMeet : (may_alias : Aliases) → FileWords → (earlier : List (Li
 MayMeet may_alias asked earlier name =
     MayOverwrite may_alias asked name ⊎ Any (MayBeOne may_alias name) earlier
 
--- one of these outputs, which stand behind earlier ones, may
+-- one of these outputs, which stand after earlier ones, may
 pub record OneMayMeet (may_alias : Aliases) (asked : FileWords) (earlier outputs : List (List ℕ)) : Type 0 where
   pub before : List (List ℕ)
   pub name : List ℕ
@@ -102,14 +102,14 @@ pub record OneMayMeet (may_alias : Aliases) (asked : FileWords) (earlier outputs
 abbrev pub IsRefusedTrace : (may_alias : Aliases) → FileWords → Type 0
 IsRefusedTrace may_alias asked = OneMayMeet may_alias asked [] (trace_name asked.trace)
 
--- then a word behind `--sink` that has no `=`, and then the files that these words name, in order
+-- then a word after `--sink` that has no `=`, and then the files that these words name, in order
 abbrev pub IsRefusedSink : (may_alias : Aliases) → FileWords → Type 0
 IsRefusedSink may_alias asked =
     AreNamesApart asked (trace_name asked.trace)
     × (Any LacksEquals asked.sinks
     ⊎ OneMayMeet may_alias asked (trace_name asked.trace) (map file_in asked.sinks))
 
--- these are the sinks that the words behind `--sink` name, with their files
+-- these are the sinks that the words after `--sink` name, with their files
 abbrev pub AreSinksNamed : RunRequest → Document → List NamedEnd → Type 0
 AreSinksNamed request d sinks = AreNamedSinks d (map name_in request.sinks) (map file_in request.sinks) sinks
 
@@ -134,7 +134,7 @@ IsUnprepared may_give may_alias request other =
 
 -- ---- scaffolding: what the parts of the code refuse
 
--- this output, which stands behind earlier ones, is refused as is given; or there is no memory to compare files
+-- this output, which stands after earlier ones, is refused as is given; or there is no memory to compare files
 abbrev pub IsRefusalOfOutput : (may_alias : Aliases) → FileWords → (earlier : List (List ℕ)) (name : List ℕ)
     (given : Refusal) → Refusal → Type 0
 IsRefusalOfOutput may_alias asked earlier name given refusal =
@@ -152,7 +152,7 @@ IsRefusalOfOutputs may_alias asked refusal =
     ((refusal ≡ TraceWord) × IsRefusedTrace may_alias asked)
     ⊎ ((refusal ≡ SinkWord) × IsRefusedSink may_alias asked) ⊎ (refusal ≡ NoMemory)
 
--- one of so many outputs can't be stored
+-- one of this many outputs can't be stored
 abbrev pub IsUnready : (outputs : ℕ) → Refusal → Type 0
 IsUnready outputs (Output fault) = 0 < outputs
 IsUnready outputs other = ⊥

@@ -20,6 +20,6 @@ Stores may_give file shelf kept (Err NoMemory) = kept ≡ shelf
 Stores may_give file shelf kept (Err (Output fault)) = KeepsOthers (may_give shelf) (may_give kept) file.name
 Stores may_give file shelf kept (Err other) = ⊥
 
--- so many bytes are read of a file
+-- this many bytes are read of a file
 abbrev pub IsReadable : (bytes : List ℕ) → Type 0
 IsReadable bytes = length bytes ≤ MAX_INPUT_BYTES

@@ -16,7 +16,7 @@ IsLineTold before after line = (whole : Bool) × AreWritten before after line wh
 
 -- ---- scaffolding: a line that is written piece by piece
 
--- if a line was written until now, whole or not, it was written with these bytes behind it
+-- if a line was written until now, whole or not, it was written with these bytes after it
 abbrev pub Continues : (old new : Option (List ℕ)) (bytes : List ℕ) (was is : Bool) → Type 0
 Continues old new bytes was is =
     (before : Option (List ℕ)) (line : List ℕ) → AreWritten before old line was

@@ -26,7 +26,7 @@ pub struct RunInputs<'a> {
     pub sinks: Vec<NamedEnd<'a>>,
 }
 
-/// The description in a file and the items of its sources, if these words stand behind the
+/// The description in a file and the items of its sources, if these words stand after the
 /// `--source` options. It checks the words first. Then it reads the description, checks the names in the
 /// words in order, and reads the files of items in order.
 pub fn load_inputs<S: Shelf>(

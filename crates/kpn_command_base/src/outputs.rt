@@ -50,9 +50,9 @@ pub fn prepare<'a, S: Shelf>(
 pub struct FileWords<'w, 'a> {
     /// The file of the description.
     pub file: &'a str,
-    /// The words behind the `--source` options, but for those that name standard input.
+    /// The words after the `--source` options, but for those that name standard input.
     pub sources: &'w [&'a str],
-    /// The words behind the `--sink` options.
+    /// The words after the `--sink` options.
     pub sinks: &'w [&'a str],
     /// The file for the trace.
     pub trace: Option<&'a str>,
@@ -229,7 +229,7 @@ fn is_input<S: Shelf>(shelf: &S, name: &str, input: &str) -> Result<bool, AllocE
     shelf.is_same_file(name, input)
 }
 
-// Whether a word behind `--source` gives its source the items of the file of this name.
+// Whether a word after `--source` gives its source the items of the file of this name.
 fn gives_items<S: Shelf>(shelf: &S, name: &str, word: &str) -> Result<bool, AllocError>
     ensures apart { IfOk result (λ gives. gives ≡ false → HasEquals word.now
         → name.now ≢ file_in word.now) }

@@ -5,7 +5,7 @@ ghost use Rattle.std.specs.Fmt.{decimal, signed_decimal};
 use itoa::Buffer;
 use std::alloc::AllocError;
 
-/// What a call gives that writes behind a text.
+/// What a call gives that writes after a text.
 pub type Pushed = Result<(), AllocError>;
 
 /// A text between two others.

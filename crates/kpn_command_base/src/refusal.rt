@@ -23,11 +23,11 @@ pub enum Refusal {
     NotText,
     /// `kpn alone` knows no process of this name.
     UnknownProcess,
-    /// A word behind `--source` has no `=`.
+    /// A word after `--source` has no `=`.
     SourceWord,
-    /// The word behind `--trace` names an input, standard output or standard error.
+    /// The word after `--trace` names an input, standard output or standard error.
     TraceWord,
-    /// A word behind `--sink` has no `=`, or names a file that is an input or another output.
+    /// A word after `--sink` has no `=`, or names a file that is an input or another output.
     SinkWord,
     /// A picture of a run would have more than 2,000 ticks, or more than 2,000 gets, puts, waits and growths.
     PictureWords,

@@ -10,9 +10,9 @@ pub const QUOTA: u32 = 1_000;
 pub struct RunRequest<'a> {
     /// The file of the description.
     pub file: &'a str,
-    /// The words behind the `--source` options.
+    /// The words after the `--source` options.
     pub sources: Vec<&'a str>,
-    /// The words behind the `--sink` options.
+    /// The words after the `--sink` options.
     pub sinks: Vec<&'a str>,
     /// The most commits.
     pub commits: u64,

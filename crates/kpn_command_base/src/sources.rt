@@ -172,7 +172,7 @@ fn is_end(network: &Network, ends: EndKind, channel: usize) -> bool
     }
 }
 
-/// A list for each of so many sources: the items of the files, which it reads in this order, and the
+/// A list for each of this many sources: the items of the files, which it reads in this order, and the
 /// empty list for sources without a file.
 pub(crate) fn lists_of<S: Shelf>(
     alloc: Global,
@@ -195,7 +195,7 @@ pub(crate) fn lists_of<S: Shelf>(
     Ok(lists)
 }
 
-// So many empty lists.
+// This many empty lists.
 fn empty_lists(alloc: Global, count: usize) -> Result<Vec<Sequence<i64>>, AllocError>
     ensures { IfOk result (λ lists. lists.items ≡ replicate count []) }
 {

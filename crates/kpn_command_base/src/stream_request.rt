@@ -7,11 +7,11 @@ use std::marker::Model;
 pub struct StreamRequest<'a> {
     /// The file of the description.
     pub file: &'a str,
-    /// The words behind the `--source` options.
+    /// The words after the `--source` options.
     pub sources: Vec<&'a str>,
-    /// The words behind the `--sink` options.
+    /// The words after the `--sink` options.
     pub sinks: Vec<&'a str>,
-    /// The words behind the `--format` options.
+    /// The words after the `--format` options.
     pub formats: Vec<&'a str>,
     /// Whether a sink gets the nearest item that fits its format for one that does not.
     pub clips: bool,

@@ -83,7 +83,7 @@ impl TextTable {
     }
 
     /// Writes the table with each column as wide as the longest text in it: the names at the left of theirs, the other
-    /// cells at the right, behind two spaces.
+    /// cells at the right, after two spaces.
     pub fn push_aligned(&self, alloc: Global, text: &mut String) -> Pushed {
         let widths = self.widths(alloc)?;
         for row in self.rows.as_slice() {

@@ -41,7 +41,7 @@ two_names text ls at = concerned_names text ls (table_of (spot_at at ls)) at
 abbrev pub process_end : List Lexeme → (at : ℕ) → ℕ
 process_end ls at = first_behind at (network_place ls) (starts_of spot.Process ls)
 
--- a variable in an expression, and the first place behind it in its process at which it gets a value
+-- a variable in an expression, and the first place after it in its process at which it gets a value
 abbrev pub value_behind : (text : List ℕ) → List Lexeme → (at : ℕ) → FaultPlaces
 value_behind text ls at = record {
   first = at;

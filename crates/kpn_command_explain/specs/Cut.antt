@@ -6,7 +6,7 @@ use Rattle.kpn_audit.specs.declared.findings.Audit.{Audit}
 use Rattle.kpn_command_base.specs.ListText.{spaced_items}
 use Rattle.kpn_command_base.specs.AuditText.{exact_line, cap_text}
 
--- a digit and, if a multiple of three digits is left behind it, a comma
+-- a digit and, if a multiple of three digits is left after it, a comma
 abbrev pub digit_text : (digit left : ℕ) → List ℕ
 digit_text digit left = digit ∷ (if nat_lt 0 left && nat_eq (left % 3) 0 then codes "," else [])
 
@@ -15,7 +15,7 @@ abbrev pub with_commas : (digits : List ℕ) → List ℕ
 with_commas [] = []
 with_commas (digit ∷ digits) = digit_text digit (length digits) ++ with_commas digits
 
--- what stands behind the first 20 of so many items: ` .. N more` if there are more of them, and a line feed
+-- what stands after the first 20 of `count` items: ` .. N more` if there are more of them, and a line feed
 abbrev pub more_text : (count : ℕ) → List ℕ
 more_text count =
     if nat_le count 20 then codes "\n"

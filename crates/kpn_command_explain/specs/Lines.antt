@@ -5,12 +5,12 @@ use Rattle.kpn_command_explain.specs.declared.lines.Position.{Position}
 abbrev pub first_place : Position
 first_place = record { line = 1; column = 1 }
 
--- the place behind a byte: a line feed ends its line
+-- the place after a byte: a line feed ends its line
 abbrev pub place_after_byte : Position → (byte : ℕ) → Position
 place_after_byte p b =
     if b == 10 then record { line = p.line + 1; column = 1 } else record { line = p.line; column = p.column + 1 }
 
--- the place behind a text
+-- the place after a text
 abbrev pub place_behind : (text : List ℕ) → Position
 place_behind text = fold place_after_byte first_place text
 
@@ -18,7 +18,7 @@ place_behind text = fold place_after_byte first_place text
 abbrev pub place_at : (text : List ℕ) (at : ℕ) → Position
 place_at text at = place_behind (take at text)
 
--- the byte behind so many line feeds, or the end of the text
+-- the byte after this many line feeds, or the end of the text
 abbrev pub behind_feeds : (feeds : ℕ) (text : List ℕ) → ℕ
 behind_feeds feeds [] = 0
 behind_feeds feeds (b ∷ bs) =

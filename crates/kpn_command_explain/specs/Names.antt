@@ -38,7 +38,7 @@ is_between text name from to start =
 abbrev pub first_between : (text name : List ℕ) (from to : ℕ) → (starts : List ℕ) → Option ℕ
 first_between text name from to starts = find (is_between text name from to) starts
 
--- the first byte of these behind another one, or else a byte given
+-- the first byte of these after another one, or else a byte given
 abbrev pub next_start : (at : ℕ) → (starts : List ℕ) → Option ℕ
 next_start at starts = find (nat_lt at) starts
 

@@ -58,7 +58,7 @@ behind_bracket spot.Writes = spot.Rest
 behind_bracket spot.Values = spot.Rest
 behind_bracket other = other
 
--- a brace in a process: behind it a statement may begin
+-- a brace in a process: after it a statement may begin
 abbrev pub behind_brace : TokenSpot → TokenSpot
 behind_brace spot.Port = spot.Target
 behind_brace spot.Variable = spot.Target
@@ -71,7 +71,7 @@ behind_mark s mark.Semicolon = behind_semicolon s
 behind_mark s mark.RightParen = behind_bracket s
 behind_mark s other = s
 
--- where the token behind this one stands
+-- where the token after this one stands
 abbrev pub next_spot : TokenSpot → Token → TokenSpot
 next_spot s (token.Name name) = behind_name s
 next_spot s (token.Number n) = s

@@ -42,7 +42,7 @@ BeginsByRings false text = text ≡ []
 abbrev pub TellsRings : Tables → List Wait → (text : List ℕ) → Type 0
 TellsRings t waits text = (told : List (List ℕ)) × AreRings t waits told × BeginsByRings (are_some told) text
 
--- what the audit says of a legal history, with the first 20 items of each channel, and more behind it only if it is not
+-- what the audit says of a legal history, with the first 20 items of each channel, and more after it only if it is not
 -- exact
 abbrev pub IsAuditedText : {A : Type 0} → Document → Audit A → (text : List ℕ) → Type 0
 IsAuditedText d audit text =
@@ -87,7 +87,7 @@ ExplainsEvent name bytes trace k text =
 
 -- the text and the status for a trace: the rings and the lines of the audit if its history is legal, and what a stop
 -- means for the items, 0; what stands before the first event that is not legal, 1; or the event that its process did
--- not come to in so many steps, 5
+-- not come to in this many steps, 5
 pub data IsConclusion (d : Document) (name bytes : List ℕ) (trace : Trace Global) (steps : ℕ) (text : List ℕ)
     (status : ℕ) : Type 0 where
   legal : (audit : Audit Global) → IsFoundLegal d.tables trace steps audit

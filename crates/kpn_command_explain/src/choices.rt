@@ -4,7 +4,7 @@ use kpn_text_grammar::{GrammarFault, description};
 use kpn_text_tokens::{Keyword, LexFault, Mark, language_of, lexemes};
 use std::alloc::{AllocError, Global};
 
-/// Adds all that may stand behind this text, with a space before each: `;`, which is missing most often; any name, or
+/// Adds all that may stand after this text, with a space before each: `;`, which is missing most often; any name, or
 /// else words of settings; any number; and each other word and mark of its language.
 pub(crate) fn push_choices(
     alloc: Global,
@@ -38,7 +38,7 @@ pub(crate) fn push_choices(
     Ok(())
 }
 
-// A word between backticks, if it may stand behind the text.
+// A word between backticks, if it may stand after the text.
 fn push_word(
     alloc: Global,
     told: &mut Vec<u8>,
@@ -53,7 +53,7 @@ fn push_word(
     Ok(())
 }
 
-/// Whether a word may stand behind a text. The empty word may, if the text is whole.
+/// Whether a word may stand after a text. The empty word may, if the text is whole.
 pub(crate) fn may_stand(alloc: Global, front: &[u8], word: &[u8]) -> Result<bool, AllocError> {
     let mut text = Vec::new(alloc);
     text.extend_from_slice(front)?;

@@ -167,7 +167,7 @@ pub(crate) fn process_end(
     Ok(first_behind(at, network, &found))
 }
 
-// A variable in an expression, and the first place behind it in its process at which it gets a value.
+// A variable in an expression, and the first place after it in its process at which it gets a value.
 fn value_behind(
     alloc: Global,
     text: &[u8],

@@ -131,7 +131,7 @@ fn push_items(text: &mut String, items: &[i64]) -> Pushed
     Ok(())
 }
 
-// What stands behind the first of so many items.
+// What stands after the first of `count` items.
 fn more_text(alloc: Global, count: usize) -> Result<Vec<u8>, AllocError>
     ensures { IfOk result (λ text. text.items ≡ more_text count) }
 {
@@ -142,7 +142,7 @@ fn more_text(alloc: Global, count: usize) -> Result<Vec<u8>, AllocError>
     }
 }
 
-// So many items are not shown.
+// This many items are not shown.
 fn left_text(alloc: Global, left: usize) -> Result<Vec<u8>, AllocError>
     ensures { IfOk result (λ text. text.items
         ≡ codes " .. " ++ with_commas (decimal left) ++ codes " more\n") }
@@ -173,7 +173,7 @@ fn with_commas(alloc: Global, digits: &[u8]) -> Result<Vec<u8>, AllocError>
     Ok(text)
 }
 
-// A digit, behind which so many are left.
+// A digit, after which `left` more follow.
 fn push_digit(text: &mut Vec<u8>, digit: u8, left: usize) -> Result<(), AllocError>
     ensures { OnOk result (text.new.items ≡ text.old.items ++ digit_text digit left) }
 {

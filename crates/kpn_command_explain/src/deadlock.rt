@@ -12,7 +12,7 @@ use kpn_net::{End, Wait};
 use kpn_text::Document;
 use std::alloc::{AllocError, Global};
 
-/// A line for each ring, and more behind them. Nothing is said if there is none.
+/// A line for each ring, and more after them. Nothing is said if there is none.
 pub(crate) fn deadlock_text(
     alloc: Global,
     document: &Document,
@@ -45,7 +45,7 @@ fn are_some(rings: &[Sequence<usize>]) -> bool
     0 < rings.len()
 }
 
-// The words behind `deadlock: `, if there is a ring.
+// The words after `deadlock: `, if there is a ring.
 fn begun(alloc: Global, is_there: bool, words: &str) -> Result<Vec<u8>, AllocError>
     ensures { IfOk result (λ text. BeginsByRings is_there text.items) }
 {

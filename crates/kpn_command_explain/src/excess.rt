@@ -83,7 +83,7 @@ fn sizes_of<'a>(
     }
 }
 
-// The cells of arrays stand behind the variables, and those of tables, its own and the shared ones that it names, have
+// The cells of arrays stand after the variables, and those of tables, its own and the shared ones that it names, have
 // places from 0 on.
 fn cells_of(scope: &NameScope<'_>) -> usize {
     let of_arrays = scope.arrays.end.saturating_sub(MAX_VARIABLES);

@@ -118,7 +118,7 @@ fn push_sentence<'a>(
     }
 }
 
-// What may stand behind a text. Nothing may, if it is whole.
+// What may stand after a text. Nothing may, if it is whole.
 fn push_alternatives(alloc: Global, told: &mut Vec<u8>, front: &[u8]) -> Result<(), AllocError> {
     if may_stand(alloc, front, b"")? {
         return told.extend_from_slice(b"; nothing may follow the network");
@@ -133,7 +133,7 @@ fn push_alternatives(alloc: Global, told: &mut Vec<u8>, front: &[u8]) -> Result<
     Ok(())
 }
 
-/// What the error line of a refusal says behind `kpn: `, between brackets.
+/// What the error line of a refusal says after `kpn: `, between brackets.
 pub(crate) fn push_bracket(
     alloc: Global,
     told: &mut Vec<u8>,

@@ -80,7 +80,7 @@ pub(crate) fn start_of(tree: &Expression<'_>) -> Option<usize> {
     }
 }
 
-// A start, or else one behind it.
+// A start, or else a later one.
 fn earlier(start: Option<usize>, behind: Option<usize>) -> Option<usize> {
     if start.is_some() { start } else { behind }
 }

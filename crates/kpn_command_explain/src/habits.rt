@@ -28,7 +28,7 @@ pub(crate) enum Habit {
     ShiftLeft,
     /// `//` or `/*` in place of `#`.
     Comment,
-    /// The same behind an expression, where `//` may be meant as a quotient.
+    /// The same after an expression, where `//` may be meant as a quotient.
     Slashes,
     /// `for`
     For,
@@ -78,27 +78,27 @@ pub(crate) enum Habit {
     Fraction,
     /// `'` before a letter.
     Letter,
-    /// `(` behind a name in an expression.
+    /// `(` after a name in an expression.
     Calls,
     /// `const` before a name.
     Constant,
-    /// An instance without `;` behind its in channels.
+    /// An instance without `;` after its in channels.
     NoOuts,
     /// `^`
     Power,
     /// `**`
     Stars,
-    /// `array` before a name, or `[` behind one, in language 1.
+    /// `array` before a name, or `[` after one, in language 1.
     Place,
     /// `table` before a name, in language 1.
     Table,
-    /// `[` behind something else than a name, in language 2.
+    /// `[` after something else than a name, in language 2.
     Index,
-    /// `[` behind the variable of a `read`, in language 2.
+    /// `[` after the variable of a `read`, in language 2.
     ReadCell,
-    /// An array or a table behind a statement.
+    /// An array or a table after a statement.
     LateRow,
-    /// A table behind a process.
+    /// A table after a process.
     LateTable,
     /// An array outside of a process.
     Outside,
@@ -142,7 +142,7 @@ pub(crate) fn habit_of(
     }
 }
 
-// Whether the parentheses of an instance close behind its in channels.
+// Whether the parentheses of an instance close after its in channels.
 fn closes_reads(tokens: &[Lexeme<'_>], at: usize, here: &[u8]) -> bool {
     spot_at(tokens, at) == TokenSpot::Reads && here.starts_with(b")")
 }
@@ -218,7 +218,7 @@ pub(crate) fn begins_comment(text: &[u8]) -> bool {
     begins_any(text, &[b"//", b"/*"])
 }
 
-/// `++`, `--`, or `=` behind an operator of sums and products.
+/// `++`, `--`, or `=` after an operator of sums and products.
 pub(crate) fn changes(text: &[u8]) -> bool {
     begins_any(text, &[b"++", b"--", b"+=", b"-=", b"*=", b"/=", b"%="])
 }
@@ -245,7 +245,7 @@ fn shift(text: &[u8]) -> Option<Habit> {
     }
 }
 
-/// Behind the name of a variable that begins a statement.
+/// After the name of a variable that begins a statement.
 pub(crate) fn assigning_habit(last: &[u8], here: &[u8]) -> Option<Habit> {
     let declares = is_declaring(last);
     if changes(here) {
@@ -273,12 +273,12 @@ pub(crate) fn is_declaring(text: &[u8]) -> bool {
         || is_word(text, b"const")
 }
 
-/// `(` behind a name.
+/// `(` after a name.
 pub(crate) fn calls(last: &[u8], here: &[u8]) -> bool {
     here.starts_with(b"(") && begins_name(last)
 }
 
-/// `and`, `or`, or an operand behind `not`.
+/// `and`, `or`, or an operand after `not`.
 pub(crate) fn word_habit(last: &[u8], here: &[u8]) -> Option<Habit> {
     if is_word(here, b"and") {
         Some(Habit::And)
@@ -289,7 +289,7 @@ pub(crate) fn word_habit(last: &[u8], here: &[u8]) -> Option<Habit> {
     }
 }
 
-// Between parentheses, behind the first side of an operator.
+// Between parentheses, after the first side of an operator.
 fn side_habit(last: &[u8], here: &[u8]) -> Option<Habit> {
     if here.starts_with(b")") {
         Some(Habit::Parentheses)
@@ -302,7 +302,7 @@ fn side_habit(last: &[u8], here: &[u8]) -> Option<Habit> {
     }
 }
 
-// Behind a whole expression.
+// After a whole expression.
 fn whole_habit(last: &[u8], here: &[u8]) -> Option<Habit> {
     let shifts = shift(here);
     if shifts.is_some() {
@@ -337,7 +337,7 @@ pub(crate) fn operand_habit(last: &[u8]) -> Option<Habit> {
     }
 }
 
-// Behind the first block of an `if`.
+// After the first block of an `if`.
 fn else_habit(here: &[u8]) -> Habit {
     if begins_comment(here) {
         Habit::Comment
@@ -348,7 +348,7 @@ fn else_habit(here: &[u8]) -> Habit {
     }
 }
 
-// A word of the language, where a name is meant. Behind a comma `in`, `out` and `par` are meant to stand before each
+// A word of the language, where a name is meant. After a comma `in`, `out` and `par` are meant to stand before each
 // port.
 fn reserved_habit(spot: TokenSpot, last: &[u8], here: &[u8]) -> Option<Habit> {
     let begins_ports = is_word(here, b"in") || is_word(here, b"out") || is_word(here, b"par");
@@ -359,7 +359,7 @@ fn reserved_habit(spot: TokenSpot, last: &[u8], here: &[u8]) -> Option<Habit> {
     }
 }
 
-// A point: the last token before it may be a number, if one may stand there. Behind `for NAME in NUMBER` two of them
+// A point: the last token before it may be a number, if one may stand there. After `for NAME in NUMBER` two of them
 // begin a range.
 fn point_habit(alloc: Global, text: &[u8], at: usize) -> Result<Option<Habit>, AllocError> {
     let tokens = match lexemes(alloc, language_of(text), front(text, at)) {
@@ -390,7 +390,7 @@ fn begins_for(
     may_stand(alloc, front(text, begin), b"while")
 }
 
-// `^` behind an operand, or `[` behind the name of a variable.
+// `^` after an operand, or `[` after the name of a variable.
 fn operand_mark_habit(
     alloc: Global,
     before: &[u8],

@@ -19,7 +19,7 @@ pub(crate) enum FileKind {
     Lines,
 }
 
-// So many bytes are looked at.
+// This many bytes are looked at.
 const LOOKED_AT: usize = 4_096;
 
 /// What the first bytes of a file show.

@@ -16,7 +16,7 @@ pub(crate) fn place_at(text: &[u8], at: usize) -> Position
     place_behind(front(text, at))
 }
 
-/// The place behind a text.
+/// The place after a text.
 fn place_behind(text: &[u8]) -> Position
     ensures { result ≡ spec.place_behind text.now }
 {
@@ -77,7 +77,7 @@ pub fn line_start(text: &[u8], line: usize) -> usize
     behind_feeds(text, line.saturating_sub(1))
 }
 
-/// The byte behind so many line feeds, or the end of the text.
+/// The byte after this many line feeds, or the end of the text.
 fn behind_feeds(text: &[u8], feeds: usize) -> usize
     ensures { result ≡ spec.behind_feeds feeds text.now }
 {

@@ -81,7 +81,7 @@ pub(crate) fn first_between(
         .find(|start| is_between(text, name, from, to, *start))
 }
 
-/// The first of these bytes that stands behind another one, or else the byte given.
+/// The first of these bytes that stands after another one, or else the byte given.
 pub(crate) fn first_behind(at: usize, otherwise: usize, starts: &[usize]) -> usize
     ensures { result ≡ spec.first_behind at otherwise starts.now }
 {

@@ -69,7 +69,7 @@ fn is_contradicted(link: RatedChannel, turns: &[Option<Ratio>]) -> bool {
     }
 }
 
-// So many turns times a fraction, in lowest terms.
+// This many turns times a fraction, in lowest terms.
 fn scaled(turns: Ratio, over: u64, under: u64) -> Option<Ratio> {
     let over = turns.over.checked_mul(over)?;
     let under = turns.under.checked_mul(under)?;

@@ -31,7 +31,7 @@ pub(crate) fn habit_of_two(
     }
 }
 
-// Behind the name of a variable that begins a statement.
+// After the name of a variable that begins a statement.
 fn assigning_habit_of_two(last: &[u8], here: &[u8]) -> Option<Habit> {
     if here.starts_with(b"[") {
         Some(Habit::Index)
@@ -48,7 +48,7 @@ fn assigning_habit_of_two(last: &[u8], here: &[u8]) -> Option<Habit> {
     }
 }
 
-// Behind an operand.
+// After an operand.
 fn side_habit_of_two(
     alloc: Global,
     front: &[u8],
@@ -56,7 +56,7 @@ fn side_habit_of_two(
     here: &[u8],
 ) -> Result<Option<Habit>, AllocError> {
     if begins_any(here, &[b"<", b">", b"==", b"!="]) {
-        // Bits may stand beside bits, and not behind a comparison.
+        // Bits may stand beside bits, and not after a comparison.
         let is_mixed = may_stand(alloc, front, b"&")?;
         Ok(Some(if is_mixed { Habit::Mixed } else { Habit::Chain }))
     } else if begins_any(here, &[b"&", b"|", b"^"]) {

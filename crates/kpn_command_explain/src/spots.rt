@@ -19,9 +19,9 @@ pub enum TokenSpot {
     Target,
     /// A variable in an expression.
     Variable,
-    /// The in port behind `read`.
+    /// The in port after `read`.
     InPort,
-    /// The out port behind `write`.
+    /// The out port after `write`.
     OutPort,
     /// An instance that is declared.
     Instance,
@@ -43,7 +43,7 @@ pub enum TokenSpot {
     Shared,
 }
 
-// Behind `array` or `table`.
+// After `array` or `table`.
 fn behind_declared(now: TokenSpot) -> TokenSpot
     ensures { result ≡ spec.behind_declared now }
 {
@@ -104,7 +104,7 @@ fn behind_bracket(now: TokenSpot) -> TokenSpot
     }
 }
 
-// Behind a brace in a process a statement may begin.
+// After a brace in a process a statement may begin.
 fn behind_brace(now: TokenSpot) -> TokenSpot
     ensures { result ≡ spec.behind_brace now }
 {
@@ -126,7 +126,7 @@ fn behind_mark(now: TokenSpot, mark: Mark) -> TokenSpot
     }
 }
 
-/// Where the token behind this one stands.
+/// Where the token after this one stands.
 pub(crate) fn behind(now: TokenSpot, token: &Token<'_>) -> TokenSpot
     ensures { result ≡ spec.next_spot now token.now }
 {
@@ -256,7 +256,7 @@ pub fn row_of(text: &[u8], tokens: &[Lexeme<'_>], at: usize) -> Option<usize> {
     None
 }
 
-/// Whether `[` stands behind the token that begins at this byte.
+/// Whether `[` stands after the token that begins at this byte.
 pub fn is_indexed(tokens: &[Lexeme<'_>], at: usize) -> bool {
     let mut is_behind = false;
     for lexeme in tokens {

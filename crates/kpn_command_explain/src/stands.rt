@@ -9,21 +9,21 @@ use std::alloc::{AllocError, Global};
 /// Where in a statement a place is, by what may stand there.
 #[derive(Clone, Copy)]
 pub(crate) enum Stand {
-    /// Behind the name of a variable that begins a statement: `=` may stand there.
+    /// After the name of a variable that begins a statement: `=` may stand there.
     Assigning,
-    /// Between parentheses, behind the first side of an operator: an operator may.
+    /// Between parentheses, after the first side of an operator: an operator may.
     FirstSide,
     /// Where an operand is to begin: a number may.
     Operand,
-    /// Behind the first block of an `if`: `else` may.
+    /// After the first block of an `if`: `else` may.
     BeforeElse,
     /// Where a statement is to begin: `}` may too.
     Statement,
-    /// Behind a whole expression.
+    /// After a whole expression.
     Whole,
-    /// Behind the name of a channel or a sink: `cap` may stand there.
+    /// After the name of a channel or a sink: `cap` may stand there.
     BeforeCapacity,
-    /// Behind the variable of a `read`: `;` may stand there.
+    /// After the variable of a `read`: `;` may stand there.
     BehindRead,
     /// Within the declaration of an array or a table.
     Declaring,
@@ -48,7 +48,7 @@ pub(crate) fn stand_of(
     }
 }
 
-// The place behind a text that ends in a block, and whose last token begins at `before`.
+// The place after a text that ends in a block, and whose last token begins at `before`.
 fn stand_in_block(
     alloc: Global,
     text: &[u8],

@@ -37,7 +37,7 @@ digits_from (d ∷ digits) is =
 abbrev is_number : ℕ → List ℕ → Bool
 is_number bits digits = is_numeral digits && nat_lt (digits_value 10 digits) (2 ^ bits)
 
--- what a type of so many bits reads of a text
+-- what a type of this many bits reads of a text
 read_is : (E : Type 0) (bits : ℕ) (text : List ℕ) (r : Result ℕ E) → ParsesUnsigned bits 10 text r
     → number_in bits text ≡ result_ok r
 read_is E bits text (Ok n) h =

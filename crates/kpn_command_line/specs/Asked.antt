@@ -48,7 +48,7 @@ text_for name given = first_of name given
 abbrev pub texts_for : (name : List ℕ) (given : List Row) → List (List ℕ)
 texts_for name given = unwrap_or (all_of name given) []
 
--- the number that a text has in decimal digits, perhaps after a `+`, if it fits in so many bits
+-- the number that a text has in decimal digits, perhaps after a `+`, if it fits in this many bits
 abbrev pub number_in : (bits : ℕ) (text : List ℕ) → Option ℕ
 number_in bits text =
     let digits = without_leading_plus text in
@@ -103,7 +103,7 @@ steps_for given = unwrap_or (number_for 64 (codes "STEPS") given) 10000000
 
 -- What the words give to its command is what the request has. A run has 10,000,000 commits without `--max-commits`, and
 -- statistics have the tables for people without `--tsv`. A picture begins with tick 1 without `--from`, and ends with
--- tick 1,000,000,000 without `--to`; it does not begin behind its end. Each part of a join has two words.
+-- tick 1,000,000,000 without `--to`; it does not begin after its end. Each part of a join has two words.
 abbrev pub GivesToCommand : (given : List Row) → Request → Type 0
 GivesToCommand given (Alone name) = text_for (codes "NAME") given ≡ Some name.now
 GivesToCommand given (Check file) = text_for (codes "FILE") given ≡ Some file.now

@@ -27,7 +27,7 @@ pub enum Request<'a> {
         trace: Option<&'a str>,
         direction: Direction,
     },
-    /// `rounds FILE N`, with the words behind its `--source` options.
+    /// `rounds FILE N`, with the words after its `--source` options.
     Rounds {
         file: &'a str,
         n: u32,
@@ -43,7 +43,7 @@ pub enum Request<'a> {
         trace: &'a str,
         steps: u64,
     },
-    /// `join FILE PART TRACE ..`, with the words behind FILE, and the most steps before an event.
+    /// `join FILE PART TRACE ..`, with the words after FILE, and the most steps before an event.
     Join {
         file: &'a str,
         parts: Vec<&'a str>,

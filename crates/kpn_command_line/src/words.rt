@@ -326,7 +326,7 @@ fn text_of<'a>(matches: &ArgMatches<'a>, id: &str) -> Option<&'a str>
     matches.get_str(id)
 }
 
-// The words behind an option that the user may repeat.
+// The words after an option that the user may repeat.
 fn texts_of<'a>(
     alloc: Global,
     matches: &ArgMatches<'a>,

@@ -22,7 +22,7 @@ written b book c below =
     sym (book.kept.in_step.run.leads.channels c below).journal
     ∙ journal_now b.tables book.network b.history b.machine book.kept.in_step.run c below
 
--- so many items were put on it
+-- this many items were put on it
 pub put_is : (b : Book) → IsBook b → (c : ℕ) → c < length b.tables.channels → (read left : ℕ)
     → read ≡ length (read_on b.history c) → left ≡ length (rest_of b c)
     → read + left ≡ length (written_on b.history c)
@@ -31,7 +31,7 @@ put_is b book c below read left reads lefts =
     ap (λ n. n + left) reads ∙ ap (λ n. length items + n) lefts ∙ sym (length-append items (rest_of b c))
     ∙ ap (λ (xs : List ℤ). length xs) (sym (written b book c below))
 
--- so many of them are unread
+-- this many of them are unread
 pub unread_is : (b : Book) → IsBook b → (c : ℕ) → c < length b.tables.channels → (left : ℕ)
     → left ≡ length (rest_of b c) → left ≡ length (unread_on b.history c)
 unread_is b book c below left lefts =

@@ -1,4 +1,4 @@
--- The words behind `--format`, one more at a time, and as the request has them.
+-- The words after `--format`, one more at a time, and as the request has them.
 use Rattle.std.proofs.Common.{◌≡◌, ◌≢◌, ◌<◌, ◌+◌, ℕ, suc, List, Bor, All, [], ◌∷◌, ◌++◌, map, length, length-append, length-take, get_or, take, refl, sym, subst, ap, ◌∙◌, Option, Some, None, inl, inr, arith}
 use Rattle.std.specs.Prelude.{Bool, true, false, ◌&&◌, if◌then◌else◌, IfSome, codes, unwrap_or}
 use Rattle.std.specs.Option.{option_or}

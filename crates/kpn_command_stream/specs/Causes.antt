@@ -24,7 +24,7 @@ use Rattle.kpn_command_stream.specs.Words.{AreStreamOutputsApart, stream_words_o
 
 -- ---- the words
 
--- the words behind `--source` and `--sink`, and that for the trace: the trace is standard output, or it or a sink may
+-- the words after `--source` and `--sink`, and that for the trace: the trace is standard output, or it or a sink may
 -- be written over an input or into another output, or a word has no `=`, or memory ran out
 abbrev pub AreWordsRefused : (may_alias : Aliases) → StreamRequest → Refusal → Type 0
 AreWordsRefused may_alias request refusal.TraceWord =
@@ -100,7 +100,7 @@ abbrev pub AreSinkPlaces : Document → EndWords → List EndPlace → Type 0
 AreSinkPlaces d words places = ArePlacesOfEnds Sinks d words.sinks words.outputs words.formats places
 
 -- A network is not streamed, by the words of the options: of the sources or of the sinks some have no places; or two
--- sources may have one input; or words behind `--format` say none, are for no end, or for the same; or standard output
+-- sources may have one input; or words after `--format` say none, are for no end, or for the same; or standard output
 -- may be an input; or a device is not ready.
 abbrev pub IsUnstreamed : (may_alias may_share : Aliases) → Document → EndWords → StreamRefusal → Type 0
 IsUnstreamed may_alias may_share d words (Common (refusal.Names fault)) =
@@ -117,7 +117,7 @@ IsUnstreamed may_alias may_share d words FormatWord =
 
 -- ---- the whole
 
--- the words are right: each behind `--format` says a format, no output is an input or another output, and the trace has
+-- the words are right: each after `--format` says a format, no output is an input or another output, and the trace has
 -- a file
 pub record AreWordsRight (request : StreamRequest) : Type 0 where
   pub formats : All SaysFormat request.formats

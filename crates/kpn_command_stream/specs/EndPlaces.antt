@@ -15,7 +15,7 @@ use Rattle.kpn_command_stream.specs.declared.places.EndPlace.{EndPlace}
 abbrev pub standard : List ℕ
 standard = codes "-"
 
--- the end of this number, of so many, gets what an option names, and the only one may also have none
+-- the end of this number, of `count` ends, gets what an option names, and the only one may also have none
 abbrev pub name_or_standard : Option (List ℕ) → (count : ℕ) → Option (List ℕ)
 name_or_standard (Some name) count = Some name
 name_or_standard None count = if nat_eq count 1 then Some standard else None
@@ -23,12 +23,12 @@ name_or_standard None count = if nat_eq count 1 then Some standard else None
 abbrev pub name_for : List NamedEnd → (number count : ℕ) → Option (List ℕ)
 name_for named number count = name_or_standard (file_for named number) count
 
--- the items of a place are written as the words behind `--format` say of its end
+-- the items of a place are written as the words after `--format` say of its end
 abbrev pub HasFormat : Document → (words : List (List ℕ)) → EndPlace → Type 0
 HasFormat d words place = NamesFormat (format_word words (name_at d.names.channels place.channel)) place.format
 
 -- The places of such ends in order of their channels, by the names in the options, the inputs or outputs there, and the
--- words behind `--format`.
+-- words after `--format`.
 pub record ArePlacesOfEnds (ends : EndKind) (d : Document) (names files words : List (List ℕ))
     (places : List EndPlace) : Type 0
   where

@@ -1,4 +1,4 @@
--- The words behind `--format`, and what they say of an end.
+-- The words after `--format`, and what they say of an end.
 use Rattle.std.specs.Prelude.{◌≡◌, ◌≢◌, ℕ, Bool, true, false, ◌&&◌, ◌||◌, ◌==◌, nat_lt, if◌then◌else◌, List, [], ◌∷◌, length}
 use Rattle.std.specs.Prelude.{All, Option, Some, None, unwrap_or, codes}
 use Rattle.std.specs.Option.{option_or}

@@ -8,7 +8,7 @@ use Rattle.kpn_command_base.specs.StreamRequest.{StreamRequest}
 use Rattle.kpn_command_stream.specs.Formats.{has_equals}
 use Rattle.kpn_command_stream.specs.EndPlaces.{standard}
 
--- a word behind `--source` names standard input
+-- a word after `--source` names standard input
 abbrev pub names_standard : (word : List ℕ) → Bool
 names_standard word = has_equals word && bytes_eq (file_in word) standard
 

@@ -17,7 +17,7 @@ use Rattle.kpn_command_base.specs.declared.auditing.Finding.TheVariants.{Legal, 
 use Rattle.kpn_command_base.specs.Audited.{IsAudited, IsToldOf, IsRefusalOfAudit}
 use Rattle.kpn_command_views.specs.PictureText.{picture, picture_size}
 
--- this is the picture of ticks `first` to `last` of these events and the waits behind them, which has at most 2,000
+-- this is the picture of ticks `first` to `last` of these events and the waits after them, which has at most 2,000
 -- ticks, and boxes and marks
 abbrev pub IsPicture : Document → Tables → (first last : ℕ) → List Wait → List Event → (text : List ℕ) → Type 0
 IsPicture d t first last waits events text =
@@ -55,7 +55,7 @@ IsRefusalOfPicture may_give file trace steps first last other = IsRefusalOfAudit
 
 -- ---- scaffolding: what the parts of the code answer
 
--- why events give no picture: it would have so many ticks, or boxes and marks
+-- why events give no picture: it would have this many ticks, or boxes and marks
 abbrev pub IsNoPicture : (size : ℕ) → Refusal → Type 0
 IsNoPicture size refusal.PictureWords = 2000 < size
 IsNoPicture size refusal.NoMemory = ⊤

@@ -1,6 +1,6 @@
 -- The picture that `kpn timeline --svg` writes, in SVG. The processes stand below one another, and the ticks go from
 -- left to right. A box is a get or put of one tick, or a wait, and a mark is the growth of a channel. A wait that the run
--- ends with goes on for one tick behind the last one. All places are in pixels from the upper left corner. Names need no
+-- ends with goes on for one tick after the last one. All places are in pixels from the upper left corner. Names need no
 -- escape, since they are letters, digits and `_`.
 use Rattle.std.specs.Prelude.{ℕ, zero, suc, ◌+◌, ◌-◌, ◌*◌, ◌/◌, ◌%◌, min, max, true, nat_le, nat_eq, ◌&&◌, if◌then◌else◌, ℤ, List, [], ◌∷◌, ◌++◌, length, codes}
 use Rattle.std.specs.List.{concat}
@@ -37,7 +37,7 @@ longest_below names zero = 0
 longest_below names (suc n) = max (longest_below names n) (length (name_at names n))
 
 -- how ticks `first` to `last` of a run of this length are shown. If that goes beyond the last one, there is room for one
--- tick behind it. Names have at most 32 bytes
+-- tick after it. Names have at most 32 bytes
 abbrev pub scale_for : (names : List (List ℕ)) (processes first last length : ℕ) → Scale
 scale_for names processes first last length = record {
   front = first - 1;
@@ -113,7 +113,7 @@ box s kind p begin end title name =
 abbrev pub item_box : Scale → (p tick : ℕ) (word name : List ℕ) → ℤ → List ℕ
 item_box s p tick word name item = box s word p (tick - 1) tick (item_title word name item tick) name
 
--- a wait of process p from behind its latest tick to before this one
+-- a wait of process p from after its latest tick to before this one
 abbrev pub wait_box : Scale → (p latest tick : ℕ) (kind what name : List ℕ) → List ℕ
 wait_box s p latest tick kind what name =
     box s kind p latest (tick - 1) (wait_title what name (latest + 1) (tick - 1)) name
@@ -159,7 +159,7 @@ last_title what name first =
     (codes "waits for " ∷ what ∷ codes " on " ∷ name ∷ codes " from tick " ∷ decimal first
     ∷ codes " to the end</title></rect>\n" ∷ [])
 
--- a wait of process p from behind its latest tick to the tick behind the last one
+-- a wait of process p from after its latest tick to the tick after the last one
 abbrev pub last_wait_box : Scale → (p latest last : ℕ) (kind what name : List ℕ) → List ℕ
 last_wait_box s p latest last kind what name =
     box s kind p latest (last + 1) (last_title what name (latest + 1)) name
@@ -172,7 +172,7 @@ last_box names s clocks p (Empty c) =
 last_box names s clocks p (Full c) =
     last_wait_box s p (latest_of clocks p) clocks.last (codes "full") (codes "room") (name_at names c)
 
--- what is drawn of so many processes, which wait so at the end
+-- what is drawn of this many processes with these waits at the end
 abbrev pub last_boxes : (names : List (List ℕ)) → Scale → (processes : ℕ) → List Wait → Clocks → List ℕ
 last_boxes names s processes waits clocks = each_below processes (λ p. last_box names s clocks p (wait_at waits p))
 
@@ -296,24 +296,24 @@ abbrev pub scale_of : Document → Tables → (first last : ℕ) → List Event 
 scale_of d t first last events =
     scale_for d.names.instances (length t.instances) first last (clocks_after t true events).last
 
--- the boxes and marks at a scale, of so many processes, with these clocks at the end
+-- the boxes and marks at a scale, of this many processes, with these clocks at the end
 abbrev pub boxes_text : Document → Tables → Scale → (processes : ℕ) → List Wait → Clocks → List Event → List ℕ
 boxes_text d t s processes waits ends events =
     all_event_boxes d.names.channels t s (start t true) events
     ++ last_boxes d.names.channels s processes waits ends
 
--- the picture at a scale, with so many processes and these clocks at the end
+-- the picture at a scale, with this many processes and these clocks at the end
 abbrev pub picture_with : Document → Tables → Scale → (processes : ℕ) → List Wait → Clocks → List Event → List ℕ
 picture_with d t s processes waits ends events =
     picture_head_text s processes ends.last ++ grid_text d.names.instances s processes
     ++ boxes_text d t s processes waits ends events ++ legend processes
 
--- the picture of ticks `first` to `last` of these events of the network, behind which its processes wait so
+-- the picture of ticks `first` to `last` of these events of the network, after which its processes have these waits
 abbrev pub picture : Document → Tables → (first last : ℕ) → List Wait → List Event → List ℕ
 picture d t first last waits events =
     picture_with d t (scale_of d t first last events) (length t.instances) waits (clocks_after t true events) events
 
--- how many boxes and marks are drawn at a scale, of so many processes, with these clocks at the end
+-- how many boxes and marks are drawn at a scale, of this many processes, with these clocks at the end
 abbrev pub boxes_in : Tables → Scale → (processes : ℕ) → List Wait → Clocks → List Event → ℕ
 boxes_in t s processes waits ends events =
     all_box_count t s (start t true) events + last_counts s processes waits ends

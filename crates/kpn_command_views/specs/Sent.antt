@@ -11,7 +11,7 @@ pub record IsSentWhole (before after : Option (List ℕ)) (text whole : List ℕ
   pub grows : Appends before after sent
   pub kept : sent ++ text ≡ whole
 
--- if the call succeeded, the bytes stand behind the text as it was, of which a first part may have been sent
+-- if the call succeeded, the bytes stand after the text as it was, of which a first part may have been sent
 abbrev pub Sends : {W T E Z : Type 0} → (contents : W → Option (List ℕ)) → Result T E → (out sent : W)
     (old new : String Z) → List ℕ → Type 0
 Sends contents result out sent old new bytes =

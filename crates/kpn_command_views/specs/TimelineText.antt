@@ -35,7 +35,7 @@ get_words = codes ",\"dur\":1,\"name\":\"get "
 abbrev pub put_words : List ℕ
 put_words = codes ",\"dur\":1,\"name\":\"put "
 
--- what stands behind the name: the item
+-- what stands after the name: the item
 abbrev pub item_end : ℤ → List ℕ
 item_end item = codes "\",\"args\":{\"item\":" ++ signed_decimal item ++ codes "}}\n"
 
@@ -43,7 +43,7 @@ item_end item = codes "\",\"args\":{\"item\":" ++ signed_decimal item ++ codes "
 abbrev pub item_slice : (p tick : ℕ) → (words name : List ℕ) → ℤ → List ℕ
 item_slice p tick words name item = slice_front p (tick - 1) ++ (words ++ name) ++ item_end item
 
--- the end of the slice of a wait of so many ticks
+-- the end of the slice of a wait of this many ticks
 abbrev pub wait_end : (ticks : ℕ) → (name why : List ℕ) → List ℕ
 wait_end ticks name why =
     codes ",\"dur\":" ++ decimal ticks ++ codes ",\"name\":\"waits " ++ name ++ why ++ codes "\"}\n"
@@ -80,7 +80,7 @@ all_event_lines names t s [] = []
 all_event_lines names t s (event ∷ events) =
     event_lines names t s event ++ all_event_lines names t (clocks_with_event t s event) events
 
--- what is drawn of process p, which waits so at the end: its wait goes on for one tick behind the last one
+-- what is drawn of process p, which has this wait at the end: its wait goes on for one tick after the last one
 abbrev pub last_wait : (names : List (List ℕ)) → Clocks → (p : ℕ) → Wait → List ℕ
 last_wait names s p Nobody = []
 last_wait names s p (Empty c) = wait_slice p (latest_of s p) (s.last + 2) (name_at names c) []
@@ -92,22 +92,22 @@ last_wait names s p (Full c) = wait_slice p (latest_of s p) (s.last + 2) (name_a
 abbrev pub counter_label : (name : List ℕ) → List ℕ
 counter_label name = codes ",\"name\":\"" ++ name ++ codes "\",\"args\":{\"unread\":"
 
--- so many items, and what stands around them
+-- this many items, and what stands around them
 abbrev pub counter_end : (label : List ℕ) → (unread : ℕ) → List ℕ
 counter_end label unread = label ++ decimal unread ++ codes "}}\n"
 
--- so many items lie unread on a channel from this tick on
+-- this many items lie unread on a channel from this tick on
 abbrev pub counter_line : (label : List ℕ) → (tick unread : ℕ) → List ℕ
 counter_line label tick unread =
     codes ",{\"ph\":\"C\",\"pid\":1,\"ts\":" ++ decimal tick ++ counter_end label unread
 
--- these reads, one after another, of so many unread items
+-- these reads, one after another, of this many unread items
 abbrev pub read_lines : (label : List ℕ) → (unread : ℕ) → (reads : List ℕ) → List ℕ
 read_lines label unread [] = []
 read_lines label unread (tick ∷ reads) =
     counter_line label tick (unread - 1) ++ read_lines label (unread - 1) reads
 
--- the writes and reads of a channel by their ticks, with so many unread items at first
+-- the writes and reads of a channel by their ticks, with this many unread items at first
 abbrev pub counter_lines : (label : List ℕ) → (unread : ℕ) → (written reads : List ℕ) → List ℕ
 counter_lines label unread [] reads = read_lines label unread reads
 counter_lines label unread (tick ∷ written) reads =
@@ -130,11 +130,11 @@ abbrev pub channel_counters : (names : List (List ℕ)) → Clocks → (c : ℕ)
 channel_counters names s c =
     counter_lines (counter_label (name_at names c)) 0 (written_of s c) (read_of s c)
 
--- what is drawn of so many processes, which wait so at the end
+-- what is drawn of this many processes with these waits at the end
 abbrev pub last_waits : (names : List (List ℕ)) → (processes : ℕ) → List Wait → Clocks → List ℕ
 last_waits names processes waits s = each_below processes (λ p. last_wait names s p (wait_at waits p))
 
--- the timeline of these events of the network, behind which its processes wait so
+-- the timeline of these events of the network, after which its processes have these waits
 abbrev pub timeline : Document → Tables → List Wait → List Event → List ℕ
 timeline d t waits events =
     timeline_head ++ each_below (length t.instances) (λ p. track_line p (name_at d.names.instances p))

@@ -57,7 +57,7 @@ fn send_write<W: Write>(
     Ok(gone)
 }
 
-// These reads, one after another, of so many unread items.
+// These reads, one after another, of this many unread items.
 fn send_reads<W: Write>(
     out: &mut W,
     text: &mut String,

@@ -100,14 +100,14 @@ pub(crate) fn count(
     })
 }
 
-// Figures of so many channels before the first event.
+// Figures of this many channels before the first event.
 fn no_channels(alloc: Global, channels: usize) -> Result<Vec<ChannelFigures>, AllocError>
     ensures { IfOk result (λ figures. figures.items ≡ replicate channels no_channel) }
 {
     Ok(vec![in alloc; EMPTY_CHANNEL; channels]?)
 }
 
-// Figures of so many processes before the first event.
+// Figures of this many processes before the first event.
 fn no_processes(alloc: Global, processes: usize) -> Result<Vec<ProcessFigures>, AllocError>
     ensures { IfOk result (λ figures. figures.items ≡ replicate processes no_process) }
 {

@@ -6,7 +6,7 @@ use kpn_net::{End, Network, Wait};
 use kpn_ticks::Clocks;
 use std::alloc::{AllocError, Global};
 
-/// So many items take so many ticks.
+/// This many items take this many ticks.
 #[derive(Clone, Copy)]
 pub(crate) struct Rate {
     pub(crate) ticks: usize,

@@ -12,7 +12,7 @@ pub(crate) struct Scale {
     pub front: usize,
     /// The last tick.
     pub back: usize,
-    /// The last tick that there is room for: the one behind the last of the run, if that is shown.
+    /// The last tick that there is room for: the one after the last of the run, if that is shown.
     pub edge: usize,
     /// Where the first tick begins.
     pub left: usize,

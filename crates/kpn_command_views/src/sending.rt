@@ -40,7 +40,7 @@ impl SendFault {
     }
 }
 
-// From so many bytes on a text goes out.
+// From this many bytes on a text goes out.
 const LONG: usize = 65_536;
 
 /// Sends the text if it is long; then none of it is kept.

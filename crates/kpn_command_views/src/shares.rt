@@ -30,13 +30,13 @@ pub(crate) const STEP_WORDS: ShareWords = ShareWords {
 };
 
 impl ShareWords {
-    /// The word behind a number of parts.
+    /// The word after a number of parts.
     pub(crate) fn word(self, count: usize) -> &'static str {
         if count == 1 { self.one } else { self.several }
     }
 }
 
-/// Writes the line for these shares of so many parts: the largest shares first, of equal ones that of the least
+/// Writes the line for these shares of this many parts: the largest shares first, of equal ones that of the least
 /// process, then what is left of the parts.
 pub(crate) fn push_shares(
     alloc: Global,

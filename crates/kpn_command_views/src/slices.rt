@@ -56,7 +56,7 @@ pub(crate) fn push_event(
     }
 }
 
-/// What is drawn of process `p`, which waits so at the end. Its wait goes on for one tick behind the last one.
+/// What is drawn of process `p`, which has this wait at the end. Its wait goes on for one tick after the last one.
 pub(crate) fn push_last_wait(
     text: &mut String,
     document: &Document,

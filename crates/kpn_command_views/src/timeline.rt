@@ -21,7 +21,7 @@ use kpn_ticks::Clocks;
 use std::alloc::{AllocError, Global};
 use std::io::Write;
 
-/// Sends the timeline of these events of the network, which has the names of the document. Behind them its processes
+/// Sends the timeline of these events of the network, which has the names of the document. After them its processes
 /// wait so.
 pub(crate) fn send_timeline<W: Write>(
     alloc: Global,
@@ -49,7 +49,7 @@ fn push_end(text: &mut String) -> Pushed
     text.push_str("]}\n")
 }
 
-// The first lines, and a track for each of so many processes.
+// The first lines, and a track for each of this many processes.
 fn first_lines(alloc: Global, document: &Document, processes: usize) -> Result<String, AllocError>
     ensures { IfOk result (λ text. string_bytes text ≡ timeline_head
         ++ each_below processes (λ p. track_line p (name_at document.now.names.instances p))) }

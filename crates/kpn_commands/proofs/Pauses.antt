@@ -21,7 +21,7 @@ use Rattle.kpn_commands.specs.Laws.{IsNeverPaused}
 abbrev outside : List ℤ → Frame
 outside variables = record { outer = []; inner = record { block = 0; place = 0 }; variables = variables }
 
--- a frame in the loop, with so many statements behind
+-- a frame in the loop, after this many of its statements
 abbrev inside : ℕ → List ℤ → Frame
 inside place variables =
     record {

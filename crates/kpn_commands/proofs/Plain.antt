@@ -25,7 +25,7 @@ ending_of (Faulted fault) = ending.Faulted fault
 ending_of (Starved port) = ending.Starved port
 ending_of Paused = ending.Cut
 
--- the loop of a process with so many turns left
+-- the loop of a process with this many turns left
 abbrev loop : BuiltIn → (n left : ℕ) → List ℤ → Lists → Ran
 loop process n left =
     turns left (Num (pos 1)) (λ after. run (tree_to (built_in_program process).blocks 1 1) n after) (ends ending.Done)

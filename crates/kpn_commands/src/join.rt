@@ -51,7 +51,7 @@ impl Drop for LoadedParts {
     }
 }
 
-/// What `kpn join FILE PART TRACE ..` comes to. The words behind FILE are the description and the trace of each part.
+/// What `kpn join FILE PART TRACE ..` comes to. The words after FILE are the description and the trace of each part.
 /// Each process may make `steps` steps before each of its events. It reads FILE first, then the files of each part.
 pub fn join_command<S: Shelf>(
     alloc: Global,

@@ -27,11 +27,11 @@ pub(crate) struct Reported<'a> {
     pub(crate) report: Report,
 }
 
-/// A run that stores a trace has so many commits at most. The line of a get, a put, a wait or an end has at
+/// A run that stores a trace has at most this many commits. The line of a get, a put, a wait or an end has at
 /// least 10 bytes.
 const MOST_TRACED: u64 = MAX_INPUT_BYTES as u64 / 10;
 
-/// Some channel has so many places at least, if turns in any order are faster.
+/// Some channel has at least this many places, if turns in any order are faster.
 const FEWEST_PLACES: u32 = 8;
 
 /// The limits of a run that is asked for.

@@ -10,7 +10,7 @@ use kpn_net::rounds;
 use kpn_shelf::Shelf;
 use std::alloc::Global;
 
-/// What `kpn rounds FILE N` comes to: the text of the n-th iterate. These words came behind the `--source` options.
+/// What `kpn rounds FILE N` comes to: the text of the n-th iterate. These words came after the `--source` options.
 pub fn rounds_command<S: Shelf>(
     alloc: Global,
     file: &str,

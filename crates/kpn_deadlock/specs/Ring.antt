@@ -28,7 +28,7 @@ pub record HasRing (t : Tables) (waits : List Wait) : Type 0 where
   pub others : List ℕ
   pub ring : IsRing t waits first others
 
--- no legal history that goes on from one with these waits has an event of one of these processes behind it
+-- no legal history that goes on from one with these waits has an event of one of these processes after it
 abbrev pub AreFinal : Tables → List Wait → (members : List ℕ) → Type 0
 AreFinal t waits members =
     (H more : List Event) → waits ≡ waits_of t H → Legal t (H ++ more) → (q : ℕ) → Contains members q → (event : Event)

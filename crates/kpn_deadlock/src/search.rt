@@ -49,7 +49,7 @@ pub fn rings<A: Allocator + Copy>(
     Ok(Sequence::from_vec(told))
 }
 
-/// Puts what was found behind what was found before.
+/// Puts what was found after what was found before.
 fn push_found<A: Allocator>(
     told: &mut Vec<Sequence<usize, A>, A>,
     found: Option<Sequence<usize, A>>,

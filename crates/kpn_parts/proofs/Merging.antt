@@ -72,7 +72,7 @@ goes_on_next history r links first order after carried now k d e before below pa
           (carried_next links order e carried now before.on_links may more);
     }
 
--- an event that may not come behind the order
+-- an event that may not come at the end of the order
 pub still_there : (links : List PartLink) (order : List PartEvent) (r : ℕ) (history : List Event) (k : ℕ) (b : Event)
     (result : Bool) → ((result ≡ true) ↔ MayCome links order (record { part = r; event = get_or history k b }))
     → result ≡ false → (d : Event) → k < length history

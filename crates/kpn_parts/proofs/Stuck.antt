@@ -77,7 +77,7 @@ module _ (histories : List (List Event)) (links : List PartLink) (at : List ℕ)
   part_begins B p r =
       IsPrefix-trans (events_of_part r B) (events_of_part r M) (history_at histories r) (events_begin r B M p) (begin r)
 
-  -- an event that comes next of its part in both could come behind the order
+  -- an event that comes next of its part in both could come at the end of the order
   module _ (B : List PartEvent) (e : PartEvent) (p : IsPrefix (B ++ e ∷ []) M)
       (fewer : (r : ℕ) → length (events_of_part r B) ≤ length (events_of_part r order))
       (same : events_of_part e.part B ≡ events_of_part e.part order) where

@@ -71,7 +71,7 @@ JoinComesTo histories links (Stuck r k) = ComesInNone histories links r k
 
 -- ---- scaffolding: what the code keeps
 
--- these items were put on the link, so many were fed, and all was put before
+-- these items were put on the link, this many were fed, and all was put before
 pub record IsCarriedOn (link : PartLink) (order : List PartEvent) (items : List ℤ) (fed : ℕ) : Type 0 where
   pub put : items ≡ put_on_link order link
   pub count : fed ≡ length (fed_on order link)
@@ -86,13 +86,13 @@ pub record AreCarried (links : List PartLink) (order : List PartEvent) (carried 
   pub each : (l : ℕ) (x : PartLink) (d : Carried) → l < length links
       → IsCarried (slice_index_or links l x) order (slice_index_or carried l d)
 
--- nothing was put on so many links
+-- nothing was put on this many links
 pub record CarryNothing (carried : List Carried) (n : ℕ) : Type 0 where
   pub count : length carried ≡ n
   pub each : (l : ℕ) (d : Carried) → l < n
       → ((slice_index_or carried l d).items.items ≡ []) × ((slice_index_or carried l d).fed ≡ 0)
 
--- with this event behind the order all is still put before
+-- with this event at the end of the order all is still put before
 abbrev pub MayCome : List PartLink → List PartEvent → PartEvent → Type 0
 MayCome links order placed = AreSent links (order ++ placed ∷ [])
 
@@ -111,7 +111,7 @@ pub record CarryMore (links : List PartLink) (placed : PartEvent) (old new : Lis
       → IsCarried (slice_index_or links l x) (order ++ placed ∷ []) (slice_index_or new l d)
   pub above : (l : ℕ) (d : Carried) → n ≤ l → slice_index_or new l d ≡ slice_index_or old l d
 
--- the order has so many events of each part, from the first on, and the links carry what it says
+-- the order has as many events of each part as `at` says, from the first on, and the links carry what it says
 pub record SoFar (histories : List (List Event)) (links : List PartLink) (at : List ℕ) (order : List PartEvent)
     (carried : List Carried) : Type 0 where
   pub parts : length at ≡ length histories
@@ -143,7 +143,7 @@ abbrev pub items_of : Option ℤ → List ℤ
 items_of None = []
 items_of (Some v) = v ∷ []
 
--- so many items are fed after this feed
+-- this many items are fed after this feed
 abbrev pub fed_after : (fed : ℕ) → Option ℤ → ℕ
 fed_after fed None = fed
 fed_after fed (Some v) = fed + 1
@@ -153,7 +153,7 @@ abbrev pub IsNext : List ℤ → (place : ℕ) → Option ℤ → Type 0
 IsNext items place None = Unit {0}
 IsNext items place (Some v) = slice_get items place ≡ Some v
 
--- so many of these items are fed after this feed, which feeds the next one
+-- this many of these items are fed after this feed, which feeds the next one
 abbrev pub FeedsNext : List ℤ → (fed : ℕ) → Option ℤ → (now : ℕ) → Type 0
 FeedsNext items fed None now = now ≡ fed
 FeedsNext items fed (Some v) now = (now ≡ fed + 1) × (slice_get items fed ≡ Some v)

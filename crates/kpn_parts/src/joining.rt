@@ -75,7 +75,7 @@ fn nothing_carried(alloc: Global, links: &[PartLink]) -> Result<Vec<Carried>, Al
     Ok(carried)
 }
 
-/// Puts events behind the order until none may come.
+/// Puts events at the end of the order until none may come.
 fn go_rounds(
     histories: &[Sequence<Event>],
     links: &[PartLink],
@@ -95,11 +95,11 @@ fn go_rounds(
             return Ok(());
         }
     }
-    // No memory has so many events.
+    // No memory has that many events.
     Err(AllocError)
 }
 
-/// Puts what may come of each part in turn behind the order.
+/// Puts what may come of each part in turn at the end of the order.
 fn go_round(
     histories: &[Sequence<Event>],
     links: &[PartLink],
@@ -120,8 +120,8 @@ fn go_round(
     Ok(())
 }
 
-/// Puts the events of part `r` from the event `from` on behind the order, as long as they may come. It returns how
-/// many events of the part are in the order then.
+/// Puts the events of part `r` from the event `from` on at the end of the order, as long as they may come. It returns
+/// how many events of the part are in the order then.
 fn go_on(
     history: &[Event],
     r: usize,
@@ -179,7 +179,7 @@ fn takes(link: PartLink, carried: &Carried, placed: PartEvent) -> bool
     is_next(&carried.items, carried.fed, put, feed)
 }
 
-/// Whether this feed, if there is one, feeds the item at a place, if this item is put behind the others.
+/// Whether this feed, if there is one, feeds the item at a place, if this item is put after the others.
 fn is_next(items: &[i64], place: usize, put: Option<i64>, feed: Option<i64>) -> bool
     ensures { (result ≡ true) ↔ IsNext (items.now ++ items_of put) place feed }
 {
@@ -198,7 +198,7 @@ fn is_item(item: Option<i64>, v: i64) -> bool
     }
 }
 
-/// The item at a place, if this one is put behind the others.
+/// The item at a place, if this one is put after the others.
 fn item_at(items: &[i64], place: usize, put: Option<i64>) -> Option<i64>
     ensures { result ≡ slice_get (items.now ++ items_of put) place }
 {

@@ -19,7 +19,7 @@ pub(crate) struct Serving<'l> {
 }
 
 impl<'l> Serving<'l> {
-    /// Serves a run with these lists, one for each source, of whose sinks so many items are wanted. Its workers take
+    /// Serves a run with these lists, one for each source, of whose sinks this many items are wanted. Its workers take
     /// from the sinks too, if they may.
     pub(crate) fn new(
         lists: &'l [Sequence<i64>],

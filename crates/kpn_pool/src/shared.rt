@@ -130,7 +130,7 @@ impl<'n, J: Job, A: Allocator> Shared<'n, J, A> {
         self.changed.notify_all();
     }
 
-    /// There are so many processors for the workers.
+    /// There are this many processors for the workers.
     pub(crate) fn run_on<R: Wait>(&self, rt: &R, processors: usize) {
         self.lock(rt).run_on(processors);
     }
@@ -172,8 +172,8 @@ impl<'n, J: Job, A: Allocator> Shared<'n, J, A> {
         self.lock_after(rt, LOCK_TRIES_OUTSIDE)
     }
 
-    /// The desk, once nobody else has it. Others have it often and for a short time, so this tries so often before it
-    /// sleeps.
+    /// The desk, once nobody else has it. Others have it often and for a short time, so this tries `tries` times before
+    /// it sleeps.
     fn lock_after<R: Wait>(&self, rt: &R, tries: u32) -> MutexGuard<'_, Desk<'n, J, A>> {
         match self.try_lock(tries) {
             Some(desk) => desk,
@@ -181,7 +181,7 @@ impl<'n, J: Job, A: Allocator> Shared<'n, J, A> {
         }
     }
 
-    /// The desk, if nobody else has it at one of so many tries.
+    /// The desk, if nobody else has it at one of this many tries.
     fn try_lock(&self, tries: u32) -> Option<MutexGuard<'_, Desk<'n, J, A>>> {
         for _ in 0..tries {
             if let Some(desk) = self.desk.try_lock() {

@@ -25,7 +25,7 @@ pub record Desk : Type 0 where
   pub working : ℕ
   pub takers : Takers
 
--- a desk of the run of a network by so many workers: the book is one of this network, and keeps what it was told to
+-- a desk of the run of a network by this many workers: the book is one of this network, and keeps what it was told to
 -- keep, and the total is the number of its commits
 pub record IsDesk (t : Tables) (count : ℕ) (keeping : Keeping) (d : Desk) : Type 0 where
   pub network : d.book.tables ≡ t
@@ -47,11 +47,11 @@ pub record IsOpened (d : Desk) : Type 0 where
 abbrev pub ready_in : Book → ℕ
 ready_in b = count_by is_ready b.schedule.states
 
--- how many processes a worker claims of so many that are ready
+-- how many processes a worker claims of this many that are ready
 abbrev pub share_of : (workers ready : ℕ) → ℕ
 share_of workers ready = min (div_ceil ready workers) 8
 
--- how many of the ready processes one of so many workers claims
+-- how many of the ready processes one of this many workers claims
 abbrev pub share_in : (workers : ℕ) → Book → ℕ
 share_in workers b = share_of (max workers 1) (ready_in b)
 
@@ -65,7 +65,7 @@ with_book book d = record d { book = book }
 abbrev pub with_commit : Book → Desk → Desk
 with_commit book d = record d { book = book; total = d.total + 1 }
 
--- the book becomes this one, with so many commits in all
+-- the book becomes this one, with this many commits in all
 abbrev pub with_total : Book → (total : ℕ) → Desk → Desk
 with_total book total d = record d { book = book; total = total }
 

@@ -44,7 +44,7 @@ pub record IsTurnOf (program : Parts) (last : Stepped) : Type 0 where
       IsAdvance (advanced_of last.claim.program.now last.claim.frame last.to made.0 made.1)
       × IsAtPort last.claim.program.now last.to made.1)
 
--- turns: the first ones, so many, are held, and of these the first ones, so many, the gate has let through
+-- turns: the first `held` are held, and the gate has let the first `passed` of these through
 pub record HeldTurns : Type 0 where
   pub turns : List Turn
   pub held : ℕ
@@ -99,7 +99,7 @@ ClaimsInVain turns before after =
     (count : ℕ) × (between : Book) × InTurn Claims (take count turns) before between
     × InTurn PutsBack (take count turns) between after
 
--- why a worker ends that has committed so many of the turns that it holds: memory is wanted for the next one, and all
+-- why a worker ends that has committed this many of the turns that it holds: memory is wanted for the next one, and all
 -- workers shall end; or the gate did not let the next one through
 abbrev pub IsEnd : (committed : ℕ) → HeldTurns → (before after : Desk) → Option Why → Type 0
 IsEnd committed b before after None = (committed ≡ b.held) × (after.halts ≡ before.halts)

@@ -108,14 +108,14 @@ pub record TakesAll (before after : EndSeat) (b b_after : Book) : Type 0 where
   pub first : TakesFirst before after b b_after
   pub none_left : unread (channel_in b_after.machine before.channel) ≡ []
 
--- so many of these seats, one after the other, took all that was unread at their sinks, and nothing else has happened
+-- the first `count` of these seats, in order, took all that was unread at their sinks, and nothing else has happened
 abbrev pub TakeInTurn : (count : ℕ) → (before after : List EndSeat) → Book → Book → Type 0
 TakeInTurn zero before after b b_after = (after ≡ before) × (b_after ≡ b)
 TakeInTurn (suc count) (x ∷ xs) (y ∷ ys) b b_after =
     (between : Book) × TakesAll x y b between × TakeInTurn count xs ys between b_after
 TakeInTurn (suc count) xs ys b b_after = ⊥
 
--- so many did, and the take from the next one is refused for this cause, which has taken what it could
+-- the first `count` did, and the take from the next one is refused for this cause, which has taken what it could
 pub record TakeUntil (before after : List EndSeat) (b b_after : Book) (cause : Refused) : Type 0 where
   pub count : ℕ
   pub seats : List EndSeat

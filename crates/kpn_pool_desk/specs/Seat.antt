@@ -19,7 +19,7 @@ ended why s = record s { why = Some why }
 abbrev pub with_commits : ℕ → Seat → Seat
 with_commits commits s = record s { commits = commits }
 
--- one seat for each of so many workers, in order of number
+-- one seat for each of this many workers, in order of number
 pub record AreNewSeats (workers : ℕ) (seats : List Seat) : Type 0 where
   pub count : length seats ≡ workers
   pub each : (i : ℕ) → i < workers → slice_get seats i ≡ Some (new_seat i)

@@ -59,16 +59,16 @@ pub enum Awaited {
 pub(crate) struct Crew {
     // those that have not ended
     working: usize,
-    // no more of them are busy, but for those that have rested in vain: so many processors there are
+    // no more of them are busy, but for those that have rested in vain: there are this many processors
     most: usize,
     busy: usize,
     looking: usize,
     resting: usize,
-    // of those that rest, so many were notified and have not come yet
+    // of those that rest, this many were notified and have not come yet
     notified: usize,
     // one of those that rest keeps watch
     is_watched: bool,
-    // so many were left to claim when somebody last claimed or the outside last called
+    // this many were left to claim when somebody last claimed or the outside last called
     left: usize,
     // somebody outside sleeps until the outside is called
     is_awaited: bool,
@@ -80,7 +80,7 @@ pub(crate) struct Crew {
     owes_call: bool,
 }
 
-/// How many processes one of so many workers claims if so many are ready: its part of them, but no more than a batch.
+/// How many processes one of `workers` claims if `ready` are ready: its part of them, but no more than a batch.
 pub(crate) fn share(workers: usize, ready: usize) -> usize
     ensures { result ≡ share_of (max workers 1) ready }
 {
@@ -88,7 +88,7 @@ pub(crate) fn share(workers: usize, ready: usize) -> usize
 }
 
 impl Crew {
-    /// So many workers, none of which has come yet.
+    /// This many workers, none of which has come yet.
     pub(crate) fn new(workers: usize) -> Crew
         ensures { result.working ≡ workers }
     {
@@ -111,12 +111,12 @@ impl Crew {
         self.working == 0
     }
 
-    /// Whether a worker may join if there are so many to claim. One that has waited in vain may.
+    /// Whether a worker may join if there are this many to claim. One that has waited in vain may.
     pub(crate) fn has_place(&self, claimable: usize, in_vain: bool) -> bool {
         claimable > 0 && (in_vain || self.has_processor())
     }
 
-    /// There are so many processors.
+    /// There are this many processors.
     pub(crate) fn run_on(&mut self, processors: usize)
         ensures { self.new.working ≡ self.old.working }
     {
@@ -140,7 +140,7 @@ impl Crew {
         self.busy = self.busy.saturating_add(1);
     }
 
-    /// A worker is back from so many turns; from none if it comes for the first time.
+    /// A worker is back from this many turns; from none if it comes for the first time.
     pub(crate) fn come_back(&mut self, turns: usize)
         ensures { self.new.working ≡ self.old.working }
     {
@@ -204,8 +204,8 @@ impl Crew {
         self.owes_call = true;
     }
 
-    /// A worker claims or ends, or a call of the outside was made, and so many are left to claim. Returns whether one of
-    /// those that rest is to be notified, and counts it.
+    /// A worker claims or ends, or a call of the outside was made, and this many are left to claim. Returns whether one
+    /// of those that rest is to be notified, and counts it.
     pub(crate) fn notify(&mut self, claimable: usize, is_call: bool) -> bool
         ensures { self.new.working ≡ self.old.working }
     {

@@ -25,7 +25,7 @@ pub(crate) struct Flow {
 }
 
 impl Flow {
-    /// A channel of this capacity, which has carried so many items. If it is too narrow to be cut, the hand-overs are
+    /// A channel of this capacity, which has carried this many items. If it is too narrow to be cut, the hand-overs are
     /// endless.
     pub(crate) fn new(writer: usize, reader: usize, capacity: Option<u32>, carried: u64) -> Flow {
         let hand_overs = if is_wide(capacity) {
@@ -52,8 +52,8 @@ pub(crate) struct Cut<A: Allocator> {
 }
 
 impl<A: Allocator + Copy> Cut<A> {
-    /// The cut with which so many workers would take least time, by what each process takes in a region: one region at
-    /// least. `None` if none is better than turns, which take so long.
+    /// The cut with which this many workers would take least time, by what each process takes in a region: one region
+    /// at least. `None` if none is better than turns, which take so long.
     pub(crate) fn best(
         alloc: A,
         loads: &[u64],
@@ -92,8 +92,8 @@ impl<A: Allocator + Copy> Cut<A> {
 }
 
 impl<A: Allocator> Cut<A> {
-    /// Joins regions until there are at most so many, as far as none then takes much longer than its even share: first
-    /// across the channels with the most hand-overs, which come first, and then those that take least.
+    /// Joins regions until there are at most this many, as far as none then takes much longer than its even share:
+    /// first across the channels with the most hand-overs, which come first, and then those that take least.
     pub(crate) fn join_to(&mut self, count: usize, flows: &[Flow]) {
         let even = sum(&self.load) / count.max(1) as u64;
         let share = even.saturating_add(even / PARTS_OF_A_GAIN);
@@ -177,7 +177,7 @@ impl<A: Allocator> Cut<A> {
         least
     }
 
-    /// How many nanoseconds so many workers would take for what one thread has done so far: the busiest region, or an
+    /// How many nanoseconds this many workers would take for what one thread has done so far: the busiest region, or an
     /// even part of all, or the time for which the lock is held.
     pub(crate) fn time(&self, workers: usize, flows: &[Flow]) -> u64 {
         let mut busiest = 0_u64;

@@ -33,14 +33,14 @@ use std::alloc::{AllocError, Allocator};
 #[derive(Drop)]
 pub(crate) struct Division<A: Allocator> {
     pub(crate) alloc: A,
-    // so many commits are allowed in a run whose network may be cut, and 0 in others
+    // this many commits are allowed in a run whose network may be cut, and 0 in others
     limit: u64,
     // how many nanoseconds the turns of each process took that were timed, and how many there were
     taken: Vec<u64, A>,
     turns: Vec<u64, A>,
-    // the network is cut once there are so many commits
+    // the network is cut once there are this many commits
     due: u64,
-    // no region is claimed before there are so many
+    // no region is claimed before there are this many
     from: u64,
     regions: Option<Regions<A>>,
     // how many of them are held
@@ -93,7 +93,7 @@ impl<A: Allocator> Division<A> {
         }
     }
 
-    /// A turn of a process, of so many, took so many nanoseconds. If memory for that runs out, the network is not
+    /// A turn of one of this many processes took this many nanoseconds. If memory for that runs out, the network is not
     /// divided.
     pub(crate) fn note(&mut self, processes: usize, process: usize, nanos: u64) {
         if !fill(&mut self.taken, processes) || !fill(&mut self.turns, processes) {
@@ -178,7 +178,7 @@ impl<A: Allocator> Division<A> {
     }
 }
 
-/// Fills a list with zeros up to so many. Returns whether there was memory for it.
+/// Fills a list with zeros up to this many. Returns whether there was memory for it.
 fn fill<A: Allocator>(list: &mut Vec<u64, A>, count: usize) -> bool {
     for _ in list.len()..count {
         if list.push(0).is_err() {
@@ -201,14 +201,14 @@ fn are_below(count: usize, numbers: &[usize]) -> bool
 }
 
 impl<'n, J: Job, A: Allocator> Desk<'n, J, A> {
-    /// The network may be cut into regions, if so many commits are allowed.
+    /// The network may be cut into regions, if this many commits are allowed.
     pub fn divide(&mut self, most: u64)
         ensures { self.new ≡ self.old }
     {
         self.division.limit = most;
     }
 
-    /// There are so many processors: no more workers run at once.
+    /// There are this many processors: no more workers run at once.
     pub fn run_on(&mut self, processors: usize)
         ensures { self.new ≡ self.old }
     {
@@ -311,7 +311,7 @@ impl<'n, J: Job, A: Allocator> Desk<'n, J, A> {
     }
 
     /// The region that a worker is to claim, if there is one. If there are no more regions than workers, it is this last
-    /// one that the worker had, where that may be claimed; else the next one behind that which was claimed last.
+    /// one that the worker had, where that may be claimed; else the next one after the one that was claimed last.
     pub(crate) fn next_region(&self, last: Option<usize>) -> Option<usize> {
         if !self.claims_regions() {
             return None;

@@ -159,8 +159,8 @@ impl<'n, J: Job> HeldTurns<'n, J> {
     }
 }
 
-/// Claims a process for each of the first turns, so many at most. Returns how many there were. The error is that memory
-/// ran out: then those that were claimed are put back.
+/// Claims a process for each of the first turns, at most this many. Returns how many there were. The error is that
+/// memory ran out: then those that were claimed are put back.
 fn claim_each<'n, J: Job, A: Allocator>(
     desk: &mut Desk<'n, J, A>,
     turns: &mut [Turn<'n, J>],

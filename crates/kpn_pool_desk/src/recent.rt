@@ -50,7 +50,7 @@ impl<A: Allocator> Recent<A> {
         self.newest.reserve(1)
     }
 
-    /// Puts an item behind the others, in the room that there is.
+    /// Puts an item after the others, in the room that there is.
     pub(crate) fn push_reserved(&mut self, item: i64)
         requires { IsTrue self.old.has_room }
         ensures { self.new ≡ with_newest item self.new.has_room self.old }

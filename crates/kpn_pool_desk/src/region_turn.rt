@@ -141,8 +141,8 @@ impl<'n, J: Job, A: Allocator> RegionTurn<'n, J, A> {
         }
     }
 
-    /// A worker is back from this region, which it claimed after so many commits. It commits what the region has done,
-    /// and takes from the sinks, if the workers take. Returns what it does next, if `most` commits are allowed.
+    /// A worker is back from this region, which it claimed after this many commits. It commits what the region has
+    /// done, and takes from the sinks, if the workers take. Returns what it does next, if `most` commits are allowed.
     pub fn come_back(
         &mut self,
         desk: &mut Desk<'n, J, A>,

@@ -15,7 +15,7 @@ pub(crate) struct Regions<A: Allocator> {
 }
 
 impl<A: Allocator + Copy> Regions<A> {
-    /// Cuts a network for so many workers, by how many items each of its channels has carried and how long its turns
+    /// Cuts a network for this many workers, by how many items each of its channels has carried and how long its turns
     /// took: into one region, or several if it need not stay whole. `None` if turns are faster. The error is that
     /// memory ran out.
     pub(crate) fn cut(
@@ -73,7 +73,7 @@ impl<A: Allocator> Regions<A> {
     }
 }
 
-/// Puts the processes of a region behind these.
+/// Puts the processes of a region after these.
 fn push_members<A: Allocator>(
     region_of: &[usize],
     region: usize,
@@ -106,7 +106,7 @@ fn flows<A: Allocator + Copy>(
     Ok(flows)
 }
 
-/// How many nanoseconds so many turns of each process took that were timed.
+/// How many nanoseconds this many turns of each process took that were timed.
 #[derive(Clone, Copy)]
 pub(crate) struct Times<'t> {
     pub taken: &'t [u64],
@@ -146,8 +146,8 @@ impl Way {
     }
 }
 
-/// How many nanoseconds so many workers take for the gets and puts so far by turns: as many of them as pay. If no more
-/// than one does, it is endless, since one worker is as fast in a region.
+/// How many nanoseconds this many workers take for the gets and puts so far by turns: as many of them as pay. If no
+/// more than one does, it is endless, since one worker is as fast in a region.
 fn time_by_turns<A: Allocator + Copy>(
     alloc: A,
     network: &Network,

@@ -148,7 +148,7 @@ impl<J: Job> WorkerSeat<J> {
         Ok(memory)
     }
 
-    /// Counts so many commits, in the ledger and here.
+    /// Counts this many commits, in the ledger and here.
     fn count(&mut self, total: &mut ledger::Book<J>, commits: u64)
         requires { total.old.total + commits < 2 ^ 64 }
         ensures total { total.new.total ≡ total.old.total + commits }

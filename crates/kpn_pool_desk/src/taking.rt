@@ -15,14 +15,14 @@ use std::alloc::Allocator;
 pub enum Takers {
     /// Those outside, by the seats of the sinks.
     Seats,
-    /// The workers where they run regions, and else those outside. So many items of each sink are wanted; the workers
+    /// The workers where they run regions, and else those outside. This many items of each sink are wanted; the workers
     /// may take more.
     Workers(Option<u64>),
 }
 
 impl<'n, J: Job, A: Allocator> Desk<'n, J, A> {
-    /// From now on workers that run regions take what comes to the sinks. Once there are so many items of each, if that
-    /// is wanted, they call the outside. What they take is in no seat's list.
+    /// From now on workers that run regions take what comes to the sinks. Once there are this many items of each, if
+    /// that is wanted, they call the outside. What they take is in no seat's list.
     pub fn let_workers_take(&mut self, wanted: Option<u64>)
         ensures { self.new ≡ taken_by (Workers wanted) self.old }
     {

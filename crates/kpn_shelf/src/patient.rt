@@ -24,7 +24,7 @@ impl<'r, R: Clock, T: Drop> Patient<'r, R, T> {
     }
 }
 
-// Waits so many milliseconds, and returns how many to wait the next time.
+// Waits this many milliseconds, and returns how many to wait the next time.
 fn wait<R: Clock>(rt: &R, milliseconds: u64) -> u64 {
     thread::sleep(rt, Duration::from_millis(milliseconds));
     if milliseconds < LONGEST_PAUSE / 2 {

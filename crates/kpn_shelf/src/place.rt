@@ -10,7 +10,7 @@ use std::{fs, io};
 // How many links in a row the system follows.
 const MOST_LINKS: usize = 40;
 
-/// The folder of a path, and the last name of the path, which is empty behind a slash.
+/// The folder of a path, and the last name of the path, which is empty after a slash.
 pub(super) fn split(path: &str) -> (&str, &str) {
     match path.rsplit_once('/') {
         Some(("", last)) => ("/", last),
@@ -19,7 +19,7 @@ pub(super) fn split(path: &str) -> (&str, &str) {
     }
 }
 
-/// Another name in the folder of a path, with an ending behind it.
+/// Another name in the folder of a path, with an ending after it.
 pub(super) fn beside(
     rt: &impl AllocGlobal,
     path: &str,

@@ -17,7 +17,7 @@ pub(super) fn part_of(rt: &impl AllocGlobal, path: &str) -> Result<String, Alloc
     beside(rt, path, beginning(last), ENDING)
 }
 
-// The beginning of a name behind which there is room for the ending. A character has four bytes at most.
+// The beginning of a name after which there is room for the ending. A character has four bytes at most.
 fn beginning(last: &str) -> &str {
     if last.len() <= MOST_NAME_BYTES {
         return last;

@@ -29,7 +29,7 @@ pub(crate) fn set_from<T: Copy + Default + Drop, const N: usize>(
 }
 
 /// Makes a slice equal to another of its length. Most are short.
-// One by one, behind a test each: a loop over as many as there are would be compiled to a call, which costs more.
+// One by one, each after a test: a loop over as many as there are would be compiled to a call, which costs more.
 #[inline(always)]
 fn write_over<T: Copy>(items: &mut [T], other: &[T])
     requires { length items.old ≡ length other.now }

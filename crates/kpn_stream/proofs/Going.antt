@@ -446,7 +446,7 @@ stepped_in_any_order limits quota most (Err error) before after fits runs vain =
   commits = λ below. let room = fits below in let fewer = vain.fewer in omega arith;
 }
 
--- steps in a row, also if memory runs out behind them
+-- steps in a row, also if memory runs out after them
 pub stepped_row : {E : Type 0} (limits : Limits) (quota most : ℕ) (result : Result (Option ℕ) E) (before after : Book)
     → (before.commits ≤ limits.commits → before.commits + most ≤ limits.commits)
     → IfOk result (λ sink. RunsInRow quota most sink before after) → OnErr result (RunsInVain quota most before after)

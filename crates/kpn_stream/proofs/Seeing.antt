@@ -175,7 +175,7 @@ module _ {W : Type 0} (knows : W → Book → Type 0) (sees : W → Book → Boo
       subst (λ h. Watches knows sees a b w h w) (sym (may_end_unhalted limits ended b is.ending))
       (watches_steps a b w (besides_elsewhere a b is.besides))
 
-  -- the same behind steps of the processes
+  -- the same after steps of the processes
   pub watches_taken : {K : Type 0} (takes : K → ℕ → ℤ → Result (Unit {0}) SinkFault → K → Type 0)
       (flushes : K → ℕ → Result (Unit {0}) SinkFault → K → Type 0) (limits : Limits) (ended : Option StreamEnding)
       (a b c : Book) (i j : K) (w : W) → StepsWithinLimits limits a b → Serves takes flushes limits ended b c i j
@@ -185,7 +185,7 @@ module _ {W : Type 0} (knows : W → Book → Type 0) (sees : W → Book → Boo
       (watches_steps a b w (besides_sources a b one.besides))
       (watches_serves takes flushes limits ended b c i j w two)
 
-  -- behind steps and the sinks a look may follow
+  -- after steps and the sinks a look may follow
   pub watches_shown : {K : Type 0} (takes : K → ℕ → ℤ → Result (Unit {0}) SinkFault → K → Type 0)
       (flushes : K → ℕ → Result (Unit {0}) SinkFault → K → Type 0) (limits : Limits) (ended : Option StreamEnding)
       (a b c d : Book) (i j : K) (w v : W) (halted : Bool) → StepsWithinLimits limits a b

@@ -111,7 +111,7 @@ pub record ReadsSource {S : Type 0} (gives : S → ℕ → Result (Option ℤ) S
     pub grown : NoneIs is_no_growth growth
     pub then : after.history ≡ (before.history ++ events) ++ growth
 
--- source c was read so many times since its device might be asked, and gave items
+-- source c was read this many times since its device might be asked, and gave items
 pub record WasRead (c n : ℕ) (b : Book) : Type 0 where
   pub before : List Event
   pub due : MayRead b.tables before c

@@ -72,7 +72,7 @@ pub fn what_was_taken<K: Sinks>()
         → WasTaken K.takes K.flushes first c H failed now }
 {}
 
-/// No more items are taken from a sink than are wanted. If the outcome is enough, exactly so many were taken from each.
+/// No more items are taken from a sink than are wanted. If the outcome is enough, exactly that many from each.
 pub fn no_more_than_wanted<K: Sinks>()
     ensures most { (t : Tables) → IsNetwork t → (H : List Event) → Legal t H
         → (items : ℕ) (first now : K) (failed : Option (ℕ × SinkFault))
@@ -89,7 +89,7 @@ pub fn no_more_than_wanted<K: Sinks>()
 // ---- Kahn's theorem on streams
 
 /// What was taken from a sink is a prefix of the least solution, for all lists from which the stream was fed: on a
-/// closed source the items that it was fed, on an open one these and any others behind them. So it is for the items
+/// closed source the items that it was fed, on an open one these and any others after them. So it is for the items
 /// that nobody came to read. If the sink is complete, and all was taken from it, it is that least solution.
 pub fn taken_is_least()
     ensures below { (t : Tables) → IsNetwork t → (H : List Event) → Legal t H

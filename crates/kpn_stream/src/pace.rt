@@ -2,7 +2,7 @@
 
 use crate::stepping::STRETCH;
 
-/// So many turns are between two looks of the watcher at most.
+/// At most this many turns are between two looks of the watcher.
 const TURNS: u32 = 1_024;
 
 /// What a stream notes from turn to turn.

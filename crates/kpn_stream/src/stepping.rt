@@ -11,7 +11,7 @@ use std::alloc::AllocError;
 /// The most commits in a stretch, and in a turn.
 pub(crate) const STRETCH: u64 = 1_000;
 
-/// So many events have room before a turn: two for each commit and for each item that is taken then, and some for
+/// This many events have room before a turn: two for each commit and for each item that is taken then, and some for
 /// sources and sinks. So if memory runs out in the processes, their items can still be taken.
 const ROOM: usize = 5_000;
 

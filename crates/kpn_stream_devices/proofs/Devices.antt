@@ -42,7 +42,7 @@ needs_open (Wav written) w needs = needs.0
 pub not_over : (w : Window) (device : Option (List ℕ)) → w.is_over ≡ false → IsEndKnown w device
 not_over w device is over = absurd (true≢false (sym over ∙ is))
 
--- so many bytes moved from the device to the window
+-- this many bytes moved from the device to the window
 pub moved : (us vs bytes : List ℕ) (device read : Option (List ℕ)) → vs ≡ us ++ bytes → Consumes device read bytes
     → Keeps (prepend_known us device) (prepend_known vs read)
 moved us vs bytes None read is took = tt

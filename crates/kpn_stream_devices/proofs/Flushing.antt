@@ -23,9 +23,9 @@ use Rattle.kpn_stream_devices.specs.SinkOutputs.{device_holds, output_of, was_pu
 use Rattle.kpn_stream_devices.proofs.Firsts.{found_mine, found_other, found_none, found_within, was_here, stays_here}
 use Rattle.kpn_stream_devices.proofs.Putting.{channel_of, IsMine, IsPut, by_flush, by_other, all_put}
 
--- ---- what comes behind a history
+-- ---- what comes after a history
 
--- an event behind it takes and leaves nothing
+-- an event after it takes and leaves nothing
 is_still : (c : ℕ) (e : Event) → is_no_growth e ≡ false → (is_leave_of c e ≡ false) × (read_in c e ≡ [])
 is_still c (event.Get p d v) other = absurd (false≢true (sym other))
 is_still c (event.Put p d v) other = absurd (false≢true (sym other))

@@ -79,7 +79,7 @@ enough n m is = elim (cases_lt n m) [
     false_true : false ≡ true → ⊥
     false_true e = cc
 
--- so it is the same with more bytes behind them
+-- so it is the same with more bytes after them
 same_of : (us ds : List ℕ) (count : ℕ) (before after : Chunk)
     → ((if nat_lt (length us) count then Told Open else before) ≡ Told Open → ⊥)
     → (count ≤ length us → after ≡ before)
@@ -156,7 +156,7 @@ chunks_again (suc count) us ds at sample told =
     (chunk_again us ds at sample (λ early. told (ap (chunks_after (chunks_from count us)) early)))
     ∙ after_again (chunks_from count us) (chunks_from count (us ++ ds)) (chunk_at us at sample) (chunks_again count us ds) told
 
--- a chunk tells, and those behind it
+-- a chunk tells, and those after it
 pub step_is : (count : ℕ) (bytes : List ℕ) (at : ℕ) (sample : Option SampleFormat) (chunk : Chunk) → (count ≡ 0 → ⊥)
     → chunk ≡ chunk_at bytes at sample
     → chunks_after (chunks_from (count - 1) bytes) chunk ≡ chunks_from count bytes at sample

@@ -1,4 +1,4 @@
--- What the unused bytes of a window tell of the first line, whatever bytes come behind them.
+-- What the unused bytes of a window tell of the first line, whatever bytes come after them.
 use Rattle.std.proofs.Common.{◌≡◌, ℕ, ◌+◌, ◌-◌, ◌<◌, ◌≤◌, Bool, true, false, cond, eqb, ltb, List, [], ◌∷◌, ◌++◌, length, take, drop, length-take, length-append, Option, Some, None, refl, sym, ap, ◌∙◌, arith, append_assoc, append-nil}
 use Rattle.std.specs.Prelude.{ℤ, ◌==◌, slice_index}
 use Rattle.std.specs.List.{All, position, position_or_len}

@@ -15,7 +15,7 @@ use Rattle.kpn_stream_devices.specs.Floats.{float_bits, float_item}
 use Rattle.kpn_stream_devices.specs.Formats.{FormatHolds, IsExact, number_bytes, sample_bytes, sample_value, signed_value}
 use Rattle.kpn_stream_devices.proofs.ReadBack.{float_exact, float_short}
 
--- the lowest bytes of an item within the range of so many bytes
+-- the lowest bytes of an item within the range of this many bytes
 low_of : (width n : ℕ) → n < 2 ^ (8 * width) → low_bytes w64 width (pos n) ≡ n
 low_of width n within = mod-eq_of_lt within
 

@@ -27,7 +27,7 @@ pub counts : (used : ℕ) (item : Option ℤ) → CountsUsed (answer_of item (on
 counts used (Some v) = refl
 counts used None = refl
 
--- a line with a line feed behind it
+-- a line with a line feed after it
 pub line_tells : (w : Window) (end : ℕ) (item : Option ℤ) → position is_feed w.unused ≡ Some end
     → MatchOption item (SpellsNone (strip_carriage_return (take end w.unused)))
     (SpellsItem (strip_carriage_return (take end w.unused))) → IsRightOf Lines w (One item (end + 1) w.wav)
@@ -87,7 +87,7 @@ long_tells w count all many line = (omega (arith, all), record { counted = refl;
 
 -- ---- samples
 
--- a number of so many bytes does not depend on those behind it
+-- a number of this many bytes does not depend on those after it
 signed_again : (width : ℕ) (us ds : List ℕ) → width ≤ length us
     → signed_value width (us ++ ds) ≡ signed_value width us
 signed_again width us ds within = ap (twos_complement width) (little_from-append width us ds within)

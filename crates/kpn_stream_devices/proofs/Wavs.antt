@@ -20,7 +20,7 @@ use Rattle.kpn_stream_devices.proofs.Telling.{value_again, counts, sample_gives}
 abbrev pub shorter : Wav → (width : ℕ) → Wav
 shorter wav width = record wav { left = wav.left - width }
 
--- the answer behind the last sample, by whether that is the end
+-- the answer after the last sample, by whether that is the end
 abbrev told_by : (ends_samples : Bool) → Result (Option ℤ) SourceFault
 told_by ends_samples = if ends_samples then Ok None else Err CutSample
 
@@ -75,7 +75,7 @@ open_tells w over is written = record { counted = refl; given = told }
 -- the head is there, and this follows
 module _ (w : Window) (count : ℕ) (wav : Wav) (head : head_at w.wav w.unused ≡ Whole count wav)
     (within : count ≤ length w.unused) where
-  -- the unused bytes behind the head
+  -- the unused bytes after the head
   abbrev us : List ℕ
   us = drop count w.unused
 
@@ -110,7 +110,7 @@ module _ (w : Window) (count : ℕ) (wav : Wav) (head : head_at w.wav w.unused �
       ∙ ap (sample_value wav.sample) (take-append-drop wav.left (us ++ ds))
       ∙ value_again wav.sample us ds some
 
-  -- those behind it are left
+  -- those after it are left
   rest_is : (width : ℕ) (ds : List ℕ) → width ≤ length us → width ≤ wav.left
       → take (wav.left - width) (drop (count + width) w.unused ++ ds) ≡ drop width (take wav.left (us ++ ds))
   rest_is width ds some enough =
@@ -187,7 +187,7 @@ module _ (w : Window) (count : ℕ) (wav : Wav) (head : head_at w.wav w.unused �
       (subst (λ (samples : List ℕ). DataGives wav samples (data_of (head_at w.wav (w.unused ++ ds)) (w.unused ++ ds)) answer)
       (sym (all_read ds all known)) (given (data_of (head_at w.wav (w.unused ++ ds)) (w.unused ++ ds)))) (on w.wav)
 
-  -- what is left behind the last sample is the end, or a part of one
+  -- what is left after the last sample is the end, or a part of one
   end_tells : AllRead → length (take wav.left us) < sample_width wav.sample → (at_end : Bool)
       → ends_samples wav (take wav.left us) ≡ at_end → IsRightOfWav w (Other (told_by at_end))
   end_tells all few true is written = record {

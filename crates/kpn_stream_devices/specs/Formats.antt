@@ -25,7 +25,7 @@ sample_width S32 = 4
 sample_width S64 = 8
 sample_width (F32 power) = 4
 
--- the number that the first so many bytes write: two's complement, the lowest byte first
+-- the number that the first `width` bytes write: two's complement, the lowest byte first
 abbrev pub signed_value : (width : ℕ) → List ℕ → ℤ
 signed_value width bytes = twos_complement width (little_number width bytes)
 
@@ -39,7 +39,7 @@ sample_value S32 bytes = Some (signed_value 4 bytes)
 sample_value S64 bytes = Some (signed_value 8 bytes)
 sample_value (F32 power) bytes = float_item power (little_number 4 bytes)
 
--- the lowest so many bytes of a number, the lowest first
+-- the lowest `width` bytes of a number, the lowest first
 abbrev pub number_bytes : (width : ℕ) → ℤ → List ℕ
 number_bytes width item = little_bytes width (low_bytes w64 width item)
 
@@ -129,7 +129,7 @@ text_of format item = item_bytes format.items (written_item format item)
 abbrev pub unknown : ℕ
 unknown = 2147479552
 
--- The head of so many channels of whole samples. So many of each are in a second, which tell how many bytes are.
+-- The head of this many channels of whole samples. A second has `rate` of each, which tells how many bytes it has.
 abbrev pub wav_head : SampleFormat → (rate channels : ℕ) → List ℕ
 wav_head sample rate channels =
     let frame = channels * sample_width sample in
@@ -146,7 +146,7 @@ head_bytes (Wav wav) rate channels = wav_head (wav_sample wav) rate channels
 
 -- ---- words
 
--- the word for a format without a number behind it
+-- the word for a format without a number after it
 abbrev pub format_name : ItemFormat → Option (List ℕ)
 format_name Lines = Some (codes "lines")
 format_name (Samples U8) = Some (codes "u8")

@@ -7,7 +7,7 @@ use Rattle.kpn_stream_devices.specs.declared.formats.OutputFormat.{OutputFormat}
 use Rattle.kpn_stream_devices.specs.declared.outputs.SinkOutput.{SinkOutput}
 use Rattle.kpn_stream_devices.specs.Formats.{text_of}
 
--- the texts of these items, one behind the other
+-- the texts of these items, one after the other
 abbrev pub text_of_all : OutputFormat → List ℤ → List ℕ
 text_of_all format items = flat_map (text_of format) items
 

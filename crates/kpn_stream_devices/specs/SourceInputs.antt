@@ -31,11 +31,11 @@ abbrev pub kept_fault : Failed → SourceFault
 kept_fault look_fault.Read = source_fault.Read
 kept_fault look_fault.NoMemory = source_fault.NoMemory
 
--- one read asks for so many bytes
+-- one read asks for this many bytes
 abbrev pub most_read : ℕ
 most_read = 8192
 
--- An input has read no more than it needed. Behind its unused bytes it has seen none; or it has, and without those of
+-- An input has read no more than it needed. After its unused bytes it has seen none; or it has, and without those of
 -- the last read they are too few to tell.
 abbrev pub IsSparing : ItemFormat → Window → (seen : List ℕ) → Type 0
 IsSparing format w seen =
@@ -139,7 +139,7 @@ pub record HaveMoved {I F : Type 0} (left : I → Option (List ℕ)) (left_in : 
       → IsEndKnown after.window (device_left left left_in read after.file)
   pub failed : after.failed ≡ input.failed
 
--- bytes of one read stand behind those that were there
+-- bytes of one read stand after those that were there
 abbrev pub HasReadOn : (before after : Window) → Type 0
 HasReadOn before after = (last : List ℕ) × (after.unused ≡ before.unused ++ last) × (length last ≤ most_read)
 

@@ -18,7 +18,7 @@ use Rattle.kpn_stream.specs.declared.faults.SourceFault.TheVariants.{Read, BadIt
 use Rattle.kpn_stream_devices.specs.Formats.{sample_width, sample_value}
 use Rattle.kpn_stream_devices.specs.Head.{head_at, least_unknown}
 
--- the bytes that were read and not used, whether the input has ended behind them, how many lines or samples were used,
+-- the bytes that were read and not used, whether the input has ended after them, how many lines or samples were used,
 -- and what is left of a WAV file of which samples were used
 pub record Window : Type 0 where
   pub unused : List ℕ
@@ -34,12 +34,12 @@ fresh = record { unused = []; is_over = false; used = 0; wav = None }
 abbrev pub one_after : ℕ → ℕ
 one_after n = min (n + 1) (2 ^ 64 - 1)
 
--- so many were used, from the beginning on
+-- this many were used, from the beginning on
 abbrev pub used_after : ℕ → ℕ
 used_after zero = 0
 used_after (suc n) = one_after (used_after n)
 
--- a line or a sample of so many bytes was used, and this is left of a WAV file
+-- a line or a sample of this many bytes was used, and this is left of a WAV file
 abbrev pub with_one : (count : ℕ) → Option Wav → Window → Window
 with_one count wav w = record w { unused = drop count w.unused; used = one_after w.used; wav = wav }
 
@@ -53,7 +53,7 @@ left_of w device = prepend_known w.unused device
 
 -- ---- what an input gives that has these bytes left, and those afterwards
 
--- the first line spells the item, and the lines behind it are left; or nothing is left; or there is a first line, and
+-- the first line spells the item, and the lines after it are left; or nothing is left; or there is a first line, and
 -- it spells none
 abbrev pub LineGives : (before after : List ℕ) → Result (Option ℤ) SourceFault → Type 0
 LineGives before after (Ok (Some item)) = (line : List ℕ) × (lines before ≡ line ∷ lines after) × SpellsItem line item
@@ -65,7 +65,7 @@ LineGives before after (Err (BadHead at)) = ⊥
 LineGives before after (Err Read) = ⊤
 LineGives before after (Err NoMemory) = ⊤
 
--- the first bytes write the item, and those behind the sample are left; or nothing is left; or the first sample writes
+-- the first bytes write the item, and those after the sample are left; or nothing is left; or the first sample writes
 -- none; or too few bytes
 abbrev pub SampleGives : SampleFormat → (before after : List ℕ) → Result (Option ℤ) SourceFault → Type 0
 SampleGives sample before after (Ok (Some item)) =
@@ -79,7 +79,7 @@ SampleGives sample before after (Err (BadHead at)) = ⊥
 SampleGives sample before after (Err Read) = ⊤
 SampleGives sample before after (Err NoMemory) = ⊤
 
--- the samples behind a head
+-- the samples after a head
 abbrev pub data_of : Head → List ℕ → List ℕ
 data_of (Whole length wav) bytes = take wav.left (drop length bytes)
 data_of head bytes = []
@@ -89,7 +89,7 @@ abbrev pub HasSample : SampleFormat → Option Wav → Type 0
 HasSample sample (Some wav) = wav.sample ≡ sample
 HasSample sample None = ⊥
 
--- they go on behind an item
+-- they go on after an item
 abbrev pub SamplesGoOn : SampleFormat → Result (Option ℤ) SourceFault → (after : Option Wav) → Type 0
 SamplesGoOn sample (Ok (Some item)) after = HasSample sample after
 SamplesGoOn sample (Ok None) after = ⊤
@@ -104,7 +104,7 @@ TellsBad at (Err (BadHead byte)) = byte ≡ at
 TellsBad at (Err Read) = ⊤
 TellsBad at (Err NoMemory) = ⊤
 
--- this is what is left behind the last sample: nothing of what the head counts; or, if it counts nothing, no byte, or a
+-- this is what is left after the last sample: nothing of what the head counts; or, if it counts nothing, no byte, or a
 -- byte 0 that fills up an odd number of bytes
 abbrev pub fills_up : Wav → List ℕ → Bool
 fills_up wav bytes =
@@ -127,7 +127,7 @@ DataGives wav before after (Err (BadHead at)) = ⊥
 DataGives wav before after (Err Read) = ⊤
 DataGives wav before after (Err NoMemory) = ⊤
 
--- The samples behind the head are given as if nothing else were there, as many as it counts, and an input that ends
+-- The samples after the head are given as if nothing else were there, as many as it counts, and an input that ends
 -- before is cut. Of a head that is wrong, or that the input ends within, the place is told.
 abbrev pub WavGives : Head → (before : List ℕ) (after : Option Wav) (rest : List ℕ) → Result (Option ℤ) SourceFault
     → Type 0
@@ -169,7 +169,7 @@ IsEndKnown w device = w.is_over ≡ true → IsAtEnd device
 
 -- ---- when an input waits for its device
 
--- the unused bytes are too few to tell: the input may go on behind them, and they have neither a whole line nor enough
+-- the unused bytes are too few to tell: the input may go on after them, and they have neither a whole line nor enough
 -- of one that spells no item; nor have they a whole sample
 abbrev pub LineNeedsMore : Window → Type 0
 LineNeedsMore w =
@@ -178,7 +178,7 @@ LineNeedsMore w =
 abbrev pub SampleNeedsMore : SampleFormat → Window → Type 0
 SampleNeedsMore sample w = (w.is_over ≡ false) × (length w.unused < sample_width sample)
 
--- nor the whole head of a WAV file and a sample behind it
+-- nor the whole head of a WAV file and a sample after it
 abbrev pub HeadNeedsMore : Head → List ℕ → Type 0
 HeadNeedsMore Open unused = ⊤
 HeadNeedsMore (Bad at) unused = ⊥
@@ -208,7 +208,7 @@ abbrev pub answer_of : Option ℤ → (number : ℕ) → Result (Option ℤ) Sou
 answer_of (Some item) number = Ok (Some item)
 answer_of None number = Err (BadItem number)
 
--- the answer that was told, and the window behind it
+-- the answer that was told, and the window after it
 abbrev pub IsRightOf : ItemFormat → Window → Told → Type 0
 IsRightOf format w (One item count wav) =
     (count ≤ length w.unused) × WindowTells format w (answer_of item (one_after w.used)) (with_one count wav w)

@@ -49,9 +49,9 @@ pub enum WavFormat {
 pub enum ItemFormat {
     /// Item files: one item in each line.
     Lines,
-    /// Samples, one behind the other.
+    /// Samples, one after the other.
     Samples(SampleFormat),
-    /// A WAV file: samples behind a head.
+    /// A WAV file: samples after a head.
     Wav(WavFormat),
 }
 
@@ -135,7 +135,7 @@ impl WavFormat {
 }
 
 impl ItemFormat {
-    /// The format that a word behind `--format` names.
+    /// The format that a word after `--format` names.
     pub fn of_word(word: &str) -> Option<ItemFormat>
         ensures { MatchOption result (IsNoFormat word.now) (NamesFormat word.now) }
     {

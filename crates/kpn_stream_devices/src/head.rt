@@ -6,13 +6,13 @@ ghost use Rattle.kpn_stream_devices.specs.Head.{chunk_at, chunks_from, data_of, 
 use crate::formats::SampleFormat;
 use byteorder::{ByteOrder, LittleEndian};
 
-/// A head has so many bytes at most.
+/// A head has at most this many bytes.
 const MOST_HEAD_BYTES: usize = 1_048_576;
 
-/// Behind the first bytes of a head come so many chunks at most, and `data` is the last of them.
+/// At most this many chunks follow the first bytes of a head, and `data` is the last of them.
 const MOST_CHUNKS: u32 = 1_000;
 
-/// From so many bytes on, `data` has what comes: a program that writes to a pipe can't know how much that is.
+/// From this many bytes on, `data` has what comes: a program that writes to a pipe can't know how much that is.
 pub(crate) const UNKNOWN: u64 = 0x7fff_e000;
 
 // The names of chunks, as numbers.
@@ -33,7 +33,7 @@ const WHOLE_KIND: u64 = 0x0010_0000_0000_0001;
 
 const WHOLE_KIND_END: u64 = 0x719b_3800_aa00_0080;
 
-/// What is left of the samples of a WAV file: so many bytes, or from `UNKNOWN` on as many as come.
+/// What is left of the samples of a WAV file: this many bytes, or from `UNKNOWN` on as many as come.
 #[derive(Clone, Copy)]
 pub struct Wav {
     pub sample: SampleFormat,
@@ -47,7 +47,7 @@ pub enum Head {
     Open,
     /// The head is wrong from this byte on, counted from 0.
     Bad(usize),
-    /// So many bytes are the head, and these samples follow.
+    /// This many bytes are the head, and these samples follow.
     Whole(usize, Wav),
 }
 
@@ -77,7 +77,7 @@ pub(crate) fn head_of(bytes: &[u8]) -> Head
     chunks_from(bytes, 12, None, MOST_CHUNKS)
 }
 
-/// What the chunks from this place on tell, of so many at most.
+/// What at most this many chunks from this place on tell.
 fn chunks_from(bytes: &[u8], at: usize, sample: Option<SampleFormat>, count: u32) -> Head
     requires { at ≤ most_bytes }
     ensures is { result ≡ chunks_from count bytes.now at sample }
@@ -117,7 +117,7 @@ fn chunk_at(bytes: &[u8], at: usize, sample: Option<SampleFormat>) -> Chunk
     }
 }
 
-/// What the chunk `data` tells, which says that so many bytes follow. The head says how many bytes the whole file has.
+/// What the chunk `data` tells, which says that `size` bytes follow. The head says how many bytes the whole file has.
 fn data_of(whole: usize, at: usize, size: usize, sample: Option<SampleFormat>) -> Head
     requires { at ≤ most_bytes }
     ensures is { result ≡ data_of whole at size sample }
@@ -131,7 +131,7 @@ fn data_of(whole: usize, at: usize, size: usize, sample: Option<SampleFormat>) -
 }
 
 /// How many bytes of samples follow. A program that writes to a pipe says 0 or a large number. By 0 there are none if
-/// the whole file, from byte 8 on, ends behind this chunk.
+/// the whole file, from byte 8 on, ends after this chunk.
 fn left_of(whole: usize, at: usize, size: usize) -> u64
     ensures { result ≡ left_of whole at size }
 {
@@ -145,7 +145,7 @@ fn left_of(whole: usize, at: usize, size: usize) -> u64
     size
 }
 
-/// What the chunk `fmt ` at this place tells, which has so many bytes.
+/// What the chunk `fmt ` at this place tells, which has this many bytes.
 fn format_of(bytes: &[u8], at: usize, size: usize) -> Chunk
     requires { at + 8 + size + size % 2 ≤ most_bytes }
     ensures is { result ≡ format_of bytes.now at size }
@@ -164,7 +164,7 @@ fn format_of(bytes: &[u8], at: usize, size: usize) -> Chunk
     }
 }
 
-/// The samples that the bytes of a chunk `fmt ` from this place on say, so many of them; or the first place where they
+/// The samples that the `size` bytes of a chunk `fmt ` from this place on say; or the first place where they
 /// say something else.
 fn described(bytes: &[u8], at: usize, size: usize) -> Result<SampleFormat, usize>
     requires some { 16 ≤ size }
@@ -216,7 +216,7 @@ fn is_extended(bytes: &[u8], at: usize, size: usize) -> bool
     kind == WHOLE_KIND && end == WHOLE_KIND_END
 }
 
-/// The samples of so many bits.
+/// The samples of this many bits.
 fn sample_of(bits: u16) -> Option<SampleFormat>
     ensures { result ≡ sample_of bits }
 {

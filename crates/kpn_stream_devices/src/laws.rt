@@ -27,7 +27,7 @@ ghost use Rattle.kpn_stream_devices.specs.SinkOutputs.{OutputsFlush, OutputsTake
 use kpn_shelf::NonblockingRead;
 use std::io::Write;
 
-/// The line or sample that an input tells as bad is the one behind those that gave the items so far, counted from 1.
+/// The line or sample that an input tells as bad is the one after those that gave the items so far, counted from 1.
 pub fn the_bad_line<I: NonblockingRead, F: NonblockingRead + Drop>()
     ensures { (t : Tables) → IsNetwork t → (H : List Event) → Legal t H
         → (first now : Devices I F) (c i number : ℕ)

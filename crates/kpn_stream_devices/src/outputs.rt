@@ -14,7 +14,7 @@ use kpn_stream::{SinkFault, Sinks};
 use std::alloc::{AllocError, Global};
 use std::io::{ErrorKind, Write};
 
-/// With so many bytes an output hands on what it kept.
+/// With this many bytes an output hands on what it kept.
 const WRITE_BYTES: usize = 8192;
 
 /// How the head of a WAV file begins, up to the tag of whole numbers, and how it ends. Nobody knows the sizes yet: they
@@ -94,7 +94,7 @@ fn put_to<O: Write, G: Write + Drop>(
     hand_on(output, standard)
 }
 
-/// Puts the text of an item behind these bytes, all of it or nothing.
+/// Puts the text of an item after these bytes, all of it or nothing.
 fn push(bytes: &mut Vec<u8>, format: ItemFormat, item: i64) -> Result<(), AllocError>
     ensures whole { OnOk result (bytes.new.items ≡ bytes.old.items ++ item_bytes format item) }
     ensures nothing { OnErr result (bytes.new.items ≡ bytes.old.items) }
@@ -132,8 +132,8 @@ fn push_sample(bytes: &mut Vec<u8>, sample: SampleFormat, item: i64) -> Result<(
     }
 }
 
-/// What an output of this format begins with: the head of a WAV file, or nothing. It says that so many items of each
-/// channel are in a second, and that there are so many channels. How many items follow nobody knows yet.
+/// What an output of this format begins with: the head of a WAV file, or nothing. It says that `rate` items of each
+/// channel are in a second, and that there are `channels` channels. How many items follow nobody knows yet.
 pub fn head_bytes(
     alloc: Global,
     format: ItemFormat,
@@ -183,21 +183,21 @@ fn pace_of(rate: u32, frame: u32) -> u32
     (u64::from(rate) * u64::from(frame) % 4_294_967_296) as u32
 }
 
-/// Puts a number of 16 bits behind these bytes.
+/// Puts a number of 16 bits after these bytes.
 fn push_half(bytes: &mut Vec<u8>, number: u16) -> Result<(), AllocError>
     ensures { OnOk result (bytes.new.items ≡ bytes.old.items ++ to_le_bytes w16 number) }
 {
     bytes.extend_from_slice(&number.to_le_bytes())
 }
 
-/// Puts a number of 32 bits behind these bytes.
+/// Puts a number of 32 bits after these bytes.
 fn push_word(bytes: &mut Vec<u8>, number: u32) -> Result<(), AllocError>
     ensures { OnOk result (bytes.new.items ≡ bytes.old.items ++ to_le_bytes w32 number) }
 {
     bytes.extend_from_slice(&number.to_le_bytes())
 }
 
-/// Puts the lowest bytes of an item behind these bytes, so many, the lowest of them first.
+/// Puts the lowest `width` bytes of an item after these bytes, the lowest of them first.
 fn push_number(bytes: &mut Vec<u8>, item: i64, width: usize) -> Result<(), AllocError>
     requires low { 1 ≤ width }
     requires high { width ≤ 8 }

@@ -18,13 +18,13 @@ use std::marker::Model;
 /// What the next read of a source answers.
 pub type Answer = Result<Option<i64>, SourceFault>;
 
-/// A line with so many bytes spells no item: 19 digits, a `-` and a carriage return are 21.
+/// A line with this many bytes spells no item: 19 digits, a `-` and a carriage return are 21.
 const TOO_LONG_LINE: usize = 22;
 
 /// What bytes tell that are enough.
 #[derive(Clone, Copy)]
 enum Told {
-    /// A line or a sample of so many bytes spells this item, or none. This is left of a WAV file behind it.
+    /// A line or a sample of this many bytes spells this item, or none. This is left of a WAV file after it.
     One(Option<i64>, usize, Option<Wav>),
     /// There is no line or sample, and this is the answer.
     Other(Answer),
@@ -34,7 +34,7 @@ enum Told {
 #[derive(Drop)]
 pub struct Window {
     bytes: Vec<u8>,
-    // so many of the bytes were used
+    // this many of the bytes were used
     start: usize,
     is_over: bool,
     used: u64,
@@ -105,7 +105,7 @@ impl Window {
         self.start = 0;
     }
 
-    /// Uses a line or a sample of so many bytes, and returns its number. This is left of a WAV file behind it.
+    /// Uses a line or a sample of this many bytes, and returns its number. This is left of a WAV file after it.
     fn pass(&mut self, count: usize, wav: Option<Wav>) -> u64
         requires { count ≤ length self.old.unused }
         ensures passed { self.new ≡ with_one count wav self.old }
@@ -182,7 +182,7 @@ impl Window {
         }
     }
 
-    /// What the line tells that has a line feed behind so many bytes.
+    /// What the line tells that has a line feed after this many bytes.
     fn tell_line_of(&self, end: usize) -> Told
         requires { position (λ byte. byte == 10) self.now.unused ≡ Some end }
         ensures { IsRightOf Lines self.now result }
@@ -257,7 +257,7 @@ impl Window {
         }
     }
 
-    /// The same behind so many bytes of the head.
+    /// The same after this many bytes of the head.
     fn tell_behind(&self, start: usize, wav: Wav) -> Option<Told>
         requires head { head_at self.now.wav self.now.unused ≡ Whole start wav }
         requires within { start ≤ length self.now.unused }
@@ -298,7 +298,7 @@ fn end_told(wav: Wav, bytes: &[u8]) -> Answer
     Err(SourceFault::CutSample)
 }
 
-/// Whether these bytes are what is left behind the last sample: of a counted file nothing that is counted, and of
+/// Whether these bytes are what is left after the last sample: of a counted file nothing that is counted, and of
 /// another one nothing but what fills it up.
 fn ends_samples(wav: Wav, bytes: &[u8]) -> bool
     ensures { result ≡ ends_samples wav bytes.now }

@@ -8,7 +8,7 @@ use kpn_step::{Advance, Frame, try_advance};
 use linked_list_allocator::LocalHeap;
 use std::alloc::{Allocator, Global};
 
-/// So many steps bring each process to its next stop.
+/// This many steps bring each process to its next stop.
 const QUOTA: u32 = 1_000;
 
 /// Claims the first process of the queue, and steps it to its next stop.
@@ -129,7 +129,7 @@ fn begins<A: Allocator>(
     Ok(format!(in alloc; "{begins}")?)
 }
 
-/// The lists of a view behind its journals.
+/// The lists of a view after its journals.
 fn write_ends<A: Allocator>(text: &mut String, view: &View<A>) -> Result<()> {
     let (read, caps) = (view.read.as_slice(), view.caps.as_slice());
     let (retired, states) = (view.retired.as_slice(), view.states.as_slice());

@@ -10,7 +10,7 @@ pub(crate) const SIZE: usize = 16_384;
 /// A heap rounds each size up to a multiple of this.
 pub(crate) const PIECE: usize = 16;
 
-/// Takes all that is left of a heap but one block of so many bytes.
+/// Takes all that is left of a heap but one block of this many bytes.
 pub(crate) fn leave(
     alloc: Global,
     heap: &LocalHeap,

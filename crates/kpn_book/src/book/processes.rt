@@ -203,7 +203,7 @@ impl<'n, A: Allocator> Book<'n, A> {
     /// Makes steps in place, as `step_next` does, one after another, until one has put an item on a sink or no process
     /// is ready, and at most `most`. It returns that sink. The error is that memory ran out: the steps before stay
     /// committed, and none of them has put an item on a sink. The process whose turn it then is may have made its
-    /// steps. It is ready and the first of the queue, unlike behind `step_next`.
+    /// steps. It is ready and the first of the queue, unlike after `step_next`.
     pub fn run_on(&mut self, quota: u32, most: u64) -> Result<Option<usize>, AllocError>
     where
         A: Copy,

@@ -1,4 +1,4 @@
--- So many steps were made as are not left, and but for the frame nothing has changed.
+-- All steps but those that are left were made, and but for the frame nothing has changed.
 use Rattle.std.proofs.Common.{◌≡◌, ◌≢◌, ℕ, ◌≤◌, ◌-◌, List}
 use Rattle.kpn_net.specs.Tables.{program_of}
 use Rattle.kpn_step.specs.Step.{Steps}

@@ -1,4 +1,4 @@
--- The file that the word names stands behind its first `=`.
+-- The file that the word names stands after its first `=`.
 use Rattle.std.proofs.Common.{rules, ◌≡◌, ◌≢◌, subst}
 use Rattle.std.proofs.lemmas.Result.{IfOk-weaker}
 use Rattle.kpn_command_base.specs.Sources.{file_in}

@@ -1,4 +1,4 @@
--- Behind no line feed the place is reached.
+-- After no line feed the place is reached.
 use Rattle.std.proofs.Common.{◌≡◌, ℕ, List, [], ◌∷◌, drop, refl, sym, subst, arith, rules}
 use Rattle.kpn_command_explain.specs.Lines.{behind_feeds}
 use Rattle.kpn_command_explain.proofs.lines.behind_feeds.Goals as goal

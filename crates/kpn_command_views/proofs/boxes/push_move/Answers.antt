@@ -1,4 +1,4 @@
--- The wait, and behind it the box of the item.
+-- The wait, and after it the box of the item.
 use Rattle.std.proofs.Common.{◌≡◌, ℤ, ◌++◌, SFits, w64, subst, rules}
 use Rattle.std.proofs.lemmas.Int.{to_z-of_z}
 use Rattle.std.specs.String.{string_bytes}

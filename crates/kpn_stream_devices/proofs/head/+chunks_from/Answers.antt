@@ -1,4 +1,4 @@
--- The chunk tells, or those behind it.
+-- The chunk tells, or those after it.
 use Rattle.std.proofs.Common.{◌-◌, ◌∙◌, ap, sym}
 use Rattle.kpn_stream_devices.specs.Head.{chunks_after, chunks_from}
 use Rattle.kpn_stream_devices.proofs.Heads.{step_is}

@@ -1,4 +1,4 @@
--- One piece behind the other.
+-- One piece after the other.
 use Rattle.std.proofs.Common.{◌∙◌, ◌%◌, ◌*◌, ◌^◌, ℕ, refl, ap}
 use Rattle.std.specs.Int.{to_le_bytes, w16, w32}
 use Rattle.kpn_stream_devices.proofs.Devices.{joined}

@@ -1,4 +1,4 @@
--- The first sample behind the head, or no more bytes come.
+-- The first sample after the head, or no more bytes come.
 use Rattle.std.proofs.Common.{rules, ◌≡◌, ◌<◌, ◌≤◌, ◌⊎◌, ◌∙◌, true, drop, length, ap, sym, inl, inr, arith, subst}
 use Rattle.std.specs.Prelude.{min}
 use Rattle.std.proofs.lemmas.List.{take_rest}
