@@ -59,7 +59,7 @@ def changes_of(network, history):
         other = list(history)
         other[j], other[k] = history[k], history[j]
         exchanged.append((f'{j} {k}', other))
-    repeated = [(f'{k} behind {j}', history[:j + 1] + [history[k]] + history[j + 1:])
+    repeated = [(f'{k} after {j}', history[:j + 1] + [history[k]] + history[j + 1:])
                 for k in range(count) for j in (k, count - 1)]
     return {
         'drop': [(f'{k}', without(history, k)) for k in range(count)],
@@ -139,13 +139,13 @@ def spellings_of_two(history):
     for line in BAD_LINES[:2]:
         yield 'a bad line is the last', f'{HEAD}put 0 0 1\n{line}\n'
     for line in GOOD_LINES:
-        yield 'a good line with nothing behind it', f'{HEAD}{line}'
+        yield 'a good line with nothing after it', f'{HEAD}{line}'
         yield 'a good line that is illegal', f'{HEAD}{line}\n'
     for head in BAD_HEADS:
         yield 'a bad first line', head
         yield 'a bad first line', head + text_of(history).removeprefix(HEAD)
     yield 'two bad lines', f'{HEAD}put 0 0 1\nput\nget\n'
-    yield 'a bad line behind an illegal event', f'{HEAD}end 0 done\nput\n'
+    yield 'a bad line after an illegal event', f'{HEAD}end 0 done\nput\n'
 
 
 BAD_GROWTHS = ['grow 0 0', 'grow 0 0 0', 'grow 0 0 02', 'grow 0 0 +2', 'grow 0 0 -2', 'grow 0 0 2 ', 'grow 0 0  2',

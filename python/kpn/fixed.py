@@ -51,7 +51,7 @@ class Q:
             raise KpnError(f'{given!r} is no number') from None
         number = int(exact + fractions.Fraction(1, 2)) * (1 if given > 0 else -1)
         if abs(number) > LARGEST:
-            raise KpnError(f'{given!r} with {self.bits} bits behind the point is too large: '
+            raise KpnError(f'{given!r} with {self.bits} bits after the point is too large: '
                            'it has to be less than 2^63')
         return number
 

@@ -65,7 +65,7 @@ fn push_limit(
         if grows_all {
             ", or look for a process that writes\nmore than its reader reads.\n"
         } else {
-            ", and `policy all;` behind it.\n"
+            ", and `policy all;` after it.\n"
         },
     )
 }
@@ -87,10 +87,10 @@ fn push_policy(
                 "in place of `policy cycles;`, line {line} of {file}"
             ),
             (None, Some(line), _) => format!(in alloc;
-                "behind `limit {limit};`, line {line} of {file}"
+                "after `limit {limit};`, line {line} of {file}"
             ),
             (None, None, Some(line)) => format!(in alloc;
-                "behind `network {{`, line {line} of {file}"
+                "after `network {{`, line {line} of {file}"
             ),
             (None, None, None) => String::from_str(alloc, "at the front of the network"),
         },

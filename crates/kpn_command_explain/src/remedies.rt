@@ -57,7 +57,7 @@ const SLASHES: &[u8] =
     b"A comment begins with `#` and ends with its line. A quotient is written `(x / 2)`.";
 
 const ELSE_IF: &[u8] =
-    b"Open a block behind `else`: `else { if x { } else { } }`, or begin the text with `language 2;`.";
+    b"Open a block after `else`: `else { if x { } else { } }`, or begin the text with `language 2;`.";
 
 const NO_ELSE: &[u8] =
     b"Each `if` has an `else`, whose block may be empty: `else { }`, or begin the text with `language 2;`.";
@@ -83,7 +83,7 @@ const NO_TABLES: &[u8] =
     b"There are no tables: choose a value by `if` and `else`, or begin the text with `language 2;`.";
 
 const INDEX: &[u8] =
-    b"One index stands right behind the name of an array: `x[i * 9 + k]` in place of `x[i][k]`.";
+    b"One index stands right after the name of an array: `x[i * 9 + k]` in place of `x[i][k]`.";
 
 const LATE_ROW: &[u8] =
     b"Move it to the front of the process: arrays and tables stand before all statements.";
@@ -101,7 +101,7 @@ const CALLS: &[u8] =
     b"There are no functions: write out what one computes, as in `if (x < 0) { x = -x; } else { }`.";
 
 const NO_OUTS: &[u8] =
-    b"A `;` stands behind the in channels of an instance, even if there are no out channels: `e = eat(c;);`.";
+    b"A `;` stands after the in channels of an instance, even if there are no out channels: `e = eat(c;);`.";
 
 const CONSTANT: &[u8] =
     b"There are no constants: write the number, or give it to a process as a parameter, as in `par n`.";
@@ -137,7 +137,7 @@ fn usual(habit: Habit) -> &'static [u8] {
         Habit::Declares => DECLARES,
         Habit::Reads => b"An item comes by a statement of its own: `read PORT VARIABLE;`.",
         Habit::Ports => b"Write `in`, `out` and `par` once each, as in `in a, b; out c, d; par k`.",
-        Habit::NoCapacity => b"Write a capacity behind the name, as in `channel a cap 1;`.",
+        Habit::NoCapacity => b"Write a capacity after the name, as in `channel a cap 1;`.",
         Habit::Fraction => b"Numbers are whole: scale them first, or divide, as in `(x / 2)`.",
         Habit::Letter => b"Write the number of a letter, as 65 for `A`.",
         Habit::Calls => CALLS,

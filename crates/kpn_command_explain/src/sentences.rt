@@ -180,7 +180,7 @@ pub(crate) fn advice(case: Case) -> &'static [u8] {
         Case::Reserved => b"Choose another name, or write the name that is missing just before it.",
         Case::Misplaced =>
             b"Look also at what stands just before it: something may be missing there.",
-        Case::EarlyEnd => b"Close each `{` by a `}`. Behind all processes has to come a network.",
+        Case::EarlyEnd => b"Close each `{` by a `}`. A network has to follow the processes.",
         Case::UnknownVariable =>
             b"Assign to it first, or make it a parameter. An item comes by `read PORT VARIABLE;`.",
         Case::LateVariable =>
@@ -188,15 +188,15 @@ pub(crate) fn advice(case: Case) -> &'static [u8] {
         Case::PortAsVariable =>
             b"Write a variable in its place. An item of an in port comes by `read PORT VARIABLE;`.",
         Case::NoArray => b"Declare an array at the front of the process: `array x[9];`.",
-        Case::WholeArray => b"Write behind it which cell is meant, from 0 on: `x[0]` or `x[k]`.",
-        Case::WholeTable => b"Write behind it which value is meant, from 0 on: `x[0]` or `x[k]`.",
+        Case::WholeArray => b"Write after it which cell is meant, from 0 on: `x[0]` or `x[k]`.",
+        Case::WholeTable => b"Write after it which value is meant, from 0 on: `x[0]` or `x[k]`.",
         Case::SetArray => b"Set its cells one by one, as in `x[0] = 1;`.",
         Case::ReadArray => READ_CELL,
         Case::SetTable => b"Declare an array in its place, whose cells may be set: `array x[9];`.",
         Case::UnknownInPort =>
-            b"Behind `read` stand an in port and a variable. Declare the port behind `in`.",
+            b"An in port and a variable follow `read`. Declare the port after `in`.",
         Case::UnknownOutPort =>
-            b"Behind `write` stand an out port and an expression. Declare the port behind `out`.",
+            b"An out port and an expression follow `write`. Declare the port after `out`.",
         Case::UnknownProcess => b"Write the process before the network, or correct the name.",
         Case::UnknownChannel =>
             b"Declare it by `channel`, `source` or `sink`, or correct the name.",

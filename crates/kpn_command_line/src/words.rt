@@ -221,7 +221,7 @@ fn join_request<'a>(
     Err(unclear(
         program,
         ErrorKind::WrongNumberOfValues,
-        "each PART needs its TRACE behind it",
+        "each PART needs its TRACE after it",
     ))
 }
 
@@ -259,7 +259,7 @@ fn timeline_request<'a>(
             return Err(unclear(
                 program,
                 ErrorKind::ValueValidation,
-                "--from takes no tick behind --to",
+                "--from takes no tick after --to",
             ));
         }
         return Ok(Request::Picture {
