@@ -66,7 +66,7 @@ def fastest(commands, runs):
 
 
 def side_by_side(words, count, runs):
-    """The least time on the clock of so many runs of this command line that start at once."""
+    """The least time on the clock of this many runs of this command line that start at once."""
     found = []
     for _ in range(runs):
         started = time.monotonic()

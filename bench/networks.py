@@ -61,7 +61,7 @@ def kahn():
 
 
 def passed(filters, largest):
-    """How many numbers from 2 on pass a row of so many filters."""
+    """How many numbers from 2 on pass a row of this many filters."""
     primes, left = 0, 0
     least = [0] * (largest + 1)
     for n in range(2, largest + 1):
@@ -95,7 +95,7 @@ process compute(out o; par x, n) { k = 0; while (k < n) { x = ((x * 16807) % 214
 
 
 def computing_pipeline(stages, capacity, items, turns):
-    """Numbers through a row of stages, each of which goes so many turns of a loop for each item, and their sum. A turn
+    """Numbers through a row of stages, each of which goes `turns` turns of a loop for each item, and their sum. A turn
     takes three steps, and eight numbers of a random sequence."""
     item = 'x'
     for _ in range(8):
@@ -131,7 +131,7 @@ def of_gallery(name, capacity, items):
 
 
 def total(variable, operators):
-    """A sum by so many operators, of as few levels as there can be."""
+    """A sum by this many operators, of as few levels as there can be."""
     if operators == 0:
         return variable
     left = (operators - 1) // 2
@@ -269,7 +269,7 @@ def targets(statements):
 
 
 def as_go(text, wanted):
-    """A Go program of the same meaning, without journals and a history: it reads so many items of each sink, or one,
+    """A Go program of the same meaning, without journals and a history: it reads this many items of each sink, or one,
     and writes the sinks' lines."""
     processes, (channels, instances, _) = rounds.Parser(text).description()
     lines = ['package main', 'import ("bufio"; "fmt"; "os")',

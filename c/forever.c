@@ -12,7 +12,7 @@
 #include <unistd.h>
 #include "kpn.h"
 
-/* A controller that adds up its errors, and a filter behind it. */
+/* A controller that adds up its errors, and a filter after it. */
 static const char controller[] =
     "process control(in is; out power) {\n"
     "  total = 0;\n"

@@ -1,4 +1,4 @@
-/* Passes a million items through a session of examples/mean.kpn, so many in a call, and prints their sum.
+/* Passes a million items through a session of examples/mean.kpn, a number of them in a call, and prints their sum.
 
    usage: million DESCRIPTION MOST */
 #include <inttypes.h>

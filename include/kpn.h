@@ -14,7 +14,7 @@
      kpn_channel   the number of a channel
      kpn_feed      feeds items to a source; any number may wait there
      kpn_close_source    says that nothing more comes to a source
-     kpn_step      lets processes go on, for so many commits or until none is ready
+     kpn_step      lets processes go on, for a number of commits or until none is ready
      kpn_take      takes what came to a sink
      kpn_leave_sink    says that nobody takes from a sink any more
      kpn_move      feeds, steps and takes in one call: the fastest way in lock step with a simulator
@@ -161,7 +161,7 @@ uint32_t kpn_channel(kpn_session *session, const char *name, size_t length, size
 uint32_t kpn_feed(kpn_session *session, size_t source, const int64_t *items, size_t count, size_t *fed);
 uint32_t kpn_close_source(kpn_session *session, size_t source);
 
-/* Makes so many commits, or fewer if no process is ready, and tells how many. */
+/* Makes this many commits, or fewer if no process is ready, and tells how many. */
 uint32_t kpn_step(kpn_session *session, uint64_t most, uint64_t *commits);
 
 /* Takes as many items as there are and as there is room for, and tells how many. */

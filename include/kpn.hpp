@@ -204,7 +204,7 @@ class basic_session {
   void feed(std::size_t source, std::int64_t item) { feed(source, span<const std::int64_t>(&item, 1)); }
   void close_source(std::size_t source) { check_fault(Calls::close_source(&session_, source)); }
 
-  /* Steps until no process is ready, or so many commits are made, and returns how many were. */
+  /* Steps until no process is ready, or this many commits are made, and returns how many were. */
   std::uint64_t step(std::uint64_t most = UINT64_MAX) {
     std::uint64_t commits;
     const auto fault = Calls::step(&session_, most, &commits);

@@ -45,7 +45,7 @@ void *kpn_memory(size_t size) {
   return there(calloc(1, size ? size : 1));
 }
 
-/* Room for so many elements, and for twice as many as there were. */
+/* Room for this many elements, and for twice as many as there were. */
 static void *grown(void *at, size_t *room, size_t wanted, size_t size) {
   if (wanted <= *room) {
     return at;

@@ -47,13 +47,13 @@ void kpn_expect(uint32_t fault, const char *call);
 /* Memory that is there: all ranks end if there is none. */
 void *kpn_memory(size_t size);
 
-/* Makes a list longer by so many words, and returns the place of the first one. */
+/* Makes a list longer by this many words, and returns the place of the first one. */
 int64_t *kpn_extend(struct kpn_words *list, size_t count);
 void kpn_append(struct kpn_words *list, int64_t word);
 void kpn_empty(struct kpn_words *list);
 void kpn_free_words(struct kpn_words *list);
 
-/* Makes a text longer by so many bytes, and returns the place of the first one. */
+/* Makes a text longer by this many bytes, and returns the place of the first one. */
 char *kpn_extend_text(struct kpn_text *into, size_t count);
 /* Appends bytes as they are: a comment of a description may have a 0 in it. */
 void kpn_add_bytes(struct kpn_text *into, const char *at, size_t count);

@@ -1,4 +1,4 @@
-/* The frames of which messages consist: a kind, a number and a count, and then so many words. */
+/* The frames of which messages consist: a kind, a number and a count, and then that many words. */
 #ifndef KPN_MPI_FRAMES_H
 #define KPN_MPI_FRAMES_H
 
@@ -29,7 +29,7 @@ enum {
 
 enum { HEAD = 3 };
 
-/* Appends a frame with room for so many words, and returns the place of the first one. */
+/* Appends a frame with room for this many words, and returns the place of the first one. */
 static inline int64_t *kpn_add_frame(struct kpn_words *message, int64_t kind, int64_t number, size_t count) {
   int64_t *at = kpn_extend(message, HEAD + count);
   at[0] = kind;

@@ -152,8 +152,8 @@ static size_t moves_at(struct kpn_part *of, size_t local) {
   return kpn_is_sink_of(of, of->channels[local]) ? state.got + state.unread : state.got;
 }
 
-/* Steps until so many items were put on each sink, and got from each source. It comes so far, since it had come so far
-   at smaller capacities. */
+/* Steps until as many items as `moves` says were put on each sink, and got from each source. It comes that far, since
+   it had at smaller capacities. */
 static void catch_up(struct kpn_part *of, const size_t *moves, bool *is_behind) {
   enum { STEPS = 64 };
   for (size_t local = 0; *is_behind && local < of->channel_count; local++) {

@@ -116,7 +116,7 @@ static void hear_items(struct kpn_rank *of, size_t channel, const int64_t *items
   in->received += count;
 }
 
-/* The reader has got so many items in all: they leave the channel. */
+/* The reader has got this many items in all: they leave the channel. */
 static void hear_credit(struct kpn_rank *of, struct kpn_outgoing *out, size_t got) {
   const size_t count = got - out->credited;
   size_t taken;
@@ -335,7 +335,7 @@ static void adapt_steps(struct kpn_rank *of, uint64_t made, double began) {
   }
 }
 
-/* Sends copies of what is new on a cut channel, so that at most so many items are on the way. */
+/* Sends copies of what is new on a cut channel, so that at most `window` items are on the way. */
 static void serve_out(struct kpn_rank *of, struct kpn_outgoing *out, size_t window) {
   const kpn_channel_state state = told_of(of, out->local);
   const size_t on_way = out->sent - out->credited;

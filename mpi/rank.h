@@ -12,7 +12,7 @@ struct kpn_settings {
   uint64_t take, most_commits;
   size_t window;  /* the most items of a channel on the way, while its writer works */
   uint64_t steps; /* the commits of a round; 0: as the cut channels want it */
-  double timeout; /* after so many seconds without a word from a rank all end; 0: never */
+  double timeout; /* after this many seconds without a word from a rank all end; 0: never */
 };
 
 /* The end of a cut channel at its writer. */

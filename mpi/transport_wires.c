@@ -16,7 +16,7 @@ struct wires_end {
   int number, ranks;
   uint64_t *state;    /* of chance; shared by all */
   struct wire *wires; /* of all pairs, those from rank 0 first */
-  unsigned patience;  /* a message is heard in one of so many rounds */
+  unsigned patience;  /* a message is heard in one of this many rounds */
   double time;
 };
 

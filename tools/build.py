@@ -36,7 +36,7 @@ OUT = TOP / 'out'
 PROGRAM = 'kpn'
 # A check took up to this much memory when it was measured.
 BYTES_FOR_A_CRATE = 3 * 2**30
-# To read the libraries below a crate takes about as long as to prove so many bytes of sources.
+# To read the libraries below a crate takes about as long as to prove this many bytes of sources.
 BYTES_FOR_LIBRARIES = 100_000
 # Lines of the prover that say nothing about what failed.
 QUIET = re.compile(r'(fn|impl|enum|struct|trait|const|type|mod) .*: (proved|no holes)$'

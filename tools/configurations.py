@@ -1,5 +1,5 @@
 #!/usr/bin/env python3
-"""Writes what crates/check_books must write for the histories in its standard input, which stand behind the calls of
+"""Writes what crates/check_books must write for the histories in its standard input, which stand after the calls of
 books. For each history that is what every channel holds and every process does at the start and after each event, and
 which processes the event woke. Another program than the proved one (histories.py) computes it, only from the history.
 """

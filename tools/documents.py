@@ -2,7 +2,7 @@
 """Reports what the documents name and is not there. It ends with 1 if there is anything. It is run by hand.
 
 - A file, a folder and a crate have to be there. A name in backquotes has to be in a source, a definition, a proof, a
-  script or an example. A name with a file in brackets behind it has to be in that file; if the file has definitions, it
+  script or an example. A name with a file in brackets after it has to be in that file; if the file has definitions, it
   has to be defined there.
 - docs/GUARANTEES.md: in the second column of a claim, `f`: `clause`, the function `f` has to be in a crate of the
   heading or in the crate before its `::`, with such a clause. README.md has such names in brackets after its claims.
@@ -81,7 +81,7 @@ def wrong_in(line, paths, words):
 
 
 def wrong_places(text, paths):
-    """Names with a file in brackets behind them that does not have them."""
+    """Names with a file in brackets after them that does not have them."""
     for name, path in PLACE.findall(' '.join(text.split())):
         word = re.escape(name.split('::')[-1])
         there = rf"^(?:  )?(?:[a-z]+ )*{word}(?![\w'])" if path.endswith('.antt') else rf'\b{word}\b'

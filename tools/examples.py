@@ -292,7 +292,7 @@ A_PART = 'writes a line for each channel, and '
 
 
 def claims_of_example(text):
-    """Each command that the comments at the head of an example name, with the sentence behind it and the lines that it
+    """Each command that the comments at the head of an example name, with the sentence after it and the lines that it
     claims to write. Only command and lines are indented by three spaces."""
     comments = itertools.takewhile(lambda line: line.startswith('#'), text.splitlines())
     parts = [list(part) for _, part in itertools.groupby(comments, lambda line: line.startswith('#   '))]
@@ -303,7 +303,7 @@ def claims_of_example(text):
 
 
 def claims_of_document(text):
-    """Each command behind a `$` in a document, with the lines below it up to the next command or an empty line."""
+    """Each command after a `$` in a document, with the lines below it up to the next command or an empty line."""
     lines = iter(text.splitlines())
     block = []
     for line in itertools.chain(lines, ['']):

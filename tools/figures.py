@@ -15,13 +15,13 @@ HEAD = '''digraph network {
   node [fontname="sans-serif", shape=box];
   edge [fontname="sans-serif", fontsize=11];
 '''
-# Of a longer list so many items are shown.
+# Of a longer list this many items are shown.
 MOST_ITEMS = 20
 LEGEND = '  label="green: complete, nothing more is ever put there%s";\n'
 
 
 def replay(network, trace):
-    """An audit behind the last event of a legal trace, and the most items that were unread on each channel."""
+    """An audit after the last event of a legal trace, and the most items that were unread on each channel."""
     audit = histories.Audit(network, histories.MOST_STEPS, trace.policy, trace.growth)
     most = [0] * len(network.channels)
     for event in trace.history:

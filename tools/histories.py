@@ -346,7 +346,7 @@ class BadText(Exception):
 
 
 def read_head(text):
-    """What the first lines say, as a trace without events, and the lines behind them."""
+    """What the first lines say, as a trace without events, and the lines after them."""
     if text.startswith(HEAD_ONE):
         return Trace(1, 'cycles', 'one', []), text[len(HEAD_ONE):]
     rules = RULES.match(text, len(HEAD_TWO)) if text.startswith(HEAD_TWO) else None

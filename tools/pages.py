@@ -24,7 +24,7 @@ PAGES = 'share/man/man1'
 # A line of help: a head such as `--source <NAME=FILE>` or `<FILE>`, two spaces or more, and its text.
 ENTRY = re.compile(r' {2,}(\S.*?) {2,}(\S.*)')
 OPTION = re.compile(r'(?:(-\w), )?(--[\w-]+)(?: <(.+)>)?')
-# The words that a text offers, as in `Writes one table: channels or processes`. A word may have a number behind it.
+# The words that a text offers, as in `Writes one table: channels or processes`. A word may have a number after it.
 CHOICES = re.compile(r': ((?:[a-z]\w*(?::[A-Z])?, )*[a-z]\w* or [a-z]\w*)(?:;|$)')
 
 
@@ -41,7 +41,7 @@ class Entry:
 
     @property
     def value(self) -> str | None:
-        """What stands behind an option, or for an argument."""
+        """What stands after an option, or for an argument."""
         found = OPTION.fullmatch(self.head)
         return found[3] if found else self.head.strip('<>[].')
 
@@ -137,7 +137,7 @@ def page(given: Help, others: list[str], version: str, date: str) -> str:
     return '\n'.join([*lines, '.SH SEE ALSO', ',\n'.join(f'.BR {roff(it)} (1)' for it in names if it != name)]) + '\n'
 
 
-# ---- completions. Behind `kpn` stands a command, then come its options and files
+# ---- completions. After `kpn` comes a command, then its options and files
 
 def in_quotes(text: str) -> str:
     """A text as a word of a shell."""

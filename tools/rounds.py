@@ -142,7 +142,7 @@ class Parser:
         return self.statements()
 
     def statements(self):
-        """Those of a block, behind its brace."""
+        """Those of a block, after its brace."""
         found = []
         while not self.took('}'):
             found.append(self.statement())
@@ -170,13 +170,13 @@ class Parser:
         return found
 
     def index(self):
-        """The number of a cell, behind its bracket."""
+        """The number of a cell, after its bracket."""
         found = self.expression()
         self.next(']')
         return found
 
     def otherwise(self):
-        """The block behind `else`, if there is one."""
+        """The block after `else`, if there is one."""
         if not self.took('else'):
             return []
         return [self.statement()] if self.peek() == 'if' else self.block()
@@ -191,7 +191,7 @@ class Parser:
                 break
             self.next()
             found = mark, found, self.expression(sides(mark)[1])
-            # Nothing but `&&` and `||` goes on behind a comparison.
+            # Nothing but `&&` and `||` goes on after a comparison.
             most = tightness - (tightness == COMPARING)
         return found
 
@@ -234,7 +234,7 @@ class Parser:
         return Growing(self.choice('policy', 'cycles', 'all'), self.choice('grow', 'one', 'double'), limit)
 
     def choice(self, word, *names):
-        """The name behind the word, if that is next; else the first of the names."""
+        """The name after the word, if that is next; else the first of the names."""
         if not self.took(word):
             return names[0]
         found = self.next()
@@ -254,7 +254,7 @@ class Parser:
 
 
 def number(token):
-    """The value of a number: of base 10, of base 16 or 2 behind `0x` or `0b`, or a byte in quotes."""
+    """The value of a number: of base 10, of base 16 or 2 after `0x` or `0b`, or a byte in quotes."""
     if token[0] == "'":
         return ESCAPED[token[2]] if token[1] == '\\' else ord(token[1])
     base = {'0x': 16, '0b': 2}.get(token[:2], 10)

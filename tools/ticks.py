@@ -151,7 +151,7 @@ def event_lines(network, timing, history):
 
 
 def counter_lines(network, timing, c):
-    """Writes and reads by their ticks; a read comes behind the writes of its tick."""
+    """Writes and reads by their ticks; a read comes after the writes of its tick."""
     unread = 0
     writes = [(tick, 0) for tick in timing.written(c)]
     for tick, is_read in sorted(writes + [(tick, 1) for tick in timing.read(c)]):
@@ -160,7 +160,7 @@ def counter_lines(network, timing, c):
 
 
 def last_wait_lines(network, timing, waits):
-    """The waits that a history ends with go on for one tick behind the last one."""
+    """The waits that a history ends with go on for one tick after the last one."""
     for p, wait in enumerate(waits):
         if wait:
             full = ' full' if wait[0] == 'full' else ''
@@ -220,7 +220,7 @@ LEGEND = """<rect class="get" width="16" height="16"/><text x="22" y="12">get</t
 </g>
 </svg>
 """
-# up to so many ticks, how wide one is, and how many are between two numbers of the axis
+# up to this many ticks, how wide one is, and how many are between two numbers of the axis
 SCALES = (24, 44, 1), (50, 20, 5), (100, 10, 10), (300, 5, 20)
 
 
@@ -238,7 +238,7 @@ class Picture:
         self.network, self.timing = network, Timing(network, trace)
         self.front, self.back = first - 1, min(last, self.timing.length)
         self.ticks = max(self.back - self.front, 0)
-        # Behind the last tick of a run there is room for one more.
+        # After the last tick of a run there is room for one more.
         self.edge = self.back + (last > self.timing.length)
         found = [(wide, step) for most, wide, step in SCALES if self.ticks <= most]
         self.wide, self.step = found[0] if found else (2, 50)

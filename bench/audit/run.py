@@ -22,7 +22,7 @@ RUNS = 3
 
 
 def measured_networks(events):
-    """Networks with about so many events: a title, the description, and how many items are wanted of each sink."""
+    """Networks with about this many events: a title, the description, and how many items are wanted of each sink."""
     yield 'pipeline of 8, capacity 1', networks.pipeline(8, 1, events // 19), 0
     yield 'Kahn\'s example', networks.kahn(), events * 2 // 19
 

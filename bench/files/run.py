@@ -475,7 +475,7 @@ def sinks_that_can_not_be_stored(folder):
 
 @case
 def a_sink_on_a_device_that_is_full(folder):
-    """The files before it stay, and those behind it are not stored."""
+    """The files before it stay, and those after it are not stored."""
     both(folder)
     (folder / 'zs').write_bytes(b'kept\n')
     expect(run_both(folder, '--trace', 'out', '--sink', 'y=/dev/full', '--sink', 'z=zs'), (b'', WRITE, 1))

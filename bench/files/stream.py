@@ -174,7 +174,7 @@ def started(folder, *more, net='copy.kpn', **how):
 
 
 def in_pieces(folder, text, length, *more):
-    """What comes out if the input comes in pieces of so many bytes."""
+    """What comes out if the input comes in pieces of this many bytes."""
     with started(folder, *more, stdin=subprocess.PIPE, stdout=subprocess.PIPE) as child:
         for at in range(0, len(text), length):
             child.stdin.write(text[at:at + length])
@@ -243,12 +243,12 @@ def samples_in_pieces(folder):
 
 
 def chunk(name, body):
-    """A chunk of a WAV file, behind which the next one begins at an even place."""
+    """A chunk of a WAV file, after which the next one begins at an even place."""
     return name + struct.pack('<I', len(body)) + body + b'\0' * (len(body) % 2)
 
 
 def wav(width, numbers, *more):
-    """A WAV file with an odd chunk before its samples and what is `more` behind them."""
+    """A WAV file with an odd chunk before its samples and what is `more` after them."""
     kind = struct.pack('<HHIIHH', 1, 1, 8000, 8000 * width, width, 8 * width)
     samples = b''.join(number.to_bytes(width, 'little', signed=width > 1) for number in numbers)
     chunks = chunk(b'note', b'odd') + chunk(b'fmt ', kind) + chunk(b'data', samples)

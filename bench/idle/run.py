@@ -44,7 +44,7 @@ class Way:
         self.title, self.program, self.workers = title, program, workers
 
     def run(self, items, pause):
-        """One run of so many items, with so many microseconds before each."""
+        """One run of this many items, with `pause` microseconds before each."""
         return measure.Run([self.program], given=f'{self.workers} {items} {pause}\n')
 
     def seconds(self, pause):

@@ -25,7 +25,7 @@ from kpn.native import command  # noqa: E402
 from kpn.program import answer, find_program  # noqa: E402
 
 KAHN = "Kahn's example, capacity 1"
-# The name, what makes the text for so many items, the first words of rings.c, the channels that each item goes through,
+# The name, what makes the text for N items, the first words of rings.c, the channels that each item goes through,
 # and how many times the speed of Go is wanted. Kahn's example goes on for ever, and a part of its items is wanted.
 ROWS = (
     ('pipeline of 8, capacity 1', lambda items: networks.pipeline(8, 1, items), 'row 8 1', 9, None),

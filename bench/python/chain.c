@@ -1,5 +1,5 @@
 /* The chain of bench/python/chain.py: whole numbers of 8 bytes from standard input to standard output. The taps are
-   the words of the command line, and behind them the five coefficients of the notch. */
+   the words of the command line, and after them the five coefficients of the notch. */
 #include <inttypes.h>
 #include <stdint.h>
 #include <stdio.h>

@@ -25,7 +25,7 @@ import measure
 import networks
 
 COMMITS = 10_000_000
-# The instructions of so many hops less those of a tenth of them, without what a run costs by itself.
+# The instructions of this many hops less those of a tenth of them, without what a run costs by itself.
 COUNTED_HOPS = 600_000
 
 

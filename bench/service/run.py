@@ -36,7 +36,7 @@ def peak_of(child):
 
 
 def peaks(program, workers, most):
-    """The peak memory of runs of a hundredth, a tenth and all of so many items."""
+    """The peak memory of runs of a hundredth, a tenth and all of this many items."""
     for items in (most // 100, most // 10, most):
         started = time.monotonic()
         child = subprocess.Popen([program], stdin=subprocess.PIPE, stdout=subprocess.PIPE, text=True)

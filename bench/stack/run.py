@@ -37,7 +37,7 @@ def text_of(word):
 
 
 def answer(words, folder, stack):
-    """What a command writes on both outputs, and its status, with so many KiB of stack."""
+    """What a command writes on both outputs, and its status, with this many KiB of stack."""
     def limit():
         resource.setrlimit(resource.RLIMIT_STACK, (stack * 1024, stack * 1024))
     given = folder / 'input'

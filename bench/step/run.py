@@ -22,7 +22,7 @@ ROUNDS = 40
 
 
 def measured(programs, count):
-    """The seconds that each program takes for so many turns, and its output. Each is a run by how many there are."""
+    """The seconds that each program takes for this many turns, and its output. Each is a run by how many there are."""
     starts, times, outputs = ([None] * len(programs) for _ in range(3))
     for _ in range(ROUNDS):
         for place, program in enumerate(programs):

@@ -23,7 +23,7 @@ import measure  # noqa: E402
 from run import copies  # noqa: E402
 
 RATE = 48_000
-# A second has so many whole periods.
+# A second has this many whole periods.
 PITCH = 440
 
 
@@ -42,7 +42,7 @@ def compiled(net):
 
 
 def stream(words, second, seconds):
-    """The memory of a stream that gets this second so many times, and the seconds of a processor that it took."""
+    """The memory of a stream that gets this second this many times, and the seconds of a processor that it took."""
     with tempfile.TemporaryFile() as told:
         child = subprocess.Popen(words, stdin=subprocess.PIPE, stdout=subprocess.DEVNULL, stderr=told)
         for _ in range(seconds):

@@ -93,7 +93,7 @@ class Beside:
         return ticks.picture_answer(network, trace, waits, first, last), found
 
     def sinks(self, history):
-        """What is written on each sink, and whether it is complete, behind a history of the network in the folder."""
+        """What is written on each sink, and whether it is complete, after a history of the network in the folder."""
         network = histories.Network((self.folder / 'net').read_text())
         growing = network.growing
         audit = figures.replay(network, histories.Trace(2, growing.policy, growing.growth, history))[0]

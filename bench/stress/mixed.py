@@ -53,7 +53,7 @@ class Mix:
         return self.counts
 
     def network(self):
-        """One network: on one thread, and then so and so often otherwise."""
+        """One network: on one thread, and then this way and that otherwise."""
         text, items = random_networks.network(self.random)
         (self.folder / 'net').write_text(text)
         words = ['run', 'net', '--max-commits', str(COMMITS)]
@@ -102,7 +102,7 @@ class Mix:
         self.judged('refused memory', words, here, [THREADS, *NO_MEMORY], env={**os.environ, **refusing})
 
     def lacks_threads(self, words, here):
-        """So many threads are there beside the first one. Only root can start a run of a user who has no other."""
+        """This many threads are there beside the first one. Only root can start a run of a user who has no other."""
         if os.geteuid() != 0:
             return
         threads = self.random.randrange(8)
@@ -125,11 +125,11 @@ class Mix:
             self.audit(words, b'')
             left = 'left a whole trace'
         self.counts['killed', left] += 1
-        self.judged('behind a killed run', words, here)
+        self.judged('after a killed run', words, here)
 
 
 def mix(seconds, processors, program, library, user, folder):
-    """So many seconds of such runs on these processors. Prints how many came to each end."""
+    """This many seconds of such runs on these processors. Prints how many came to each end."""
     os.sched_setaffinity(0, processors)
     counts = Mix(program, library, user, folder).run(seconds)
     for (way, end), count in sorted(counts.items()):

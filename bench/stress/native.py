@@ -155,7 +155,7 @@ def try_network(seed, runtime, seconds, schedules, kind):
 
 
 def try_networks(count, first, processes, seconds=None, schedules=command.SCHEDULES, kind='', compiler=(), runtime=()):
-    """So many networks, with the runtime by these object files or by this compiler; gives how many runs came to each
+    """This many networks, with the runtime by these object files or by this compiler; gives how many runs came to each
     outcome, or the first difference."""
     counts = collections.Counter()
     with tempfile.TemporaryDirectory(prefix='kpn-') as folder, \

@@ -36,7 +36,7 @@ static void read_items(struct end *source) {
   byte = (char)getchar();
 }
 
-/* Feeds what there is room for, and closes a source behind its last item. Tells whether there was anything to do. */
+/* Feeds what there is room for, and closes a source after its last item. Tells whether there was anything to do. */
 static bool feed(kpn_session *session, struct end *source) {
   size_t fed = 0;
   if (source->is_closed) {
@@ -65,7 +65,7 @@ static bool take(kpn_session *session, struct end *sink) {
   return taken > 0;
 }
 
-/* Closes the sources that nobody reads on, behind fewer items. Tells whether there were any. */
+/* Closes the sources that nobody reads on, after fewer items. Tells whether there were any. */
 static bool close_rest(kpn_session *session, struct end *ends, size_t count) {
   bool any = false;
   for (size_t k = 0; k < count; k++) {

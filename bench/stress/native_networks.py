@@ -116,8 +116,8 @@ def wild(random):
 
 
 class Signal:
-    """A network of signal processes: each period reads and writes so many items at each port. Streams flow from sources
-    through forks, joins and changes of rate into sinks; feedback begins with items."""
+    """A network of signal processes: each period reads and writes this many items at each port. Streams flow from
+    sources through forks, joins and changes of rate into sinks; feedback begins with items."""
 
     def __init__(self, random):
         self.random, self.lines, self.text, self.count = random, settings(random), '', 0
@@ -131,7 +131,7 @@ class Signal:
         return name
 
     def add(self, ins, outs, rates, first=()):
-        """A process whose period has so many talks at each port, in any order."""
+        """A process whose period has this many talks at each port, in any order."""
         random, self.count = self.random, self.count + 1
         of_in, of_out = [f'i{k}' for k in range(len(ins))], [f'o{k}' for k in range(len(outs))]
         talks = [port for port, rate in zip([*of_in, *of_out], rates) for _ in range(rate)]

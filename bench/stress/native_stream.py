@@ -51,7 +51,7 @@ MOST = 60
 
 
 def item(chosen):
-    """An item at the edge of a format, or any of so many bits."""
+    """An item at the edge of a format, or any of a number of bits."""
     power = 1 << chosen.choice((7, 8, 15, 23, 31, 48, chosen.randrange(64), 63))
     found = chosen.choice((power, -power, chosen.randrange(-power, power))) + chosen.choice((0, 0, -1, 1))
     return max(-2**63, min(found, 2**63 - 1))
@@ -86,7 +86,7 @@ def bytes_for(chosen, format):
 
 
 def wav_of(chosen, count):
-    """A WAV file of so many bytes of samples, perhaps with a wrong byte in its head or a wrong size."""
+    """A WAV file of this many bytes of samples, perhaps with a wrong byte in its head or a wrong size."""
     width, channels = chosen.choice((1, 2, 3)), chosen.choice((1, 2))
     kind = struct.pack('<HHIIHH', 1, channels, 8000, 8000 * width, channels * width, 8 * width)
     samples = chosen.randbytes(count)
@@ -192,7 +192,7 @@ class Streams:
 
 
 def try_streams(count, seed, schedules=command.SCHEDULES, runtime=()):
-    """So many streams, with the runtime by these object files; gives how many ended how, or the first difference."""
+    """This many streams, with the runtime by these object files; gives how many ended how, or the first difference."""
     with tempfile.TemporaryDirectory(prefix='kpn-') as folder:
         try:
             runtime = runtime or command.compile_runtime(folder)

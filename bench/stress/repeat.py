@@ -4,10 +4,10 @@ come to the same each time.
 
 It is no part of the gate. Words:
 
-    tests COUNT         the tests of check_pool, which it proves before, so often on all processors
-                        and so often on two
-    runs COUNT [KPN]    each row `kpn run` of check_examples by 1, 2, 4 and 16 workers, so often on all processors and
-                        so often on two: its output and status have to be those of one thread
+    tests COUNT         the tests of check_pool, which it proves before, COUNT times on all processors
+                        and as often on two
+    runs COUNT [KPN]    each row `kpn run` of check_examples by 1, 2, 4 and 16 workers, COUNT times on all
+                        processors and as often on two: its output and status have to be those of one thread
     threads [KPN]       these rows while the system has 0 to 3 threads for the workers, by a user of its own, so root
                         has to start it: if a thread is refused, the run reports that (48), else it is as on one thread
     memory [KPN]        these rows while call N of malloc and realloc fails, or each from N on, for N from 1 on until
@@ -63,7 +63,7 @@ FAN = """process fan(in i; out a, b) {
 network { source s; sink y cap 64; sink z cap 64; f = fan(s; y, z); }
 """
 
-# a run needs no more memory if so many beginnings of a refusal in a row changed nothing
+# a run needs no more memory if this many beginnings of a refusal in a row changed nothing
 STEADY = 20
 
 
@@ -120,7 +120,7 @@ def repeat_tests(count):
 
 
 def repeat_program(words, count):
-    """Runs a program so often, and returns how many seconds that took. One run that fails ends this program."""
+    """Runs a program that often, and returns how many seconds that took. One run that fails ends this program."""
     before = time.monotonic()
     for number in range(count):
         done = subprocess.run(words, capture_output=True, text=True)
@@ -130,7 +130,7 @@ def repeat_program(words, count):
 
 
 def refused(program, row, workers, threads):
-    """What a run answers if the system has so many threads for it beside its first one."""
+    """What a run answers if the system has this many threads for it beside its first one."""
     def allow():
         resource.setrlimit(resource.RLIMIT_NPROC, (1 + threads, 1 + threads))
     words = [program, *row, '--workers', str(workers)]

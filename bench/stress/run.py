@@ -48,7 +48,7 @@ NETWORKS = (
 
 
 def stress(program, network, workers, runs, seed):
-    """So many runs of a network; the seconds that they took."""
+    """This many runs of a network; the seconds that they took."""
     file, take, lists = network
     line = ' '.join(['stress', file, str(workers), str(runs), str(seed), str(take), *lists]) + '\n'
     before = time.monotonic()

@@ -155,7 +155,7 @@ class Session:
         items, count = (ctypes.c_int64 * (room + 1))(*[77] * (room + 1)), SIZE()
         fault = self.ask('look', SIZE(channel), items, SIZE(room), ctypes.byref(count))
         if any(it != 77 for it in items[count.value:]):
-            raise Difference('a place behind what was shown has changed')
+            raise Difference('a place after what was shown has changed')
         return fault, items[:count.value]
 
 

@@ -92,7 +92,7 @@ def time_of_go(command, folder, runs):
 
 
 def told(command, folder, kpn, runs):
-    """The row of a network behind its title."""
+    """The row of a network after its title."""
     words = command.line(folder, kpn)
     lines = {0: words} | {count: [*words, '--workers', str(count)] for count in WORKERS}
     best = measure.fastest(lines, runs)

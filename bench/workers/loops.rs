@@ -1,4 +1,4 @@
-// As many threads as the first word says, each of which computes by itself so many turns as the second word says: what
+// As many threads as the first word says, each of which computes by itself as many turns as the second word says: what
 // the computing processes of bench/networks.py do, compiled. It writes what each has computed.
 use std::env;
 use std::thread;

@@ -27,7 +27,7 @@ class KpnError(Exception):
     """A network that cannot be built or run, or a program `kpn` that is not there or has failed.
 
     `place` is where the fault is in the source of a part or of a network, if it is anywhere there. `error` is what
-    `kpn` writes behind `kpn: `, such as `15 NoReader at 1`, if `kpn` refused an input.
+    `kpn` writes after `kpn: `, such as `15 NoReader at 1`, if `kpn` refused an input.
     """
 
     def __init__(self, message: str, *, place: Optional[Place] = None, error: Optional[str] = None):

@@ -48,7 +48,7 @@ def head_of(width: float, height: float) -> str:
 
 
 def step_of(length: float, most: int = 20) -> float:
-    """The distance of marks on an axis of this length: 1, 2 or 5 times a power of 10, with at most so many."""
+    """The distance of marks on an axis of this length: 1, 2 or 5 times a power of 10, with at most `most` marks."""
     step = 1.0 if length >= 1 else 1e-12
     while True:
         for factor in (1, 2, 5):

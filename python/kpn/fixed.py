@@ -10,7 +10,7 @@ from .errors import LARGEST, KpnError, whole
 MOST_BITS = 62
 # A sum of a filter is right as long as it is in these.
 LOWEST = -LARGEST
-# A filter with feedback is followed until its answer to one item is this small, and so many items at most.
+# A filter with feedback is followed until its answer to one item is this small, and for at most this many items.
 SILENCE, MOST_ITEMS = 1e-12, 1_000_000
 
 
@@ -28,7 +28,7 @@ class Range(NamedTuple):
 
 
 class Q:
-    """Numbers with `bits` bits behind the point, 0 to 62: `Q(15)(0.5)` is the whole number 16384.
+    """Numbers with `bits` bits after the point, 0 to 62: `Q(15)(0.5)` is the whole number 16384.
 
     A call takes a number, or a list of numbers or of lists, NumPy's arrays too, and gives the nearest whole numbers of
     the language; a half goes away from 0. Raises KpnError for a number that is too large, or is none.
@@ -71,7 +71,7 @@ class Q:
         """The ranges of the sums of a filter with these coefficients, if its items are from `low` to `high`.
 
         `b` weighs the items and `a`, without its first 1, what came out before, as for `parts.iir`; without `a` it is a
-        FIR. There is a `Range` for the sum behind each coefficient. The last one bounds the sum of any of the products;
+        FIR. There is a `Range` for the sum after each coefficient. The last one bounds the sum of any of the products;
         to round it adds half of the divisor. For a filter with feedback the ranges are a little too wide. Raises
         KpnError if its answer to one item does not fade.
         """
@@ -94,7 +94,7 @@ class Q:
         return found
 
     def overflowing(self, b: Sequence[float], low: int, high: int, a: Sequence[float] = ()) -> List[str]:
-        """The names of the sums that may overflow, such as `b[3]` for the one behind that product."""
+        """The names of the sums that may overflow, such as `b[3]` for the one after that product."""
         return [it.name for it in self.sums(b, low, high, a) if it.may_overflow]
 
     def answer(self, b: Sequence[float], a: Sequence[float]) -> float:

@@ -22,7 +22,7 @@ RESERVED = frozenset('process in out par read write if else while network limit 
 RESERVED_IN_TWO = frozenset('language array table'.split())
 MOST_LEVELS = 32
 NUMBER = re.compile(r'[0-9]{1,19}')
-# In language 2 besides: with a base, `_` behind digits, and a byte in quotes.
+# In language 2 besides: with a base, `_` after digits, and a byte in quotes.
 BASED = re.compile(r'(0x)[0-9A-Fa-f][0-9A-Fa-f_]*|(0b)[01][01_]*|[0-9][0-9_]*')
 ESCAPED = {'\\n': '\n', '\\\\': '\\', "\\'": "'", '\\0': '\0'}
 NAME = re.compile(r'[A-Za-z_][A-Za-z0-9_]*')
@@ -236,7 +236,7 @@ def lines_of(block: Block, language: int, indent: str = '  ') -> Iterator[Tuple[
 
 
 def lines_of_branch(branch: If, language: int, indent: str, before: str) -> Iterator[Tuple[str, Statement]]:
-    """The lines of an `if`, the first of them behind this. Language 2 leaves out what it can of an `else`."""
+    """The lines of an `if`, the first of them after this. Language 2 leaves out what it can of an `else`."""
     yield f'{before}if {text_of(branch.condition, language)} {{', branch
     yield from lines_of(branch.first, language, indent + '  ')
     if language == 2 and len(branch.second) == 1 and isinstance(branch.second[0], If):
@@ -341,7 +341,7 @@ class Reader:
         return replace(made, places=tuple(it - start for it in places_of(str(made), [*tokens, *rest])))
 
     def code(self) -> Code:
-        """Reads what stands in a process, behind its head."""
+        """Reads what stands in a process, after its head."""
         self.need('{')
         arrays, tables = self.declarations()
         return Code(tuple(it.thing for it in arrays), tuple(it.thing for it in tables), self.block(1))
@@ -390,7 +390,7 @@ class Reader:
         return -self.number() if is_negative else self.number()
 
     def block(self, level: int) -> Block:
-        """Reads the statements of a block of a level, and the brace behind them."""
+        """Reads the statements of a block of a level, and the brace after them."""
         found: List[Statement] = []
         while self.peek() != '}':
             found.append(self.statement(level))
@@ -449,7 +449,7 @@ class Reader:
         return tree
 
     def operation(self, around: int, least: int) -> Tuple[Expression, int]:
-        """Reads operators of language 2 that bind at least so tightly, from the left, with so many signs,
+        """Reads operators of language 2 that bind at least so tightly, from the left, with this many signs,
         parentheses and brackets around. It gives the tree and its levels."""
         (tree, levels), most = self.operand(around), OPERAND
         while self.peek() in TIGHTNESS:
@@ -460,12 +460,12 @@ class Reader:
             self.place += 1
             right, others = self.operation(around, sides_of(mark)[1])
             tree, levels = (mark, tree, right), 1 + max(levels, others)
-            # Nothing but `&&` and `||` goes on behind a comparison.
+            # Nothing but `&&` and `||` goes on after a comparison.
             most = tightness - (tightness == COMPARING)
         return tree, levels
 
     def operand(self, around: int) -> Tuple[Expression, int]:
-        """Reads an operand, with so many signs, parentheses and brackets around, and gives its tree and its levels."""
+        """Reads an operand, with this many signs, parentheses and brackets around, and gives its tree and levels."""
         token = self.peek()
         if around == MOST_LEVELS:
             self.fail()
@@ -575,7 +575,7 @@ def places_of(lines: str, tokens: Sequence[Token]) -> List[int]:
 
 
 def read_process(text: str) -> Process:
-    """Reads a text that is one process, behind `language 2;` and shared tables if it is of that language."""
+    """Reads a text that is one process, after `language 2;` and shared tables if it is of that language."""
     reader = Reader(text, 'the process')
     try:
         process = reader.process(reader.shared())

@@ -155,7 +155,7 @@ class Sink(Way):
         self.last()
 
     def unread(self, count: int) -> List[int]:
-        """So many of the items that nobody has read; fewer if there are not so many."""
+        """This many of the items that nobody has read; fewer if there are not as many."""
         while len(self.batches) > 1 and cast(Batch, self.batches[0]).end <= self.taken:
             self.batches.popleft()
         found: List[int] = []
@@ -222,7 +222,7 @@ class Live:
 
     A run is for one thread at a time, and for the process that began it. It ends with that.
 
-    Each call raises KpnError before or behind the block, in a forked process, while another thread is in a call, and
+    Each call raises KpnError before or after the block, in a forked process, while another thread is in a call, and
     for a name that the network does not have. The block raises it at its start if `kpn stream` cannot be started.
     """
 
@@ -292,7 +292,7 @@ class Live:
     def feed(self, items: Iterable[int], source: Optional[str] = None) -> None:
         """Gives items, whole numbers as in `net.run`, to a source. It does not wait.
 
-        What the network does not take yet follows during later calls. What comes behind the end of the run is dropped.
+        What the network does not take yet follows during later calls. What comes after the end of the run is dropped.
         Raises TypeError and KpnError for wrong items, and KpnError if the source is closed.
         """
         with self._used():
@@ -310,7 +310,7 @@ class Live:
 
     def read(self, count: Optional[int] = None, sink: Optional[str] = None, timeout: Optional[float] = None
              ) -> List[int]:
-        """Waits for so many items of a sink, and gives them as a list; fewer if the sink ends before.
+        """Waits for this many items of a sink, and gives them as a list; fewer if the sink ends before.
 
         Without a count it waits for the end of the sink, and gives all. Of a sink that was left it gives what has come.
         Raises TimeoutError if they do not come in time, and KpnError if the program fails before they have come.
@@ -368,7 +368,7 @@ class Live:
             self._lock.release()
 
     def _check_block(self) -> None:
-        """Refuses a call behind the block, also one of another thread that is going on at its end."""
+        """Refuses a call after the block, also one of another thread that is going on at its end."""
         if self._is_over:
             raise KpnError('the run is over: its block has ended')
 
@@ -376,7 +376,7 @@ class Live:
         return Deadline(self._timeout if timeout is None else seconds(timeout))
 
     def _turn(self, wait: Optional[float]) -> None:
-        """Moves what can move, after a wait of at most so many seconds if nothing can."""
+        """Moves what can move, after a wait of at most this many seconds if nothing can."""
         ways: List[Way] = [*self._sources.values(), *self._sinks.values(), self._told]
         moving = {way.end.fileno(): way for way in ways if way.waits()}
         poll = select.poll()

@@ -33,7 +33,7 @@ class Names:
         self.last: Dict[str, int] = {}
 
     def give(self, wanted: str) -> str:
-        """The wanted name, or that with a number behind it."""
+        """The wanted name, or that with a number after it."""
         name, number = wanted[:LONGEST_NAME], self.last.get(wanted, 1)
         while name in self.taken or not is_name(name, self.language):
             number += 1
@@ -256,7 +256,7 @@ class Network:
         return None if cap is None else int(cap)
 
     def _write(self, instance: Instance, cap: Optional[int] = None) -> Stream:
-        """A new stream behind the last out port of an instance."""
+        """A new stream after the last out port of an instance."""
         stream = self._declare('channel', None, cap)
         stream.writer = instance
         instance.outs.append(stream)
@@ -363,7 +363,7 @@ class Network:
                       {names[it]: it.process for it in self._instances}, self.policy, self.limit)
 
     def _lines(self, names: Mapping[Union[Instance, Stream], str], called: Mapping[Process, str]) -> Iterator[str]:
-        """The lines of the network itself, behind its processes."""
+        """The lines of the network itself, after its processes."""
         yield 'network {'
         yield from self._settings()
         for stream in self._channels:

@@ -53,7 +53,7 @@ class Process:
     def from_text(cls, text: str) -> Process:
         """Reads a process, as in `Process.from_text("process gain(in i; out o; par k) { .. }")`.
 
-        One of language 2 stands behind `language 2;`, and behind shared tables, which become its own.
+        One of language 2 stands after `language 2;`, and after shared tables, which become its own.
 
         Raises KpnError with the place if no text of the language goes on so; a wrong name is found when it runs.
         """

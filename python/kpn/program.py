@@ -96,7 +96,7 @@ def words_of(**options: Optional[int]) -> List[str]:
 
 
 def answer(command: str, text: str, *words: str, program: Program = None) -> str:
-    """What a command of `kpn` writes of a text; the words are those behind the name of its file."""
+    """What a command of `kpn` writes of a text; the words are those after the name of its file."""
     with tempfile.TemporaryDirectory(prefix='kpn-') as folder:
         (pathlib.Path(folder) / NAME).write_bytes(text.encode())
         done = call([command, NAME, *words], program, folder)

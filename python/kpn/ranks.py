@@ -1,4 +1,4 @@
-"""How `net.run(.., ranks=4)` starts the program `kpn-mpi` over so many ranks of MPI."""
+"""How `net.run(.., ranks=4)` starts the program `kpn-mpi` over a number of ranks of MPI."""
 from __future__ import annotations
 
 import os
@@ -30,7 +30,7 @@ def find_mpi_program() -> str:
 
 
 def runner_of(ranks: int, text: str, program: str) -> Tuple[str, List[str]]:
-    """What runs a text over so many ranks, with the path of `kpn`: a program and its first words."""
+    """What runs a text over this many ranks, with the path of `kpn`: a program and its first words."""
     count = whole('`ranks`', ranks, 1, MOST_RANKS)
     env = shutil.which('env')
     if not env or not shutil.which('mpirun'):

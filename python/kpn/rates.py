@@ -60,7 +60,7 @@ def growing_of(result: Result) -> List[str]:
 
 
 def most_unread(result: Result, channels: List[str], moves: int) -> Dict[str, int]:
-    """The most items that lay unread on these channels during so many of the first gets and puts."""
+    """The most items that lay unread on these channels during this many of the first gets and puts."""
     layout, steps = result.layout, {}
     for name in channels:
         for kind, end, change in (('put', layout.writers, 1), ('get', layout.readers, -1)):

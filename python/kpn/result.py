@@ -29,8 +29,8 @@ if TYPE_CHECKING:
 TEXT, TRACE = 'net.kpn', 'run.trace'
 # The statuses of a run that came to an outcome.
 STATUSES = (0, 3, 4, 5)
-# A second run that looks for channels that grow has so many items of each source, makes so many commits and takes so
-# many seconds at most. What it finds has to grow in a third, longer run too: a frame may be longer than the second.
+# A second run that looks for channels that grow has at most this many items of each source, commits and
+# seconds. What it finds has to grow in a third, longer run too: a frame may be longer than the second.
 ITEMS_OF_LOOK, COMMITS_OF_LOOK, TIME_OF_LOOK = 1_000, 100_000, 10
 ITEMS_OF_LONG_LOOK, COMMITS_OF_LONG_LOOK = 50_000, 5_000_000
 # What such runs have found, by the texts of the networks, and the most of them that are kept.
@@ -498,7 +498,7 @@ def goes_on(rate: Rate, counts: Tuple[int, int]) -> bool:
 
 
 def counted_in(told: str) -> Stats:
-    """The tables in what `kpn stream --stats` has told: at its end, each behind its headings, two spaces between two
+    """The tables in what `kpn stream --stats` has told: at its end, each after its headings, two spaces between two
     columns."""
     tables: Dict[str, List[Dict[str, Union[int, str]]]] = {'channel': [], 'process': []}
     headings: List[str] = []

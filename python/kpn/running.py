@@ -246,7 +246,7 @@ def lines_of(name: str, items: Iterable[float]) -> bytes:
 
 
 def item_of(name: str, place: int, given: Any) -> int:
-    """An item of a source at this place. A number with nothing behind its point is a whole one."""
+    """An item of a source at this place. A number with nothing after its point is a whole one."""
     number = index_of(given)
     if number is None:
         is_finite = isinstance(given, numbers.Rational) or isinstance(given, numbers.Real) and math.isfinite(given)

@@ -174,7 +174,7 @@ class Clock:
                 move = self.moves.moves[process][number]
                 found[move >> 1] = None
                 process = self.moves.readers[move >> 1]
-                # Behind the end of its times there is only the room that an ended reader leaves.
+                # After the end of its times there is only the room that an ended reader leaves.
                 cause = process, bisect.bisect_left(self.times[process], before)
             process, number = cause
         return list(found)

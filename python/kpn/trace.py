@@ -12,7 +12,7 @@ if TYPE_CHECKING:
 
 # The words of the faults that end a process.
 FAULTS = ('overflow', 'zero-divisor', 'index', 'shift')
-# What a line has behind its kind: a process P, a channel C, an item V, a capacity N, the reason R of an end.
+# What a line has after its kind: a process P, a channel C, an item V, a capacity N, the reason R of an end.
 FORMS = {'get': 'P C V', 'put': 'P C V', 'wait-empty': 'P C', 'wait-full': 'P C', 'end': 'P R', 'feed': 'C V',
          'close': 'C', 'take': 'C V', 'leave': 'C', 'grow': 'P C N'}
 PARTS = {'P': '(0|[1-9][0-9]{0,4})', 'C': '(0|[1-9][0-9]{0,4})', 'V': '(0|-?[1-9][0-9]{0,18})', 'N': '([1-9][0-9]*)',

@@ -139,7 +139,7 @@ def kind_of(chunk: bytes) -> Tuple[int, int, int]:
 
 
 def samples_of(data: bytes, width: int, channels: int) -> array.array[int]:
-    """The samples in these bytes, of so many bytes each.
+    """The samples in these bytes, of this many bytes each.
 
     What is left of a frame at the end is dropped.
     """
@@ -162,7 +162,7 @@ def from_little(kind: str, data: bytes) -> array.array[int]:
 
 
 def bytes_of(samples: array.array[int], width: int) -> bytes:
-    """The bytes of samples that so many bytes have room for, as `wave` takes them: in the order of the machine."""
+    """The bytes of samples that this many bytes have room for, as `wave` takes them: in the order of the machine."""
     if width == 2:
         return array.array('h', samples).tobytes()
     wide, data = array.array('i', samples).tobytes(), bytearray(len(samples) * 3)
@@ -173,7 +173,7 @@ def bytes_of(samples: array.array[int], width: int) -> bytes:
 
 
 def fitting(sink: str, items: Sequence[int], bits: int, clip: bool) -> array.array[int]:
-    """The items of a sink as samples of so many bits."""
+    """The items of a sink as samples of this many bits."""
     low, high = -2**(bits - 1), 2**(bits - 1) - 1
     values = array.array('q', items.tolist() if hasattr(items, 'tolist') else items)
     if not values or low <= min(values) and max(values) <= high:

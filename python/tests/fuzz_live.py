@@ -263,7 +263,7 @@ def leaks(folder, before):
 
 
 def fuzz(rounds, first=0):
-    """Makes so many rounds; raises an error of the first one that finds something."""
+    """Makes this many rounds; raises an error of the first one that finds something."""
     handler = signal.signal(signal.SIGALRM, interrupted)
     temporary = tempfile.tempdir
     try:
@@ -285,7 +285,7 @@ def fuzz(rounds, first=0):
 
 
 def main(rounds, first):
-    """Makes so many rounds, and tells how long they took."""
+    """Makes this many rounds, and tells how long they took."""
     begun, most = time.monotonic(), first + rounds
     for start in range(first, most, 500):
         fuzz(min(500, most - start), start)

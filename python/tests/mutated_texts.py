@@ -124,7 +124,7 @@ def compare(text):
 
 
 def main(rounds, first):
-    """Compares so many texts; gives the status."""
+    """Compares this many texts; gives the status."""
     refused = 0
     for seed in range(first, first + rounds):
         text = mutant(random.Random(seed))

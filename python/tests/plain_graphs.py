@@ -12,7 +12,7 @@ from kpn import sdf
 # ---- random graphs
 
 def split(random, total, count):
-    """A number as a sum of so many, some of them 0."""
+    """A number as a sum of `count` numbers, some of them 0."""
     cuts = sorted(random.randint(0, total) for _ in range(count - 1))
     return [high - low for low, high in zip([0, *cuts], [*cuts, total])]
 

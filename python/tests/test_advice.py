@@ -157,7 +157,7 @@ class Rates(unittest.TestCase):
             net = kpn.Network()
             net.sink('y', parts.to_blocks(net.source('x'), 256))
             net.run(range(4096)).check()
-            # Nobody reads behind a process that has ended.
+            # Nobody reads after a process has ended.
             once = kpn.Process.from_text('process once(in a, b; out o) { read a x; read b y; write o (x + y); }')
             net = kpn.Network()
             net.sink('y', once(*parts.fork(net.source('x'))))
@@ -211,7 +211,7 @@ class Rates(unittest.TestCase):
 
 
 def rate(name, gets, puts):
-    """A process that gets and puts so many items in turn."""
+    """A process that gets and puts these numbers of items in turn."""
     return kpn.Process.from_text(
         f'process {name}(in i; out o) {{ while 1 {{ n = 0; while (n < {gets}) {{ read i x; n = (n + 1); }} n = 0; '
         f'while (n < {puts}) {{ write o x; n = (n + 1); }} }} }}')
@@ -249,7 +249,7 @@ class Ticks(unittest.TestCase):
         self.assertEqual(kpn.least_capacities(kpn.Network.from_text(text)).ticks, 1)
 
     def test_bursts(self):
-        """One burst shows no period, and neither does what goes on behind it."""
+        """One burst shows no period, and neither does what goes on after it."""
         for bursts, ticks in ((1, None), (2, None), (3, 3.0), (5, 3.0)):
             net = chain(rate('burst', 48, 24), rate('copy', 1, 1), cap=24)
             result = net.run(range(48 * bursts), trace=True)

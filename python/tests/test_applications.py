@@ -114,7 +114,7 @@ class Picture(unittest.TestCase):
         self.encode = module_of('jpeg/encode')
 
     def test_the_scan_of_a_flat_picture(self):
-        # The mean of the first block is 8 (178 - 128) / 16 = 25, of 5 bits; nothing changes behind it.
+        # The mean of the first block is 8 (178 - 128) / 16 = 25, of 5 bits; nothing changes after it.
         scan = self.encode.build(16, 8).run([178] * 128).check()['scan']
         text = '110' + '11001' + '1010' + '00' + '1010' + '1111111'
         self.assertEqual(scan, [int(text[it:it + 8], 2) for it in range(0, len(text) - 7, 8)])

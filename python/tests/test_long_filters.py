@@ -40,7 +40,7 @@ def others(x, y):
 
 
 def mixed(x, y, z):
-    """Streams of other parts, with long filters before, between and behind them."""
+    """Streams of other parts, with long filters before, between and after them."""
     re, im, low = others(parts.fir(x, LONG, shift=6), y)
     return re, parts.fir(im, LONG), low, parts.interpolate(z, TAPS[:300], 3, shift=2)
 

@@ -15,7 +15,7 @@ from kpn import mpi, ranks
 COPY = 'process copy(in i; out o) {\n  while 1 {\n    read i x;\n    write o x;\n  }\n}\n'
 RING = COPY + 'network {\n  channel c cap 1;\n  channel d cap 1;\n  a = copy(d; c);\n  b = copy(c; d);\n}\n'
 ROW = COPY + 'network {\n  source x;\n  channel c cap 1;\n  sink y cap 1;\n  a = copy(x; c);\n  b = copy(c; y);\n}\n'
-# In place of `mpirun`: what comes behind the number of ranks and the program is for `kpn run`.
+# In place of `mpirun`: what comes after the number of ranks and the program is for `kpn run`.
 STARTER = '#!/bin/sh\n[ "$1 $2" = "-n 3" ] || exit 9\nshift 3\nexec "{program}" run "$@"\n'
 
 # The same of a run that is certified, by the program that the environment names.

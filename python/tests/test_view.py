@@ -216,7 +216,7 @@ class Pages(unittest.TestCase):
             places = [0, *(end for _, end, _, _ in slices)]
             self.assertEqual([begin for begin, _, _, _ in slices], places[:-1])
             self.assertEqual(places[-1], told['span'])
-            # A wait that the run ends with goes on behind the last tick, also if there is none.
+            # A wait that the run ends with goes on after the last tick, also if there is none.
             if rows[p]['end'].startswith('waits '):
                 self.assertEqual(slices[-1][2], 'full' if rows[p]['end'].endswith(' full') else 'empty')
                 self.assertGreater(slices[-1][1], timing.length)

@@ -28,7 +28,7 @@ def file_with(folder, frames, bits=16, name='in.wav', rate=8000, kind=1, more=b'
 
 
 def copies(count):
-    """A network of so many sources `x0`, `x1`, .. that copies them to sinks `y0`, `y1`, .."""
+    """A network of this many sources `x0`, `x1`, .. that copies them to sinks `y0`, `y1`, .."""
     net = kpn.Network()
     for number in range(count):
         net.sink(f'y{number}', parts.gain(net.source(f'x{number}'), 1))

@@ -101,7 +101,7 @@ def hashed(message):
 
 
 def echoed(items, back=4):
-    """Each sum by its own terms: an echo of half the size so many items later, towards 0."""
+    """Each sum by its own terms: an echo of half the size `back` items later, towards 0."""
     wet = []
     for n, item in enumerate(items):
         wet.append(item + (int(math.copysign(abs(wet[n - back]) // 2, wet[n - back])) if n >= back else 0))

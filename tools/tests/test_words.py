@@ -1,4 +1,4 @@
-"""The words behind the fixed line: with `--words always`, and on a terminal."""
+"""The words after the fixed line: with `--words always`, and on a terminal."""
 import contextlib
 import os
 import pathlib
@@ -52,7 +52,7 @@ class Words(unittest.TestCase):
         return done.stderr
 
     def behind(self, *words, status, line='', given=''):
-        """The words behind what is told without them, which begins with this line."""
+        """The words after what is told without them, which begins with this line."""
         bare = self.told('--words', 'never', *words, status=status, given=given)
         self.assertEqual(bare, self.told(*words, status=status, given=given))
         self.assertTrue(bare.startswith(line), bare)

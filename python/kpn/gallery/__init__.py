@@ -1,6 +1,6 @@
 """Networks of signal processing, built by the package.
 
-Each module has `build()`, which gives the network; `inputs(count)`, which gives so many items for each source; and
+Each module has `build()`, which gives the network; `inputs(count)`, which gives that many items for each source; and
 `expected(inputs)`, which computes the sinks by plain Python in another way.
 """
 from . import biquad, cic, cordic, delta_sigma, fft, fir, matrix, pid, run_length

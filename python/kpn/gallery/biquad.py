@@ -1,4 +1,4 @@
-"""Two biquads in a row: a low pass of order 4 with coefficients of 14 bits behind the point."""
+"""Two biquads in a row: a low pass of order 4 with coefficients of 14 bits after the point."""
 from typing import Dict, List
 
 from .. import parts

@@ -28,7 +28,7 @@ process stage(in x, y, z; out next_x, next_y, next_z; par divisor, angle) {
 
 
 def build() -> Network:
-    """The sinks `cosine` and `sine` of the source `angle`, with 20 bits behind the point, and the angle's `rest`."""
+    """The sinks `cosine` and `sine` of the source `angle`, with 20 bits after the point, and the angle's `rest`."""
     net = Network()
     z, first, second = parts.fork(net.source('angle'), 3)
     x, y = parts.pointwise('((0 * z) + start)', z=first, start=START), parts.gain(second, 0)

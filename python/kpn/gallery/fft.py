@@ -27,7 +27,7 @@ def inputs(count: int) -> Dict[str, List[int]]:
 
 
 def rounded(value: int) -> int:
-    """A product without its bits behind the point; a half goes away from 0."""
+    """A product without its bits after the point; a half goes away from 0."""
     return (abs(value) + (1 << BITS - 1) >> BITS) * (1 if value > 0 else -1)
 
 

@@ -46,7 +46,7 @@ class Unlimited(KpnError):
 
 def c_of(canonical: str, schedule: str, given: bytes = b'', fixed: int = 0, is_session: bool = False) -> str:
     """The C of a network, from its canonical text, for a program or for a session; it knows the given text too. With
-    static memory, so many items may wait at each source."""
+    static memory, that many items may wait at each source."""
     description = Reader(canonical).description()
     if fixed and 'limit' not in description.settings:
         raise Unlimited('--fixed wants `limit N;` in the network, the most that a capacity may become')
@@ -198,7 +198,7 @@ def parser_of_words() -> argparse.ArgumentParser:
     parser.add_argument('--library', action='store_true',
                         help='make an object with the session of kpn.h in place of a program')
     parser.add_argument('--fixed', type=items_of, default=0, metavar='ITEMS',
-                        help='make such an object with static memory, where so many items may wait at each source; '
+                        help='make such an object with static memory, where ITEMS items may wait at each source; '
                         'the description has to set a limit')
     parser.add_argument('--prefix', type=prefix_of, metavar='NAME',
                         help='begin the calls of such an object with NAME_ in place of kpn_, and make NAME.h beside '

@@ -89,7 +89,7 @@ class CompiledLive:
             self._library.kpn_live_leave(self._run, number)
 
     def _go(self, number: int, most: Optional[int]) -> int:
-        """Lets processes go on until so many items of a sink are there, or none is ready; gives how many are. Python
+        """Lets processes go on until this many items of a sink are there, or none is ready; gives how many are. Python
         looks for an interrupt in between."""
         outcome = 0
         while outcome == 0 and (most is None or self._library.kpn_live_came(self._run, number) < most):
@@ -99,7 +99,7 @@ class CompiledLive:
         return int(self._library.kpn_live_came(self._run, number))
 
     def read(self, count: Optional[int] = None, sink: Optional[str] = None) -> Any:
-        """Gives so many items of a sink; fewer if the sink ends before. Without a count it gives all that follow from
+        """Gives this many items of a sink; fewer if the sink ends before. Without a count it gives all that follow from
         what was fed.
 
         Raises TimeoutError if they do not follow from what was fed: nothing else comes while this call waits.
@@ -135,7 +135,7 @@ class CompiledLive:
         return Result(self._layout, report, sinks, complete=dict(complete), left=self._left)
 
     def _taken(self, number: int, count: int) -> Any:
-        """So many items of a sink, in the form of what was fed last."""
+        """This many items of a sink, in the form of what was fed last."""
         block = (ctypes.c_int64 * count)()
         self._library.kpn_live_read(self._run, number, block, count)
         if self._kind == 'numpy':

@@ -41,7 +41,7 @@ class Loaded:
             function.argtypes, function.restype = kinds, answer
 
     def run(self, given: Mapping[str, Items], take: int = 0, most: int = LARGEST) -> Result:
-        """Runs on the items of each source, up to so many commits."""
+        """Runs on the items of each source, up to this many commits."""
         arrays, kept = (Array * (len(self.layout.channels) + 1))(), []
         for name, items in given.items():
             address, count, owner = memory_of(name, items)

@@ -163,7 +163,7 @@ class LockText:
         return max(it.start.unread[self.channels[c]] for it in self.phases)
 
     def token_count(self) -> int:
-        """How many items lie inside between phases, at most: each has a place behind the variables."""
+        """How many items lie inside between phases, at most: each has a place after the variables."""
         return sum(map(self.most_unread, self.slots))
 
     def rows(self, p: int) -> Rows:
@@ -204,7 +204,7 @@ class LockText:
                 yield f'if (kpn_room_now(c_{n}) < {self.puts[number][c]}U) {{ goto dropped; }}'
 
     def piece(self, number: int, piece: Piece) -> Iterator[str]:
-        """The rows of a process up to its next wait. Labels have the process, the lap and the row, and behind the
+        """The rows of a process up to its next wait. Labels have the process, the lap and the row, and after the
         blocks are merged a mark of their own."""
         p, rows, lap = piece.process, self.rows(piece.process).rows, 0
         passed = [rows[it] for it in piece.places if it != self.finder.loops[p].head]
@@ -258,7 +258,7 @@ class LockText:
         return f'm{p}_{name}'
 
     def item(self, number: int, c: str, place: int) -> str:
-        """An item of a channel by its place behind those that were got before: a local, or a place in a ring."""
+        """An item of a channel by its place after those that were got before: a local, or a place in a ring."""
         n = self.channels[c]
         if self.kinds[c] != 'channel':
             return ring_place(n, place)
@@ -266,7 +266,7 @@ class LockText:
         return f'q{n}_{place}'
 
     def keeping(self, number: int) -> Iterator[str]:
-        """What lies inside behind a phase, and the positions outside."""
+        """What lies inside after a phase, and the positions outside."""
         behind = self.phases[(number + 1) % len(self.phases)].start
         for c, slot in self.slots.items():
             n, got = self.channels[c], self.gots[number][c]

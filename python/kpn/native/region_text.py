@@ -66,7 +66,7 @@ class RegionText:
             yield from ((p, name) for name in self.live[p] if name in self.assigned[p])
 
     def row(self, p: int, lap: int, place: int) -> Iterator[str]:
-        """A row of a period, and the mark of the one behind it: the rows of other members may come in between."""
+        """A row of a period, and the mark of the one after it: the rows of other members may come in between."""
         row, label = self.rows(p).rows[place], f'm{p}_{lap}_'
         values = Values('      ', self.rows(p).cells, f'm{p}_', self.constants[p])
         if place == self.finder.loops[p].head + 1 and place in self.targets(p):

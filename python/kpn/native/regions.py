@@ -1,6 +1,6 @@
 """Regions: processes whose periods are made in one function.
 
-A process may belong to one if it is a loop without end whose talks stand outside of inner blocks, behind assignments
+A process may belong to one if it is a loop without end whose talks stand outside of inner blocks, after assignments
 and writes of first items, and if it has no arrays. So it has the same talks in each turn of its loop, a lap. In a
 period of a region each member makes a fixed number of laps, and each channel inside has at the end as many items as at
 the beginning. The order of the rows in a period is found by stepping the members under the capacities of the channels.
@@ -20,7 +20,7 @@ MOST_ROWS = 500
 
 
 class Loop(NamedTuple):
-    """A process as first items and laps: the row at the head of its loop, the row behind the last one of a lap, the
+    """A process as first items and laps: the row at the head of its loop, the row after the last one of a lap, the
     talks of a lap at each port, and the first items at each port."""
 
     head: int
@@ -68,7 +68,7 @@ def loop_of(rows: Rows) -> Optional[Loop]:
 
 
 def end_of(rows: Rows, place: int) -> int:
-    """The row behind an `if` or a `while`."""
+    """The row after an `if` or a `while`."""
     row = rows.rows[place]
     assert isinstance(row, Test)
     before = rows.rows[row.otherwise - 1]

@@ -102,7 +102,7 @@ class Period:
         return self.values.add(tree[0], *(self.value(p, it) for it in tree[1:]))
 
     def at(self, number: int, ago: int, path: Tuple[State, ...] = ()) -> int:
-        """A value of so many periods ago as a function of what was got."""
+        """A value of this many periods ago as a function of what was got."""
         if (number, ago) not in self.met:
             self.met[number, ago] = self.found(self.values.all[number], ago, path)
         return self.met[number, ago]
@@ -125,7 +125,7 @@ class Period:
 
 
 class Vectors:
-    """The loop of a region, and the states behind it; `depth` periods have to come before it."""
+    """The loop of a region, and the states after it; `depth` periods have to come before it."""
 
     def __init__(self, text: Any):
         self.text, self.gets = text, text.region.gets
@@ -207,7 +207,7 @@ class Vectors:
 
 
 def place(time: str, rate: int, offset: int) -> str:
-    """A place in an array that has so many items of each period."""
+    """A place in an array that has this many items of each period."""
     scaled = time if rate == 1 else f'({time} * {rate}U)'
     return scaled if offset == 0 else f'{scaled} {"+" if offset > 0 else "-"} {abs(offset)}U'
 

@@ -131,7 +131,7 @@ def saturate(stream: Stream, low: int, high: int) -> Stream:
 
 
 def modulus(bits: int) -> int:
-    """The modulus of numbers of so many bits."""
+    """The modulus of numbers of this many bits."""
     return 1 << whole('the number of bits', bits, 1, MOST_BITS)
 
 

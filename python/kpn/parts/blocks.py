@@ -12,7 +12,7 @@ from .texts import MOST_VARIABLES, nearest, total, weighted, whole_numbers
 from .wiring import need
 
 SIZE = 8
-# The bits of the cosines behind the point, and those that the first of two transforms keeps for the second.
+# The bits of the cosines after the point, and those that the first of two transforms keeps for the second.
 COSINE_BITS, KEPT_BITS = 20, 4
 EXCHANGE = Process.from_text('''
 process exchange(in a, b; out low, high) {
@@ -124,7 +124,7 @@ def dct_blocks(stream: Stream, inverse: bool = False) -> Stream:
     """The cosine transform of blocks of 8 x 8 items, by rows, or its inverse. It is orthonormal.
 
     Rates: 64 out for 64 in. Faults: overflow, for items of 2^36 or more. The error is less than 0.6 for items below
-    2^11. Source: `dct` of the rows and then of the columns; between the two there are 4 bits behind the point.
+    2^11. Source: `dct` of the rows and then of the columns; between the two there are 4 bits after the point.
     """
     rows = transpose(dct(stream, shift=-KEPT_BITS, inverse=inverse))
     return transpose(dct(rows, shift=KEPT_BITS, inverse=inverse))

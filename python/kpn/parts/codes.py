@@ -12,7 +12,7 @@ Codes = Mapping[int, Tuple[int, int]]
 
 
 def exp_golomb(stream: Stream, signed: bool = False) -> Tuple[Stream, Stream]:
-    """The Exp-Golomb code of each item of 0 or more: item + 1, behind one 0 less than it has bits.
+    """The Exp-Golomb code of each item of 0 or more: item + 1, after one 0 less than it has bits.
 
     With `signed` the items 1, -1, 2, -2 and so on have the codes of 1, 2, 3, 4. An item has to be below 2^31 - 1;
     one below 0 without `signed` has a code that nobody can read.
@@ -35,7 +35,7 @@ def exp_golomb(stream: Stream, signed: bool = False) -> Tuple[Stream, Stream]:
 def exp_golomb_decode(bits: Stream, signed: bool = False) -> Stream:
     """The items that `exp_golomb` has coded, from a stream of bits.
 
-    Rates: one out for 1 to 61 in. Faults: overflow, behind 62 zeros. Source: that of `exp_golomb`.
+    Rates: one out for 1 to 61 in. Faults: overflow, after 62 zeros. Source: that of `exp_golomb`.
     """
     fold = 'if (x % 2) { x = ((x + 1) / 2); } else { x = -(x / 2); }' if signed else ''
     return cast(Stream, Process.from_text(f'''
@@ -124,7 +124,7 @@ def walk(place: Any) -> str:
 
 
 def pack_bits(codes: Stream, lengths: Stream, width: int = 8, *, stuff: bool = False) -> Stream:
-    """Puts codes one behind the other into words of `width` bits, 1 to 62, the highest bit first.
+    """Puts codes one after the other into words of `width` bits, 1 to 62, the highest bit first.
 
     With `stuff` a word of 1s is followed by 0, as in JPEG. What does not fill the last word does not come out: end with
     a code of width - 1 bits that fills it. A length is 0 to 62.

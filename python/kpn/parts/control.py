@@ -55,7 +55,7 @@ def two_tanks(inflow: Stream, between: int, drain: int) -> Tuple[Stream, Stream]
     In each step a part `1 / between` of the difference of the levels flows from the first to the second, and a part
     `1 / drain` of the second leaves it. Both are 2 or more. The levels begin at 0, and the first never falls below.
     Rates: one item on each out for one in. Faults: overflow, for levels of 2^47. Source: two linear differential
-    equations by Euler's rule, with 16 bits behind the point.
+    equations by Euler's rule, with 16 bits after the point.
     """
     between, drain = whole('`between`', between, 2), whole('`drain`', drain, 2)
     return cast(Tuple[Stream, Stream], TANKS(inflow, between, drain))

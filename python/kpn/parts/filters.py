@@ -85,7 +85,7 @@ def biquad(stream: Stream, b: Sequence[int], a: Sequence[int], shift: int) -> St
 def fft(re: Stream, im: Stream, points: int, bits: int = 14) -> Tuple[Stream, Stream]:
     """The transforms of frames of `points` complex numbers, a power of two from 2 on; not divided by their number.
 
-    Its factors have `bits` bits behind the point, 0 to 62, and each product is rounded to nearest. There is a process
+    Its factors have `bits` bits after the point, 0 to 62, and each product is rounded to nearest. There is a process
     for each butterfly, so a network has room for 32 points.
     Rates: one out for one in, by whole frames. Faults: overflow. Source: J. W. Cooley and J. W. Tukey, "An algorithm
     for the machine calculation of complex Fourier series", 1965.

@@ -7,7 +7,7 @@ from ..errors import whole
 from ..process import Process, Stream
 from .wiring import need
 
-# Follows |x| with 16 bits behind the point; v is it without them.
+# Follows |x| with 16 bits after the point; v is it without them.
 FOLLOW = '''
     read i x;
     if (x < 0) { v = -x; } else { v = x; }
@@ -46,7 +46,7 @@ process agc(in i; out o; par target, most, attack, release) {{
 def level(stream: Stream, attack: int, release: int) -> Stream:
     """How loud the stream is: it rises to a larger |x| by a part `1 / attack` an item, and falls by `1 / release`.
 
-    Both are 1 to 65536: so many items, as fs times the seconds. Then it is within 1 of a level that stays.
+    Both are 1 to 65536: a number of items, as fs times the seconds. Then it is within 1 of a level that stays.
     Rates: one out for one in. Faults: overflow, for items of 2^47 or more. Source: two leaky integrators.
     """
     return cast(Stream, LEVEL(stream, *times(attack, release)))

@@ -16,7 +16,7 @@ if TYPE_CHECKING:
 
 TURN = 2**32
 # The sine of z quarter turns is z (C1 - w (C3 - w (C5 - w C7))) with w = z^2, for |z| <= 1, within 7e-7.
-# The numbers have 30 bits behind the point, and so have z and w.
+# The numbers have 30 bits after the point, and so have z and w.
 ONE = 2**30
 SINE = [round(it * ONE) for it in (1.57079101, 0.64589285, 0.07943434, 0.00433310)]
 WRAP_ANGLE = f'if (p >= {TURN // 2}) {{ p = (p - {TURN}); }} else {{ }}'
@@ -107,7 +107,7 @@ def polar(re: Stream, im: Stream, *, rounds: int = 20) -> Tuple[Stream, Stream]:
     The angle is within 2^(32 - rounds), and 2^18 / magnitude; `rounds` is 4 to 28. That of 0 is 0.
     Rates: one item on each out for one on each in. Faults: overflow, for items of 2^31 or more. The magnitude is right
     within 1 for items below 2^24 and 14 rounds. Source: J. E. Volder, "The CORDIC trigonometric computing technique",
-    1959, by vectors, with 16 bits behind the point, one process.
+    1959, by vectors, with 16 bits after the point, one process.
     """
     steps, gain = vectoring(rounds)
     return cast(Tuple[Stream, Stream], Process.from_text(f'''
@@ -124,7 +124,7 @@ def polar(re: Stream, im: Stream, *, rounds: int = 20) -> Tuple[Stream, Stream]:
 def vectoring(rounds: int) -> Tuple[str, int]:
     """Statements that read a complex item, turn it to the angle 0 by CORDIC and set p to the angle that it had.
 
-    They set x to its magnitude with 16 bits behind the point, which is to be multiplied by the second result / 2^30.
+    They set x to its magnitude with 16 bits after the point, which is to be multiplied by the second result / 2^30.
     """
     rounds = whole('the number of rounds', rounds, 4, 28)
     steps = ''

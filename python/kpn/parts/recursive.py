@@ -12,7 +12,7 @@ from .arithmetic import MOST_BITS
 from .texts import MOST_VARIABLES, nearest, slide, weighted, whole_numbers, zeros
 from .wiring import need
 
-# The rounding of each item is made up for by those behind it, so it stays small beside poles near 1.
+# The rounding of each item is made up for by the next ones, so it stays small beside poles near 1.
 SECTION = Process.from_text('''
 process section(in i; out o; par b0, b1, b2, a1, a2, one) {
   x1 = 0; x2 = 0; y1 = 0; y2 = 0; r1 = 0; r2 = 0;
@@ -26,7 +26,7 @@ process section(in i; out o; par b0, b1, b2, a1, a2, one) {
     x2 = x1; x1 = x; y2 = y1; y1 = y;
   }
 }''')
-# The bits of coefficients of sections behind the point.
+# The bits of coefficients of sections after the point.
 BITS = 30
 # The cosine and the width of a section give the weights of the items; those of what came out are the same for all.
 KINDS: Dict[str, Callable[[float, float], Tuple[float, float, float]]] = {
@@ -67,8 +67,8 @@ def iir(stream: Stream, b: Sequence[int], a: Sequence[int], shift: int) -> Strea
 def cascade(stream: Stream, sections: Any, *, bits: int = BITS) -> Stream:
     """A row of filters of order 2, each by six numbers: three for items, and 1 and two for what came out before.
 
-    So scipy's `sos` is a list of them. The numbers get `bits` bits behind the point, 0 to 62. Each section rounds to
-    nearest and adds what that leaves to the sums behind, so that the error stays at some units even for narrow filters.
+    So scipy's `sos` is a list of them. The numbers get `bits` bits after the point, 0 to 62. Each section rounds to
+    nearest and adds what that leaves to the next sums, so that the error stays at some units even for narrow filters.
     Rates: one out for one in. Faults: overflow, for items near 2^(59 - bits). Source: the direct form with the error of
     the rounding fed back twice, as in T. Thong and B. Liu, "Error spectrum shaping in narrow-band recursive filters",
     1977.

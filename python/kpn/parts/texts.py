@@ -63,5 +63,5 @@ def slide(name: str, count: int, first: int = 0) -> str:
 
 
 def times(count: int, statements: str) -> str:
-    """Statements of language 2 that do these so many times; `n` counts."""
+    """Statements of language 2 that do these `count` times; `n` counts."""
     return statements * count if count < 2 else f'n = 0; while n < {count} {{ {statements} n = n + 1; }}'

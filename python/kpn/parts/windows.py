@@ -29,7 +29,7 @@ process sum_of_window(in i, before; out o) {
   y = 0;
   while 1 { read i x; read before old; y = (y + (x - old)); write o y; }
 }''')
-# The largest factor of a rate that is changed by statements written one behind the other.
+# The largest factor of a rate that is changed by statements written one after the other.
 MOST_FACTOR = 16
 
 
@@ -75,12 +75,12 @@ def decimate(stream: Stream, taps: Sequence[int], n: int, *, shift: int = 0, pha
 
 
 def interpolate(stream: Stream, taps: Sequence[int], n: int, *, shift: int = 0) -> Stream:
-    """`fir` of the stream with n - 1 zeros behind each item; n is 1 or more.
+    """`fir` of the stream with n - 1 zeros after each item; n is 1 or more.
 
     Up to a factor of 4,095 the products with zeros are not computed. As for `fir`, many taps make the network one of
     language 2, and so does a factor above 16.
     Rates: n out for one in. Faults: those of `fir`. A low pass with gain n keeps the height of a signal. Source: the
-    taps k, k + n, k + 2 n and so on make the item k behind.
+    taps k, k + n, k + 2 n and so on make the item that is k later.
     """
     n, numbers = whole('the factor of an interpolation', n, 1), whole_numbers('a tap', taps)
     if n >= MOST_CELLS:
@@ -156,7 +156,7 @@ def by_table(phases: List[List[int]], shift: int, factor: int, phase: int, has_p
     size, count = len(phases[0]), len(phases)
     take = (f'read i x; at = (at == 0 ? {size - 1} : at - 1); {"write next last[at];" if hands_on else ""} '
             'last[at] = x;')
-    # The last item is at `at`, and those before it lie behind, to the end of the array and then from its beginning on.
+    # The last item is at `at`, and those before it lie after it, to the end of the array, and then from its beginning.
     # If there is room, each is there twice, so that all lie in a row.
     add = f'y = y + taps[{"k" if count == 1 else "first + k"}] * last[%s + k]; k = k + 1;'
     is_twice = (count + 2) * size <= MOST_CELLS

@@ -137,7 +137,7 @@ def drop(stream: Stream, n: int = 1) -> Stream:
 
 
 def constant(net: Network, value: int, times: Optional[int] = None) -> Stream:
-    """Gives the value again and again, or so many times, 0 or more.
+    """Gives the value again and again, or a number of times, 0 or more.
 
     Rates: no items in. Faults: none. Without `times` it never ends: `take=` or a reader that waits ends the run.
     """
@@ -148,7 +148,7 @@ def constant(net: Network, value: int, times: Optional[int] = None) -> Stream:
 def count(net: Network, start: int = 0, step: int = 1) -> Stream:
     """Gives start, start + step, start + 2 step and so on.
 
-    Rates: no items in. Faults: overflow behind the last number. It ends only so.
+    Rates: no items in. Faults: overflow after the last number. It ends only so.
     """
     return cast(Stream, COUNT(start, step, net=net))
 
@@ -172,7 +172,7 @@ def downsample(stream: Stream, n: int, phase: int = 0) -> Stream:
 
 
 def upsample(stream: Stream, n: int, fill: int = 0) -> Stream:
-    """Puts n - 1 items `fill` behind each item; n is 1 or more.
+    """Puts n - 1 items `fill` after each item; n is 1 or more.
 
     Rates: n out for one in. Faults: none.
     """
@@ -278,6 +278,6 @@ def run_length_encode(stream: Stream, longest: int = 2**62) -> Tuple[Stream, Str
 def run_length_decode(values: Stream, counts: Stream) -> Stream:
     """Gives each value as often as the count beside it says; a count below 1 gives nothing.
 
-    Rates: for one item on each in, so many out as the count is. Faults: none. Source: that of `run_length_encode`.
+    Rates: for one item on each in, as many out as the count is. Faults: none. Source: that of `run_length_encode`.
     """
     return cast(Stream, DECODE(values, counts))

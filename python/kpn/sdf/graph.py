@@ -86,8 +86,8 @@ class Graph:
 
     def channel(self, writer: str, reader: str, put: Numbers = 1, get: Numbers = 1, tokens: int = 0,
                 capacity: Optional[int] = None, name: Optional[str] = None) -> Channel:
-        """Adds a channel. Each firing of the writer puts so many tokens, or each of its phases in turn, and the reader
-        gets so many. `tokens` lie there at the beginning. Without a name it has one made of those of its ends."""
+        """Adds a channel. Each firing of the writer puts `put` tokens, or each of its phases in turn, and the reader
+        gets `get`. `tokens` lie there at the beginning. Without a name it has one made of those of its ends."""
         for end in (writer, reader):
             if end not in self.actors:
                 raise KpnError(f'the graph has no actor `{end}`: add it by `graph.actor({end!r})` first')
@@ -291,7 +291,7 @@ class Graph:
         return pictures.dot_of(self)
 
     def gantt(self, time: Optional[int] = None, capacities: Capacities = None, by: str = 'firing') -> pictures.Gantt:
-        """The self-timed schedule, for this many units of time, or else for two periods behind the transient."""
+        """The self-timed schedule, for this many units of time, or else for two periods after the transient."""
         return pictures.gantt_of(plan.model(self.with_capacities(capacities), by), time)
 
     def _repr_svg_(self) -> Optional[str]:

@@ -58,7 +58,7 @@ class Plan:
         return made
 
     def parts(self) -> List[Set[int]]:
-        """The strongly connected parts, each behind those that it depends on."""
+        """The strongly connected parts, each after those that it depends on."""
         ahead: List[List[int]] = [[] for _ in self.names]
         back: List[List[int]] = [[] for _ in self.names]
         for writer, reader in zip(self.writers, self.readers):
@@ -76,7 +76,7 @@ class Plan:
 
 
 def walked(start: int, ahead: Sequence[Sequence[int]], met: Set[int]) -> List[int]:
-    """What can be reached and was not met, each behind what was reached from it."""
+    """What can be reached and was not met, each after what was reached from it."""
     found: List[int] = []
     left = [(start, iter(ahead[start]))] if start not in met else []
     met.add(start)

@@ -18,7 +18,7 @@ MOST_FIRINGS = 20_000
 
 
 class Edge(NamedTuple):
-    """A firing that has to end before another one starts, which is so many iterations later."""
+    """A firing that has to end before another one starts, which is a number of iterations later."""
 
     before: int
     after: int

@@ -46,7 +46,7 @@ def ascending(start: Sizes, judge: Judge) -> Iterator[Tuple[Sizes, Judgement]]:
 
 
 def search(start: Sizes, judge: Judge, wanted: Any, limit: float) -> Found:
-    """The sizes with the least sum whose value is as wanted. After so many seconds it gives some that are enough.
+    """The sizes with the least sum whose value is as wanted. After `limit` seconds it gives some that are enough.
 
     If no sizes are enough, it gives the last ones that it has found, and their value.
     """

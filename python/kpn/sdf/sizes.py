@@ -31,7 +31,7 @@ class Sizes(NamedTuple):
 
 class Pareto(NamedTuple):
     """The least sums of capacities for each throughput, with the smallest first. If it is not `exact`, the time was up
-    before the points behind the last one were found. `most` is the largest throughput that there is."""
+    before the points after the last one were found. `most` is the largest throughput that there is."""
 
     points: List[Sizes]
     most: Rate

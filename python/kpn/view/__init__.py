@@ -144,7 +144,7 @@ def process_of(process: Process) -> Dict[str, Any]:
 # ---- the picture
 
 def layout_of(found: Description, with_graphviz: bool = True) -> Dict[str, Any]:
-    """Where the boxes and the channels stand. Behind the instances come the outside ends of sources and sinks."""
+    """Where the boxes and the channels stand. After the instances come the outside ends of sources and sinks."""
     groups, group_of = groups_of([(name, entry.process) for name, entry in found.instances])
     names = [within(name, groups, group) for (name, _), group in zip(found.instances, group_of)]
     sizes = [(min(MOST, max(LEAST, 24 + LETTER * len(name))), HIGH) for name in names]

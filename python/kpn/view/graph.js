@@ -13,7 +13,7 @@ function svg(name, attributes = {}, ...children) {
   return element;
 }
 
-// A text of at most so many letters.
+// A text of at most this many letters.
 const short = (text, most) => text.length <= most ? text : text.slice(0, most - 1) + '\u2026';
 
 // The middle of a curve of 1 + 3 n points.

@@ -263,7 +263,7 @@ class Model {
     return tick >= this.length ? this.count : countBelow(this.count + 1, k => this.reached[k], tick + 1) - 1;
   }
   end(axis) { return axis === 'event' ? this.count : this.length; }
-  // How far a picture goes: behind the last tick there is room for the waits that never end.
+  // How far a picture goes: after the last tick there is room for the waits that never end.
   span(axis) { return axis === 'event' ? this.count : this.length + Math.max(1, Math.ceil(this.length / 50)); }
 
   // ---- the slices of a process in time: from where to where, what it does, and the event

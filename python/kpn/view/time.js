@@ -7,7 +7,7 @@ const COLOURS = ['chain', 'select', 'text', 'soft', 'line', 'row', 'back', 'pane
 const KEY = [['get', 'get'], ['put', 'put'], ['empty', 'waits for an item'], ['full', 'waits for room'],
   ['ready', 'ready'], ['done', 'ended'], ['fault', 'ended by a fault'], ['chain', 'chain that binds the length']];
 
-// A step of 1, 2 or 5 and zeros, of which about so many make a length.
+// A step of 1, 2 or 5 and zeros, of which about `parts` make a length.
 function stepOf(length, parts) {
   const rough = Math.max(1, length / parts), ten = 10 ** Math.floor(Math.log10(rough));
   return [1, 2, 5, 10].map(it => it * ten).find(it => it >= rough);

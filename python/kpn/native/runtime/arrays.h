@@ -17,7 +17,7 @@ struct kpn_run;
    refused. */
 struct kpn_run *kpn_arrays_begin(const struct kpn_array *sources, uint64_t take);
 
-/* Runs on until so many commits were made in all. Gives the outcome of kpn.h, KPN_STOPPED if there is none yet, and 0
+/* Runs on until this many commits were made in all. Gives the outcome of kpn.h, KPN_STOPPED if there is none yet, and 0
    if memory was refused. */
 uint32_t kpn_arrays_go(struct kpn_run *run, uint64_t most);
 
@@ -44,11 +44,11 @@ uint32_t kpn_live_feed(struct kpn_live *live, size_t source, const int64_t *item
 void kpn_live_close(struct kpn_live *live, size_t source);
 void kpn_live_leave(struct kpn_live *live, size_t sink);
 
-/* Goes on for so many commits, or until no process is ready; gives the outcome so far, 0 while a process is ready. */
+/* Goes on for this many commits, or until no process is ready; gives the outcome so far, 0 while a process is ready. */
 enum { KPN_LIVE_LACKS_MEMORY = 42 };
 uint32_t kpn_live_go(struct kpn_live *live, uint64_t commits);
 
-/* How many items have come to a sink and were not read; whether no more come; reads so many of them. */
+/* How many items have come to a sink and were not read; whether no more come; reads this many of them. */
 size_t kpn_live_came(const struct kpn_live *live, size_t sink);
 uint32_t kpn_live_is_complete(const struct kpn_live *live, size_t channel);
 void kpn_live_read(struct kpn_live *live, size_t sink, int64_t *items, size_t count);

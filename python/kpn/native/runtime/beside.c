@@ -12,7 +12,7 @@
 
 #include "judge.h"
 
-/* So many items are kept of an end before the other side is waited for. What it tells has so many bytes at most. */
+/* This many items are kept of an end before the other side is waited for. What it tells has this many bytes at most. */
 enum { MOST_KEPT = 65536, MOST_TOLD = 1048576, WORD = 320 };
 
 /* Items that one side has and the other has not yet. */

@@ -33,7 +33,7 @@ static bool is_given(const struct kpn_run *run, size_t given, struct kpn_compare
   return (found.same == found.length && (is_cut || given == found.length)) || (found.same == given && is_enough);
 }
 
-/* Reads what `kpn audit` says behind its first line. */
+/* Reads what `kpn audit` says after its first line. */
 static bool are_all_given(FILE *from, const struct kpn_run *run, bool *is_exact, const char **wrong) {
   char word[64];
   bool is_there = true;

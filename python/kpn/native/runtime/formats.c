@@ -129,7 +129,7 @@ char *kpn_write_sample(struct kpn_format format, char *to, int64_t item) {
 
 /* ---- heads of WAV files */
 
-/* A head has so many bytes and chunks at most. The places in a chunk `fmt `, and what it has to say: whole numbers, or
+/* The most bytes and chunks of a head. The places in a chunk `fmt `, and what it has to say: whole numbers, or
    by 16 bytes that kind. */
 enum { MOST_HEAD = 1048576, MOST_CHUNKS = 1000, START = 12, CHUNK = 8, LONG_KIND = 40, SHORT_KIND = 16 };
 static const char WHOLE_KIND[16] = {1, 0, 0, 0, 0, 0, 16, 0, (char)0x80, 0, 0, (char)0xaa, 0, 0x38, (char)0x9b, 0x71};
@@ -169,7 +169,7 @@ static enum kpn_head read_start(struct kpn_wav *wav, const char *bytes, size_t *
 }
 
 /* What the chunk `data` says, which begins at `at`. By a size of 0 there are no samples if the file says where it ends,
-   and that is behind this chunk. */
+   and that is after this chunk. */
 static enum kpn_head read_data(struct kpn_wav *wav, uint32_t size, size_t *used) {
   bool is_empty = size == 0 && wav->at < wav->size && wav->size < KPN_UNCOUNTED;
   if (!wav->has_sample) {

@@ -33,7 +33,7 @@ int64_t kpn_nearest_item(struct kpn_format format, int64_t item);
 /* Writes the sample of such an item, and gives where it ends. */
 char *kpn_write_sample(struct kpn_format format, char *to, int64_t item);
 
-/* From a size of so many bytes on, a chunk `data` has what comes; that is what a written head says. */
+/* From a size of this many bytes on, a chunk `data` has what comes; that is what a written head says. */
 #define KPN_UNCOUNTED UINT32_C(0x7fffe000)
 
 /* The head of a WAV file as far as it was read. */
@@ -47,14 +47,14 @@ struct kpn_wav {
   uint64_t left;           /* the bytes of samples that are left, or a large number if nobody has counted them */
 };
 
-/* What the bytes behind the head that was read tell. */
+/* What the bytes after the head that was read tell. */
 enum kpn_head { KPN_HEAD_OPEN, KPN_HEAD_BAD, KPN_HEAD_WHOLE };
 
 /* Reads on in a head, and tells how many bytes were used. A bad place is in `bad`. */
 enum kpn_head kpn_read_head(struct kpn_wav *wav, enum kpn_sample *sample, const char *bytes, size_t length,
                             size_t *used);
 
-/* Whether these bytes are all that stands behind the last sample: none that is counted; or, where nobody has counted,
+/* Whether these bytes are all that stands after the last sample: none that is counted; or, where nobody has counted,
    none but a byte 0 that fills up an odd number of bytes. */
 bool kpn_is_wav_end(const struct kpn_wav *wav, struct kpn_format format, const char *bytes, size_t length);
 

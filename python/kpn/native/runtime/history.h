@@ -43,7 +43,7 @@ static inline bool kpn_history_add(struct kpn_history *history, enum kpn_event_k
   return kpn_history_add_slowly(history, event);
 }
 
-/* A place in a history, and what is added behind it is dropped. Nothing is known of events that were not kept. */
+/* A place in a history, and what is added after it is dropped. Nothing is known of events that were not kept. */
 struct kpn_history_mark {
   struct kpn_piece *last;
   size_t used;

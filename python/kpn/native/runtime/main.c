@@ -37,7 +37,7 @@ static bool asks_for_help(int count, char **words) {
   return false;
 }
 
-/* Runs the network as the words behind the command ask for. */
+/* Runs the network as the words after the command ask for. */
 static int run_words(struct kpn_run *run, const struct kpn_plan *plan, bool is_stream, int count, char **words) {
   if (!kpn_read_words(&run->words, is_stream, count, words)) {
     return KPN_USAGE;

@@ -50,7 +50,7 @@ enum {
   KPN_FUEL = 16384,       /* the most turns of loops in a turn of a process */
   KPN_MOST_ITEMS = 4096,  /* the most items that a turn of a process gets from a channel, or puts there */
   KPN_LEAST_VECTORS = 16, /* the least periods of a loop without checks */
-  KPN_LATE = 1024         /* after so many turns waits become events, also while a process is ready */
+  KPN_LATE = 1024         /* after this many turns waits become events, also while a process is ready */
 };
 
 enum kpn_kind { KPN_CHANNEL, KPN_SOURCE, KPN_SINK };
@@ -160,7 +160,7 @@ struct kpn_process_plan {
 
 /* Lock step: what follows one more item of each source, in phases that recur (lock_text.py). The tables have, for each
    phase and in the order of numbers: the rows at which processes wait, the channels on which they do, and the unread
-   items; and what was done from the first phase on, also behind the last one: laps of processes, gets from channels. */
+   items; and what was done from the first phase on, also after the last one: laps of processes, gets from channels. */
 struct kpn_lock_plan {
   bool (*step)(struct kpn_network *network, unsigned phase); /* false: it can't be made, and nothing was changed */
   const uint16_t *rows, *waits, *unread;
@@ -208,7 +208,7 @@ struct kpn_network {
   int64_t *variables;
   struct kpn_region *regions;
   struct kpn_lock lock;
-  uint16_t *queue, *stalled;   /* who is ready, in a ring, where regions are behind processes; whose waits are to become
+  uint16_t *queue, *stalled;   /* who is ready, in a ring, where regions come after processes; whose waits are to become
                                   events */
   size_t first_ready, ready_count, stalled_count, still_count; /* still: waiting or over */
   size_t turns;                /* since waits became events */
@@ -229,7 +229,7 @@ KPN_OF_TURN size_t kpn_unread(const struct kpn_channel *channel) {
   return count < KPN_MOST_ITEMS ? count : KPN_MOST_ITEMS;
 }
 
-/* How many items a turn may put. Nobody reads behind a reader that has ended: there the ring is written round and
+/* How many items a turn may put. Nobody reads after the reader has ended: then the ring is written round and
    round. */
 KPN_INLINE size_t kpn_room_now(const struct kpn_channel *channel) {
   if (channel->is_shut) {
@@ -428,7 +428,7 @@ void *kpn_make_network(struct kpn_network *network, const struct kpn_plan *plan)
 /* Begins: each process is ready, the sources are open, all rings are empty. The arrays have the sizes of the plan. */
 void kpn_begin(struct kpn_network *network);
 
-/* Gives a channel a larger ring, for at least so many items. */
+/* Gives a channel a larger ring, for at least this many items. */
 bool kpn_reserve(struct kpn_network *network, unsigned channel, size_t items);
 
 /* Gives each channel its first ring. A sink that is taken from at once has room for more than its capacity. */

@@ -61,7 +61,7 @@ struct kpn_run {
 /* Whether all words are UTF-8 text. If not it says so. */
 bool kpn_are_texts(int count, char **words);
 
-/* Reads the words behind the command. If they are wrong it says so and gives false. */
+/* Reads the words after the command. If they are wrong it says so and gives false. */
 bool kpn_read_words(struct kpn_words *words, bool is_stream, int count, char **given);
 
 /* Finds the channels of the ends of a kind. If a name is wrong it says so and gives false. */
@@ -92,7 +92,7 @@ bool kpn_begin_run(struct kpn_run *run);
 /* Begins a run that is fed while it goes on. */
 bool kpn_begin_live(struct kpn_run *run);
 
-/* Runs on until so many commits were made in all. Gives the outcome; KPN_GOING if memory was refused. */
+/* Runs on until this many commits were made in all. Gives the outcome; KPN_GOING if memory was refused. */
 unsigned kpn_run_on(struct kpn_run *run, uint64_t most);
 
 /* Frees what lies between the sources and the sinks. */

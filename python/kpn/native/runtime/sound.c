@@ -28,7 +28,7 @@ static unsigned only_source(const struct stream *stream) {
   return found;
 }
 
-/* The samples a second of a sink, if so many come from a source; 0 if the rates of the network are not known. */
+/* The samples a second of a sink, if `rate` come from a source; 0 if the rates of the network are not known. */
 static uint64_t rate_at(const struct stream *stream, unsigned sink, unsigned source, uint64_t rate) {
   const uint32_t *periods = plan_of(stream)->periods;
   if (!periods || !periods[sink] || !periods[source]) {

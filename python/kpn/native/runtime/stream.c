@@ -8,8 +8,8 @@
 
 #include "stream.h"
 
-/* So many commits are made until the inputs are looked at again, also while processes are ready; and so many at the end
-   of an input that is wrong. A process that never talks makes as many in some milliseconds. */
+/* This many commits are made until the inputs are looked at again, also while processes are ready; and this many at the
+   end of an input that is wrong. A process that never talks makes as many in some milliseconds. */
 enum { SLICE = 4096, LAST_SLICE = 1048576 };
 
 static const struct kpn_plan *plan_of(const struct stream *stream) {
@@ -30,7 +30,7 @@ static void note_most(struct stream *stream) {
   }
 }
 
-/* Goes on until so many commits were made in all, or none is ready; for --stats it looks behind each turn. */
+/* Goes on until this many commits were made in all, or none is ready; for --stats it takes a look after each turn. */
 static void go_on(struct stream *stream, uint64_t most) {
   struct kpn_network *network = &stream->run->network;
   do {
@@ -111,7 +111,7 @@ static void close_source(struct stream *stream, unsigned c) {
   kpn_close(&stream->run->network, c);
 }
 
-/* What stands behind the items of an input: its end, which closes the source, or what is wrong. */
+/* What stands after the items of an input: its end, which closes the source, or what is wrong. */
 static void look_behind_items(struct stream *stream, unsigned c, enum kpn_input_state state) {
   char line[64];
   if (state == KPN_BAD_ITEM) {
@@ -132,7 +132,7 @@ static void look_behind_items(struct stream *stream, unsigned c, enum kpn_input_
   }
 }
 
-/* Feeds the items whose bytes are there. What stands behind them is looked at only if there are none, since perhaps
+/* Feeds the items whose bytes are there. What stands after them is looked at only if there are none, since perhaps
    nobody will ever ask for it. False says that there was nothing to do. */
 static bool feed_what_is_there(struct stream *stream, unsigned c) {
   struct kpn_network *network = &stream->run->network;
@@ -239,7 +239,7 @@ static void serve_sources(struct stream *stream) {
   }
 }
 
-/* Looks whether the run is over behind a slice; feeds it if not. */
+/* Looks whether the run is over after a slice; feeds it if not. */
 static bool is_over(struct stream *stream, uint64_t most) {
   struct kpn_run *run = stream->run;
   unsigned source = awaited_source(stream, 0);
@@ -263,7 +263,7 @@ static bool is_over(struct stream *stream, uint64_t most) {
 }
 
 /* Goes on until there is an outcome, or a device has failed or gone. What came before a wrong item is computed. Where
-   processes never rest, what has come goes out behind each slice. */
+   processes never rest, what has come goes out after each slice. */
 static void go(struct stream *stream) {
   struct kpn_network *network = &stream->run->network;
   uint64_t most = stream->run->words.has_most_commits ? stream->run->words.most_commits : UINT64_MAX;

@@ -9,7 +9,7 @@
 #include <string.h>
 #include "kpn.h"
 
-/* Numbers have 8 bits behind the point. */
+/* Numbers have 8 bits after the point. */
 static const char cascade[] =
     "process fork(in i; out o, p) { while 1 { read i x; write o x; write p x; } }\n"
     "process delay(in i; out o) { write o 0; while 1 { read i x; write o x; } }\n"

@@ -24,14 +24,14 @@ def chain(stream):
 
 
 def louder(stream, volumes, block):
-    """A stream at a volume that changes after each block of so many items: 256 is as loud as before."""
+    """A stream at a volume that changes after each block of `block` items: 256 is as loud as before."""
     stream, volume = parts.control(stream, volumes, block)
     return parts.saturate(parts.scale(parts.multiply(stream, volume), 256), -32_768, 32_767)
 
 
 def build(channels=1, block=0):
     """The chains of the channels of the source `x`, with the sink `y`. If there is a block, the source `volume` has an
-    item for each block of so many samples of a channel."""
+    item for each block of this many samples of a channel."""
     net = kpn.Network()
     sounds = [chain(it) for it in parts.deal(net.source('x'), channels)]
     if block:

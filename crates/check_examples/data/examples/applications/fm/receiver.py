@@ -21,7 +21,7 @@ def low_pass(count, cutoff):
 
 def build(block=0):
     """The receiver of the source `iq`, with the sink `sound`. If there is a block, the source `tune` has an item for each
-    block of so many complex samples: the frequency by which they are moved up first, times 2^32 / FS."""
+    block of this many complex samples: the frequency by which they are moved up first, times 2^32 / FS."""
     net = kpn.Network()
     re, im = parts.deal(net.source('iq'), 2)
     if block:

@@ -53,7 +53,7 @@ SYMBOLS = kpn.Process.from_text(f'''
 
 
 def codes_of(counts, symbols):
-    """The codes of symbols, of which so many have 1, 2, .. 16 bits."""
+    """The codes of symbols, by how many of them have 1, 2, .. 16 bits."""
     lengths = [length for length, count in enumerate(counts, 1) for _ in range(count)]
     return canonical_codes(dict(zip(symbols, lengths)))
 
