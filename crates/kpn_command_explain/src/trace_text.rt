@@ -142,7 +142,12 @@ pub(crate) fn sentence(
     requires { k < length trace.now.events }
 {
     let mut said = format!(in alloc; "event {k}: ")?;
-    push_event(&mut said, document, trace.version, trace.events.as_slice()[k])?;
+    push_event(
+        &mut said,
+        document,
+        trace.version,
+        trace.events.as_slice()[k],
+    )?;
     said.push_str("; but ")?;
     push_scene(&mut said, document, scene)?;
     write!(said, " [illegal at {k}]\n")?;

@@ -180,14 +180,7 @@ impl ProcessRow {
     }
 
     // A wait from behind the latest tick to before this one, if something of it is shown.
-    fn push_wait(
-        self,
-        text: &mut String,
-        kind: &str,
-        what: &str,
-        name: &str,
-        tick: usize,
-    ) -> Pushed
+    fn push_wait(self, text: &mut String, kind: &str, what: &str, name: &str, tick: usize) -> Pushed
         requires drawable { IsDrawable self.scale }
         requires row { self.p < 2 ^ 16 }
         requires fits { self.latest + 1 < 2 ^ 64 }
@@ -220,14 +213,7 @@ impl ProcessRow {
     }
 
     // A get or put, if it is shown.
-    fn push_item(
-        self,
-        text: &mut String,
-        word: &str,
-        name: &str,
-        item: i64,
-        tick: usize,
-    ) -> Pushed
+    fn push_item(self, text: &mut String, word: &str, name: &str, item: i64, tick: usize) -> Pushed
         requires drawable { IsDrawable self.scale }
         requires row { self.p < 2 ^ 16 }
         ensures { Adds result text.old text.new
@@ -245,7 +231,12 @@ impl ProcessRow {
             (growth_mark self.scale self.p self.latest name.now) }
     {
         if self.scale.front <= self.latest && self.latest <= self.scale.back {
-            push_growth_text(text, self.scale.place_of(self.latest), row_of(self.p) + 1, name)
+            push_growth_text(
+                text,
+                self.scale.place_of(self.latest),
+                row_of(self.p) + 1,
+                name,
+            )
         } else {
             Ok(())
         }
@@ -307,14 +298,7 @@ impl Bar {
     }
 
     // A get or put in this tick.
-    fn push_item(
-        self,
-        text: &mut String,
-        word: &str,
-        name: &str,
-        item: i64,
-        tick: usize,
-    ) -> Pushed
+    fn push_item(self, text: &mut String, word: &str, name: &str, item: i64, tick: usize) -> Pushed
         requires { self.x + self.row + self.wide < 2 ^ 32 }
         ensures { Adds result text.old text.new
             (shown_box word.now self (item_title word.now name.now item tick) name.now) }
