@@ -27,15 +27,15 @@ scene_before-requires c =
     (is_illegal t c.network.result.now c.args.trace.now c.args.steps c.in_ok-finding.finding c.in-NotLegal.flaw
     c.in-Illegal.k c.network.ensures c.in_ok-finding.ensures.found c.in-NotLegal.is c.in-Illegal.is)
 
-pub sentence-said-requires : goal.sentence-said-requires
-sentence-said-requires c =
+pub sentence-requires : goal.sentence-requires
+sentence-requires c =
     let t = c.args.document.now.tables in
     event_there t c.args.trace.now c.args.steps c.in-Illegal.k
     (is_illegal t c.network.result.now c.args.trace.now c.args.steps c.in_ok-finding.finding c.in-NotLegal.flaw
     c.in-Illegal.k c.network.ensures c.in_ok-finding.ensures.found c.in-NotLegal.is c.in-Illegal.is)
 
-pub illegal_text-text-requires : goal.illegal_text-text-requires
-illegal_text-text-requires c =
+pub illegal_text-requires : goal.illegal_text-requires
+illegal_text-requires c =
     let t = c.args.document.now.tables in
     event_there t c.args.trace.now c.args.steps c.in-Illegal.k
     (is_illegal t c.network.result.now c.args.trace.now c.args.steps c.in_ok-finding.finding c.in-NotLegal.flaw
