@@ -5,7 +5,7 @@ use Rattle.kpn_book.specs.declared.outcome.Limits.{Limits}
 use Rattle.kpn_command_stream.specs.Ending.{IsOver}
 use Rattle.kpn_command_stream.specs.Command.{IsTraceKept, summary_with, with_end, without_end}
 use Rattle.kpn_command_stream.proofs.Ended.{is_true, made_told, none_lost, nothing_failed}
-use Rattle.kpn_command_stream.proofs.concluding.AskedStream.conclude.Goals as goal
+use Rattle.kpn_command_stream.proofs.running.AskedStream.conclude.Goals as goal
 
 pub returns-in-Ok : goal.returns-in-Ok
 returns-in-Ok g c =

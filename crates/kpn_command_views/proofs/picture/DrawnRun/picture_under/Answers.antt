@@ -6,7 +6,7 @@ use Rattle.kpn_net.specs.declared.tables.Policy.TheVariants.{Cycles}
 use Rattle.kpn_net.specs.declared.tables.Growth.TheVariants as growth
 use Rattle.kpn_command_views.specs.PictureText.{picture_size}
 use Rattle.kpn_command_views.specs.PictureAnswers.{IsPicture, IsNoPicture}
-use Rattle.kpn_command_views.proofs.svg_command.DrawnRun.picture_under.Goals as goal
+use Rattle.kpn_command_views.proofs.picture.DrawnRun.picture_under.Goals as goal
 
 pub returns-in_ok-plain-in-One-clause-ok : goal.returns-in_ok-plain-in-One-clause-ok
 returns-in_ok-plain-in-One-clause-ok c =

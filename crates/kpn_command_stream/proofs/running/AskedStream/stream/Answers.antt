@@ -2,7 +2,7 @@
 use Rattle.std.proofs.Common.{List, subst}
 use Rattle.kpn_command_stream.specs.Command.{IsStreamConcluded}
 use Rattle.kpn_command_stream.specs.declared.running.Lost.{Lost}
-use Rattle.kpn_command_stream.proofs.command.AskedStream.stream.Goals as goal
+use Rattle.kpn_command_stream.proofs.running.AskedStream.stream.Goals as goal
 
 pub returns-clause-streamed : goal.returns-clause-streamed
 returns-clause-streamed g c =

@@ -3,7 +3,7 @@ use Rattle.std.proofs.Common.{◌≡◌, Bool, false, rules, sym, subst}
 use Rattle.std.specs.String.{string_bytes}
 use Rattle.kpn_command_stream.specs.Command.{IsSummaryMade, summary_with}
 use Rattle.kpn_command_stream.proofs.Ended.{text_told}
-use Rattle.kpn_command_stream.proofs.concluding.AskedStream.tell_summary.Goals as goal
+use Rattle.kpn_command_stream.proofs.running.AskedStream.tell_summary.Goals as goal
 
 pub returns : goal.returns
 returns g c = λ yes.
