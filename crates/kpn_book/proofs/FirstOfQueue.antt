@@ -178,6 +178,16 @@ handles_write o reserved a p d v s sink but asks made = record {
 
 -- ---- its turn
 
+-- the first process of the queue, p, has made its steps to this stop, before it is committed there
+pub record FirstHasStepped (quota p : ℕ) (b o : Book) (s : Stop) : Type 0 where
+  pub holds : HoldsFirst p b.schedule (first_held p b.schedule)
+  pub held : IsKept (first_claimed p o)
+  pub kept : IsKept o
+  pub in_vain : s ≢ stop.Paused → StepsUncommitted quota b o
+  pub fits : (sink : Option ℕ) (a : Book) → HandlesFirst p s sink (first_claimed p o) a → a.commits + 1 < 2 ^ 64
+  pub turn : (sink : Option ℕ) (a : Book) → HandlesFirst p s sink (first_claimed p o) a → IsSchedule a.schedule
+      → IsTurn quota sink b (with_one_commit a)
+
 module _ (quota p : ℕ) (b : Book) (kept : IsKept b) (holds : HoldsFirst p b.schedule (first_held p b.schedule))
     (more : b.commits + held_count b + 1 < 2 ^ 64) (s : Machine) (x : Advanced)
     (own : IsOwnAdvance (first_claimed p b) p x) (advance : IsAdvance x) (within : IsWithinQuota quota x)
@@ -198,14 +208,14 @@ module _ (quota p : ℕ) (b : Book) (kept : IsKept b) (holds : HoldsFirst p b.sc
   kept_was : IsKept was
   kept_was = kept_first b kept p holds more
 
-  pub first_kept : IsKept stepped
+  first_kept : IsKept stepped
   first_kept = stepped_kept quota p b was x claimed_was kept_was own advance within stepped is_stepped
 
   pub first_sound : IsSound stepped
   first_sound = record { in_step = first_kept.in_step; nothing_owed = first_kept.nothing_owed }
 
   -- if memory has run out, it is not held
-  pub kept_in_vain : IsKept (moved b s b.schedule)
+  kept_in_vain : IsKept (moved b s b.schedule)
   kept_in_vain =
       let there = holds.there in
       let long = kept.in_step.processes in
@@ -213,7 +223,7 @@ module _ (quota p : ℕ) (b : Book) (kept : IsKept b) (holds : HoldsFirst p b.sc
       (kept_moved b kept p (omega (arith, there, long)) x advance (record { program = own.program; from = own.from }))
 
   -- and stays the first
-  pub turn_in_vain : x.stop ≢ stop.Paused → slice_get b.schedule.queue 0 ≡ Some p
+  turn_in_vain : x.stop ≢ stop.Paused → slice_get b.schedule.queue 0 ≡ Some p
       → StepsUncommitted quota b (moved b s b.schedule)
   turn_in_vain wants first = record {
     process = p;
@@ -235,7 +245,7 @@ module _ (quota p : ℕ) (b : Book) (kept : IsKept b) (holds : HoldsFirst p b.sc
         held_reserved x.stop stepped h.reserved h.but p
         (stepped_held quota p b was x claimed_was kept_was own advance within stepped is_stepped)
 
-    pub turn_fits : a.commits + 1 < 2 ^ 64
+    turn_fits : a.commits + 1 < 2 ^ 64
     turn_fits =
         fits_after h.reserved a p (λ z. z ≡ x.stop) x.stop h.answered.answer refl kept_then held_then
         h.answered.answered
@@ -288,7 +298,7 @@ module _ (quota p : ℕ) (b : Book) (kept : IsKept b) (holds : HoldsFirst p b.sc
         let one = held_more b.schedule.states p holds.there (ap is_held holds.was_ready) in
         omega (arith, released, same, one)
 
-    pub turn_made : IsBook b → IsSchedule (with_one_commit a).schedule → IsTurn quota sink b (with_one_commit a)
+    turn_made : IsBook b → IsSchedule (with_one_commit a).schedule → IsTurn quota sink b (with_one_commit a)
     turn_made book schedule = record {
       step = record {
         was = book;
@@ -304,6 +314,22 @@ module _ (quota p : ℕ) (b : Book) (kept : IsKept b) (holds : HoldsFirst p b.sc
       kept = turn_kept;
       commits = turn_commits;
       held = turn_held;
+    }
+
+pub first_has_stepped : (quota p : ℕ) (b : Book) → IsBook b → slice_get b.schedule.queue 0 ≡ Some p
+    → b.commits + held_count b + 1 < 2 ^ 64 → (s : Machine) (x : Advanced) → IsOwnAdvance (first_claimed p b) p x
+    → IsAdvance x → IsWithinQuota quota x → s ≡ with_frame p x.to b.machine
+    → FirstHasStepped quota p b (moved b s b.schedule) x.stop
+first_has_stepped quota p b book first more s x own advance within after =
+    let holds = holds_first b.schedule book.schedule p first in
+    record {
+      holds = holds;
+      held = first_kept quota p b book.kept holds more s x own advance within after;
+      kept = kept_in_vain quota p b book.kept holds more s x own advance within after;
+      in_vain = λ wants. turn_in_vain quota p b book.kept holds more s x own advance within after wants first;
+      fits = turn_fits quota p b book.kept holds more s x own advance within after;
+      turn = λ sink a h schedule.
+          turn_made quota p b book.kept holds more s x own advance within after sink a h book schedule;
     }
 
 -- ---- turns in a row

@@ -77,7 +77,8 @@ impl<'n, A: Allocator> Book<'n, A> {
             return Ok(());
         }
         self.parts.history.reserve(2)?;
-        self.parts.close(source);
+        self.parts.machine.close(network, source);
+        self.parts.history.push(Event::Close(number(source)));
         let _grown = self.parts.grow_at_stop();
         Ok(())
     }
@@ -101,9 +102,11 @@ impl<'n, A: Allocator> Book<'n, A> {
             return Ok(None);
         }
         self.parts.history.reserve(2)?;
-        let item = self.parts.take(sink);
+        let got = self.parts.machine.take(network, sink);
+        self.parts.history.push(Event::Take(number(sink), got.item));
+        wake(&mut self.parts.schedule, got.woken);
         let _grown = self.parts.grow_at_stop();
-        Ok(Some(item))
+        Ok(Some(got.item))
     }
 
     /// Leaves a sink: the outside takes nothing from it any more, and it is never full. A second call changes nothing
@@ -122,7 +125,9 @@ impl<'n, A: Allocator> Book<'n, A> {
             return Ok(());
         }
         self.parts.history.reserve(2)?;
-        self.parts.leave(sink);
+        let woken = self.parts.machine.leave(network, sink);
+        self.parts.history.push(Event::Leave(number(sink)));
+        wake(&mut self.parts.schedule, woken);
         let _grown = self.parts.grow_at_stop();
         Ok(())
     }

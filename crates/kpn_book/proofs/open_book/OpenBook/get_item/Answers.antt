@@ -1,9 +1,10 @@
-use Rattle.std.proofs.Common.{refl, ap, ◌∙◌, arith, w64, SFits, to_z, of_z, rules}
+use Rattle.std.proofs.Common.{◌≡◌, false, refl, sym, ap, ◌∙◌, arith, w64, SFits, to_z, of_z, rules}
 use Rattle.std.proofs.lemmas.Int.{to_z-of_z}
 use Rattle.std.specs.Option.{option_to_list}
 use Rattle.kpn_history.specs.declared.event.Event.TheVariants as event
 use Rattle.kpn_machine.proofs.Ports.{reads_below}
 use Rattle.kpn_machine.proofs.Due.{Legal-due}
+use Rattle.kpn_machine.proofs.Exact.{gets_or_waits}
 use Rattle.kpn_book.specs.Schedule.{made_ready}
 use Rattle.kpn_book.specs.Appending.{all_made_ready}
 use Rattle.kpn_book.specs.Open.{book_of, held_by}
@@ -11,6 +12,25 @@ use Rattle.kpn_book.proofs.Following.{own_held, held_is_there, held_is_free, may
 use Rattle.kpn_book.proofs.Answering.{answered_got}
 use Rattle.kpn_book.proofs.FirstOfQueue.{held_so}
 use Rattle.kpn_book.proofs.open_book.OpenBook.get_item.Goals as goal
+
+pub has_item-requires : goal.has_item-requires
+has_item-requires g c =
+    let o = held_by c.args.hold c.args.p (book_of c.args.self.now) in
+    let held = held_so c.args.hold c.args.p (book_of c.args.self.now) c.requires.may.held in
+    let there = held_is_there o c.requires.may.sound.in_step c.args.p held in
+    let below = reads_below o.tables c.known.ensures o.machine c.args.p there c.args.c c.requires.reads in
+    let long = c.requires.may.sound.in_step.run.shape.channels in
+    omega (arith, below, long)
+
+pub returns-then-not-has_item-clause-empty : goal.returns-then-not-has_item-clause-empty
+returns-then-not-has_item-clause-empty g c =
+    let o = held_by c.args.hold c.args.p (book_of c.args.self.now) in
+    let held = held_so c.args.hold c.args.p (book_of c.args.self.now) c.requires.may.held in
+    let step = c.requires.may.sound.in_step in
+    let no : c.has_item.result ≡ false = search rules in
+    gets_or_waits o.tables c.known.ensures o.history o.machine step.run c.args.p c.args.c
+    (held_is_there o step c.args.p held) (held_is_free o step c.args.p held) c.requires.reads
+    (sym c.has_item.ensures ∙ no)
 
 pub get-got-requires-clause-process : goal.get-got-requires-clause-process
 get-got-requires-clause-process g c =
@@ -38,8 +58,8 @@ number-requires-2 g c =
     channel_fits o.tables c.known.ensures c.args.c
     (reads_below o.tables c.known.ensures o.machine c.args.p there c.args.c c.requires.reads)
 
-pub returns : goal.returns
-returns g c =
+pub returns-clause-gets : goal.returns-clause-gets
+returns-clause-gets g c =
     let o = held_by c.args.hold c.args.p (book_of c.args.self.now) in
     let held = held_so c.args.hold c.args.p (book_of c.args.self.now) c.requires.may.held in
     let e = event.Get c.args.p c.args.c c.get-got.result.item in

@@ -1,6 +1,7 @@
-use Rattle.std.proofs.Common.{refl, ap, subst, ◌∙◌, arith, w64, SFits, to_z, of_z, rules}
+use Rattle.std.proofs.Common.{◌≡◌, true, false, IsTrue, refl, ap, subst, ◌∙◌, arith, w64, SFits, to_z, of_z, rules}
 use Rattle.std.proofs.lemmas.Int.{to_z-of_z}
 use Rattle.std.specs.Option.{option_to_list}
+use Rattle.kpn_chan.specs.Channel.{is_channel_full}
 use Rattle.kpn_history.specs.declared.event.Event.TheVariants as event
 use Rattle.kpn_machine.specs.Changes.{Changes}
 use Rattle.kpn_machine.proofs.Ports.{writes_below}
@@ -12,6 +13,21 @@ use Rattle.kpn_book.proofs.Following.{own_held, held_is_there, held_is_free, may
 use Rattle.kpn_book.proofs.Answering.{answered_put}
 use Rattle.kpn_book.proofs.FirstOfQueue.{held_so}
 use Rattle.kpn_book.proofs.open_book.OpenBook.put_item.Goals as goal
+
+pub channel-requires : goal.channel-requires
+channel-requires g c =
+    let o = held_by c.args.hold c.args.p (book_of c.args.self.now) in
+    let held = held_so c.args.hold c.args.p (book_of c.args.self.now) c.requires.may.held in
+    let there = held_is_there o c.requires.may.sound.in_step c.args.p held in
+    let below =
+    writes_below o.tables c.known.ensures o.machine c.args.p there c.args.c c.args.item c.requires.writes in
+    let long = c.requires.may.sound.in_step.run.shape.channels in
+    omega (arith, below, long)
+
+pub returns-then-not-is_open-clause-full : goal.returns-then-not-is_open-clause-full
+returns-then-not-is_open-clause-full g c =
+    let no : c.is_open.result ≡ false = search rules in
+    subst (λ x. IsTrue x.is_reserved → is_channel_full x ≡ true) c.channel.ensures (c.is_open.ensures.full no)
 
 pub put-woken-requires-clause-process : goal.put-woken-requires-clause-process
 put-woken-requires-clause-process g c =
@@ -39,8 +55,8 @@ number-requires-2 g c =
     channel_fits o.tables c.known.ensures c.args.c
     (writes_below o.tables c.known.ensures o.machine c.args.p there c.args.c c.args.item c.requires.writes)
 
-pub returns : goal.returns
-returns g c =
+pub returns-clause-puts : goal.returns-clause-puts
+returns-clause-puts g c =
     let o = held_by c.args.hold c.args.p (book_of c.args.self.now) in
     let held = held_so c.args.hold c.args.p (book_of c.args.self.now) c.requires.may.held in
     let e = event.Put c.args.p c.args.c c.args.item in
@@ -48,7 +64,8 @@ returns g c =
     let there = held_is_there o step c.args.p held in
     let below =
     writes_below o.tables c.known.ensures o.machine c.args.p there c.args.c c.args.item c.requires.writes in
-    let ready = c.requires.ready in
+    let can : c.is_open.result ≡ true = search rules in
+    let ready = subst (λ x. is_channel_full x ≡ false) c.channel.ensures (c.is_open.ensures.open can).1 in
     let fits : SFits w64 c.args.item = search rules in
     let item = to_z w64 (of_z w64 c.args.item) in
     let woken = option_to_list c.put-woken.result in
