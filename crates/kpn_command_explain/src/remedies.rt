@@ -29,7 +29,7 @@ fn without_parentheses(habit: Habit) -> &'static [u8] {
         Habit::Calls =>
             b"There are no functions: `(x < 0 ? -x : x)` is abs(x), and `(x < y ? x : y)` is min(x, y).",
         Habit::Constant =>
-            b"There are no constants: `table n = 5;` in front of all processes is one for all, read as `n[0]`.",
+            b"Declare it behind `;`, `{` or `}`, from numbers and constants: `const n = 5;`.",
         other => usual(other),
     }
 }

@@ -2,6 +2,7 @@
 //! proof of the function is the proof of the law.
 
 ghost use Rattle.kpn_text.specs.CanonicalLaws.{
+  DescriptionIsPlain,
   DescriptionIsRead,
   LanguageIsTold,
   ProcessIsRead,
@@ -25,9 +26,10 @@ pub fn process_is_read()
     ensures { ProcessIsRead }
 {}
 
-/// The tokens of a printed description are its spelling.
+/// The tokens of a printed description are its spelling, which has no short form.
 pub fn description_is_read()
-    ensures { DescriptionIsRead }
+    ensures read { DescriptionIsRead }
+    ensures plain { DescriptionIsPlain }
 {}
 
 /// A printed description is of the language in which it is printed.

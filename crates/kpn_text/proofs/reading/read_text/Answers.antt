@@ -4,6 +4,7 @@ use Rattle.std.proofs.lemmas.Result.{err_from_is_err_and}
 use Rattle.kpn_text_grammar.specs.View as grammar
 use Rattle.kpn_text_names.specs.View.{named_seen}
 use Rattle.kpn_text.specs.Document.{Document}
+use Rattle.kpn_text.specs.Making.{TokensFail}
 use Rattle.kpn_text.specs.Spells.{SpellsDocument}
 use Rattle.kpn_text.proofs.Refusals.{made_spelled, names_refused, network_refused, phases, tokens_refused, tree_refused}
 use Rattle.kpn_text.proofs.reading.read_text.Goals as goal
@@ -13,8 +14,8 @@ returns-in_err-tokens c =
     let p = err_from_is_err_and c.from_residual.result c.from_residual.ensures.1 in
     let told = c.language_of-language.ensures in
     rw (p.1)
-    (tokens_refused c.args.text.now c.language_of-language.result told c.in_err-tokens.field-0.0 p.0
-    c.in_err-tokens.ensures p.2)
+    (tokens_refused c.args.text.now c.language_of-language.result told p.0
+    (subst (λ f. TokensFail c.language_of-language.result c.args.text.now f) (sym p.2) c.in_err-tokens.ensures))
 
 pub returns-in_err-tree : goal.returns-in_err-tree
 returns-in_err-tree c =

@@ -1,0 +1,4 @@
+-- The lemmas. Other crates may cite the public ones.
+mod Steps
+pub mod Plain
+pub mod Spelled
