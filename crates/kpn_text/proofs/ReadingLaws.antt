@@ -20,7 +20,6 @@ use Rattle.kpn_text_tokens.specs.Lexing.{lexemes_of, scan}
 use Rattle.kpn_text_tokens.specs.Opening.{language_of}
 use Rattle.kpn_text_tokens.proofs.TokenLaws.{short_text}
 use Rattle.kpn_text_expand.specs.Expanding.{expanded}
-use Rattle.kpn_text_expand.specs.declared.fault.ExpandFault.{ExpandFault}
 use Rattle.kpn_text_grammar.specs.declared.fault.GrammarFault.{GrammarFault}
 use Rattle.kpn_text_grammar.specs.Syntax.{Description}
 use Rattle.kpn_text_grammar.specs.Spelling.{IsDescription, kinds}
@@ -33,7 +32,7 @@ use Rattle.kpn_text.specs.Spells.{SpellsDocument, IsOfSomeText}
 use Rattle.kpn_text_names.specs.NetworkNames.{AreNamed}
 use Rattle.kpn_text.specs.Phases.{Cause, in_tokens, in_constants, in_grammar, in_names, phase, unless, meant_in, programs_cause, program_or, network_cause, or_cause, tables_cause, document_in, document_of}
 use Rattle.kpn_text_tokens.specs.Results.{and_then}
-use Rattle.kpn_text_names.proofs.Chains.{ok_is, then_ok}
+use Rattle.kpn_text_names.proofs.Chains.{ok_is, then_ok, went}
 use Rattle.kpn_text_names.proofs.Counts.{are_named, resolved_each}
 use Rattle.kpn_text.proofs.Parameters.{AreCounted, resolved_has}
 use Rattle.kpn_text.proofs.TokenPhases.{phase_ok, phase_err, meant_right}
@@ -67,27 +66,28 @@ pub are_tokens : (l : Language) (text : List ℕ) (ls : List Lexeme) → lexemes
     → tokens_of l text ≡ Some (kinds ls)
 are_tokens l text ls e = tokens_by l text ls (nat_lt MAX_TEXT_BYTES (length text)) e
 
+-- what a chain of phases that gave something was made of
+phase_step : {A D E : Type 0} {C : Type 0} (cause : E → Cause) (r : Result A E) (k : A → Result D Cause) (x : D)
+    → and_then (phase cause r) k ≡ Ok x → ((a : A) → r ≡ Ok a → k a ≡ Ok x → C) → C
+unfolding and_then
+phase_step cause (Ok a) k x e go = go a refl e
+phase_step cause (Err f) k x e go = absurd cc
+
+phase_is : {A E : Type 0} (cause : E → Cause) (r : Result A E) (x : A) → phase cause r ≡ Ok x → r ≡ Ok x
+phase_is cause (Ok a) x e = ap Ok (ok_is a x e)
+phase_is cause (Err f) x e = absurd cc
+
 -- the tokens that a text stands for, and what they were read as
 record IsMeant (l : Language) (text : List ℕ) (ms : List Lexeme) : Type 0 where
   read : List Lexeme
   reads : lexemes_of l text ≡ Ok read
   stands : expanded l (length text) read ≡ Ok ms
 
-stood_for : (l : Language) (text : List ℕ) (ls ms : List Lexeme) (r : Result (List Lexeme) ExpandFault)
-    → lexemes_of l text ≡ Ok ls → expanded l (length text) ls ≡ r → phase in_constants r ≡ Ok ms → IsMeant l text ms
-stood_for l text ls ms (Ok found) e is same =
-    record { read = ls; reads = e; stands = is ∙ ap Ok (ok_is found ms same) }
-stood_for l text ls ms (Err fault) e is same = absurd cc
-
-meant_by : (l : Language) (text : List ℕ) (ms : List Lexeme) (r : Result (List Lexeme) LexFault) → lexemes_of l text ≡ r
-    → and_then (phase in_tokens r) (λ ls. phase in_constants (expanded l (length text) ls)) ≡ Ok ms → IsMeant l text ms
-unfolding and_then
-meant_by l text ms (Ok ls) is e = stood_for l text ls ms (expanded l (length text) ls) is refl e
-meant_by l text ms (Err fault) is e = absurd cc
-
 is_meant : (l : Language) (text : List ℕ) (ms : List Lexeme) → meant_in l text ≡ Ok ms → IsMeant l text ms
 unfolding meant_in
-is_meant l text ms e = meant_by l text ms (lexemes_of l text) refl e
+is_meant l text ms e =
+    phase_step in_tokens (lexemes_of l text) _ ms e (λ ls reads f.
+    record { read = ls; reads = reads; stands = phase_is in_constants (expanded l (length text) ls) ms f })
 
 -- ---- tables
 
@@ -225,19 +225,6 @@ tables_keep t e all =
     let h = tables_by (programs_cause 0 t.programs) (network_cause (net.first_network_fault t)) e in
     record { programs = programs_are 0 t.programs h.0 all; sound = network_by (net.first_network_fault t) h.1 }
 
--- what a chain of phases that gave something was made of
-phase_step : {A D E : Type 0} {C : Type 0} (cause : E → Cause) (r : Result A E) (k : A → Result D Cause) (x : D)
-    → and_then (phase cause r) k ≡ Ok x → ((a : A) → r ≡ Ok a → k a ≡ Ok x → C) → C
-unfolding and_then
-phase_step cause (Ok a) k x e go = go a refl e
-phase_step cause (Err f) k x e go = absurd cc
-
-went_on : {A D : Type 0} {C : Type 0} (r : Result A Cause) (k : A → Result D Cause) (x : D) → and_then r k ≡ Ok x
-    → ((a : A) → r ≡ Ok a → k a ≡ Ok x → C) → C
-unfolding and_then
-went_on (Ok a) k x e go = go a refl e
-went_on (Err f) k x e go = absurd cc
-
 last_step : {D : Type 0} (c : Option Cause) (made x : D) → unless c made ≡ Ok x → (c ≡ None) × (made ≡ x)
 last_step None made x e = (refl, ok_is made x e)
 last_step (Some cause) made x e = absurd cc
@@ -246,13 +233,13 @@ pub reads_spelled : (text : List ℕ) (d : Document) → document_of text ≡ Ok
 unfolding document_in
 reads_spelled text d e =
     let l : Language = language_of text in
-    went_on (meant_in l text) _ d e (λ ls tokens f.
-    phase_step in_grammar (description_of l (length text) ls) _ d f (λ tree grammar g.
+    let meant = went (meant_in l text) _ d e in
+    phase_step in_grammar (description_of l (length text) meant.value) _ d meant.rest (λ tree grammar g.
     phase_step in_names (resolve l tree) _ d g (λ n names h.
     let last = last_step (tables_cause n.tables) (document_named l n) d h in
     subst (λ (x : Document). SpellsDocument text x) last.1
-    (read_spelled text ls tree n (record { tokens = tokens; grammar = grammar; names = names })
-    (tables_keep n.tables last.0 (resolved_has l tree n names))))))
+    (read_spelled text meant.value tree n (record { tokens = meant.first; grammar = grammar; names = names })
+    (tables_keep n.tables last.0 (resolved_has l tree n names)))))
 
 -- ---- what is known of a document that some text spells
 

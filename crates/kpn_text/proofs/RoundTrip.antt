@@ -24,7 +24,7 @@ use Rattle.kpn_text_names.specs.Named.{Programs, programs_of, Named, named_with,
 use Rattle.kpn_text_names.specs.Shared.{shared_of}
 use Rattle.kpn_text_names.specs.declared.tables.SharedTables.{SharedTables}
 use Rattle.kpn_text_names.specs.declared.network_names.NetworkNames.{NetworkNames}
-use Rattle.kpn_text.specs.CanonicalLaws.{DescriptionIsPlain, DescriptionIsRead, LanguageIsTold, ReadDescriptionsAreProper}
+use Rattle.kpn_text.specs.CanonicalLaws.{DescriptionIsRead, LanguageIsTold, ReadDescriptionsAreProper}
 use Rattle.kpn_text.specs.Named.{growth_named, limit_named, policy_named, description_named}
 use Rattle.kpn_text.specs.Proper.{IsProperTable, IsProperDeclaration, IsProperProcess, IsProperLimit, IsProperItem, IsProper}
 use Rattle.kpn_text.specs.Text.{description_text}
@@ -35,6 +35,7 @@ use Rattle.kpn_text.specs.Again.{PrintedTextSpells}
 use Rattle.kpn_text_names.proofs.Chains.{ok_is, went, then_ok}
 use Rattle.kpn_text_expand.specs.Plain.{ArePlain}
 use Rattle.kpn_text_expand.proofs.Plain.{plain_kept}
+use Rattle.kpn_text_expand.proofs.PlainSpelling.{spelling_plain}
 use Rattle.kpn_text.proofs.ReadingLaws.{has_lexemes}
 use Rattle.kpn_text.proofs.KeptNames.{names_back}
 use Rattle.kpn_text.proofs.NamedItems.{items_back, literals_proper}
@@ -269,25 +270,23 @@ spelled_kept flat limits text d s =
     kept flat limits d.language s.tree s.named s.spelled.within s.resolved
     (subst (λ (e : Document). IsNetwork e.tables) (sym s.is) s.keeps)
 
-pub printed_spells : BlocksAreTheTree → LimitsAreInRange → CanonicalSpells → DescriptionIsRead → DescriptionIsPlain
-    → LanguageIsTold
+pub printed_spells : BlocksAreTheTree → LimitsAreInRange → CanonicalSpells → DescriptionIsRead → LanguageIsTold
     → ReadDescriptionsAreProper → PrintedTextSpells
-printed_spells flat limits spells is_read is_plain is_told are_proper d h short =
+printed_spells flat limits spells is_read is_told are_proper d h short =
     let l : Language = d.language in
     let s = h.1 in
     let k = spelled_kept flat limits h.0 d s in
     let same : description_text l (printed s.named) ≡ canonical_text d =
     ap (λ (e : Document). description_text l (description_named e.names e.tables)) s.is in
-    let is : IsProper l (printed s.named) = proper h.0 d s are_proper k in
     let found = has_lexemes l (canonical_text d) (spell_description l (printed s.named)) short
-    (ap (λ t. tokens_of l t) (sym same) ∙ is_read l (printed s.named) is) in
+    (ap (λ t. tokens_of l t) (sym same) ∙ is_read l (printed s.named) (proper h.0 d s are_proper k)) in
     record {
       language = ap (λ t. language_of t) (sym same) ∙ is_told l (printed s.named);
       read = found.lexemes;
       reads = found.found;
       tokens = found.lexemes;
       stands = plain_kept l (length (canonical_text d)) found.lexemes
-          (subst (λ ts. ArePlain ts) found.are (is_plain l (printed s.named) is));
+          (subst ArePlain found.are (spelling_plain l (printed s.named)));
       tree = printed s.named;
       spelled = subst (λ ts. IsDescription l ts (printed s.named)) found.are (printed_fits spells h.0 d s k);
       named = s.named;

@@ -14,50 +14,50 @@ use Rattle.kpn_text.proofs.TokenLemmas.{IsReadAs, name_read, mark_read, keyword_
 use Rattle.kpn_text.proofs.TermLemmas.{whole_read}
 
 -- a line's end
-pub end_read : {l : Language} {Q : Type 0} (more : List ℕ) (tokens : List Token) → IsReadAs l Q more tokens
-    → IsReadAs l Q (codes ";\n" ++ more) (token.Mark mark.Semicolon ∷ tokens)
+pub end_read : {l : Language} (more : List ℕ) (tokens : List Token) → IsReadAs l more tokens
+    → IsReadAs l (codes ";\n" ++ more) (token.Mark mark.Semicolon ∷ tokens)
 end_read more tokens h = mark_read mark.Semicolon (codes "\n" ++ more) tokens refl tt (line_feed_read more tokens h)
 
 -- an expression up to the end of its line
-pub last_term_read : {l : Language} {Q : Type 0} (e : ExpressionNode) (more : List ℕ) (tokens : List Token) → IsProperTerm l e
-    → IsReadAs l Q more tokens
-    → IsReadAs l Q (whole_text l e (codes ";\n" ++ more)) (spell_expression l e (token.Mark mark.Semicolon ∷ tokens))
+pub last_term_read : {l : Language} (e : ExpressionNode) (more : List ℕ) (tokens : List Token) → IsProperTerm l e
+    → IsReadAs l more tokens
+    → IsReadAs l (whole_text l e (codes ";\n" ++ more)) (spell_expression l e (token.Mark mark.Semicolon ∷ tokens))
 last_term_read e more tokens is h = whole_read e _ _ is refl (end_read more tokens h)
 
 -- the brace that opens a block
-pub open_read : {l : Language} {Q : Type 0} (more : List ℕ) (tokens : List Token) → IsReadAs l Q more tokens
-    → IsReadAs l Q (codes " {\n" ++ more) (token.Mark mark.LeftBrace ∷ tokens)
+pub open_read : {l : Language} (more : List ℕ) (tokens : List Token) → IsReadAs l more tokens
+    → IsReadAs l (codes " {\n" ++ more) (token.Mark mark.LeftBrace ∷ tokens)
 open_read more tokens h =
     space_read _ _ (mark_read mark.LeftBrace (codes "\n" ++ more) tokens refl tt (line_feed_read more tokens h))
 
 -- the brace that closes one
-pub close_read : {l : Language} {Q : Type 0} (level : ℕ) (more : List ℕ) (tokens : List Token) → IsReadAs l Q more tokens
-    → IsReadAs l Q (indented level (codes "}\n" ++ more)) (token.Mark mark.RightBrace ∷ tokens)
+pub close_read : {l : Language} (level : ℕ) (more : List ℕ) (tokens : List Token) → IsReadAs l more tokens
+    → IsReadAs l (indented level (codes "}\n" ++ more)) (token.Mark mark.RightBrace ∷ tokens)
 close_read level more tokens h =
     indent_read level _ _ (mark_read mark.RightBrace (codes "\n" ++ more) tokens refl tt (line_feed_read more tokens h))
 
 -- the braces of a second block, and what is between them
-braces_read : {l : Language} {Q : Type 0} (level : ℕ) (inside : List ℕ → List ℕ) (spell : List Token → List Token)
+braces_read : {l : Language} (level : ℕ) (inside : List ℕ → List ℕ) (spell : List Token → List Token)
     (more : List ℕ) (tokens : List Token)
-    → ((rest : List ℕ) (others : List Token) → IsReadAs l Q rest others → IsReadAs l Q (inside rest) (spell others))
-    → IsReadAs l Q more tokens
-    → IsReadAs l Q (indented level (codes "} else {\n" ++ inside (indented level (codes "}\n" ++ more))))
+    → ((rest : List ℕ) (others : List Token) → IsReadAs l rest others → IsReadAs l (inside rest) (spell others))
+    → IsReadAs l more tokens
+    → IsReadAs l (indented level (codes "} else {\n" ++ inside (indented level (codes "}\n" ++ more))))
     (token.Mark mark.RightBrace ∷ token.Keyword keyword.Else ∷ token.Mark mark.LeftBrace
     ∷ spell (token.Mark mark.RightBrace ∷ tokens))
 braces_read level inside spell more tokens inner h =
     let body = inner (indented level (codes "}\n" ++ more)) _ (close_read level more tokens h) in
     indent_read level _ _ (mark_read mark.RightBrace
     (codes " else {\n" ++ inside (indented level (codes "}\n" ++ more))) _ refl tt
-    (space_read _ _ (keyword_read keyword.Else refl (codes " {\n" ++ inside (indented level (codes "}\n" ++ more))) _ refl
+    (space_read _ _ (keyword_read keyword.Else (codes " {\n" ++ inside (indented level (codes "}\n" ++ more))) _ refl
     refl (open_read _ _ body))))
 
 -- the second block of an `if`, behind the brace of the first one
-else_read : (l : Language) {Q : Type 0} (level : ℕ) (b : Statements) (inside branch : List ℕ → List ℕ)
+else_read : (l : Language) (level : ℕ) (b : Statements) (inside branch : List ℕ → List ℕ)
     (spell : List Token → List Token) (more : List ℕ) (tokens : List Token)
-    → ((rest : List ℕ) (others : List Token) → IsReadAs l Q rest others → IsReadAs l Q (inside rest) (spell others))
-    → ((rest : List ℕ) (others : List Token) → IsReadAs l Q rest others → IsReadAs l Q (branch rest) (spell others))
-    → IsReadAs l Q more tokens
-    → IsReadAs l Q (otherwise_text l level b inside branch more)
+    → ((rest : List ℕ) (others : List Token) → IsReadAs l rest others → IsReadAs l (inside rest) (spell others))
+    → ((rest : List ℕ) (others : List Token) → IsReadAs l rest others → IsReadAs l (branch rest) (spell others))
+    → IsReadAs l more tokens
+    → IsReadAs l (otherwise_text l level b inside branch more)
     (token.Mark mark.RightBrace ∷ spell_else l b spell tokens)
 else_read language.One level b inside branch spell more tokens inner first h =
     braces_read level inside spell more tokens inner h
@@ -65,7 +65,7 @@ else_read language.Two level no_statements inside branch spell more tokens inner
     close_read level more tokens h
 else_read language.Two level (statement (choice e a b) no_statements) inside branch spell more tokens inner first h =
     indent_read level _ _ (mark_read mark.RightBrace (codes " else " ++ branch more) _ refl tt
-    (space_read _ _ (keyword_read keyword.Else refl (codes " " ++ branch more) _ refl refl
+    (space_read _ _ (keyword_read keyword.Else (codes " " ++ branch more) _ refl refl
     (space_read _ _ (first more tokens h)))))
 else_read language.Two level (statement (choice e a b) (statement s ss)) inside branch spell more tokens inner first h =
     braces_read level inside spell more tokens inner h
@@ -81,9 +81,9 @@ else_read language.Two level (statement (loop e b) ss) inside branch spell more 
     braces_read level inside spell more tokens inner h
 
 mutual
-  pub statement_read : {l : Language} {Q : Type 0} (level : ℕ) (s : StatementNode) (more : List ℕ) (tokens : List Token)
+  pub statement_read : {l : Language} (level : ℕ) (s : StatementNode) (more : List ℕ) (tokens : List Token)
       → IsProperStatement l s
-      → IsReadAs l Q more tokens → IsReadAs l Q (statement_text l level s more) (spell_statement l s tokens)
+      → IsReadAs l more tokens → IsReadAs l (statement_text l level s more) (spell_statement l s tokens)
   statement_read {l} level (assign x e) more tokens is h =
       let value = last_term_read e more tokens is.1 h in
       let sign =
@@ -102,12 +102,12 @@ mutual
   statement_read level (receive i x) more tokens is h =
       let target = name_read x (codes ";\n" ++ more) _ is.1 refl (end_read more tokens h) in
       let port = name_read i (codes " " ++ (x ++ (codes ";\n" ++ more))) _ is.0 refl (space_read _ _ target) in
-      keyword_read keyword.Read refl (codes " " ++ (i ++ (codes " " ++ (x ++ (codes ";\n" ++ more))))) _ refl refl
+      keyword_read keyword.Read (codes " " ++ (i ++ (codes " " ++ (x ++ (codes ";\n" ++ more))))) _ refl refl
       (space_read _ _ port)
   statement_read {l} level (send o e) more tokens is h =
       let value = last_term_read e more tokens is.1 h in
       let port = name_read o (codes " " ++ whole_text l e (codes ";\n" ++ more)) _ is.0 refl (space_read _ _ value) in
-      keyword_read keyword.Write refl (codes " " ++ (o ++ (codes " " ++ whole_text l e (codes ";\n" ++ more)))) _ refl refl
+      keyword_read keyword.Write (codes " " ++ (o ++ (codes " " ++ whole_text l e (codes ";\n" ++ more)))) _ refl refl
       (space_read _ _ port)
   statement_read {l} level (choice e a b) more tokens is h =
       let second =
@@ -117,23 +117,23 @@ mutual
       (λ rest others k. unindented_read level b rest others is.2 k) h in
       let first = statements_read (suc level) a _ _ is.1 second in
       let test = whole_read e _ _ is.0 refl (open_read _ _ first) in
-      keyword_read keyword.If refl _ _ refl refl (space_read _ _ test)
+      keyword_read keyword.If _ _ refl refl (space_read _ _ test)
   statement_read level (loop e b) more tokens is h =
       let body = statements_read (suc level) b _ _ is.1 (close_read level more tokens h) in
       let test = whole_read e _ _ is.0 refl (open_read _ _ body) in
-      keyword_read keyword.While refl _ _ refl refl (space_read _ _ test)
+      keyword_read keyword.While _ _ refl refl (space_read _ _ test)
 
-  pub statements_read : {l : Language} {Q : Type 0} (level : ℕ) (ss : Statements) (more : List ℕ) (tokens : List Token)
+  pub statements_read : {l : Language} (level : ℕ) (ss : Statements) (more : List ℕ) (tokens : List Token)
       → AreProper l ss
-      → IsReadAs l Q more tokens → IsReadAs l Q (statements_text l level ss more) (spell_statements l ss tokens)
+      → IsReadAs l more tokens → IsReadAs l (statements_text l level ss more) (spell_statements l ss tokens)
   statements_read level no_statements more tokens is h = h
   statements_read level (statement s ss) more tokens is h =
       indent_read level _ _
       (statement_read level s _ _ is.0 (statements_read level ss more tokens is.1 h))
 
-  unindented_read : {l : Language} {Q : Type 0} (level : ℕ) (ss : Statements) (more : List ℕ) (tokens : List Token)
+  unindented_read : {l : Language} (level : ℕ) (ss : Statements) (more : List ℕ) (tokens : List Token)
       → AreProper l ss
-      → IsReadAs l Q more tokens → IsReadAs l Q (unindented_text l level ss more) (spell_statements l ss tokens)
+      → IsReadAs l more tokens → IsReadAs l (unindented_text l level ss more) (spell_statements l ss tokens)
   unindented_read level no_statements more tokens is h = h
   unindented_read level (statement s ss) more tokens is h =
       statement_read level s _ _ is.0 (statements_read level ss more tokens is.1 h)

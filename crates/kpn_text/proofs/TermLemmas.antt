@@ -51,9 +51,9 @@ operator_ends l operator.Shl more = tt
 operator_ends l operator.Shr more = tt
 
 -- an operator with a space on each side
-operator_read : {l : Language} {Q : Type 0} (op : Op) (more : List ℕ) (tokens : List Token) → has_mark l (operator_mark op) ≡ true
-    → IsReadAs l Q more tokens
-    → IsReadAs l Q (codes " " ++ (mark_bytes (operator_mark op) ++ (codes " " ++ more)))
+operator_read : {l : Language} (op : Op) (more : List ℕ) (tokens : List Token) → has_mark l (operator_mark op) ≡ true
+    → IsReadAs l more tokens
+    → IsReadAs l (codes " " ++ (mark_bytes (operator_mark op) ++ (codes " " ++ more)))
     (token.Mark (operator_mark op) ∷ tokens)
 operator_read {l} op more tokens has h =
     space_read (mark_bytes (operator_mark op) ++ (codes " " ++ more)) (token.Mark (operator_mark op) ∷ tokens)
@@ -101,57 +101,57 @@ term_no_equals l n (binary op a b) more is =
 term_no_equals l n (conditional e a b) more is = refl
 
 -- a text that is read as tokens, whatever follows it but a letter, a digit or `_`
-abbrev IsRead : Language → Type 0 → (List ℕ → List ℕ) → (List Token → List Token) → Type 0
-IsRead l Q text spell =
-    (more : List ℕ) (tokens : List Token) → EndsWord more → IsReadAs l Q more tokens
-    → IsReadAs l Q (text more) (spell tokens)
+abbrev IsRead : Language → (List ℕ → List ℕ) → (List Token → List Token) → Type 0
+IsRead l text spell =
+    (more : List ℕ) (tokens : List Token) → EndsWord more → IsReadAs l more tokens
+    → IsReadAs l (text more) (spell tokens)
 
-closed_read : {l : Language} {Q : Type 0} (more : List ℕ) (tokens : List Token) → IsReadAs l Q more tokens
-    → IsReadAs l Q (codes ")" ++ more) (token.Mark mark.RightParen ∷ tokens)
+closed_read : {l : Language} (more : List ℕ) (tokens : List Token) → IsReadAs l more tokens
+    → IsReadAs l (codes ")" ++ more) (token.Mark mark.RightParen ∷ tokens)
 closed_read more tokens h = mark_read mark.RightParen more tokens refl tt h
 
 -- the forms with parts
-negation_read : {l : Language} {Q : Type 0} (n : ℕ) (e : ExpressionNode) (spell : List Token → List Token) → IsProperTerm l e
-    → IsRead l Q (λ more. term_text l n e more) spell
-    → IsRead l Q (λ more. codes "!" ++ term_text l n e more) (λ tokens. token.Mark mark.Not ∷ spell tokens)
+negation_read : {l : Language} (n : ℕ) (e : ExpressionNode) (spell : List Token → List Token) → IsProperTerm l e
+    → IsRead l (λ more. term_text l n e more) spell
+    → IsRead l (λ more. codes "!" ++ term_text l n e more) (λ tokens. token.Mark mark.Not ∷ spell tokens)
 negation_read {l} n e spell is inner more tokens ends h =
     mark_read mark.Not (term_text l n e more) _ refl (term_no_equals l n e more is) (inner more tokens ends h)
 
-element_read : {l : Language} {Q : Type 0} (x : NameBytes) (text : List ℕ → List ℕ) (spell : List Token → List Token) → IsName l x
-    → HasBrackets l → IsRead l Q text spell
-    → IsRead l Q (λ more. x ++ (codes "[" ++ text (codes "]" ++ more)))
+element_read : {l : Language} (x : NameBytes) (text : List ℕ → List ℕ) (spell : List Token → List Token) → IsName l x
+    → HasBrackets l → IsRead l text spell
+    → IsRead l (λ more. x ++ (codes "[" ++ text (codes "]" ++ more)))
     (λ tokens. token.Name x ∷ token.Mark mark.LeftBracket ∷ spell (token.Mark mark.RightBracket ∷ tokens))
 element_read x text spell name has inner more tokens ends h =
     let shut = mark_read mark.RightBracket more tokens has.right tt h in
     name_read x _ _ name refl
     (mark_read mark.LeftBracket (text (codes "]" ++ more)) _ has.left tt (inner _ _ refl shut))
 
-sides_read : {l : Language} {Q : Type 0} (op : Op) (left right : List ℕ → List ℕ) (first second : List Token → List Token)
-    → has_mark l (operator_mark op) ≡ true → IsRead l Q left first → IsRead l Q right second
-    → IsRead l Q (λ more. left (codes " " ++ (mark_bytes (operator_mark op) ++ (codes " " ++ right more))))
+sides_read : {l : Language} (op : Op) (left right : List ℕ → List ℕ) (first second : List Token → List Token)
+    → has_mark l (operator_mark op) ≡ true → IsRead l left first → IsRead l right second
+    → IsRead l (λ more. left (codes " " ++ (mark_bytes (operator_mark op) ++ (codes " " ++ right more))))
     (λ tokens. first (token.Mark (operator_mark op) ∷ second tokens))
 sides_read op left right first second has a b more tokens ends h =
     a _ _ refl (operator_read op (right more) (second tokens) has (b more tokens ends h))
 
-enclosed_read : {l : Language} {Q : Type 0} (text : List ℕ → List ℕ) (spell : List Token → List Token) → IsRead l Q text spell
-    → IsRead l Q (λ more. codes "(" ++ text (codes ")" ++ more))
+enclosed_read : {l : Language} (text : List ℕ → List ℕ) (spell : List Token → List Token) → IsRead l text spell
+    → IsRead l (λ more. codes "(" ++ text (codes ")" ++ more))
     (λ tokens. token.Mark mark.LeftParen ∷ spell (token.Mark mark.RightParen ∷ tokens))
 enclosed_read text spell inner more tokens ends h =
     mark_read mark.LeftParen _ _ refl tt (inner _ _ refl (closed_read more tokens h))
 
-free_read : {l : Language} {Q : Type 0} (free : Bool) (text : List ℕ → List ℕ) (spell : List Token → List Token)
-    → IsRead l Q text spell
-    → IsRead l Q (λ more. open_text free (text (close_text free more)))
+free_read : {l : Language} (free : Bool) (text : List ℕ → List ℕ) (spell : List Token → List Token)
+    → IsRead l text spell
+    → IsRead l (λ more. open_text free (text (close_text free more)))
     (λ tokens. if free
     then spell tokens
     else (token.Mark mark.LeftParen ∷ spell (token.Mark mark.RightParen ∷ tokens)))
 free_read true text spell inner = inner
 free_read false text spell inner = enclosed_read text spell inner
 
-choice_read : {l : Language} {Q : Type 0} (test first second : List ℕ → List ℕ) (c a b : List Token → List Token)
-    → has_mark l mark.Question ≡ true → has_mark l mark.Colon ≡ true → IsRead l Q test c → IsRead l Q first a
-    → IsRead l Q second b
-    → IsRead l Q (λ more. codes "(" ++ test (codes " ? " ++ first (codes " : " ++ second (codes ")" ++ more))))
+choice_read : {l : Language} (test first second : List ℕ → List ℕ) (c a b : List Token → List Token)
+    → has_mark l mark.Question ≡ true → has_mark l mark.Colon ≡ true → IsRead l test c → IsRead l first a
+    → IsRead l second b
+    → IsRead l (λ more. codes "(" ++ test (codes " ? " ++ first (codes " : " ++ second (codes ")" ++ more))))
     (λ tokens. token.Mark mark.LeftParen ∷ c (token.Mark mark.Question ∷ a (token.Mark mark.Colon
     ∷ b (token.Mark mark.RightParen ∷ tokens))))
 choice_read test first second c a b question colon is_c is_a is_b more tokens ends h =
@@ -167,7 +167,7 @@ choice_read test first second c a b question colon is_c is_a is_b more tokens en
 
 -- in language 1
 term_read : (n : ℕ) (e : ExpressionNode) → IsProperTerm language.One e
-    → IsRead language.One Q (λ more. term_text language.One n e more) (λ tokens. spell_term e tokens)
+    → IsRead language.One (λ more. term_text language.One n e more) (λ tokens. spell_term e tokens)
 term_read n (numeral k) is more tokens ends h = number_read k more tokens is ends h
 term_read n (variable x) is more tokens ends h = name_read x more tokens is ends h
 term_read n (element x e) is more tokens ends h =
@@ -190,7 +190,7 @@ term_read n (conditional e a b) is more tokens ends h =
 
 -- in language 2
 tight_read : (n : ℕ) (e : ExpressionNode) → IsProperTerm language.Two e
-    → IsRead language.Two Q (λ more. term_text language.Two n e more) (λ tokens. spell_tight n e tokens)
+    → IsRead language.Two (λ more. term_text language.Two n e more) (λ tokens. spell_tight n e tokens)
 tight_read n (numeral k) is more tokens ends h = number_read k more tokens is ends h
 tight_read n (variable x) is more tokens ends h = name_read x more tokens is ends h
 tight_read n (element x e) is more tokens ends h =
@@ -213,11 +213,11 @@ tight_read n (conditional e a b) is more tokens ends h =
     (λ tokens. spell_tight LOOSEST b tokens) is.0 is.1 (tight_read LOOSEST e is.2) (tight_read LOOSEST a is.3)
     (tight_read LOOSEST b is.4) more tokens ends h
 
-read_in : (l : Language) {Q : Type 0} (e : ExpressionNode) (more : List ℕ) (tokens : List Token) → IsProperTerm l e → EndsWord more
-    → IsReadAs l Q more tokens → IsReadAs l Q (whole_text l e more) (spell_expression l e tokens)
+read_in : (l : Language) (e : ExpressionNode) (more : List ℕ) (tokens : List Token) → IsProperTerm l e → EndsWord more
+    → IsReadAs l more tokens → IsReadAs l (whole_text l e more) (spell_expression l e tokens)
 read_in language.One e more tokens is ends h = term_read LOOSEST e is more tokens ends h
 read_in language.Two e more tokens is ends h = tight_read LOOSEST e is more tokens ends h
 
-pub whole_read : {l : Language} {Q : Type 0} (e : ExpressionNode) (more : List ℕ) (tokens : List Token) → IsProperTerm l e → EndsWord more
-    → IsReadAs l Q more tokens → IsReadAs l Q (whole_text l e more) (spell_expression l e tokens)
+pub whole_read : {l : Language} (e : ExpressionNode) (more : List ℕ) (tokens : List Token) → IsProperTerm l e → EndsWord more
+    → IsReadAs l more tokens → IsReadAs l (whole_text l e more) (spell_expression l e tokens)
 whole_read {l} e more tokens is ends h = read_in l e more tokens is ends h

@@ -14,23 +14,21 @@ use Rattle.kpn_text_tokens.specs.Lexing.{begins_name, is_white_space}
 use Rattle.kpn_text_tokens.specs.Rules.{EndsBefore, IsName, IsSpelled, MarkEnds}
 use Rattle.kpn_text_tokens.specs.Spelling.{has_keyword, has_mark, keyword_bytes, mark_bytes}
 use Rattle.kpn_text_tokens.proofs.WithoutPlaces.{decimal_spelled, empty_text, spelled_token, white_dropped}
-use Rattle.kpn_text_expand.specs.Plain.{IsPlain, ArePlain}
 use Rattle.kpn_text.specs.CanonicalLaws.{EndsWord}
 use Rattle.kpn_text.specs.Text.{indented}
 
--- The text is read as the tokens in a language. If Q, they have no short form.
-pub record IsReadAs (l : Language) (Q : Type 0) (text : List ℕ) (tokens : List Token) : Type 0 where
+-- the text is read as the tokens in a language
+pub record IsReadAs (l : Language) (text : List ℕ) (tokens : List Token) : Type 0 where
   pub read : tokens_of l text ≡ Some tokens
-  pub plain : Q → ArePlain tokens
 
-pub nothing_read : (l : Language) {Q : Type 0} → IsReadAs l Q [] []
-nothing_read l = record { read = empty_text l; plain = λ q. tt }
+pub nothing_read : (l : Language) → IsReadAs l [] []
+nothing_read l = record { read = empty_text l }
 
 -- a token, and then what follows
-pub token_read : {l : Language} {Q : Type 0} (t : Token) → IsPlain t → (bytes more : List ℕ) (tokens : List Token) → IsSpelled l t bytes
-    → EndsBefore l t more → IsReadAs l Q more tokens → IsReadAs l Q (bytes ++ more) (t ∷ tokens)
-token_read {l} t plain bytes more tokens is ends h =
-    record { read = spelled_token l t bytes more is ends ∙ ap (λ ts. cons_token t ts) h.read; plain = λ q. (plain, h.plain q) }
+pub token_read : {l : Language} (t : Token) (bytes more : List ℕ) (tokens : List Token) → IsSpelled l t bytes
+    → EndsBefore l t more → IsReadAs l more tokens → IsReadAs l (bytes ++ more) (t ∷ tokens)
+token_read {l} t bytes more tokens is ends h =
+    record { read = spelled_token l t bytes more is ends ∙ ap (λ ts. cons_token t ts) h.read }
 
 word_ends : (l : Language) (x more : List ℕ) → EndsWord more → EndsBefore l (token.Name x) more
 word_ends l x [] h = tt
@@ -45,40 +43,40 @@ number_ends l n [] h = tt
 number_ends language.One n (b ∷ bs) h = (or_parts (begins_name b) (is_ascii_digit b) h).1
 number_ends language.Two n (b ∷ bs) h = h
 
-pub name_read : {l : Language} {Q : Type 0} (x more : List ℕ) (tokens : List Token) → IsName l x → EndsWord more
-    → IsReadAs l Q more tokens → IsReadAs l Q (x ++ more) (token.Name x ∷ tokens)
+pub name_read : {l : Language} (x more : List ℕ) (tokens : List Token) → IsName l x → EndsWord more
+    → IsReadAs l more tokens → IsReadAs l (x ++ more) (token.Name x ∷ tokens)
 name_read {l} x more tokens is ends h =
-    token_read (token.Name x) refl x more tokens (is, refl) (word_ends l x more ends) h
+    token_read (token.Name x) x more tokens (is, refl) (word_ends l x more ends) h
 
-pub number_read : {l : Language} {Q : Type 0} (n : ℕ) (more : List ℕ) (tokens : List Token) → n < 2 ^ 63 → EndsWord more
-    → IsReadAs l Q more tokens → IsReadAs l Q (decimal n ++ more) (token.Number n ∷ tokens)
+pub number_read : {l : Language} (n : ℕ) (more : List ℕ) (tokens : List Token) → n < 2 ^ 63 → EndsWord more
+    → IsReadAs l more tokens → IsReadAs l (decimal n ++ more) (token.Number n ∷ tokens)
 number_read {l} n more tokens small ends h =
-    token_read (token.Number n) refl (decimal n) more tokens (decimal_spelled l n small) (number_ends l n more ends) h
+    token_read (token.Number n) (decimal n) more tokens (decimal_spelled l n small) (number_ends l n more ends) h
 
-pub mark_read : {l : Language} {Q : Type 0} (m : Mark) (more : List ℕ) (tokens : List Token) → has_mark l m ≡ true
-    → MarkEnds l m more → IsReadAs l Q more tokens → IsReadAs l Q (mark_bytes m ++ more) (token.Mark m ∷ tokens)
-mark_read m more tokens has ends h = token_read (token.Mark m) refl (mark_bytes m) more tokens (has, refl) ends h
+pub mark_read : {l : Language} (m : Mark) (more : List ℕ) (tokens : List Token) → has_mark l m ≡ true
+    → MarkEnds l m more → IsReadAs l more tokens → IsReadAs l (mark_bytes m ++ more) (token.Mark m ∷ tokens)
+mark_read m more tokens has ends h = token_read (token.Mark m) (mark_bytes m) more tokens (has, refl) ends h
 
-pub keyword_read : {l : Language} {Q : Type 0} (k : Keyword) → IsPlain (token.Keyword k) → (more : List ℕ) (tokens : List Token) → has_keyword l k ≡ true
-    → EndsWord more → IsReadAs l Q more tokens → IsReadAs l Q (keyword_bytes k ++ more) (token.Keyword k ∷ tokens)
-keyword_read {l} k plain more tokens has ends h =
-    token_read (token.Keyword k) plain (keyword_bytes k) more tokens (has, refl) (keyword_ends l k more ends) h
+pub keyword_read : {l : Language} (k : Keyword) (more : List ℕ) (tokens : List Token) → has_keyword l k ≡ true
+    → EndsWord more → IsReadAs l more tokens → IsReadAs l (keyword_bytes k ++ more) (token.Keyword k ∷ tokens)
+keyword_read {l} k more tokens has ends h =
+    token_read (token.Keyword k) (keyword_bytes k) more tokens (has, refl) (keyword_ends l k more ends) h
 
 -- white space, and then what follows
-white_read : {l : Language} {Q : Type 0} (w : ℕ) (more : List ℕ) (tokens : List Token) → is_white_space w ≡ true
-    → IsReadAs l Q more tokens → IsReadAs l Q (w ∷ more) tokens
-white_read {l} w more tokens is h = record { read = white_dropped l w more is ∙ h.read; plain = h.plain }
+white_read : {l : Language} (w : ℕ) (more : List ℕ) (tokens : List Token) → is_white_space w ≡ true
+    → IsReadAs l more tokens → IsReadAs l (w ∷ more) tokens
+white_read {l} w more tokens is h = record { read = white_dropped l w more is ∙ h.read }
 
-pub space_read : {l : Language} {Q : Type 0} (more : List ℕ) (tokens : List Token) → IsReadAs l Q more tokens
-    → IsReadAs l Q (codes " " ++ more) tokens
+pub space_read : {l : Language} (more : List ℕ) (tokens : List Token) → IsReadAs l more tokens
+    → IsReadAs l (codes " " ++ more) tokens
 space_read more tokens h = white_read 32 more tokens refl h
 
-pub line_feed_read : {l : Language} {Q : Type 0} (more : List ℕ) (tokens : List Token) → IsReadAs l Q more tokens
-    → IsReadAs l Q (codes "\n" ++ more) tokens
+pub line_feed_read : {l : Language} (more : List ℕ) (tokens : List Token) → IsReadAs l more tokens
+    → IsReadAs l (codes "\n" ++ more) tokens
 line_feed_read more tokens h = white_read 10 more tokens refl h
 
-pub indent_read : {l : Language} {Q : Type 0} (level : ℕ) (more : List ℕ) (tokens : List Token) → IsReadAs l Q more tokens
-    → IsReadAs l Q (indented level more) tokens
+pub indent_read : {l : Language} (level : ℕ) (more : List ℕ) (tokens : List Token) → IsReadAs l more tokens
+    → IsReadAs l (indented level more) tokens
 indent_read zero more tokens h = h
 indent_read (suc level) more tokens h =
     space_read (codes " " ++ indented level more) tokens

@@ -8,7 +8,6 @@ use Rattle.kpn_text_tokens.specs.declared.tokens.Lexeme.{Lexeme}
 use Rattle.kpn_text_tokens.specs.Lexing.{begins_name, lexemes_of}
 use Rattle.kpn_text_tokens.specs.Opening.{language_of}
 use Rattle.kpn_text_expand.specs.Expanding.{expanded}
-use Rattle.kpn_text_expand.specs.Plain.{ArePlain}
 use Rattle.kpn_text_grammar.specs.Syntax.{ExpressionNode, Statements, ProcessNode, Description}
 use Rattle.kpn_text_grammar.specs.Spelling.{spell_expression, spell_statements, spell_process, spell_description, IsDescription, kinds}
 use Rattle.kpn_text.specs.Proper.{IsProperTerm, AreProper, IsProperProcess, IsProper}
@@ -42,10 +41,6 @@ ProcessIsRead =
 abbrev pub DescriptionIsRead : Type 0
 DescriptionIsRead =
     (l : Language) (d : Description) → IsProper l d → tokens_of l (description_text l d) ≡ Some (spell_description l d)
-
--- Its spelling has no short form.
-abbrev pub DescriptionIsPlain : Type 0
-DescriptionIsPlain = (l : Language) (d : Description) → IsProper l d → ArePlain (spell_description l d)
 
 -- A printed description is of the language in which it is printed.
 abbrev pub LanguageIsTold : Type 0

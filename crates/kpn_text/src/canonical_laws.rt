@@ -2,7 +2,6 @@
 //! proof of the function is the proof of the law.
 
 ghost use Rattle.kpn_text.specs.CanonicalLaws.{
-  DescriptionIsPlain,
   DescriptionIsRead,
   LanguageIsTold,
   ProcessIsRead,
@@ -26,10 +25,9 @@ pub fn process_is_read()
     ensures { ProcessIsRead }
 {}
 
-/// The tokens of a printed description are its spelling, which has no short form.
+/// The tokens of a printed description are its spelling.
 pub fn description_is_read()
-    ensures read { DescriptionIsRead }
-    ensures plain { DescriptionIsPlain }
+    ensures { DescriptionIsRead }
 {}
 
 /// A printed description is of the language in which it is printed.

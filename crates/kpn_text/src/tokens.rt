@@ -12,7 +12,11 @@ use std::alloc::Global;
 /// # Errors
 ///
 /// Those of `kpn_text_tokens::lexemes`, and then those of `kpn_text_expand::expanded`.
-pub fn meant_tokens(alloc: Global, language: Language, text: &[u8]) -> Result<Vec<Lexeme<'_>>, TextFault>
+pub fn meant_tokens(
+    alloc: Global,
+    language: Language,
+    text: &[u8],
+) -> Result<Vec<Lexeme<'_>>, TextFault>
     ensures { TokensAre language text.now result }
 {
     let tokens = lexemes(alloc, language, text)?;

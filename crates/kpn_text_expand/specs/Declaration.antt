@@ -1,6 +1,6 @@
 -- The declaration of a constant: its name, `=` and its value, in which constants are numbers already. What follows it is
 -- at the byte `stop`.
-use Rattle.std.specs.Prelude.{ℕ, ℤ, pos, Bool, true, false, nat_le, int_lt, unsigned_abs, if◌then◌else◌, List, [], ◌∷◌, Option, Some, None, Result, Ok, Err}
+use Rattle.std.specs.Prelude.{ℕ, ℤ, pos, nat_le, int_lt, unsigned_abs, if◌then◌else◌, List, [], ◌∷◌, Option, Some, None, Result, Ok, Err}
 use Rattle.std.specs.List.{find}
 use Rattle.kpn_text_tokens.specs.declared.tokens.TheConstants.{MAX_NUMBER}
 use Rattle.kpn_text_tokens.specs.declared.tokens.Language.TheVariants as language
@@ -13,6 +13,7 @@ use Rattle.kpn_text_grammar.specs.declared.fault.GrammarFault.{GrammarFault}
 use Rattle.kpn_text_grammar.specs.declared.fault.GrammarFault.TheVariants as grammar
 use Rattle.kpn_text_grammar.specs.Reading.{expression_of}
 use Rattle.kpn_text_grammar.specs.Syntax.{ExpressionNode, NameBytes}
+use Rattle.kpn_text_grammar.specs.TokenTests.{is_name}
 use Rattle.kpn_text_names.specs.Constant.{constant_value}
 use Rattle.kpn_text_expand.specs.declared.declaration.Constant.{Constant}
 use Rattle.kpn_text_expand.specs.declared.declaration.Value.{Value}
@@ -47,10 +48,6 @@ told start (Err grammar.NoMemory) = Err fault.NoMemory
 
 abbrev pub tree : (start stop : ℕ) → List Lexeme → Result ExpressionNode ExpandFault
 tree start stop ls = told start (expression_of language.Two stop ls)
-
-abbrev pub is_name : Token → Bool
-is_name (token.Name x) = true
-is_name _ = false
 
 abbrev pub unless_unknown : Option Lexeme → Result (Unit {0}) ExpandFault
 unless_unknown (Some l) = Err (fault.UnknownName l.start)

@@ -49,7 +49,7 @@ fn value_in(constants: &[Constant<'_>], name: &Name<'_>) -> Option<Value>
 }
 
 /// Adds a token and its byte.
-fn add<'a>(
+pub(crate) fn add<'a>(
     tokens: &mut Sequence<Lexeme<'a>>,
     token: Token<'a>,
     start: usize,
@@ -198,7 +198,11 @@ impl<'a> Constants<'a> {
 
     /// The tokens that are left behind the last one.
     #[tactic(auto, unfolding(kpn_text_tokens::specs::Results::and_then))]
-    pub(crate) fn finish(self, alloc: Global, end: usize) -> Result<Sequence<Lexeme<'a>>, ExpandFault>
+    pub(crate) fn finish(
+        self,
+        alloc: Global,
+        end: usize,
+    ) -> Result<Sequence<Lexeme<'a>>, ExpandFault>
         ensures { Gives (λ left. left) result (spec.finished end self.entry) }
     {
         let Constants {

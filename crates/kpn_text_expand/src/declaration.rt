@@ -1,6 +1,7 @@
 //! The declaration of a constant: its name, `=` and its value.
 
 ghost use Rattle.std.specs.Prelude.{◌≡◌};
+ghost use Rattle.kpn_text_grammar.specs.TokenTests.{is_name};
 ghost use Rattle.kpn_text_grammar.specs.View.{term};
 ghost use Rattle.kpn_text_expand.specs.Declaration as spec;
 ghost use Rattle.kpn_text_expand.specs.Results.{Gives};
@@ -80,7 +81,7 @@ fn tree<'a>(
 }
 
 fn is_name(token: &Token<'_>) -> bool
-    ensures { result ≡ spec.is_name token.now }
+    ensures { result ≡ is_name token.now }
 {
     matches!(token, Token::Name(_))
 }

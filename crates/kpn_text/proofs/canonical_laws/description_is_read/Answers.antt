@@ -2,8 +2,5 @@
 use Rattle.kpn_text.proofs.NetworkLemmas.{description_read}
 use Rattle.kpn_text.proofs.canonical_laws.description_is_read.Goals as goal
 
-pub returns-clause-read : goal.returns-clause-read
-returns-clause-read c l d is = (description_read l d is).read
-
-pub returns-clause-plain : goal.returns-clause-plain
-returns-clause-plain c l d is = (description_read l d is).plain
+pub returns : goal.returns
+returns c l d is = (description_read l d is).read
