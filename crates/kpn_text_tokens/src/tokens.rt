@@ -327,11 +327,8 @@ impl Keyword {
         ensures { result ≡ has_keyword language self }
     {
         match self {
-            Keyword::Language
-            | Keyword::Array
-            | Keyword::Table
-            | Keyword::Const
-            | Keyword::For => matches!(language, Language::Two),
+            Keyword::Language | Keyword::Array | Keyword::Table | Keyword::Const | Keyword::For =>
+                matches!(language, Language::Two),
             _ => true,
         }
     }
