@@ -15,6 +15,7 @@ use crate::remedies::remedy;
 use crate::sentences::{Case, advice, is_named, other, said};
 use crate::spots::row_of;
 use kpn_command_base::Refusal;
+use kpn_lang::Sequence;
 use kpn_text::{TextFault, meant_tokens};
 use kpn_text_tokens::{Lexeme, language_of};
 use std::alloc::{AllocError, Global};
@@ -38,13 +39,13 @@ pub(crate) fn explanation_of(
 }
 
 // The tokens that a text stands for. There are none if one of them, or a constant, has a fault.
-fn tokens_of(alloc: Global, text: &[u8]) -> Result<Vec<Lexeme<'_>>, AllocError>
-    ensures { IfOk result (λ found. found.items ≡ text_tokens text.now) }
+fn tokens_of(alloc: Global, text: &[u8]) -> Result<Sequence<Lexeme<'_>>, AllocError>
+    ensures { IfOk result (λ found. found ≡ text_tokens text.now) }
 {
     match meant_tokens(alloc, language_of(text), text) {
         Ok(tokens) => Ok(tokens),
         Err(TextFault::NoMemory) => Err(AllocError),
-        Err(_) => Ok(Vec::new(alloc)),
+        Err(_) => Ok(Sequence::new(alloc)),
     }
 }
 

@@ -1,6 +1,6 @@
 -- What the calls of reading return. Scaffolding: only contracts of private calls cite it, and read_network says what a
 -- caller needs.
-use Rattle.std.specs.Prelude.{◌≡◌, ◌⊎◌, ℕ, List, Option, Some, None, Result, Ok, Err, Vec}
+use Rattle.std.specs.Prelude.{◌≡◌, ◌⊎◌, ℕ, List, Option, Some, None, Result, Ok, Err}
 use Rattle.kpn_lang.specs.declared.program.ProgramFault.{ProgramFault}
 use Rattle.kpn_lang.specs.declared.program.ProgramFault.TheVariants as rule
 use Rattle.kpn_text_tokens.specs.declared.tokens.Language.{Language}
@@ -36,6 +36,6 @@ abbrev pub TokensFail : Language → List ℕ → TextFault → Type 0
 TokensFail l text f = (f ≡ fault.NoMemory) ⊎ ((cause : Cause) × (meant_in l text ≡ Err cause) × Tells cause f)
 
 -- the tokens that the text stands for, or a fault
-abbrev pub TokensAre : {A : Type 0} → Language → List ℕ → Result (Vec Lexeme A) TextFault → Type 0
-TokensAre l text (Ok found) = meant_in l text ≡ Ok found.items
+abbrev pub TokensAre : Language → List ℕ → Result (List Lexeme) TextFault → Type 0
+TokensAre l text (Ok found) = meant_in l text ≡ Ok found
 TokensAre l text (Err f) = TokensFail l text f

@@ -3,6 +3,7 @@
 ghost use Rattle.kpn_text.specs.Making.{TokensAre};
 
 use crate::fault::TextFault;
+use kpn_lang::Sequence;
 use kpn_text_expand::expanded;
 use kpn_text_tokens::{Language, Lexeme, lexemes};
 use std::alloc::Global;
@@ -16,7 +17,7 @@ pub fn meant_tokens(
     alloc: Global,
     language: Language,
     text: &[u8],
-) -> Result<Vec<Lexeme<'_>>, TextFault>
+) -> Result<Sequence<Lexeme<'_>>, TextFault>
     ensures { TokensAre language text.now result }
 {
     let tokens = lexemes(alloc, language, text)?;

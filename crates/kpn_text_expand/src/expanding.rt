@@ -51,11 +51,11 @@ pub fn expanded<'a>(
     language: Language,
     tokens: Vec<Lexeme<'a>>,
     end: usize,
-) -> Result<Vec<Lexeme<'a>>, ExpandFault>
-    ensures { Gives (λ found. found.items) result (spec.expanded language end tokens.entry.items) }
+) -> Result<Sequence<Lexeme<'a>>, ExpandFault>
+    ensures { Gives (λ found. found) result (spec.expanded language end tokens.entry.items) }
 {
     match language {
-        Language::One => Ok(tokens),
-        Language::Two => Ok(without_constants(alloc, tokens.as_slice(), end)?.into_vec()),
+        Language::One => Ok(Sequence::from_vec(tokens)),
+        Language::Two => without_constants(alloc, tokens.as_slice(), end),
     }
 }

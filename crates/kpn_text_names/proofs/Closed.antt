@@ -41,5 +41,6 @@ closed (conditional e f g) t h =
     t a.rest in
     let c = went (term_in nothing_known g) (λ c. Ok (Choice a.value b.value c)) t b.rest in
     subst IsClosedTerm (ok_is (Choice a.value b.value c.value) t c.rest)
-    (both (names_below 0 a.value) (names_below 0 b.value && names_below 0 c.value) (closed e a.value a.first)
-    (both (names_below 0 b.value) (names_below 0 c.value) (closed f b.value b.first) (closed g c.value c.first)))
+    (both (names_below 0 a.value && names_below 0 b.value) (names_below 0 c.value)
+    (both (names_below 0 a.value) (names_below 0 b.value) (closed e a.value a.first) (closed f b.value b.first))
+    (closed g c.value c.first))

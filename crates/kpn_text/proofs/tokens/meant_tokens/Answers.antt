@@ -17,5 +17,5 @@ returns-in_err-meant c =
 
 pub returns : goal.returns
 returns c =
-    meant_right c.args.language c.args.text.now c.in_ok-tokens.tokens.items c.in_ok-meant.meant.items
+    meant_right c.args.language c.args.text.now c.in_ok-tokens.tokens.items c.in_ok-meant.meant
     c.in_ok-tokens.ensures c.in_ok-meant.ensures
