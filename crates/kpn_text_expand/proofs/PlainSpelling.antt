@@ -11,6 +11,7 @@ use Rattle.kpn_text_tokens.specs.declared.tokens.Token.TheVariants as token
 use Rattle.kpn_text_grammar.specs.Operators.{tightness}
 use Rattle.kpn_text_grammar.specs.Syntax.{NameBytes, ExpressionNode, numeral, variable, element, minus, negation, complement, binary, conditional, StatementNode, assign, store, receive, send, choice, loop, Statements, no_statements, statement, Literal, plain, negated, Table, Declaration, array, table, ProcessNode, Item, channel, source, sink, instance, NetworkNode, Description}
 use Rattle.kpn_text_grammar.specs.Spelling.{spell_term, spell_tight, spell_expression, spell_else, spell_statement, spell_statements, spell_all, spell_further, spell_list, spell_name, spell_names, spell_literal, spell_table, spell_declaration, spell_part, spell_later_part, spell_parts, spell_process, spell_values, spell_item, spell_setting, spell_network, spell_description}
+use Rattle.kpn_text_grammar.specs.Words.{growth_word, policy_word}
 use Rattle.kpn_text_expand.specs.Plain.{IsPlain, ArePlain}
 
 -- tokens in front of others add no short form
@@ -69,7 +70,8 @@ mutual
   one l (receive i x) more h = (refl, refl, refl, refl, h)
   one l (send o e) more h = (refl, refl, expression l e _ (refl, h))
   one l (choice e a b) more h =
-      (refl, expression l e _ (refl, statements l a _ (refl, second l b (spell_statements l b) (statements l b) more h)))
+      (refl, expression l e _ (refl, statements l a _
+      (refl, second l b (spell_statements l b) (λ others k. statements l b others k) more h)))
   one l (loop e b) more h = (refl, expression l e _ (refl, statements l b _ (refl, h)))
 
   statements : (l : Language) (ss : Statements) → Adds (spell_statements l ss)
@@ -79,7 +81,7 @@ mutual
 -- ---- lists
 
 module _ {A : Type 0} (spell : A → List Token → List Token) (adds : (x : A) → Adds (spell x)) where
-  all : (xs : List A) → Adds (spell_all spell xs)
+  pub all : (xs : List A) → Adds (spell_all spell xs)
   all [] more h = h
   all (x ∷ xs) more h = adds x _ (all xs more h)
 
@@ -87,7 +89,7 @@ module _ {A : Type 0} (spell : A → List Token → List Token) (adds : (x : A) 
   further [] more h = h
   further (x ∷ xs) more h = (refl, adds x _ (further xs more h))
 
-  list : (xs : List A) → Adds (spell_list spell xs)
+  pub list : (xs : List A) → Adds (spell_list spell xs)
   list [] more h = h
   list (x ∷ xs) more h = adds x _ (further xs more h)
 
@@ -123,8 +125,8 @@ parts [] [] pars more h = part keyword.Par refl pars more h
 
 process : (l : Language) (p : ProcessNode) → Adds (spell_process l p)
 process l p more h =
-    let body = statements l p.body _ (refl, h) in
-    (refl, refl, refl, parts p.ins p.outs p.pars _ (refl, refl, all spell_declaration declaration p.declarations _ body))
+    (refl, refl, refl, parts p.ins p.outs p.pars _
+    (refl, refl, all spell_declaration declaration p.declarations _ (statements l p.body _ (refl, h))))
 
 -- ---- networks
 
@@ -137,21 +139,20 @@ item (channel c cap) more h = (refl, refl, refl, refl, refl, h)
 item (source c) more h = (refl, refl, refl, h)
 item (sink c cap) more h = (refl, refl, refl, refl, refl, h)
 item (instance i) more h =
-    let outs = names i.outs _ (values i.values _ (refl, refl, h)) in
-    (refl, refl, refl, refl, names i.ins _ (refl, outs))
+    (refl, refl, refl, refl, names i.ins _ (refl, names i.outs _ (values i.values _ (refl, refl, h))))
 
 module _ {A : Type 0} (word : Keyword) (spelled : A → Token) (is : IsPlain (token.Keyword word))
     (one : (x : A) → IsPlain (spelled x)) where
-  setting : (written : Option A) → Adds (spell_setting word spelled written)
+  pub setting : (written : Option A) → Adds (spell_setting word spelled written)
   setting None more h = h
   setting (Some x) more h = (is, one x, refl, h)
 
 network : (n : NetworkNode) → Adds (spell_network n)
 network n more h =
-    let items = all spell_item item n.items _ (refl, h) in
-    let growth = setting keyword.Grow _ refl (λ g. refl) n.growth _ items in
-    let policy = setting keyword.Policy _ refl (λ q. refl) n.policy _ growth in
-    (refl, refl, setting keyword.Limit token.Number refl (λ k. refl) n.limit _ policy)
+    (refl, refl, setting keyword.Limit token.Number refl (λ k. refl) n.limit _
+    (setting keyword.Policy (λ q. token.Name (policy_word q)) refl (λ q. refl) n.policy _
+    (setting keyword.Grow (λ g. token.Name (growth_word g)) refl (λ g. refl) n.growth _
+    (all spell_item item n.items _ (refl, h)))))
 
 contents : (l : Language) (d : Description)
     → ArePlain (spell_all spell_table d.tables (spell_all (spell_process l) d.processes (spell_network d.network [])))

@@ -10,6 +10,7 @@ use crate::fault::ExpandFault;
 use kpn_lang::Sequence;
 use kpn_text_tokens::{Keyword, Lexeme, Mark, Name, Token};
 use std::alloc::Global;
+use std::mem;
 
 /// Where the next token stands.
 #[derive(Clone, Copy)]
@@ -132,7 +133,7 @@ impl<'a> Constants<'a> {
                 self.depth = self.depth.saturating_sub(1);
                 self.place = Place::Front;
                 if self.depth == 0 {
-                    self.own = Sequence::new(alloc);
+                    drop(mem::replace(&mut self.own, Sequence::new(alloc)));
                 }
             }
             Token::Mark(Mark::Semicolon) => self.place = Place::Front,
@@ -162,7 +163,7 @@ impl<'a> Constants<'a> {
     fn add_constant(&mut self, alloc: Global, constant: Constant<'a>) -> Result<(), ExpandFault>
         ensures { Gives (λ _. self.new) result (Ok (spec.with_constant self.old constant.entry)) }
     {
-        self.declaration = Sequence::new(alloc);
+        drop(mem::replace(&mut self.declaration, Sequence::new(alloc)));
         self.place = Place::Front;
         if self.depth == 0 {
             self.shared.push(constant)?;
