@@ -16,6 +16,7 @@ use Rattle.kpn_text_expand.specs.declared.constants.Place.TheVariants as place
 use Rattle.kpn_text_expand.specs.declared.declaration.Constant.{Constant}
 use Rattle.kpn_text_expand.specs.Constants.{at_first, behind, meant, meant_as, passed, step_at, step, steps, value_in, value_of, first_of, finished, finished_at, without_constants}
 use Rattle.kpn_text_expand.specs.Expanding.{expanded}
+use Rattle.kpn_text_expand.specs.Results.{each}
 use Rattle.kpn_text_expand.specs.Plain.{IsPlain, ArePlain}
 
 -- not in a declaration
@@ -77,7 +78,7 @@ record Leaves (s : Constants) (ls : List Lexeme) : Type 0 where
   idle : IsIdle after
 
 leaves : (ls : List Lexeme) (s : Constants) → IsIdle s → ArePlain (kinds ls) → Leaves s ls
-unfolding steps and_then
+unfolding each and_then
 leaves [] s idle are = record { after = s; is = refl; left = sym (append-nil s.left); idle = idle }
 leaves (l ∷ ls) s idle are =
     let t : Constants = passed l s in

@@ -17,6 +17,7 @@ use Rattle.kpn_text_tokens.specs.Laws.{HasSpelling}
 use Rattle.kpn_text_tokens.proofs.WithoutPlaces.{decimal_spelled}
 use Rattle.kpn_text_grammar.specs.Spelling.{kinds}
 use Rattle.kpn_text_grammar.specs.Syntax.{ExpressionNode, NameBytes}
+use Rattle.kpn_text_names.specs.Constant.{constant_value}
 use Rattle.kpn_text_names.proofs.Chains.{ok_is, went}
 use Rattle.kpn_text_expand.specs.declared.constants.Constants.{Constants}
 use Rattle.kpn_text_expand.specs.declared.constants.Place.{Place}
@@ -24,9 +25,10 @@ use Rattle.kpn_text_expand.specs.declared.constants.Place.TheVariants as place
 use Rattle.kpn_text_expand.specs.declared.declaration.Constant.{Constant}
 use Rattle.kpn_text_expand.specs.declared.declaration.Value.{Value}
 use Rattle.kpn_text_expand.specs.declared.fault.ExpandFault.{ExpandFault}
-use Rattle.kpn_text_expand.specs.Declaration.{written, written_if, or_no_number, computed, tree, without_names, start_of, number, first_name, behind_assign, declared}
+use Rattle.kpn_text_expand.specs.Declaration.{written, written_if, or_no_number, computed, tree, nameless, start_of, number, first_name, behind_assign, declared}
 use Rattle.kpn_text_expand.specs.Constants.{at_first, behind, kept, passed, meant, meant_as, value_in, value_of, first_of, value_tokens, with_constant, with_declaration, step_at, step, steps, finished_at, finished, without_constants}
 use Rattle.kpn_text_expand.specs.Expanding.{expanded}
+use Rattle.kpn_text_expand.specs.Results.{each}
 
 abbrev CanBe : Token → Type 0
 CanBe = HasSpelling language.Two
@@ -63,9 +65,11 @@ number_small start None v small e = absurd cc
 read_small : (stop : ℕ) (ls : List Lexeme) (v : Value) → number stop ls ≡ Ok v → v.size < 2 ^ 63
 unfolding number
 read_small stop ls v e =
-    let a = went (without_names ls) _ v e in
-    let b = went (tree (start_of stop ls) stop ls) _ v a.rest in
-    number_small (start_of stop ls) _ v (if_small _) b.rest
+    let a = went (nameless ls) _ v e in
+    let start = start_of stop a.value in
+    let b = went (tree start stop a.value) (computed start) v a.rest in
+    let found = constant_value b.value in
+    number_small start (written_if found) v (if_small found) b.rest
 
 declared_small : (stop : ℕ) (ls : List Lexeme) (c : Constant) → declared stop ls ≡ Ok c → IsSmall c
 unfolding declared
@@ -180,7 +184,7 @@ step_sound place.Declaration (token.Number n) l s t is can e = keeps l s t is e
 step_sound place.Declaration (token.Keyword k) l s t is can e = keeps l s t is e
 
 steps_sound : (ls : List Lexeme) (s t : Constants) → IsSound s → Spelled ls → steps s ls ≡ Ok t → IsSound t
-unfolding steps
+unfolding each
 steps_sound [] s t is spelled e = subst IsSound (ok_is s t e) is
 steps_sound (l ∷ ls) s t is spelled e =
     let u = went (step s l) (λ u. steps u ls) t e in

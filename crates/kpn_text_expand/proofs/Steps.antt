@@ -4,11 +4,9 @@ use Rattle.std.proofs.Math.Seq.{drop-cons}
 use Rattle.std.proofs.lemmas.List.{drop_all}
 use Rattle.kpn_text_tokens.specs.declared.tokens.Lexeme.{Lexeme}
 use Rattle.kpn_text_tokens.specs.Results.{and_then}
-use Rattle.kpn_text_expand.specs.declared.constants.Constants.{Constants}
 use Rattle.kpn_text_expand.specs.declared.fault.ExpandFault.{ExpandFault}
 use Rattle.kpn_text_expand.specs.declared.fault.ExpandFault.TheVariants as fault
-use Rattle.kpn_text_expand.specs.Constants.{step, steps}
-use Rattle.kpn_text_expand.specs.Results.{Fails}
+use Rattle.kpn_text_expand.specs.Results.{Fails, each}
 
 -- a step that failed decides
 fails_first : {A B : Type 0} (e : ExpandFault) (r : Result A ExpandFault) (f : A → Result B ExpandFault) → Fails e r
@@ -19,18 +17,18 @@ fails_first (fault.Grammar at) r f h = rw h refl
 fails_first (fault.Token at) r f h = rw h refl
 fails_first (fault.UnknownName at) r f h = rw h refl
 
-module _ (s : Constants) (xs : List Lexeme) (i : ℕ) where
-  pub ends : length xs ≤ i → steps s (drop i xs) ≡ Ok s
-  unfolding steps
+module _ {S : Type 0} (step : S → Lexeme → Result S ExpandFault) (s : S) (xs : List Lexeme) (i : ℕ) where
+  pub ends : length xs ≤ i → each step s (drop i xs) ≡ Ok s
+  unfolding each
   ends h = rw (drop_all i xs h) refl
 
-  pub goes : (d x : Lexeme) (t : Constants) → i < length xs → get_or xs i d ≡ x → step s x ≡ Ok t
-      → steps s (drop i xs) ≡ steps t (drop (i + 1) xs)
-  unfolding steps and_then
+  pub goes : (d x : Lexeme) (t : S) → i < length xs → get_or xs i d ≡ x → step s x ≡ Ok t
+      → each step s (drop i xs) ≡ each step t (drop (i + 1) xs)
+  unfolding each and_then
   goes d x t h is e = rw (add-one, drop-cons xs i d h, is, e) refl
 
   pub fails : (d x : Lexeme) (e : ExpandFault) → i < length xs → get_or xs i d ≡ x → Fails e (step s x)
-      → Fails e (steps s (drop i xs))
-  unfolding steps
+      → Fails e (each step s (drop i xs))
+  unfolding each
   fails d x e h is w =
-      rw (drop-cons xs i d h, is) (fails_first e (step s x) (λ t. steps t (drop (suc i) xs)) w)
+      rw (drop-cons xs i d h, is) (fails_first e (step s x) (λ t. each step t (drop (suc i) xs)) w)

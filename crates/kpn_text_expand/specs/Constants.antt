@@ -18,6 +18,7 @@ use Rattle.kpn_text_expand.specs.declared.declaration.Value.{Value}
 use Rattle.kpn_text_expand.specs.declared.fault.ExpandFault.{ExpandFault}
 use Rattle.kpn_text_expand.specs.declared.fault.ExpandFault.TheVariants as fault
 use Rattle.kpn_text_expand.specs.Declaration.{declared}
+use Rattle.kpn_text_expand.specs.Results.{each}
 
 -- before the first token
 abbrev pub at_first : Constants
@@ -38,6 +39,10 @@ value_of s _ = None
 -- a token at a byte
 abbrev pub lexeme : Token → ℕ → Lexeme
 lexeme t at = record { token = t; start = at }
+
+-- a token at a byte behind these
+abbrev pub with_token : Token → ℕ → List Lexeme → List Lexeme
+with_token t at ls = ls ++ lexeme t at ∷ []
 
 -- a number, with a `-` before it if it is below 0
 abbrev pub value_tokens : Value → ℕ → List Lexeme
@@ -106,9 +111,8 @@ abbrev pub finished : (end : ℕ) → Constants → Result (List Lexeme) ExpandF
 finished end s = finished_at s.place end s
 
 -- from here on: one token after the other
-unfoldable pub steps : Constants → List Lexeme → Result Constants ExpandFault
-steps s [] = Ok s
-steps s (l ∷ ls) = step s l >>= λ t. steps t ls
+abbrev pub steps : Constants → List Lexeme → Result Constants ExpandFault
+steps = each step
 
 -- the tokens that constants leave of a text of this length
 abbrev pub without_constants : (end : ℕ) → List Lexeme → Result (List Lexeme) ExpandFault

@@ -1,7 +1,6 @@
 -- The declaration of a constant: its name, `=` and its value, in which constants are numbers already. What follows it is
 -- at the byte `stop`.
-use Rattle.std.specs.Prelude.{ℕ, ℤ, pos, nat_le, int_lt, unsigned_abs, if◌then◌else◌, List, [], ◌∷◌, Option, Some, None, Result, Ok, Err}
-use Rattle.std.specs.List.{find}
+use Rattle.std.specs.Prelude.{ℕ, ℤ, pos, nat_le, int_lt, unsigned_abs, if◌then◌else◌, List, [], ◌∷◌, ◌++◌, Option, Some, None, Result, Ok, Err}
 use Rattle.kpn_text_tokens.specs.declared.tokens.TheConstants.{MAX_NUMBER}
 use Rattle.kpn_text_tokens.specs.declared.tokens.Language.TheVariants as language
 use Rattle.kpn_text_tokens.specs.declared.tokens.Lexeme.{Lexeme}
@@ -13,12 +12,12 @@ use Rattle.kpn_text_grammar.specs.declared.fault.GrammarFault.{GrammarFault}
 use Rattle.kpn_text_grammar.specs.declared.fault.GrammarFault.TheVariants as grammar
 use Rattle.kpn_text_grammar.specs.Reading.{expression_of}
 use Rattle.kpn_text_grammar.specs.Syntax.{ExpressionNode, NameBytes}
-use Rattle.kpn_text_grammar.specs.TokenTests.{is_name}
 use Rattle.kpn_text_names.specs.Constant.{constant_value}
 use Rattle.kpn_text_expand.specs.declared.declaration.Constant.{Constant}
 use Rattle.kpn_text_expand.specs.declared.declaration.Value.{Value}
 use Rattle.kpn_text_expand.specs.declared.fault.ExpandFault.{ExpandFault}
 use Rattle.kpn_text_expand.specs.declared.fault.ExpandFault.TheVariants as fault
+use Rattle.kpn_text_expand.specs.Results.{each}
 
 -- a value as it is written: the number without its sign is at most 2 ^ 63 - 1 (MAX_NUMBER)
 abbrev pub written : ℤ → Option Value
@@ -49,13 +48,17 @@ told start (Err grammar.NoMemory) = Err fault.NoMemory
 abbrev pub tree : (start stop : ℕ) → List Lexeme → Result ExpressionNode ExpandFault
 tree start stop ls = told start (expression_of language.Two stop ls)
 
-abbrev pub unless_unknown : Option Lexeme → Result (Unit {0}) ExpandFault
-unless_unknown (Some l) = Err (fault.UnknownName l.start)
-unless_unknown None = Ok tt
+-- one token more, which may be no name: each name that is left is no constant
+abbrev pub with_nameless_by : Token → List Lexeme → Lexeme → Result (List Lexeme) ExpandFault
+with_nameless_by (token.Name x) ms l = Err (fault.UnknownName l.start)
+with_nameless_by _ ms l = Ok (ms ++ l ∷ [])
 
--- no name is left: one that is left is no constant
-abbrev pub without_names : List Lexeme → Result (Unit {0}) ExpandFault
-without_names ls = unless_unknown (find (λ l. is_name l.token) ls)
+abbrev pub with_nameless : List Lexeme → Lexeme → Result (List Lexeme) ExpandFault
+with_nameless ms l = with_nameless_by l.token ms l
+
+-- the same tokens, if none is a name
+abbrev pub nameless : List Lexeme → Result (List Lexeme) ExpandFault
+nameless ls = each with_nameless [] ls
 
 abbrev pub start_of : (stop : ℕ) → List Lexeme → ℕ
 start_of stop [] = stop
@@ -64,9 +67,9 @@ start_of stop (l ∷ ls) = l.start
 -- the value that all these tokens are
 unfoldable pub number : (stop : ℕ) → List Lexeme → Result Value ExpandFault
 number stop ls = do
-  nothing ← without_names ls
-  e ← tree (start_of stop ls) stop ls
-  computed (start_of stop ls) e
+  own ← nameless ls
+  e ← tree (start_of stop own) stop own
+  computed (start_of stop own) e
 
 abbrev pub named : Lexeme → List Lexeme → Token → Result (NameBytes × List Lexeme) ExpandFault
 named l ls (token.Name x) = Ok (x, ls)

@@ -1,5 +1,7 @@
 -- What a call that expands tokens returns.
-use Rattle.std.specs.Prelude.{◌≡◌, Result, Ok, Err}
+use Rattle.std.specs.Prelude.{◌≡◌, List, [], ◌∷◌, Result, Ok, Err}
+use Rattle.kpn_text_tokens.specs.declared.tokens.Lexeme.{Lexeme}
+use Rattle.kpn_text_tokens.specs.Results.{◌>>=◌}
 use Rattle.kpn_text_expand.specs.declared.fault.ExpandFault.{ExpandFault}
 use Rattle.kpn_text_expand.specs.declared.fault.ExpandFault.TheVariants as fault
 
@@ -14,3 +16,8 @@ Fails (fault.UnknownName at) r = r ≡ Err (fault.UnknownName at)
 abbrev pub Gives : {A B : Type 0} → (A → B) → Result A ExpandFault → Result B ExpandFault → Type 0
 Gives view (Ok x) r = r ≡ Ok (view x)
 Gives view (Err e) r = Fails e r
+
+-- tokens go by one after the other, until one is wrong
+unfoldable pub each : {S : Type 0} → (S → Lexeme → Result S ExpandFault) → S → List Lexeme → Result S ExpandFault
+each step s [] = Ok s
+each step s (l ∷ ls) = step s l >>= λ t. each step t ls

@@ -1,14 +1,15 @@
 //! The declaration of a constant: its name, `=` and its value.
 
 ghost use Rattle.std.specs.Prelude.{◌≡◌};
-ghost use Rattle.kpn_text_grammar.specs.TokenTests.{is_name};
 ghost use Rattle.kpn_text_grammar.specs.View.{term};
 ghost use Rattle.kpn_text_expand.specs.Declaration as spec;
 ghost use Rattle.kpn_text_expand.specs.Results.{Gives};
 
+use crate::constants::add;
 use crate::fault::ExpandFault;
+use kpn_lang::Sequence;
 use kpn_text_grammar::{Expression, GrammarFault, expression};
-use kpn_text_names::{NameFault, constant_value};
+use kpn_text_names::constant_value;
 use kpn_text_tokens::{Language, Lexeme, MAX_NUMBER, Mark, Name, Number, Token};
 use std::alloc::Global;
 
@@ -80,20 +81,27 @@ fn tree<'a>(
     }
 }
 
-fn is_name(token: &Token<'_>) -> bool
-    ensures { result ≡ is_name token.now }
+/// Adds a token, which may be no name, and so borrows nothing from the text.
+fn add_nameless<'b>(left: &mut Sequence<Lexeme<'b>>, lexeme: &Lexeme<'_>) -> Result<(), ExpandFault>
+    ensures { Gives (λ _. left.new) result (spec.with_nameless left.old lexeme.now) }
 {
-    matches!(token, Token::Name(_))
+    match &lexeme.token {
+        Token::Name(_) => Err(ExpandFault::UnknownName(lexeme.start)),
+        Token::Number(number) => add(left, Token::Number(*number), lexeme.start),
+        Token::Mark(mark) => add(left, Token::Mark(*mark), lexeme.start),
+        Token::Keyword(keyword) => add(left, Token::Keyword(*keyword), lexeme.start),
+    }
 }
 
-/// Fails at the first name.
-fn without_names(tokens: &[Lexeme<'_>]) -> Result<(), ExpandFault>
-    ensures { Gives (λ _. tt) result (spec.without_names tokens.now) }
+/// The same tokens, if none is a name.
+fn nameless<'b>(alloc: Global, tokens: &[Lexeme<'_>]) -> Result<Sequence<Lexeme<'b>>, ExpandFault>
+    ensures { Gives (λ left. left) result (spec.nameless tokens.now) }
 {
-    match tokens.iter().find(|lexeme| is_name(&lexeme.token)) {
-        Some(unknown) => Err(ExpandFault::UnknownName(unknown.start)),
-        None => Ok(()),
+    let mut left = Sequence::new(alloc);
+    for lexeme in tokens {
+        add_nameless(&mut left, lexeme)?;
     }
+    Ok(left)
 }
 
 /// The byte at which these tokens begin, or that of what follows them.
@@ -111,9 +119,9 @@ fn start_of(tokens: &[Lexeme<'_>], stop: usize) -> usize
 fn number(alloc: Global, tokens: &[Lexeme<'_>], stop: usize) -> Result<Value, ExpandFault>
     ensures { Gives (λ v. v) result (spec.number stop tokens.now) }
 {
-    without_names(tokens)?;
-    let start = start_of(tokens, stop);
-    let tree = tree(alloc, tokens, start, stop)?;
+    let nameless = nameless(alloc, tokens)?;
+    let start = start_of(nameless.as_slice(), stop);
+    let tree = tree(alloc, nameless.as_slice(), start, stop)?;
     computed(alloc, &tree, start)
 }
 
