@@ -23,7 +23,7 @@ Adds spell = (more : List Token) → ArePlain more → ArePlain (spell more)
 term : (e : ExpressionNode) → Adds (spell_term e)
 term (numeral n) more h = (refl, h)
 term (variable x) more h = (refl, h)
-term (element x e) more h = (refl, refl, term e _ (refl, h))
+term (element x e) more h = (refl, (refl, term e _ (refl, h)))
 term (minus e) more h = (refl, term e _ h)
 term (negation e) more h = (refl, term e _ h)
 term (complement e) more h = (refl, term e _ h)
@@ -33,7 +33,7 @@ term (conditional c a b) more h = (refl, term c _ (refl, term a _ (refl, term b 
 tight : (n : ℕ) (e : ExpressionNode) → Adds (spell_tight n e)
 tight n (numeral k) more h = (refl, h)
 tight n (variable x) more h = (refl, h)
-tight n (element x e) more h = (refl, refl, tight _ e _ (refl, h))
+tight n (element x e) more h = (refl, (refl, tight _ e _ (refl, h)))
 tight n (minus e) more h = (refl, tight _ e _ h)
 tight n (negation e) more h = (refl, tight _ e _ h)
 tight n (complement e) more h = (refl, tight _ e _ h)
@@ -50,7 +50,7 @@ expression language.Two e more h = tight _ e more h
 
 block : (inside : List Token → List Token) → Adds inside → (more : List Token) → ArePlain more
     → ArePlain (token.Keyword keyword.Else ∷ token.Mark mark.LeftBrace ∷ inside (token.Mark mark.RightBrace ∷ more))
-block inside adds more h = (refl, refl, adds _ (refl, h))
+block inside adds more h = (refl, (refl, adds _ (refl, h)))
 
 second : (l : Language) (b : Statements) (inside : List Token → List Token) → Adds inside → Adds (spell_else l b inside)
 second language.One b inside adds more h = block inside adds more h
@@ -65,10 +65,10 @@ second language.Two (statement (loop e b) ss) inside adds more h = block inside 
 
 mutual
   one : (l : Language) (s : StatementNode) → Adds (spell_statement l s)
-  one l (assign x e) more h = (refl, refl, expression l e _ (refl, h))
-  one l (store x i e) more h = (refl, refl, expression l i _ (refl, refl, expression l e _ (refl, h)))
-  one l (receive i x) more h = (refl, refl, refl, refl, h)
-  one l (send o e) more h = (refl, refl, expression l e _ (refl, h))
+  one l (assign x e) more h = (refl, (refl, expression l e _ (refl, h)))
+  one l (store x i e) more h = (refl, (refl, expression l i _ (refl, (refl, expression l e _ (refl, h)))))
+  one l (receive i x) more h = (refl, (refl, (refl, (refl, h))))
+  one l (send o e) more h = (refl, (refl, expression l e _ (refl, h)))
   one l (choice e a b) more h =
       (refl, expression l e _ (refl, statements l a _
       (refl, second l b (spell_statements l b) (λ others k. statements l b others k) more h)))
@@ -98,15 +98,15 @@ names = list spell_name (λ x more h. (refl, h))
 
 literal : (v : Literal) → Adds (spell_literal v)
 literal (plain n) more h = (refl, h)
-literal (negated n) more h = (refl, refl, h)
+literal (negated n) more h = (refl, (refl, h))
 
 -- ---- processes
 
 one_table : (t : Table) → Adds (spell_table t)
-one_table t more h = (refl, refl, refl, list spell_literal literal t.values _ (refl, h))
+one_table t more h = (refl, (refl, (refl, list spell_literal literal t.values _ (refl, h))))
 
 declaration : (d : Declaration) → Adds (spell_declaration d)
-declaration (array x n) more h = (refl, refl, refl, refl, refl, refl, h)
+declaration (array x n) more h = (refl, (refl, (refl, (refl, (refl, (refl, h))))))
 declaration (table t) more h = one_table t more h
 
 part : (word : Keyword) → IsPlain (token.Keyword word) → (xs : List NameBytes) → Adds (spell_part word xs)
@@ -115,7 +115,7 @@ part word is (x ∷ xs) more h = (is, names (x ∷ xs) more h)
 
 later_part : (word : Keyword) → IsPlain (token.Keyword word) → (xs : List NameBytes) → Adds (spell_later_part word xs)
 later_part word is [] more h = h
-later_part word is (x ∷ xs) more h = (refl, is, names (x ∷ xs) more h)
+later_part word is (x ∷ xs) more h = (refl, (is, names (x ∷ xs) more h))
 
 parts : (ins outs pars : List NameBytes) → Adds (spell_parts ins outs pars)
 parts (x ∷ xs) outs pars more h =
@@ -125,8 +125,8 @@ parts [] [] pars more h = part keyword.Par refl pars more h
 
 process : (l : Language) (p : ProcessNode) → Adds (spell_process l p)
 process l p more h =
-    (refl, refl, refl, parts p.ins p.outs p.pars _
-    (refl, refl, all spell_declaration declaration p.declarations _ (statements l p.body _ (refl, h))))
+    (refl, (refl, (refl, parts p.ins p.outs p.pars _
+    (refl, (refl, all spell_declaration declaration p.declarations _ (statements l p.body _ (refl, h)))))))
 
 -- ---- networks
 
@@ -135,24 +135,24 @@ values [] more h = h
 values (v ∷ vs) more h = (refl, list spell_literal literal (v ∷ vs) more h)
 
 item : (i : Item) → Adds (spell_item i)
-item (channel c cap) more h = (refl, refl, refl, refl, refl, h)
-item (source c) more h = (refl, refl, refl, h)
-item (sink c cap) more h = (refl, refl, refl, refl, refl, h)
+item (channel c capacity) more h = (refl, (refl, (refl, (refl, (refl, h)))))
+item (source c) more h = (refl, (refl, (refl, h)))
+item (sink c capacity) more h = (refl, (refl, (refl, (refl, (refl, h)))))
 item (instance i) more h =
-    (refl, refl, refl, refl, names i.ins _ (refl, names i.outs _ (values i.values _ (refl, refl, h))))
+    (refl, (refl, (refl, (refl, names i.ins _ (refl, names i.outs _ (values i.values _ (refl, (refl, h))))))))
 
 module _ {A : Type 0} (word : Keyword) (spelled : A → Token) (is : IsPlain (token.Keyword word))
     (one : (x : A) → IsPlain (spelled x)) where
   pub setting : (written : Option A) → Adds (spell_setting word spelled written)
   setting None more h = h
-  setting (Some x) more h = (is, one x, refl, h)
+  setting (Some x) more h = (is, (one x, (refl, h)))
 
 network : (n : NetworkNode) → Adds (spell_network n)
 network n more h =
-    (refl, refl, setting keyword.Limit token.Number refl (λ k. refl) n.limit _
+    (refl, (refl, setting keyword.Limit token.Number refl (λ k. refl) n.limit _
     (setting keyword.Policy (λ q. token.Name (policy_word q)) refl (λ q. refl) n.policy _
     (setting keyword.Grow (λ g. token.Name (growth_word g)) refl (λ g. refl) n.growth _
-    (all spell_item item n.items _ (refl, h)))))
+    (all spell_item item n.items _ (refl, h))))))
 
 contents : (l : Language) (d : Description)
     → ArePlain (spell_all spell_table d.tables (spell_all (spell_process l) d.processes (spell_network d.network [])))
@@ -161,4 +161,4 @@ contents l d =
 
 pub spelling_plain : (l : Language) (d : Description) → ArePlain (spell_description l d)
 spelling_plain language.One d = contents language.One d
-spelling_plain language.Two d = (refl, refl, refl, contents language.Two d)
+spelling_plain language.Two d = (refl, (refl, (refl, contents language.Two d)))
