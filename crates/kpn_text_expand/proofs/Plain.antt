@@ -1,5 +1,5 @@
 -- Tokens without a short form stand for themselves.
-use Rattle.std.proofs.Common.{◌≡◌, ℕ, ◌⊎◌, inl, inr, Bool, true, false, ◌-◌, if◌then◌else◌, List, [], ◌∷◌, ◌++◌, Some, None, Result, Ok, refl, sym, ap, ◌∙◌, subst, append_assoc, append-nil}
+use Rattle.std.proofs.Common.{◌≡◌, ℕ, ◌⊎◌, inl, inr, Bool, true, false, ◌-◌, if◌then◌else◌, List, [], ◌∷◌, ◌++◌, None, Ok, refl, sym, ap, ◌∙◌, append_assoc, append-nil}
 use Rattle.std.specs.Prelude.{◌==◌}
 use Rattle.kpn_text_tokens.specs.declared.tokens.Keyword.TheVariants as keyword
 use Rattle.kpn_text_tokens.specs.declared.tokens.Language.{Language}
@@ -15,9 +15,12 @@ use Rattle.kpn_text_expand.specs.declared.constants.Place.{Place}
 use Rattle.kpn_text_expand.specs.declared.constants.Place.TheVariants as place
 use Rattle.kpn_text_expand.specs.declared.declaration.Constant.{Constant}
 use Rattle.kpn_text_expand.specs.Constants.{at_first, behind, meant, meant_as, passed, step_at, step, steps, value_in, value_of, first_of, finished, finished_at, without_constants}
-use Rattle.kpn_text_expand.specs.Expanding.{expanded}
-use Rattle.kpn_text_expand.specs.Results.{each}
+use Rattle.kpn_text_expand.specs.Expanding.{all_forms, expanded, without_forms}
+use Rattle.kpn_text_expand.specs.Sums.{with_sums}
 use Rattle.kpn_text_expand.specs.Plain.{IsPlain, ArePlain}
+use Rattle.kpn_text_expand.specs.Results.{each}
+use Rattle.kpn_text_expand.proofs.PlainCapacities.{capacities_kept}
+use Rattle.kpn_text_expand.proofs.PlainSums.{sums_kept}
 
 -- not in a declaration
 abbrev IsOutside : Place → Type 0
@@ -29,16 +32,16 @@ record IsIdle (s : Constants) : Type 0 where
   own : s.own ≡ []
   outside : IsOutside s.place
 
-step_passes : (p : Place) (t : Token) (l : Lexeme) (s : Constants) → IsOutside p → IsPlain t
+step_passes : (p : Place) (t : Token) (l : Lexeme) (s : Constants) (ts : List Token) → IsOutside p → IsPlain t ts
     → step_at p t l s ≡ Ok (passed l s)
-step_passes place.Front (token.Name x) l s out is = refl
-step_passes place.Front (token.Number n) l s out is = refl
-step_passes place.Front (token.Mark m) l s out is = refl
-step_passes place.Front (token.Keyword keyword.Const) l s out is = absurd cc
-step_passes place.Front (token.Keyword _) l s out is = refl
-step_passes place.Inside t l s out is = refl
-step_passes place.Declaration t l s (inl e) is = absurd cc
-step_passes place.Declaration t l s (inr e) is = absurd cc
+step_passes place.Front (token.Name x) l s ts out is = refl
+step_passes place.Front (token.Number n) l s ts out is = refl
+step_passes place.Front (token.Mark m) l s ts out is = refl
+step_passes place.Front (token.Keyword keyword.Const) l s ts out is = absurd cc
+step_passes place.Front (token.Keyword _) l s ts out is = refl
+step_passes place.Inside t l s ts out is = refl
+step_passes place.Declaration t l s ts (inl e) is = absurd cc
+step_passes place.Declaration t l s ts (inr e) is = absurd cc
 
 value_of_none : (t : Token) (s : Constants) → IsIdle s → value_of s t ≡ None
 value_of_none (token.Name x) s idle =
@@ -82,7 +85,7 @@ unfolding each and_then
 leaves [] s idle are = record { after = s; is = refl; left = sym (append-nil s.left); idle = idle }
 leaves (l ∷ ls) s idle are =
     let t : Constants = passed l s in
-    let one : step s l ≡ Ok t = step_passes s.place l.token l s idle.outside are.0 in
+    let one : step s l ≡ Ok t = step_passes s.place l.token l s (kinds ls) idle.outside are.0 in
     let same : meant s l ≡ l ∷ [] = ap (meant_as l) (value_of_none l.token s idle) in
     let left : t.left ≡ s.left ++ l ∷ [] =
     behind_left l.token (record s { left = s.left ++ meant s l }) ∙ ap (λ m. s.left ++ m) same in
@@ -101,7 +104,7 @@ finished_outside place.Declaration end s (inl e) = absurd cc
 finished_outside place.Declaration end s (inr e) = absurd cc
 
 -- no constant is declared
-pub constants_kept : (end : ℕ) (ls : List Lexeme) → ArePlain (kinds ls) → without_constants end ls ≡ Ok ls
+constants_kept : (end : ℕ) (ls : List Lexeme) → ArePlain (kinds ls) → without_constants end ls ≡ Ok ls
 unfolding and_then
 constants_kept end ls are =
     let all = leaves ls at_first (record { shared = refl; own = refl; outside = inr refl }) are in
@@ -109,7 +112,16 @@ constants_kept end ls are =
     ∙ finished_outside all.after.place end all.after all.idle.outside
     ∙ ap Ok all.left
 
+-- no other form is there
+forms_kept : (ls : List Lexeme) → ArePlain (kinds ls) → without_forms ls ≡ ls
+forms_kept ls are = ap with_sums (capacities_kept ls are) ∙ sums_kept ls are
+
+all_kept : (end : ℕ) (ls : List Lexeme) → ArePlain (kinds ls) → all_forms end ls ≡ Ok ls
+unfolding and_then
+all_kept end ls are =
+    ap (λ r. and_then r (λ ms. Ok (without_forms ms))) (constants_kept end ls are) ∙ ap Ok (forms_kept ls are)
+
 -- tokens without a short form stand for themselves
 pub plain_kept : (l : Language) (end : ℕ) (ls : List Lexeme) → ArePlain (kinds ls) → expanded l end ls ≡ Ok ls
 plain_kept language.One end ls are = refl
-plain_kept language.Two end ls are = constants_kept end ls are
+plain_kept language.Two end ls are = all_kept end ls are

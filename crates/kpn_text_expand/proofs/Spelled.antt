@@ -1,7 +1,6 @@
 -- What stands for tokens that can be spelled can be spelled.
-use Rattle.std.proofs.Common.{◌≡◌, ℕ, ℤ, ◌<◌, ◌≤◌, ◌^◌, Bool, true, false, nat_le, if◌then◌else◌, List, [], ◌∷◌, ◌++◌, codes, Option, Some, None, Result, Ok, Err, refl, subst, arith}
+use Rattle.std.proofs.Common.{◌≡◌, ℕ, ℤ, ◌<◌, ◌≤◌, ◌^◌, Bool, true, false, nat_le, if◌then◌else◌, List, [], ◌∷◌, ◌++◌, Option, Some, None, Result, Ok, subst, arith}
 use Rattle.std.specs.Prelude.{◌-◌, ◌==◌, unsigned_abs, option_map}
-use Rattle.std.specs.Fmt.{decimal}
 use Rattle.std.specs.List.{AllByRecursion, find}
 use Rattle.std.specs.Str.{bytes_eq}
 use Rattle.std.proofs.lemmas.Bool.{cond_both, leb-true}
@@ -14,9 +13,8 @@ use Rattle.kpn_text_tokens.specs.declared.tokens.Mark.TheVariants as mark
 use Rattle.kpn_text_tokens.specs.declared.tokens.Token.{Token}
 use Rattle.kpn_text_tokens.specs.declared.tokens.Token.TheVariants as token
 use Rattle.kpn_text_tokens.specs.Laws.{HasSpelling}
-use Rattle.kpn_text_tokens.proofs.WithoutPlaces.{decimal_spelled}
 use Rattle.kpn_text_grammar.specs.Spelling.{kinds}
-use Rattle.kpn_text_grammar.specs.Syntax.{ExpressionNode, NameBytes}
+use Rattle.kpn_text_grammar.specs.Syntax.{NameBytes}
 use Rattle.kpn_text_names.specs.Constant.{constant_value}
 use Rattle.kpn_text_names.proofs.Chains.{ok_is, went}
 use Rattle.kpn_text_expand.specs.declared.constants.Constants.{Constants}
@@ -27,18 +25,11 @@ use Rattle.kpn_text_expand.specs.declared.declaration.Value.{Value}
 use Rattle.kpn_text_expand.specs.declared.fault.ExpandFault.{ExpandFault}
 use Rattle.kpn_text_expand.specs.Declaration.{written, written_if, or_no_number, computed, tree, nameless, start_of, number, first_name, behind_assign, declared}
 use Rattle.kpn_text_expand.specs.Constants.{at_first, behind, kept, passed, meant, meant_as, value_in, value_of, first_of, value_tokens, with_constant, with_declaration, step_at, step, steps, finished_at, finished, without_constants}
-use Rattle.kpn_text_expand.specs.Expanding.{expanded}
 use Rattle.kpn_text_expand.specs.Results.{each}
-
-abbrev CanBe : Token → Type 0
-CanBe = HasSpelling language.Two
-
-abbrev Spelled : List Lexeme → Type 0
-Spelled ls = AllByRecursion CanBe (kinds ls)
-
-both_spelled : (ls ms : List Lexeme) → Spelled ls → Spelled ms → Spelled (ls ++ ms)
-both_spelled [] ms first second = second
-both_spelled (l ∷ ls) ms first second = (first.0, both_spelled ls ms first.1 second)
+use Rattle.kpn_text_expand.specs.Expanding.{all_forms, expanded, without_forms}
+use Rattle.kpn_text_expand.proofs.Can.{CanBe, Spelled, both_spelled, mark_can, number_can}
+use Rattle.kpn_text_expand.proofs.SpelledCapacities.{capacities_spelled}
+use Rattle.kpn_text_expand.proofs.SpelledSums.{sums_spelled}
 
 -- ---- constants have numbers
 
@@ -104,15 +95,9 @@ value_of_small s is (token.Number n) = tt
 value_of_small s is (token.Mark m) = tt
 value_of_small s is (token.Keyword k) = tt
 
-number_can : (n : ℕ) → n < 2 ^ 63 → CanBe (token.Number n)
-number_can n small = (decimal n, decimal_spelled language.Two n small)
-
-minus_can : CanBe (token.Mark mark.Minus)
-minus_can = (codes "-", (refl, refl))
-
 value_spelled : (b : Bool) (n start : ℕ) → n < 2 ^ 63
     → Spelled (value_tokens (record { is_negative = b; size = n }) start)
-value_spelled true n start small = (minus_can, (number_can n small, tt))
+value_spelled true n start small = (mark_can mark.Minus, (number_can n small, tt))
 value_spelled false n start small = (number_can n small, tt)
 
 meant_as_spelled : (l : Lexeme) (o : Option Value) → CanBe l.token → SmallIf o → Spelled (meant_as l o)
@@ -203,9 +188,18 @@ constants_spelled end ls ms spelled e =
     finished_spelled s.value.place end s.value ms
     (steps_sound ls at_first s.value (record { left = tt; own = tt; shared = tt }) spelled s.first) s.rest
 
+forms_spelled : (ls : List Lexeme) → Spelled ls → Spelled (without_forms ls)
+forms_spelled ls spelled = sums_spelled _ (capacities_spelled ls spelled)
+
+all_spelled : (end : ℕ) (ls ms : List Lexeme) → Spelled ls → all_forms end ls ≡ Ok ms → Spelled ms
+all_spelled end ls ms spelled e =
+    let c = went (without_constants end ls) (λ rest. Ok (without_forms rest)) ms e in
+    subst Spelled (ok_is (without_forms c.value) ms c.rest)
+    (forms_spelled c.value (constants_spelled end ls c.value spelled c.first))
+
 -- what stands for tokens that can be spelled can be spelled
 pub expanded_spelled : (l : Language) (end : ℕ) (ls ms : List Lexeme) → AllByRecursion (HasSpelling l) (kinds ls)
     → expanded l end ls ≡ Ok ms → AllByRecursion (HasSpelling l) (kinds ms)
 expanded_spelled language.One end ls ms spelled e =
     subst (λ (ks : List Lexeme). AllByRecursion (HasSpelling language.One) (kinds ks)) (ok_is ls ms e) spelled
-expanded_spelled language.Two end ls ms spelled e = constants_spelled end ls ms spelled e
+expanded_spelled language.Two end ls ms spelled e = all_spelled end ls ms spelled e

@@ -2,5 +2,7 @@
 pub mod Results
 pub mod Declaration
 pub mod Constants
+pub mod Capacities
+pub mod Sums
 pub mod Plain
 pub mod Expanding

@@ -1,11 +1,14 @@
 //! All steps, one after the other.
 
+ghost use Rattle.std.specs.Prelude.{Ok};
 ghost use Rattle.kpn_text_expand.specs.Constants.{without_constants};
 ghost use Rattle.kpn_text_expand.specs.Expanding as spec;
 ghost use Rattle.kpn_text_expand.specs.Results.{Gives};
 
+use crate::capacities::with_capacities;
 use crate::constants::Constants;
 use crate::fault::ExpandFault;
+use crate::sums::with_sums;
 use kpn_lang::Sequence;
 use kpn_text_tokens::{Language, Lexeme};
 use std::alloc::Global;
@@ -34,6 +37,30 @@ fn without_constants<'a>(
     constants.finish(alloc, end)
 }
 
+/// What the other forms leave of tokens without constants.
+fn without_forms<'a>(
+    alloc: Global,
+    tokens: &[Lexeme<'a>],
+) -> Result<Sequence<Lexeme<'a>>, ExpandFault>
+    ensures { Gives (λ left. left) result (Ok (spec.without_forms tokens.now)) }
+{
+    let filled = with_capacities(alloc, tokens)?;
+    with_sums(alloc, filled.as_slice())
+}
+
+/// What all forms leave of a text of this length.
+#[tactic(auto, unfolding(kpn_text_tokens::specs::Results::and_then))]
+fn all_forms<'a>(
+    alloc: Global,
+    tokens: &[Lexeme<'a>],
+    end: usize,
+) -> Result<Sequence<Lexeme<'a>>, ExpandFault>
+    ensures { Gives (λ left. left) result (spec.all_forms end tokens.now) }
+{
+    let left = without_constants(alloc, tokens, end)?;
+    without_forms(alloc, left.as_slice())
+}
+
 /// The tokens that those of a text stand for; `end` is the length of the text in bytes. In language 1 they are the
 /// same.
 ///
@@ -56,6 +83,6 @@ pub fn expanded<'a>(
 {
     match language {
         Language::One => Ok(Sequence::from_vec(tokens)),
-        Language::Two => without_constants(alloc, tokens.as_slice(), end),
+        Language::Two => all_forms(alloc, tokens.as_slice(), end),
     }
 }
