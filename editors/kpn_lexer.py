@@ -21,7 +21,7 @@ class KpnLexer(RegexLexer):
             (r'(process)([ \t]+)([A-Za-z_]\w{0,31})\b', bygroups(Keyword.Declaration, Whitespace, Name.Function)),
             (words(DECLARATIONS, suffix=r'\b'), Keyword.Declaration),
             (r'language(?=[ \t]+0*2[ \t]*;)', Keyword.Declaration),
-            (r'array(?=[ \t]+[A-Za-z_]\w*[ \t]*\[)|table(?=[ \t]+[A-Za-z_]\w*[ \t]*=)', Keyword.Declaration),
+            (r'array(?=[ \t]+[A-Za-z_]\w*[ \t]*\[)|(?:table|const)(?=[ \t]+[A-Za-z_]\w*[ \t]*=)', Keyword.Declaration),
             (r'(policy|grow)([ \t]+)(cycles|all|one|double)\b', bygroups(Keyword, Whitespace, Keyword.Constant)),
             (words(SETTINGS, suffix=r'\b'), Keyword),
             (words(STATEMENTS, suffix=r'\b'), Keyword.Reserved),

@@ -4,13 +4,11 @@ use Rattle.std.specs.Prelude.{◌≡◌, ◌⊎◌, ◌≢◌, ℕ, ℤ, List, [
 use Rattle.std.specs.Fmt.{decimal}
 use Rattle.kpn_text_items.specs.ItemFile.{Spells, IsFirstBad}
 use Rattle.kpn_text_items.specs.declared.fault.ItemFault.TheVariants as item
-use Rattle.kpn_text_tokens.specs.declared.lexer.LexFault.{LexFault}
 use Rattle.kpn_text_tokens.specs.declared.tokens.Lexeme.{Lexeme}
-use Rattle.kpn_text_tokens.specs.Lexing.{lexemes_of}
 use Rattle.kpn_text_tokens.specs.Opening.{language_of}
 use Rattle.kpn_text.specs.declared.fault.TextFault.{TextFault}
 use Rattle.kpn_text.specs.Document.{Document}
-use Rattle.kpn_text.specs.Phases.{Refuses}
+use Rattle.kpn_text.specs.Phases.{Cause, Refuses, meant_in}
 use Rattle.kpn_command_base.specs.declared.refusal.Refusal.{Refusal}
 use Rattle.kpn_command_base.specs.declared.refusal.Refusal.TheVariants.{Input, Description, NoMemory}
 use Rattle.kpn_command_base.specs.Refusal.{status_of}
@@ -23,14 +21,14 @@ use Rattle.kpn_command_explain.specs.Lines.{line_start}
 
 -- ---- descriptions
 
--- no tokens, if there is a fault among them
-abbrev pub tokens_or_none : Result (List Lexeme) LexFault → List Lexeme
+-- no tokens, if there is a cause to refuse them
+abbrev pub tokens_or_none : Result (List Lexeme) Cause → List Lexeme
 tokens_or_none (Ok ls) = ls
 tokens_or_none (Err other) = []
 
--- the tokens of a text in its language
+-- the tokens that a text stands for in its language
 abbrev pub text_tokens : List ℕ → List Lexeme
-text_tokens bytes = tokens_or_none (lexemes_of (language_of bytes) bytes)
+text_tokens bytes = tokens_or_none (meant_in (language_of bytes) bytes)
 
 -- an explanation of a fault of a text begins with the first place that the fault concerns
 abbrev pub Explains : (file bytes : List ℕ) → TextFault → (text : List ℕ) → Type 0

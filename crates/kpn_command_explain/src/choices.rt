@@ -1,7 +1,8 @@
 //! What may stand at a place of a description: each word with which a reading of the text up to there gets further.
 
+use kpn_text::{TextFault, meant_tokens};
 use kpn_text_grammar::{GrammarFault, description};
-use kpn_text_tokens::{Keyword, LexFault, Mark, language_of, lexemes};
+use kpn_text_tokens::{Keyword, Mark, language_of};
 use std::alloc::{AllocError, Global};
 
 /// Adds all that may stand after this text, with a space before each: `;`, which is missing most often; any name, or
@@ -65,9 +66,10 @@ pub(crate) fn may_stand(alloc: Global, front: &[u8], word: &[u8]) -> Result<bool
 /// Whether a text is not refused at this byte.
 pub(crate) fn is_taken(alloc: Global, text: &[u8], at: usize) -> Result<bool, AllocError> {
     let language = language_of(text);
-    let tokens = match lexemes(alloc, language, text) {
+    let tokens = match meant_tokens(alloc, language, text) {
         Ok(tokens) => tokens,
-        Err(LexFault::NoMemory) => return Err(AllocError),
+        Err(TextFault::NoMemory) => return Err(AllocError),
+        Err(TextFault::Grammar(place)) => return Ok(place != at),
         Err(_) => return Ok(false),
     };
     match description(alloc, language, tokens.as_slice(), text.len()) {

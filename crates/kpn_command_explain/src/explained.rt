@@ -15,8 +15,9 @@ use crate::remedies::remedy;
 use crate::sentences::{Case, advice, is_named, other, said};
 use crate::spots::row_of;
 use kpn_command_base::Refusal;
-use kpn_text::TextFault;
-use kpn_text_tokens::{LexFault, Lexeme, language_of, lexemes};
+use kpn_lang::Sequence;
+use kpn_text::{TextFault, meant_tokens};
+use kpn_text_tokens::{Lexeme, language_of};
 use std::alloc::{AllocError, Global};
 
 /// The text for a fault of the text of a file. It begins with the first place that the fault concerns.
@@ -37,14 +38,14 @@ pub(crate) fn explanation_of(
     Ok(told)
 }
 
-// The tokens of a text. There are none if one of them has a fault.
-fn tokens_of(alloc: Global, text: &[u8]) -> Result<Vec<Lexeme<'_>>, AllocError>
-    ensures { IfOk result (λ found. found.items ≡ text_tokens text.now) }
+// The tokens that a text stands for. There are none if one of them, or a constant, has a fault.
+fn tokens_of(alloc: Global, text: &[u8]) -> Result<Sequence<Lexeme<'_>>, AllocError>
+    ensures { IfOk result (λ found. found ≡ text_tokens text.now) }
 {
-    match lexemes(alloc, language_of(text), text) {
+    match meant_tokens(alloc, language_of(text), text) {
         Ok(tokens) => Ok(tokens),
-        Err(LexFault::NoMemory) => Err(AllocError),
-        Err(_) => Ok(Vec::new(alloc)),
+        Err(TextFault::NoMemory) => Err(AllocError),
+        Err(_) => Ok(Sequence::new(alloc)),
     }
 }
 

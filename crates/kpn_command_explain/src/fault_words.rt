@@ -5,9 +5,9 @@ ghost use Rattle.std.specs.Prelude.{◌<◌, length};
 use crate::excerpt::{push_excerpt, push_where};
 use crate::fault_frame::{FaultFrame, Stuck};
 use kpn_history::Event;
-use kpn_text::Document;
+use kpn_text::{Document, meant_tokens};
 use kpn_text_grammar::description;
-use kpn_text_tokens::{language_of, lexemes};
+use kpn_text_tokens::language_of;
 use std::alloc::{AllocError, Global};
 
 /// The items that a process got, for each of its in ports.
@@ -70,7 +70,7 @@ pub fn fault_text(
         return Ok(out);
     }
     let language = language_of(text);
-    let Ok(tokens) = lexemes(alloc, language, text) else {
+    let Ok(tokens) = meant_tokens(alloc, language, text) else {
         return Ok(out);
     };
     let Ok(tree) = description(alloc, language, tokens.as_slice(), text.len()) else {

@@ -20,7 +20,9 @@ fn without_parentheses(habit: Habit) -> &'static [u8] {
         Habit::For =>
             b"There is no `for`: count in a variable, as in `while k < 9 { k = k + 1; }`.",
         Habit::ElseIf => b"Write `else if`: `if x { } else if y { }`.",
-        Habit::Changes => b"A variable changes only by an assignment of its own: `x = x + 1;`.",
+        Habit::Changes => b"A variable changes by an assignment of its own: `x += 1;`.",
+        Habit::NoCapacity =>
+            b"Write a capacity behind the name, or `cap 1;` for all at the head of the network.",
         Habit::Compares => b"`=` assigns. Compare by `==`: `x == 1`.",
         Habit::And => b"Write `&&` for and: `x && y`.",
         Habit::Or => b"Write `||` for or: `x || y`.",
@@ -29,7 +31,7 @@ fn without_parentheses(habit: Habit) -> &'static [u8] {
         Habit::Calls =>
             b"There are no functions: `(x < 0 ? -x : x)` is abs(x), and `(x < y ? x : y)` is min(x, y).",
         Habit::Constant =>
-            b"There are no constants: `table n = 5;` in front of all processes is one for all, read as `n[0]`.",
+            b"Declare it behind `;`, `{` or `}`, from numbers and constants: `const n = 5;`.",
         other => usual(other),
     }
 }

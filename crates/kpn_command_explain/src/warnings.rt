@@ -4,10 +4,11 @@
 use crate::excerpt::push_where;
 use crate::first_moves::{FirstMove, first_move, moved_each_turn, names_port};
 use crate::ratios::{RatedChannel, first_unbalanced};
+use kpn_text::{TextFault, meant_tokens};
 use kpn_text_grammar::{
     Description, GrammarFault, Identifier, InstanceNode, Item, ProcessNode, description,
 };
-use kpn_text_tokens::{LexFault, language_of, lexemes};
+use kpn_text_tokens::language_of;
 use std::alloc::{AllocError, Global};
 
 // The text of a file, to which lines are added.
@@ -28,9 +29,9 @@ struct Member<'d, 'a> {
 pub fn warnings_text(alloc: Global, file: &str, text: &[u8]) -> Result<Vec<u8>, AllocError> {
     let mut told = Vec::new(alloc);
     let language = language_of(text);
-    let tokens = match lexemes(alloc, language, text) {
+    let tokens = match meant_tokens(alloc, language, text) {
         Ok(tokens) => tokens,
-        Err(LexFault::NoMemory) => return Err(AllocError),
+        Err(TextFault::NoMemory) => return Err(AllocError),
         Err(_) => return Ok(told),
     };
     let tree = match description(alloc, language, tokens.as_slice(), text.len()) {

@@ -1,6 +1,7 @@
 -- The lemmas. Other crates may cite the public ones.
 pub mod KeptNames
 pub mod Parameters
+mod TokenPhases
 pub mod ReadingLaws
 pub mod Tables
 pub mod Refusals

@@ -121,4 +121,4 @@ named_text l d n h is =
 pub names_are_text : ReadDescriptionsAreProper → NamesAreText
 names_are_text are_proper d (text, s) =
     subst (λ (e : Document). AreText e.names) s.is
-    (named_text d.language s.tree s.named s.resolved (are_proper d.language text s.tokens s.tree s.read s.spelled))
+    (named_text d.language s.tree s.named s.resolved (are_proper d.language text s.read s.tokens s.tree s.reads s.stands s.spelled))

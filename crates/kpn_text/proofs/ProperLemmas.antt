@@ -1,5 +1,5 @@
 -- What was read from a text is proper: each name is a name, and each number is in range.
-use Rattle.std.proofs.Common.{◌≡◌, ℕ, ◌<◌, ◌^◌, true, List, [], ◌∷◌, Option, Some, None, subst, arith}
+use Rattle.std.proofs.Common.{◌≡◌, ℕ, ◌<◌, ◌^◌, true, List, [], ◌∷◌, length, Option, Some, None, Ok, subst, arith}
 use Rattle.std.specs.List.{AllByRecursion}
 use Rattle.kpn_net.specs.declared.tables.Growth.{Growth}
 use Rattle.kpn_net.specs.declared.tables.Policy.{Policy}
@@ -12,15 +12,20 @@ use Rattle.kpn_text_tokens.specs.declared.tokens.Mark.{Mark}
 use Rattle.kpn_text_tokens.specs.declared.tokens.Mark.TheVariants as mark
 use Rattle.kpn_text_tokens.specs.declared.tokens.Token.{Token}
 use Rattle.kpn_text_tokens.specs.declared.tokens.Token.TheVariants as token
-use Rattle.kpn_text_tokens.specs.Laws.{HasSpelling, tokens_of}
+use Rattle.kpn_text_tokens.specs.declared.tokens.Lexeme.{Lexeme}
+use Rattle.kpn_text_tokens.specs.Laws.{HasSpelling}
+use Rattle.kpn_text_tokens.specs.Lexing.{lexemes_of}
 use Rattle.kpn_text_tokens.specs.Rules.{IsName}
 use Rattle.kpn_text_tokens.specs.Spelling.{has_keyword, has_mark}
 use Rattle.kpn_text_grammar.specs.Operators.{operator_mark}
 use Rattle.kpn_text_tokens.proofs.NumeralLaws.{number_small as is_below}
 use Rattle.kpn_text_tokens.proofs.WithoutPlaces.{read_spelled}
 use Rattle.kpn_text_grammar.specs.Syntax.{NameBytes, ExpressionNode, numeral, variable, element, minus, negation, complement, binary, conditional, StatementNode, assign, store, receive, send, choice, loop, Statements, no_statements, statement, Table, Declaration, array, table, ProcessNode, Literal, plain, negated, Item, channel, source, sink, instance, NetworkNode, Description}
-use Rattle.kpn_text_grammar.specs.Spelling.{SpellsTight, as_number, as_name, as_element, as_minus, as_negation, as_complement, in_parentheses, as_sides, as_conditional, as_binary, SpellsStatement, as_assignment, as_store, as_read, as_write, as_if, as_while, SpellsStatements, nothing, one_more, SpellsElse, left_out, behind_else, SpellsSecond, with_braces, as_branch, SpellsProcess, SpellsAll, IsDescription, spell_all, spell_further, spell_list, spell_name, spell_names, spell_table, spell_declaration, spell_part, spell_later_part, spell_parts, spell_literal, spell_values, spell_item, spell_limit, spell_policy, spell_growth, spell_network, spell_language}
+use Rattle.kpn_text_expand.specs.Expanding.{expanded}
+use Rattle.kpn_text_expand.proofs.Spelled.{expanded_spelled}
+use Rattle.kpn_text_grammar.specs.Spelling.{kinds, SpellsTight, as_number, as_name, as_element, as_minus, as_negation, as_complement, in_parentheses, as_sides, as_conditional, as_binary, SpellsStatement, as_assignment, as_store, as_read, as_write, as_if, as_while, SpellsStatements, nothing, one_more, SpellsElse, left_out, behind_else, SpellsSecond, with_braces, as_branch, SpellsProcess, SpellsAll, IsDescription, spell_all, spell_further, spell_list, spell_name, spell_names, spell_table, spell_declaration, spell_part, spell_later_part, spell_parts, spell_literal, spell_values, spell_item, spell_limit, spell_policy, spell_growth, spell_network, spell_language}
 use Rattle.kpn_text.specs.Proper.{IsProperTerm, IsProperStatement, AreProper, AreNames, IsProperTable, IsProperDeclaration, IsProperProcess, IsProperLiteral, IsProperItem, IsProperLimit, IsProperNetwork, IsProper}
+use Rattle.kpn_text.proofs.ReadingLaws.{are_tokens}
 
 -- each of the tokens can be spelled
 abbrev AreSpelled : Language → List Token → Type 0
@@ -333,11 +338,14 @@ language_is : (l : Language) (more : List Token) → AreSpelled l (spell_languag
 language_is language.One more h = h
 language_is language.Two more h = h.1.1.1
 
-pub description_is : (l : Language) (text : List ℕ) (tokens : List Token) (d : Description)
-    → tokens_of l text ≡ Some tokens → IsDescription l tokens d → IsProper l d
-description_is l text tokens d read s =
+pub description_is : (l : Language) (text : List ℕ) (read tokens : List Lexeme) (d : Description)
+    → lexemes_of l text ≡ Ok read → expanded l (length text) read ≡ Ok tokens → IsDescription l (kinds tokens) d
+    → IsProper l d
+description_is l text read tokens d reads stands s =
     let rules = s.spelled in
-    let spelled = subst (λ ts. AreSpelled l ts) rules.opening (read_spelled l text tokens read) in
+    let was : AreSpelled l (kinds read) = read_spelled l text (kinds read) (are_tokens l text read reads) in
+    let spelled = subst (λ ts. AreSpelled l ts) rules.opening
+    (expanded_spelled l (length text) read tokens was stands) in
     let tables = all_are l spell_table (IsProperTable l) (table_is l) d.tables _ (language_is l _ spelled) in
     let processes = processes_are l d.processes _ _ rules.processes tables.rest in
     let network = network_is l d.network [] processes.rest in

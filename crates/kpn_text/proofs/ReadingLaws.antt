@@ -1,7 +1,6 @@
 -- What the phases return is what the text spells.
 use Rattle.std.proofs.Common.{◌≡◌, ℕ, suc, ◌≤◌, Bool, true, false, if◌then◌else◌, List, [], ◌∷◌, length, Option, Some, None, Result, Ok, Err, refl, sym, ap, ◌∙◌, subst, arith}
 use Rattle.std.specs.Prelude.{nat_lt, All}
-use Rattle.std.proofs.lemmas.Bool.Decides.{nat_tests}
 use Rattle.std.proofs.lemmas.List.Elements.{All-nil, All-cons, All-head, All-tail}
 use Rattle.kpn_limits.specs.declared.TheConstants.{MAX_TEXT_BYTES, MAX_LEVELS}
 use Rattle.kpn_lang.specs.Parts as lang
@@ -20,6 +19,7 @@ use Rattle.kpn_text_tokens.specs.Laws.{tokens_in, tokens_of}
 use Rattle.kpn_text_tokens.specs.Lexing.{lexemes_of, scan}
 use Rattle.kpn_text_tokens.specs.Opening.{language_of}
 use Rattle.kpn_text_tokens.proofs.TokenLaws.{short_text}
+use Rattle.kpn_text_expand.specs.Expanding.{expanded}
 use Rattle.kpn_text_grammar.specs.declared.fault.GrammarFault.{GrammarFault}
 use Rattle.kpn_text_grammar.specs.Syntax.{Description}
 use Rattle.kpn_text_grammar.specs.Spelling.{IsDescription, kinds}
@@ -30,11 +30,12 @@ use Rattle.kpn_text_names.specs.Named.{Named, resolve}
 use Rattle.kpn_text.specs.Document.{Document, document_named}
 use Rattle.kpn_text.specs.Spells.{SpellsDocument, IsOfSomeText}
 use Rattle.kpn_text_names.specs.NetworkNames.{AreNamed}
-use Rattle.kpn_text.specs.Phases.{Cause, in_tokens, in_grammar, in_names, phase, unless, programs_cause, program_or, network_cause, or_cause, tables_cause, document_in, document_of}
+use Rattle.kpn_text.specs.Phases.{Cause, in_tokens, in_constants, in_grammar, in_names, phase, unless, meant_in, programs_cause, program_or, network_cause, or_cause, tables_cause, document_in, document_of}
 use Rattle.kpn_text_tokens.specs.Results.{and_then}
-use Rattle.kpn_text_names.proofs.Chains.{ok_is}
+use Rattle.kpn_text_names.proofs.Chains.{ok_is, then_ok, went}
 use Rattle.kpn_text_names.proofs.Counts.{are_named, resolved_each}
 use Rattle.kpn_text.proofs.Parameters.{AreCounted, resolved_has}
+use Rattle.kpn_text.proofs.TokenPhases.{phase_ok, phase_err, meant_right}
 
 -- ---- tokens
 
@@ -54,19 +55,39 @@ pub has_lexemes : (l : Language) (text : List ℕ) (ts : List Token) → length 
 unfolding tokens_of
 has_lexemes l text ts short e = lexemes_by l text ts (scan l 0 0 text) (short_text l text short) e
 
--- a text that has lexemes is within the limit, and its tokens are read
-pub record AreTokens (l : Language) (text : List ℕ) (ls : List Lexeme) : Type 0 where
-  pub within : length text ≤ MAX_TEXT_BYTES
-  pub read : tokens_of l text ≡ Some (kinds ls)
-
-tokens_by : (l : Language) (text : List ℕ) (ls : List Lexeme) (b : Bool) → nat_lt MAX_TEXT_BYTES (length text) ≡ b
-    → (if b then Err (lex.TooLong MAX_TEXT_BYTES) else scan l 0 0 text) ≡ Ok ls → AreTokens l text ls
+-- the tokens of a text that has lexemes are read
+tokens_by : (l : Language) (text : List ℕ) (ls : List Lexeme) (b : Bool)
+    → (if b then Err (lex.TooLong MAX_TEXT_BYTES) else scan l 0 0 text) ≡ Ok ls → tokens_of l text ≡ Some (kinds ls)
 unfolding tokens_of
-tokens_by l text ls true is e = absurd cc
-tokens_by l text ls false is e = record { within = grind (arith, nat_tests); read = ap tokens_in e }
+tokens_by l text ls true e = absurd cc
+tokens_by l text ls false e = ap tokens_in e
 
-pub are_tokens : (l : Language) (text : List ℕ) (ls : List Lexeme) → lexemes_of l text ≡ Ok ls → AreTokens l text ls
-are_tokens l text ls e = tokens_by l text ls (nat_lt MAX_TEXT_BYTES (length text)) refl e
+pub are_tokens : (l : Language) (text : List ℕ) (ls : List Lexeme) → lexemes_of l text ≡ Ok ls
+    → tokens_of l text ≡ Some (kinds ls)
+are_tokens l text ls e = tokens_by l text ls (nat_lt MAX_TEXT_BYTES (length text)) e
+
+-- what a chain of phases that gave something was made of
+phase_step : {A D E : Type 0} {C : Type 0} (cause : E → Cause) (r : Result A E) (k : A → Result D Cause) (x : D)
+    → and_then (phase cause r) k ≡ Ok x → ((a : A) → r ≡ Ok a → k a ≡ Ok x → C) → C
+unfolding and_then
+phase_step cause (Ok a) k x e go = go a refl e
+phase_step cause (Err f) k x e go = absurd cc
+
+phase_is : {A E : Type 0} (cause : E → Cause) (r : Result A E) (x : A) → phase cause r ≡ Ok x → r ≡ Ok x
+phase_is cause (Ok a) x e = ap Ok (ok_is a x e)
+phase_is cause (Err f) x e = absurd cc
+
+-- the tokens that a text stands for, and what they were read as
+record IsMeant (l : Language) (text : List ℕ) (ms : List Lexeme) : Type 0 where
+  read : List Lexeme
+  reads : lexemes_of l text ≡ Ok read
+  stands : expanded l (length text) read ≡ Ok ms
+
+is_meant : (l : Language) (text : List ℕ) (ms : List Lexeme) → meant_in l text ≡ Ok ms → IsMeant l text ms
+unfolding meant_in
+is_meant l text ms e =
+    phase_step in_tokens (lexemes_of l text) _ ms e (λ ls reads f.
+    record { read = ls; reads = reads; stands = phase_is in_constants (expanded l (length text) ls) ms f })
 
 -- ---- tables
 
@@ -84,16 +105,6 @@ network_sound t is =
 
 -- ---- the phases one after the other
 
-phase_ok : {A D E : Type 0} (cause : E → Cause) (r : Result A E) (k : A → Result D Cause) (a : A) → r ≡ Ok a
-    → and_then (phase cause r) k ≡ k a
-unfolding and_then
-phase_ok cause r k a e = rw e refl
-
-phase_err : {A D E : Type 0} (cause : E → Cause) (r : Result A E) (k : A → Result D Cause) (fault : E)
-    → r ≡ Err fault → and_then (phase cause r) k ≡ Err (cause fault)
-unfolding and_then
-phase_err cause r k fault e = rw e refl
-
 -- what follows the names, the tree and the tokens
 abbrev after_names : Language → Named → Result Document Cause
 after_names l n = unless (tables_cause n.tables) (document_named l n)
@@ -104,36 +115,36 @@ after_tree l tree = and_then (phase in_names (resolve l tree)) (after_names l)
 abbrev after_tokens : Language → List ℕ → List Lexeme → Result Document Cause
 after_tokens l text ls = and_then (phase in_grammar (description_of l (length text) ls)) (after_tree l)
 
-pub refused_tokens : (l : Language) (text : List ℕ) (fault : LexFault) → lexemes_of l text ≡ Err fault
-    → document_in l text ≡ Err (in_tokens fault)
-unfolding document_in
-refused_tokens l text fault e = phase_err in_tokens (lexemes_of l text) (after_tokens l text) fault e
+pub refused_tokens : (l : Language) (text : List ℕ) (cause : Cause) → meant_in l text ≡ Err cause
+    → document_in l text ≡ Err cause
+unfolding document_in and_then
+refused_tokens l text cause e = ap (λ r. and_then r (after_tokens l text)) e
 
-tokens_read : (l : Language) (text : List ℕ) (ls : List Lexeme) → lexemes_of l text ≡ Ok ls
+tokens_read : (l : Language) (text : List ℕ) (ls : List Lexeme) → meant_in l text ≡ Ok ls
     → document_in l text ≡ after_tokens l text ls
 unfolding document_in
-tokens_read l text ls e = phase_ok in_tokens (lexemes_of l text) (after_tokens l text) ls e
+tokens_read l text ls e = then_ok (meant_in l text) (after_tokens l text) ls e
 
 pub refused_tree : (l : Language) (text : List ℕ) (ls : List Lexeme) (fault : GrammarFault)
-    → lexemes_of l text ≡ Ok ls → description_of l (length text) ls ≡ Err fault
+    → meant_in l text ≡ Ok ls → description_of l (length text) ls ≡ Err fault
     → document_in l text ≡ Err (in_grammar fault)
 refused_tree l text ls fault e f =
     tokens_read l text ls e ∙ phase_err in_grammar (description_of l (length text) ls) (after_tree l) fault f
 
-tree_read : (l : Language) (text : List ℕ) (ls : List Lexeme) (tree : Description) → lexemes_of l text ≡ Ok ls
+tree_read : (l : Language) (text : List ℕ) (ls : List Lexeme) (tree : Description) → meant_in l text ≡ Ok ls
     → description_of l (length text) ls ≡ Ok tree → document_in l text ≡ after_tree l tree
 tree_read l text ls tree e f =
     tokens_read l text ls e ∙ phase_ok in_grammar (description_of l (length text) ls) (after_tree l) tree f
 
 pub refused_names : (l : Language) (text : List ℕ) (ls : List Lexeme) (tree : Description) (fault : NameError)
-    → lexemes_of l text ≡ Ok ls → description_of l (length text) ls ≡ Ok tree → resolve l tree ≡ Err fault
+    → meant_in l text ≡ Ok ls → description_of l (length text) ls ≡ Ok tree → resolve l tree ≡ Err fault
     → document_in l text ≡ Err (in_names fault)
 refused_names l text ls tree fault e f i =
     tree_read l text ls tree e f ∙ phase_err in_names (resolve l tree) (after_names l) fault i
 
 -- what a text names, phase by phase
 pub record ArePhases (l : Language) (text : List ℕ) (ls : List Lexeme) (tree : Description) (n : Named) : Type 0 where
-  pub tokens : lexemes_of l text ≡ Ok ls
+  pub tokens : meant_in l text ≡ Ok ls
   pub grammar : description_of l (length text) ls ≡ Ok tree
   pub names : resolve l tree ≡ Ok n
 
@@ -147,16 +158,14 @@ last_phases l text ls tree n is =
 pub spelled_reads : (text : List ℕ) (d : Document) → SpellsDocument text d → document_of text ≡ Ok d
 spelled_reads text d s =
     let l : Language = d.language in
-    let found : HasLexemes l text s.tokens = has_lexemes l text s.tokens s.within s.read in
-    let spelled : IsDescription l (kinds found.lexemes) s.tree =
-    subst (λ (ts : List Token). IsDescription l ts s.tree) found.are s.spelled in
-    let g : description_of l (length text) found.lexemes ≡ Ok s.tree =
-    description_again (record { end = length text; process = 0; language = l; levels = MAX_LEVELS }) found.lexemes s.tree
-    (omega arith) spelled in
+    let meant : meant_in l text ≡ Ok s.tokens = meant_right l text s.read s.tokens s.reads s.stands in
+    let g : description_of l (length text) s.tokens ≡ Ok s.tree =
+    description_again (record { end = length text; process = 0; language = l; levels = MAX_LEVELS }) s.tokens s.tree
+    (omega arith) s.spelled in
     let tables : s.named.tables ≡ d.tables = ap (λ (x : Document). x.tables) s.is in
     let sound : tables_cause s.named.tables ≡ None = ap tables_cause tables ∙ network_sound d.tables s.keeps in
     ap (λ k. document_in k text) s.language
-    ∙ last_phases l text found.lexemes s.tree s.named (record { tokens = found.found; grammar = g; names = s.resolved })
+    ∙ last_phases l text s.tokens s.tree s.named (record { tokens = meant; grammar = g; names = s.resolved })
     ∙ ap (λ c. unless c (document_named l s.named)) sound ∙ ap Ok s.is
 
 -- a text spells one document at most
@@ -170,12 +179,13 @@ pub read_spelled : (text : List ℕ) (ls : List Lexeme) (tree : Description) (n 
     → SpellsDocument text (document_named (language_of text) n)
 read_spelled text ls tree n is keeps =
     let l : Language = language_of text in
-    let t : AreTokens l text ls = are_tokens l text ls is.tokens in
+    let m : IsMeant l text ls = is_meant l text ls is.tokens in
     record {
-      within = t.within;
       language = refl;
-      tokens = kinds ls;
-      read = t.read;
+      read = m.read;
+      reads = m.reads;
+      tokens = ls;
+      stands = m.stands;
       tree = tree;
       spelled = description_takes (record { end = length text; process = 0; language = l; levels = MAX_LEVELS }) ls tree
           (omega arith) is.grammar;
@@ -215,13 +225,6 @@ tables_keep t e all =
     let h = tables_by (programs_cause 0 t.programs) (network_cause (net.first_network_fault t)) e in
     record { programs = programs_are 0 t.programs h.0 all; sound = network_by (net.first_network_fault t) h.1 }
 
--- what a chain of phases that gave something was made of
-phase_step : {A D E : Type 0} {C : Type 0} (cause : E → Cause) (r : Result A E) (k : A → Result D Cause) (x : D)
-    → and_then (phase cause r) k ≡ Ok x → ((a : A) → r ≡ Ok a → k a ≡ Ok x → C) → C
-unfolding and_then
-phase_step cause (Ok a) k x e go = go a refl e
-phase_step cause (Err f) k x e go = absurd cc
-
 last_step : {D : Type 0} (c : Option Cause) (made x : D) → unless c made ≡ Ok x → (c ≡ None) × (made ≡ x)
 last_step None made x e = (refl, ok_is made x e)
 last_step (Some cause) made x e = absurd cc
@@ -230,13 +233,13 @@ pub reads_spelled : (text : List ℕ) (d : Document) → document_of text ≡ Ok
 unfolding document_in
 reads_spelled text d e =
     let l : Language = language_of text in
-    phase_step in_tokens (lexemes_of l text) _ d e (λ ls tokens f.
-    phase_step in_grammar (description_of l (length text) ls) _ d f (λ tree grammar g.
+    let meant = went (meant_in l text) _ d e in
+    phase_step in_grammar (description_of l (length text) meant.value) _ d meant.rest (λ tree grammar g.
     phase_step in_names (resolve l tree) _ d g (λ n names h.
     let last = last_step (tables_cause n.tables) (document_named l n) d h in
     subst (λ (x : Document). SpellsDocument text x) last.1
-    (read_spelled text ls tree n (record { tokens = tokens; grammar = grammar; names = names })
-    (tables_keep n.tables last.0 (resolved_has l tree n names))))))
+    (read_spelled text meant.value tree n (record { tokens = meant.first; grammar = grammar; names = names })
+    (tables_keep n.tables last.0 (resolved_has l tree n names)))))
 
 -- ---- what is known of a document that some text spells
 

@@ -1,14 +1,9 @@
 -- What each phase answers to the text: the document that it spells, or the fault with which it is refused.
 use Rattle.std.proofs.Common.{◌≡◌, ℕ, List, length, Option, Some, None, Result, Ok, Err, sym, ap, ◌∙◌, subst, inl, inr}
 use Rattle.std.specs.Prelude.{◌⊎◌}
-use Rattle.std.specs.Global.{Global}
 use Rattle.kpn_net.specs.Tables.{Tables}
 use Rattle.kpn_net.specs.Faults.{IsNetwork}
-use Rattle.kpn_text_tokens.specs.declared.lexer.LexFault.{LexFault}
-use Rattle.kpn_text_tokens.specs.declared.lexer.LexFault.TheVariants as lex
 use Rattle.kpn_text_tokens.specs.declared.tokens.Lexeme.{Lexeme}
-use Rattle.kpn_text_tokens.specs.Lexing as lexing
-use Rattle.kpn_text_tokens.specs.Lexing.{lexemes_of}
 use Rattle.kpn_text_tokens.specs.declared.tokens.Language.{Language}
 use Rattle.kpn_text_tokens.specs.Opening.{language_of}
 use Rattle.kpn_text_tokens.specs.Results.{OkOr}
@@ -28,9 +23,9 @@ use Rattle.kpn_text.specs.declared.fault.TextFault.TheVariants as text
 use Rattle.kpn_text_names.specs.NetworkNames.{names_in}
 use Rattle.kpn_text.specs.Document.{Document, document_named, document_with}
 use Rattle.kpn_text.specs.Spells.{SpellsDocument}
-use Rattle.kpn_text.specs.Fault.{lex_fault, grammar_fault, name_fault}
-use Rattle.kpn_text.specs.Phases.{Cause, in_tokens, in_grammar, in_names, unless, tables_cause, document_of, TellsWhatIsFound, Refuses}
-use Rattle.kpn_text.specs.Making.{TellsCause, TextReads}
+use Rattle.kpn_text.specs.Fault.{grammar_fault, name_fault}
+use Rattle.kpn_text.specs.Phases.{Cause, in_grammar, in_names, unless, meant_in, tables_cause, document_of, TellsWhatIsFound, Refuses}
+use Rattle.kpn_text.specs.Making.{TellsCause, TextReads, TokensFail}
 use Rattle.kpn_text.proofs.ReadingLaws.{ArePhases, last_phases, one_document, read_spelled, refused_names, refused_tokens, refused_tree, spelled_reads}
 
 found_out : (bytes : List ℕ) (cause : Cause) (f : TextFault) → document_of bytes ≡ Err cause
@@ -39,8 +34,8 @@ found_out bytes cause f e h = inr (subst (λ r. TellsWhatIsFound r f) (sym e) h)
 
 -- the language is that of the text
 module _ (bytes : List ℕ) (l : Language) (told : l ≡ language_of bytes) where
-  lexemes_told : (r : Result (List Lexeme) LexFault) → lexemes_of l bytes ≡ r → lexemes_of (language_of bytes) bytes ≡ r
-  lexemes_told r t = ap (λ k. lexemes_of k bytes) (sym told) ∙ t
+  meant_told : (r : Result (List Lexeme) Cause) → meant_in l bytes ≡ r → meant_in (language_of bytes) bytes ≡ r
+  meant_told r t = ap (λ k. meant_in k bytes) (sym told) ∙ t
 
   tree_told : (ls slice : List Lexeme) (r : Result Description GrammarFault) → slice ≡ ls
       → description_of l (length bytes) slice ≡ r → description_of (language_of bytes) (length bytes) ls ≡ r
@@ -50,42 +45,37 @@ module _ (bytes : List ℕ) (l : Language) (told : l ≡ language_of bytes) wher
       → resolve (language_of bytes) tree ≡ r
   names_told tree r g = ap (λ k. resolve k tree) (sym told) ∙ g
 
-  pub tokens_refused : (e : LexFault) (f : TextFault) → lexing.Gives {A = Global} (Err e) (lexemes_of l bytes)
-      → f ≡ lex_fault e → Refuses bytes f
-  tokens_refused lex.NoMemory f g h = inl h
-  tokens_refused (lex.Token at) f g h =
-      found_out bytes (in_tokens (lex.Token at)) f
-      (refused_tokens (language_of bytes) bytes (lex.Token at) (lexemes_told _ g)) h
-  tokens_refused (lex.TooLong at) f g h =
-      found_out bytes (in_tokens (lex.TooLong at)) f
-      (refused_tokens (language_of bytes) bytes (lex.TooLong at) (lexemes_told _ g)) h
+  pub tokens_refused : (f : TextFault) → TokensFail l bytes f → Refuses bytes f
+  tokens_refused f (inl h) = inl h
+  tokens_refused f (inr (cause, is, h)) =
+      found_out bytes cause f (refused_tokens (language_of bytes) bytes cause (meant_told _ is)) h
 
-  pub tree_refused : (ls slice : List Lexeme) (e : GrammarFault) (f : TextFault) → lexemes_of l bytes ≡ Ok ls
+  pub tree_refused : (ls slice : List Lexeme) (e : GrammarFault) (f : TextFault) → meant_in l bytes ≡ Ok ls
       → slice ≡ ls → reading.ReadingFails e (description_of l (length bytes) slice) → f ≡ grammar_fault e → Refuses bytes f
   tree_refused ls slice grammar.NoMemory f t s g h = inl h
   tree_refused ls slice (grammar.Grammar at) f t s g h =
       found_out bytes (in_grammar (grammar.Grammar at)) f
-      (refused_tree (language_of bytes) bytes ls (grammar.Grammar at) (lexemes_told _ t) (tree_told ls slice _ s g)) h
+      (refused_tree (language_of bytes) bytes ls (grammar.Grammar at) (meant_told _ t) (tree_told ls slice _ s g)) h
   tree_refused ls slice (grammar.TooDeep i) f t s g h =
       found_out bytes (in_grammar (grammar.TooDeep i)) f
-      (refused_tree (language_of bytes) bytes ls (grammar.TooDeep i) (lexemes_told _ t) (tree_told ls slice _ s g)) h
+      (refused_tree (language_of bytes) bytes ls (grammar.TooDeep i) (meant_told _ t) (tree_told ls slice _ s g)) h
 
   pub names_refused : (ls slice : List Lexeme) (tree : Description) (e : NameFault) (f : TextFault)
-      → lexemes_of l bytes ≡ Ok ls → slice ≡ ls → description_of l (length bytes) slice ≡ Ok tree
+      → meant_in l bytes ≡ Ok ls → slice ≡ ls → description_of l (length bytes) slice ≡ Ok tree
       → names.ResolvingFails e (resolve l tree) → f ≡ name_fault e → Refuses bytes f
   names_refused ls slice tree name.NoMemory f t s d g h = inl h
   names_refused ls slice tree (name.UnknownName at) f t s d g h =
       found_out bytes (in_names unknown) f
-      (refused_names (language_of bytes) bytes ls tree unknown (lexemes_told _ t) (tree_told ls slice _ s d) (names_told tree _ g)) (at, h)
+      (refused_names (language_of bytes) bytes ls tree unknown (meant_told _ t) (tree_told ls slice _ s d) (names_told tree _ g)) (at, h)
   names_refused ls slice tree (name.DoubleName at) f t s d g h =
       found_out bytes (in_names double) f
-      (refused_names (language_of bytes) bytes ls tree double (lexemes_told _ t) (tree_told ls slice _ s d) (names_told tree _ g)) (at, h)
+      (refused_names (language_of bytes) bytes ls tree double (meant_told _ t) (tree_told ls slice _ s d) (names_told tree _ g)) (at, h)
 
-  pub phases : (ls slice : List Lexeme) (tree : Description) (n : Named) → lexemes_of l bytes ≡ Ok ls → slice ≡ ls
+  pub phases : (ls slice : List Lexeme) (tree : Description) (n : Named) → meant_in l bytes ≡ Ok ls → slice ≡ ls
       → description_of l (length bytes) slice ≡ Ok tree → resolve l tree ≡ Ok n
       → ArePhases (language_of bytes) bytes ls tree n
   phases ls slice tree n t s d r =
-      record { tokens = lexemes_told _ t; grammar = tree_told ls slice _ s d; names = names_told tree _ r }
+      record { tokens = meant_told _ t; grammar = tree_told ls slice _ s d; names = names_told tree _ r }
 
 tells_unless : (c : Option Cause) (d : Document) (f : TextFault) → TellsCause c f → TellsWhatIsFound (unless c d) f
 tells_unless (Some cause) d f h = h

@@ -33,6 +33,10 @@ use Rattle.kpn_text.specs.Document.{Document, canonical_text}
 use Rattle.kpn_text.specs.Spells.{SpellsDocument, IsOfSomeText}
 use Rattle.kpn_text.specs.Again.{PrintedTextSpells}
 use Rattle.kpn_text_names.proofs.Chains.{ok_is, went, then_ok}
+use Rattle.kpn_text_expand.specs.Plain.{ArePlain}
+use Rattle.kpn_text_expand.proofs.Plain.{plain_kept}
+use Rattle.kpn_text_expand.proofs.PlainSpelling.{spelling_plain}
+use Rattle.kpn_text.proofs.ReadingLaws.{has_lexemes}
 use Rattle.kpn_text.proofs.KeptNames.{names_back}
 use Rattle.kpn_text.proofs.NamedItems.{items_back, literals_proper}
 use Rattle.kpn_text.proofs.NamedProcesses.{HaveFewCells, have_few, processes_back}
@@ -232,7 +236,7 @@ pub proper : (text : List ℕ) (d : Document) (s : SpellsDocument text d) → Re
     → Kept d.language s.tree s.named → IsProper d.language (printed s.named)
 proper text d s read k =
     let l : Language = d.language in
-    let was : IsProper l s.tree = read l text s.tokens s.tree s.read s.spelled in
+    let was : IsProper l s.tree = read l text s.read s.tokens s.tree s.reads s.stands s.spelled in
     record {
       tables =
           subst (λ ts. AllByRecursion (IsProperTable l) ts) k.tables
@@ -274,13 +278,17 @@ printed_spells flat limits spells is_read is_told are_proper d h short =
     let k = spelled_kept flat limits h.0 d s in
     let same : description_text l (printed s.named) ≡ canonical_text d =
     ap (λ (e : Document). description_text l (description_named e.names e.tables)) s.is in
+    let found = has_lexemes l (canonical_text d) (spell_description l (printed s.named)) short
+    (ap (λ t. tokens_of l t) (sym same) ∙ is_read l (printed s.named) (proper h.0 d s are_proper k)) in
     record {
-      within = short;
       language = ap (λ t. language_of t) (sym same) ∙ is_told l (printed s.named);
-      tokens = spell_description l (printed s.named);
-      read = ap (λ t. tokens_of l t) (sym same) ∙ is_read l (printed s.named) (proper h.0 d s are_proper k);
+      read = found.lexemes;
+      reads = found.found;
+      tokens = found.lexemes;
+      stands = plain_kept l (length (canonical_text d)) found.lexemes
+          (subst ArePlain found.are (spelling_plain l (printed s.named)));
       tree = printed s.named;
-      spelled = printed_fits spells h.0 d s k;
+      spelled = subst (λ ts. IsDescription l ts (printed s.named)) found.are (printed_fits spells h.0 d s k);
       named = s.named;
       resolved = k.again;
       is = s.is;

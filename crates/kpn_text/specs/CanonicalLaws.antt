@@ -1,13 +1,15 @@
 -- How the canonical text is read: its tokens are the spelling of the tree.
-use Rattle.std.specs.Prelude.{◌≡◌, ℕ, false, ◌||◌, List, [], ◌∷◌, Some}
+use Rattle.std.specs.Prelude.{◌≡◌, ℕ, false, ◌||◌, List, [], ◌∷◌, length, Some, Ok}
 use Rattle.std.specs.Char.{is_ascii_digit}
 use Rattle.kpn_text_tokens.specs.declared.tokens.Language.{Language}
 use Rattle.kpn_text_tokens.specs.declared.tokens.Token.{Token}
 use Rattle.kpn_text_tokens.specs.Laws.{tokens_of}
-use Rattle.kpn_text_tokens.specs.Lexing.{begins_name}
+use Rattle.kpn_text_tokens.specs.declared.tokens.Lexeme.{Lexeme}
+use Rattle.kpn_text_tokens.specs.Lexing.{begins_name, lexemes_of}
 use Rattle.kpn_text_tokens.specs.Opening.{language_of}
+use Rattle.kpn_text_expand.specs.Expanding.{expanded}
 use Rattle.kpn_text_grammar.specs.Syntax.{ExpressionNode, Statements, ProcessNode, Description}
-use Rattle.kpn_text_grammar.specs.Spelling.{spell_expression, spell_statements, spell_process, spell_description, IsDescription}
+use Rattle.kpn_text_grammar.specs.Spelling.{spell_expression, spell_statements, spell_process, spell_description, IsDescription, kinds}
 use Rattle.kpn_text.specs.Proper.{IsProperTerm, AreProper, IsProperProcess, IsProper}
 use Rattle.kpn_text.specs.Text.{whole_text, statements_text, process_text, description_text}
 
@@ -44,8 +46,8 @@ DescriptionIsRead =
 abbrev pub LanguageIsTold : Type 0
 LanguageIsTold = (l : Language) (d : Description) → language_of (description_text l d) ≡ l
 
--- A description that the tokens of a text spell is proper.
+-- A description that the tokens of a text stand for is proper.
 abbrev pub ReadDescriptionsAreProper : Type 0
 ReadDescriptionsAreProper =
-    (l : Language) (text : List ℕ) (tokens : List Token) (d : Description) → tokens_of l text ≡ Some tokens
-    → IsDescription l tokens d → IsProper l d
+    (l : Language) (text : List ℕ) (read tokens : List Lexeme) (d : Description) → lexemes_of l text ≡ Ok read
+    → expanded l (length text) read ≡ Ok tokens → IsDescription l (kinds tokens) d → IsProper l d

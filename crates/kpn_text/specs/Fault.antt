@@ -6,6 +6,8 @@ use Rattle.kpn_text_tokens.specs.declared.lexer.LexFault.{LexFault}
 use Rattle.kpn_text_tokens.specs.declared.lexer.LexFault.TheVariants as lex
 use Rattle.kpn_text_grammar.specs.declared.fault.GrammarFault.{GrammarFault}
 use Rattle.kpn_text_grammar.specs.declared.fault.GrammarFault.TheVariants as grammar
+use Rattle.kpn_text_expand.specs.declared.fault.ExpandFault.{ExpandFault}
+use Rattle.kpn_text_expand.specs.declared.fault.ExpandFault.TheVariants as expand
 use Rattle.kpn_text_names.specs.declared.fault.NameFault.{NameFault}
 use Rattle.kpn_text_names.specs.declared.fault.NameFault.TheVariants as name
 use Rattle.kpn_text.specs.declared.fault.TextFault.{TextFault}
@@ -15,6 +17,12 @@ abbrev pub lex_fault : LexFault → TextFault
 lex_fault (lex.TooLong at) = text.TooLong at
 lex_fault (lex.Token at) = text.Token at
 lex_fault lex.NoMemory = text.NoMemory
+
+abbrev pub expand_fault : ExpandFault → TextFault
+expand_fault (expand.Grammar at) = text.Grammar at
+expand_fault (expand.Token at) = text.Token at
+expand_fault (expand.UnknownName at) = text.UnknownName at
+expand_fault expand.NoMemory = text.NoMemory
 
 -- a process that nests too deep is a fault of its program
 abbrev pub grammar_fault : GrammarFault → TextFault

@@ -3,10 +3,12 @@
 use Rattle.std.specs.Prelude.{◌≡◌, ◌⊎◌, ℕ, List, Option, Some, None, Result, Ok, Err}
 use Rattle.kpn_lang.specs.declared.program.ProgramFault.{ProgramFault}
 use Rattle.kpn_lang.specs.declared.program.ProgramFault.TheVariants as rule
+use Rattle.kpn_text_tokens.specs.declared.tokens.Language.{Language}
+use Rattle.kpn_text_tokens.specs.declared.tokens.Lexeme.{Lexeme}
 use Rattle.kpn_text.specs.declared.fault.TextFault.{TextFault}
 use Rattle.kpn_text.specs.declared.fault.TextFault.TheVariants as fault
 use Rattle.kpn_text.specs.Document.{Document}
-use Rattle.kpn_text.specs.Phases.{Cause, Tells, Refuses}
+use Rattle.kpn_text.specs.Phases.{Cause, Tells, Refuses, meant_in}
 use Rattle.kpn_text.specs.Spells.{SpellsDocument}
 
 -- a cause was found, and the fault states it
@@ -28,3 +30,12 @@ program_told number other = fault.Program number other
 abbrev pub TextReads : List ℕ → Result Document TextFault → Type 0
 TextReads text (Ok d) = SpellsDocument text d
 TextReads text (Err f) = Refuses text f
+
+-- memory ran out, or the fault states the cause for which a text stands for no tokens
+abbrev pub TokensFail : Language → List ℕ → TextFault → Type 0
+TokensFail l text f = (f ≡ fault.NoMemory) ⊎ ((cause : Cause) × (meant_in l text ≡ Err cause) × Tells cause f)
+
+-- the tokens that the text stands for, or a fault
+abbrev pub TokensAre : Language → List ℕ → Result (List Lexeme) TextFault → Type 0
+TokensAre l text (Ok found) = meant_in l text ≡ Ok found
+TokensAre l text (Err f) = TokensFail l text f

@@ -1,5 +1,5 @@
--- The phases of reading: tokens, grammar, names, the programs in order, the network. Each goes on if the one before it
--- finds no fault, and the first that finds one is the cause of a refusal.
+-- The phases of reading: tokens, constants, grammar, names, the programs in order, the network. Each goes on if the one
+-- before it finds no fault, and the first that finds one is the cause of a refusal.
 use Rattle.std.specs.Prelude.{◌≡◌, ◌⊎◌, ℕ, suc, List, [], ◌∷◌, length, Option, Some, None, Result, Ok, Err}
 use Rattle.kpn_lang.specs.declared.program.ProgramFault.{ProgramFault}
 use Rattle.kpn_lang.specs.Parts as lang
@@ -9,9 +9,12 @@ use Rattle.kpn_net.specs.Tables.{Tables}
 use Rattle.kpn_net.specs.Faults as net
 use Rattle.kpn_text_tokens.specs.declared.lexer.LexFault.{LexFault}
 use Rattle.kpn_text_tokens.specs.declared.tokens.Language.{Language}
+use Rattle.kpn_text_tokens.specs.declared.tokens.Lexeme.{Lexeme}
 use Rattle.kpn_text_tokens.specs.Results.{◌>>=◌}
 use Rattle.kpn_text_tokens.specs.Lexing.{lexemes_of}
 use Rattle.kpn_text_tokens.specs.Opening.{language_of}
+use Rattle.kpn_text_expand.specs.declared.fault.ExpandFault.{ExpandFault}
+use Rattle.kpn_text_expand.specs.Expanding.{expanded}
 use Rattle.kpn_text_grammar.specs.declared.fault.GrammarFault.{GrammarFault}
 use Rattle.kpn_text_grammar.specs.Reading.{description_of}
 use Rattle.kpn_text_names.specs.Fault.{NameError, unknown, double}
@@ -19,11 +22,12 @@ use Rattle.kpn_text_names.specs.Named.{resolve}
 use Rattle.kpn_text.specs.declared.fault.TextFault.{TextFault}
 use Rattle.kpn_text.specs.declared.fault.TextFault.TheVariants as fault
 use Rattle.kpn_text.specs.Document.{Document, document_named}
-use Rattle.kpn_text.specs.Fault.{lex_fault, grammar_fault, net_fault}
+use Rattle.kpn_text.specs.Fault.{lex_fault, expand_fault, grammar_fault, net_fault}
 
 -- what a phase finds, without the place of a name in the text
 pub data Cause : Type 0 where
   in_tokens : LexFault → Cause
+  in_constants : ExpandFault → Cause
   in_grammar : GrammarFault → Cause
   in_names : NameError → Cause
   in_program : ℕ → ProgramFault → Cause
@@ -62,10 +66,16 @@ or_cause None after = after
 abbrev pub tables_cause : Tables → Option Cause
 tables_cause t = or_cause (programs_cause 0 t.programs) (network_cause (net.first_network_fault t))
 
+-- the tokens that a text of this language stands for
+unfoldable pub meant_in : Language → List ℕ → Result (List Lexeme) Cause
+meant_in l text = do
+  tokens ← phase in_tokens (lexemes_of l text)
+  phase in_constants (expanded l (length text) tokens)
+
 -- the document of a text in this language, or the cause of its refusal
 unfoldable pub document_in : Language → List ℕ → Result Document Cause
 document_in l text = do
-  tokens ← phase in_tokens (lexemes_of l text)
+  tokens ← meant_in l text
   tree ← phase in_grammar (description_of l (length text) tokens)
   named ← phase in_names (resolve l tree)
   unless (tables_cause named.tables) (document_named l named)
@@ -84,6 +94,7 @@ TellsName double f = (at : ℕ) × (f ≡ fault.DoubleName at)
 -- the fault states the cause: all of it, and for a name some byte
 abbrev pub Tells : Cause → TextFault → Type 0
 Tells (in_tokens e) f = f ≡ lex_fault e
+Tells (in_constants e) f = f ≡ expand_fault e
 Tells (in_grammar e) f = f ≡ grammar_fault e
 Tells (in_names e) f = TellsName e f
 Tells (in_program i e) f = f ≡ fault.Program i e

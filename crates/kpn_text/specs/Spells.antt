@@ -1,25 +1,25 @@
 -- What it is for a text to spell a document.
-use Rattle.std.specs.Prelude.{◌≡◌, ℕ, ◌≤◌, List, length, Some, Ok}
-use Rattle.kpn_limits.specs.declared.TheConstants.{MAX_TEXT_BYTES}
-use Rattle.kpn_text_tokens.specs.declared.tokens.Token.{Token}
-use Rattle.kpn_text_tokens.specs.Laws.{tokens_of}
+use Rattle.std.specs.Prelude.{◌≡◌, ℕ, List, length, Ok}
+use Rattle.kpn_text_tokens.specs.declared.tokens.Lexeme.{Lexeme}
+use Rattle.kpn_text_tokens.specs.Lexing.{lexemes_of}
 use Rattle.kpn_text_tokens.specs.Opening.{language_of}
 use Rattle.kpn_net.specs.Faults.{IsNetwork}
 use Rattle.kpn_text_grammar.specs.Syntax.{Description}
-use Rattle.kpn_text_grammar.specs.Spelling.{IsDescription}
+use Rattle.kpn_text_grammar.specs.Spelling.{IsDescription, kinds}
+use Rattle.kpn_text_expand.specs.Expanding.{expanded}
 use Rattle.kpn_text_names.specs.Named.{Named, resolve}
 use Rattle.kpn_text.specs.Document.{Document, document_named}
 
--- A text spells a document: it is within the limit of bytes, it is of the document's language, its tokens in that
--- language are those of a tree, and what the tree names is the document. The document's tables keep the rules of
--- programs and networks.
+-- A text spells a document: it is of the document's language, its tokens in that language stand for those of a tree, and
+-- what the tree names is the document. The document's tables keep the rules of programs and networks.
 pub record SpellsDocument (text : List ℕ) (d : Document) : Type 0 where
-  pub within : length text ≤ MAX_TEXT_BYTES
   pub language : language_of text ≡ d.language
-  pub tokens : List Token
-  pub read : tokens_of d.language text ≡ Some tokens
+  pub read : List Lexeme
+  pub reads : lexemes_of d.language text ≡ Ok read
+  pub tokens : List Lexeme
+  pub stands : expanded d.language (length text) read ≡ Ok tokens
   pub tree : Description
-  pub spelled : IsDescription d.language tokens tree
+  pub spelled : IsDescription d.language (kinds tokens) tree
   pub named : Named
   pub resolved : resolve d.language tree ≡ Ok named
   pub is : document_named d.language named ≡ d

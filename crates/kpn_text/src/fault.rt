@@ -2,6 +2,7 @@
 
 use kpn_lang::ProgramFault;
 use kpn_net::NetFault;
+use kpn_text_expand::ExpandFault;
 use kpn_text_grammar::GrammarFault;
 use kpn_text_names::NameFault;
 use kpn_text_tokens::LexFault;
@@ -14,7 +15,7 @@ pub enum TextFault {
     /// 24: the text has more bytes than this, or the name at this byte is too long.
     #[error("TooLong at {0}")]
     TooLong(usize),
-    /// 20: no token begins at this byte, or the number there is out of range.
+    /// 20: no token begins at this byte, or the number there, or the value of a constant, is out of range.
     #[error("Token at {0}")]
     Token(usize),
     /// 21: the token at this byte may not be there. If the text ends too early, this is its length.
@@ -48,6 +49,22 @@ impl From<LexFault> for TextFault {
             LexFault::TooLong(at) => TextFault::TooLong(at),
             LexFault::Token(at) => TextFault::Token(at),
             LexFault::NoMemory => TextFault::NoMemory,
+        }
+    }
+}
+
+impl From<ExpandFault> for TextFault {
+    ghost use Rattle.std.specs.Prelude.{◌≡◌};
+    ghost use Rattle.kpn_text.specs.Fault.{expand_fault};
+
+    ghost from_gives = { λ fault told. told ≡ expand_fault fault };
+
+    fn from(fault: ExpandFault) -> TextFault {
+        match fault {
+            ExpandFault::Grammar(at) => TextFault::Grammar(at),
+            ExpandFault::Token(at) => TextFault::Token(at),
+            ExpandFault::UnknownName(at) => TextFault::UnknownName(at),
+            ExpandFault::NoMemory => TextFault::NoMemory,
         }
     }
 }

@@ -21,6 +21,7 @@ mod printing;
 mod processes;
 mod reading;
 mod rows;
+mod tokens;
 
 pub use document::Document;
 pub use fault::TextFault;
@@ -29,3 +30,4 @@ pub use kpn_text_tokens::Language;
 pub use laws::{names_stand_once, phases_give_what_is_spelled, read_again, spelled_once};
 pub use printing::print_network;
 pub use reading::read_network;
+pub use tokens::meant_tokens;

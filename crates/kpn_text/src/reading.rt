@@ -11,9 +11,10 @@ use crate::document::Document;
 use crate::fault::TextFault;
 use crate::names::names_of;
 use crate::network::network;
+use crate::tokens::meant_tokens;
 use kpn_text_grammar::description;
 use kpn_text_names::resolve;
-use kpn_text_tokens::{language_of, lexemes};
+use kpn_text_tokens::language_of;
 use std::alloc::Global;
 
 /// The document that a text spells, phase by phase.
@@ -21,7 +22,7 @@ fn read_text(alloc: Global, text: &[u8]) -> Result<Document, TextFault>
     ensures { TextReads text.now result }
 {
     let language = language_of(text);
-    let tokens = lexemes(alloc, language, text)?;
+    let tokens = meant_tokens(alloc, language, text)?;
     let tree = description(alloc, language, tokens.as_slice(), text.len())?;
     let named = resolve(alloc, language, &tree)?;
     let names = names_of(alloc, &named)?;
@@ -38,6 +39,8 @@ fn read_text(alloc: Global, text: &[u8]) -> Result<Document, TextFault>
 ///
 /// - [`TextFault::TooLong`] if the text has more than [`MAX_TEXT_BYTES`](kpn_limits::MAX_TEXT_BYTES);
 /// - the first in the text of [`TextFault::Token`] and, at a name, [`TextFault::TooLong`];
+/// - in language 2 the first in the text of those of constants: [`TextFault::Grammar`], [`TextFault::UnknownName`] and
+///   [`TextFault::Token`];
 /// - [`TextFault::Grammar`] or a process that nests too deep, whichever comes first;
 /// - the first in the text of [`TextFault::UnknownName`] and [`TextFault::DoubleName`];
 /// - [`TextFault::Program`] of the first process that is no program;

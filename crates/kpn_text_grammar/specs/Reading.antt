@@ -591,3 +591,14 @@ description s ls = language_at s s.language ls >>= contents s
 -- what the tokens of a text of this length are read as in a language, with the processes numbered from 0
 abbrev pub description_of : Language → ℕ → List Lexeme → Result Description GrammarFault
 description_of l end ls = description (record { end = end; process = 0; language = l; levels = MAX_LEVELS }) ls
+
+-- an expression and nothing after it
+unfoldable pub expression : Scope → List Lexeme → Result ExpressionNode GrammarFault
+expression s ls = do
+  e ← whole s ls
+  nothing ← at_end e.1
+  Ok e.0
+
+-- what all these tokens, with this byte behind them, are read as in a language
+abbrev pub expression_of : Language → ℕ → List Lexeme → Result ExpressionNode GrammarFault
+expression_of l end ls = expression (record { end = end; process = 0; language = l; levels = MAX_LEVELS }) ls

@@ -25,5 +25,5 @@ pub use tree::{
     Block, Declaration, Description, Expression, HeadParts, Identifier, InstanceNode, Item,
     Literal, Names, NetworkNode, ProcessNode, StatementNode, Table,
 };
-pub use whole::description;
+pub use whole::{description, expression};
 pub use words::{growth_word, policy_word};

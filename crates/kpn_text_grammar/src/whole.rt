@@ -1,4 +1,5 @@
-//! The whole of a description: its language, its shared tables, its processes, its network, and nothing after it.
+//! The whole of a description: its language, its shared tables, its processes, its network, and nothing after it. Or
+//! the whole of an expression that stands alone.
 
 ghost use Rattle.std.specs.Prelude.{◌≡◌, ℕ, Err, IfOk};
 ghost use Rattle.kpn_text_grammar.specs.Syntax.{Description as Document};
@@ -6,14 +7,15 @@ ghost use Rattle.kpn_text_grammar.specs.Spelling.{IsDescription, kinds};
 ghost use Rattle.kpn_text_grammar.specs.Laws.{IsFaultAt};
 ghost use Rattle.kpn_text_tokens.specs.Results.{OkOr};
 ghost use Rattle.kpn_text_grammar.specs.Reading as spec;
-ghost use Rattle.kpn_text_grammar.specs.View.{Passes, document, tokens_from};
+ghost use Rattle.kpn_text_grammar.specs.View.{Passes, document, term, tokens_from};
 
 use crate::declarations::shared_tables;
+use crate::expressions;
 use crate::fault::GrammarFault;
 use crate::networks::network;
 use crate::parser::{Scope, Source, keyword, mark, two};
 use crate::processes::processes;
-use crate::tree::Description;
+use crate::tree::{Description, Expression};
 use kpn_limits::MAX_LEVELS;
 use kpn_text_tokens::{Keyword, Language, Lexeme, Mark};
 use std::alloc::Global;
@@ -112,4 +114,37 @@ pub fn description<'a>(
         levels: MAX_LEVELS,
     };
     whole(alloc, Source { tokens, scope })
+}
+
+/// An expression, and nothing after it.
+#[tactic(auto, unfolding(crate::specs::Reading::expression, kpn_text_tokens::specs::Results::and_then))]
+fn alone<'a>(alloc: Global, source: Source<'a>) -> Result<Expression<'a>, GrammarFault>
+    ensures { spec.ReadingGives term result
+        (spec.expression source.entry.scope source.entry.tokens.now) }
+{
+    let (found, at) = expressions::whole(alloc, source, 0)?;
+    at_end(source, at)?;
+    Ok(found)
+}
+
+/// The expression of a language that all these tokens are; `end` is the byte behind them.
+///
+/// # Errors
+///
+/// Those of [`description`].
+pub fn expression<'a>(
+    alloc: Global,
+    language: Language,
+    tokens: &'a [Lexeme<'a>],
+    end: usize,
+) -> Result<Expression<'a>, GrammarFault>
+    ensures { spec.ReadingGives term result (spec.expression_of language end tokens.now) }
+{
+    let scope = Scope {
+        end,
+        process: 0,
+        language,
+        levels: MAX_LEVELS,
+    };
+    alone(alloc, Source { tokens, scope })
 }

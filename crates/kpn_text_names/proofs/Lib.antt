@@ -1,5 +1,6 @@
 -- The lemmas. Other crates may cite the public ones.
 pub mod Chains
+mod Closed
 pub mod Steps
 mod StatementSteps
 mod Writing

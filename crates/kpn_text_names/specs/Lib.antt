@@ -5,6 +5,7 @@ pub mod Scope
 pub mod Shared
 pub mod Targets
 pub mod Body
+pub mod Constant
 pub mod Blocks
 pub mod Network
 pub mod Named

@@ -5,6 +5,7 @@
 //! stands for each name.
 #![tactic(auto)]
 
+mod constant;
 mod document;
 mod expression;
 mod fault;
@@ -19,6 +20,7 @@ mod tables;
 mod targets;
 mod writer;
 
+pub use constant::constant_value;
 pub use document::{Named, resolve};
 pub use fault::NameFault;
 pub use laws::{blocks_are_the_tree, names_stand_once, second_resolves_first};

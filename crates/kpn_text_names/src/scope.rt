@@ -56,7 +56,7 @@ pub(crate) enum HeadPart {
 
 impl<'a> NameScope<'a> {
     /// No names yet.
-    fn new(alloc: Global) -> NameScope<'a>
+    pub(crate) fn new(alloc: Global) -> NameScope<'a>
         ensures { result ≡ spec.scope_with [] [] [] }
     {
         NameScope {

@@ -30,6 +30,8 @@ unfolding keyword_of
 keyword_is_found l keyword.Language has = cond-true (is_two l) _ _ has
 keyword_is_found l keyword.Array has = cond-true (is_two l) _ _ has
 keyword_is_found l keyword.Table has = cond-true (is_two l) _ _ has
+keyword_is_found l keyword.Const has = cond-true (is_two l) _ _ has
+keyword_is_found l keyword.For has = cond-true (is_two l) _ _ has
 keyword_is_found l _ has = refl
 
 -- a mark begins with none of the bytes that begin white space, comments, words and numbers
@@ -110,6 +112,7 @@ mark_is_found l mark.BitNot rest has ends = cond-true (is_two l) _ _ has
 mark_is_found l mark.BitXor rest has ends = cond-true (is_two l) _ _ has
 mark_is_found l mark.ShiftLeft rest has ends = cond-true (is_two l) _ _ has
 mark_is_found l mark.ShiftRight rest has ends = cond-true (is_two l) _ _ has
+mark_is_found l mark.Range rest has ends = cond-true (is_two l) _ _ has
 mark_is_found l _ rest has ends = refl
 
 -- ---- a mark that is found is not made another one
@@ -197,6 +200,7 @@ listed p none mark.BitOr = none.1.1.1.1.1.1.1.1.1.1.1.1.1.1.1.1.1.1.1.1.1.1.1.1.
 listed p none mark.BitXor = none.1.1.1.1.1.1.1.1.1.1.1.1.1.1.1.1.1.1.1.1.1.1.1.1.1.1.1.1.1.1.0
 listed p none mark.ShiftLeft = none.1.1.1.1.1.1.0
 listed p none mark.ShiftRight = none.1.1.1.1.1.1.1.0
+listed p none mark.Range = none.1.1.1.1.1.1.1.1.1.1.1.1.1.1.1.1.1.1.1.1.1.1.1.1.1.1.1.1.1.1.1.0
 
 -- if no mark of a language is found, the text begins with none
 pub no_mark_is_found : (l : Language) (text : List ℕ) → mark_at l text ≡ None → (m : Mark) → has_mark l m ≡ true

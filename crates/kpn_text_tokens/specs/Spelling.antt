@@ -42,12 +42,13 @@ mark_bytes mark.BitOr = codes "|"
 mark_bytes mark.BitXor = codes "^"
 mark_bytes mark.ShiftLeft = codes "<<"
 mark_bytes mark.ShiftRight = codes ">>"
+mark_bytes mark.Range = codes ".."
 
 abbrev pub is_two : Language → Bool
 is_two language.One = false
 is_two language.Two = true
 
--- a language has a mark: language 2 alone has `[ ] ? : ~ & | ^ << >>`
+-- a language has a mark: language 2 alone has `[ ] ? : ~ & | ^ << >> ..`
 abbrev pub has_mark : Language → Mark → Bool
 has_mark l mark.LeftBracket = is_two l
 has_mark l mark.RightBracket = is_two l
@@ -59,6 +60,7 @@ has_mark l mark.BitOr = is_two l
 has_mark l mark.BitXor = is_two l
 has_mark l mark.ShiftLeft = is_two l
 has_mark l mark.ShiftRight = is_two l
+has_mark l mark.Range = is_two l
 has_mark l _ = true
 
 -- the bytes that spell a reserved word
@@ -83,12 +85,16 @@ keyword_bytes keyword.Grow = codes "grow"
 keyword_bytes keyword.Language = codes "language"
 keyword_bytes keyword.Array = codes "array"
 keyword_bytes keyword.Table = codes "table"
+keyword_bytes keyword.Const = codes "const"
+keyword_bytes keyword.For = codes "for"
 
--- a language has a reserved word: language 2 alone has `language`, `array` and `table`
+-- a language has a reserved word: language 2 alone has `language`, `array`, `table`, `const` and `for`
 abbrev pub has_keyword : Language → Keyword → Bool
 has_keyword l keyword.Language = is_two l
 has_keyword l keyword.Array = is_two l
 has_keyword l keyword.Table = is_two l
+has_keyword l keyword.Const = is_two l
+has_keyword l keyword.For = is_two l
 has_keyword l _ = true
 
 -- every mark, the longer ones first
@@ -98,7 +104,7 @@ marks =
     ∷ mark.ShiftRight ∷ mark.LeftParen ∷ mark.RightParen ∷ mark.LeftBrace ∷ mark.RightBrace ∷ mark.Semicolon
     ∷ mark.Comma ∷ mark.Assign ∷ mark.Plus ∷ mark.Minus ∷ mark.Star ∷ mark.Slash ∷ mark.Percent ∷ mark.Less
     ∷ mark.Greater ∷ mark.Not ∷ mark.LeftBracket ∷ mark.RightBracket ∷ mark.Question ∷ mark.Colon ∷ mark.BitNot
-    ∷ mark.BitAnd ∷ mark.BitOr ∷ mark.BitXor ∷ []
+    ∷ mark.BitAnd ∷ mark.BitOr ∷ mark.BitXor ∷ mark.Range ∷ []
 
 -- the longest mark of a language at the front of a text
 unfoldable pub mark_at : Language → List ℕ → Option Mark
@@ -108,7 +114,8 @@ mark_at l text = find (λ m. starts_with nat_eq text (mark_bytes m) && has_mark 
 abbrev pub keywords : List Keyword
 keywords = keyword.Process ∷ keyword.In ∷ keyword.Out ∷ keyword.Par ∷ keyword.Read ∷ keyword.Write ∷ keyword.If
     ∷ keyword.Else ∷ keyword.While ∷ keyword.Network ∷ keyword.Limit ∷ keyword.Channel ∷ keyword.Cap ∷ keyword.Source
-    ∷ keyword.Sink ∷ keyword.Policy ∷ keyword.Grow ∷ keyword.Language ∷ keyword.Array ∷ keyword.Table ∷ []
+    ∷ keyword.Sink ∷ keyword.Policy ∷ keyword.Grow ∷ keyword.Language ∷ keyword.Array ∷ keyword.Table ∷ keyword.Const
+    ∷ keyword.For ∷ []
 
 -- the reserved word of a language that the bytes spell
 unfoldable pub keyword_of : Language → List ℕ → Option Keyword

@@ -57,6 +57,13 @@ impl<'a> Name<'a> {
     {
         self.bytes
     }
+
+    /// The same name.
+    pub fn copy(&self) -> Name<'a>
+        ensures { result ≡ self.now }
+    {
+        Name { bytes: self.bytes }
+    }
 }
 
 impl<'a> PartialEq for Name<'a> {
@@ -93,7 +100,7 @@ impl Model for Number {
 
 impl Number {
     /// The number of this value.
-    pub(crate) fn new(value: u64) -> Number
+    pub fn new(value: u64) -> Number
         requires { value < 2 ^ 63 }
         ensures { result ≡ value }
     {
@@ -150,11 +157,13 @@ pub enum Mark {
     ShiftLeft,
     /// `>>`
     ShiftRight,
+    /// `..`
+    Range,
 }
 
 impl Mark {
     /// Every mark, the longer ones first.
-    pub const ALL: [Mark; 31] = [
+    pub const ALL: [Mark; 32] = [
         Mark::LessOrEqual,
         Mark::GreaterOrEqual,
         Mark::Equal,
@@ -186,6 +195,7 @@ impl Mark {
         Mark::BitAnd,
         Mark::BitOr,
         Mark::BitXor,
+        Mark::Range,
     ];
 
     /// Whether a language has the mark.
@@ -202,7 +212,8 @@ impl Mark {
             | Mark::BitOr
             | Mark::BitXor
             | Mark::ShiftLeft
-            | Mark::ShiftRight => matches!(language, Language::Two),
+            | Mark::ShiftRight
+            | Mark::Range => matches!(language, Language::Two),
             _ => true,
         }
     }
@@ -252,6 +263,7 @@ impl Mark {
             Mark::BitXor => b"^",
             Mark::ShiftLeft => b"<<",
             Mark::ShiftRight => b">>",
+            Mark::Range => b"..",
         }
     }
 }
@@ -279,11 +291,13 @@ pub enum Keyword {
     Language,
     Array,
     Table,
+    Const,
+    For,
 }
 
 impl Keyword {
     /// Every reserved word.
-    pub const ALL: [Keyword; 20] = [
+    pub const ALL: [Keyword; 22] = [
         Keyword::Process,
         Keyword::In,
         Keyword::Out,
@@ -304,6 +318,8 @@ impl Keyword {
         Keyword::Language,
         Keyword::Array,
         Keyword::Table,
+        Keyword::Const,
+        Keyword::For,
     ];
 
     /// Whether a language reserves the word.
@@ -311,9 +327,8 @@ impl Keyword {
         ensures { result ≡ has_keyword language self }
     {
         match self {
-            Keyword::Language | Keyword::Array | Keyword::Table => {
-                matches!(language, Language::Two)
-            }
+            Keyword::Language | Keyword::Array | Keyword::Table | Keyword::Const | Keyword::For =>
+                matches!(language, Language::Two),
             _ => true,
         }
     }
@@ -352,6 +367,8 @@ impl Keyword {
             Keyword::Language => b"language",
             Keyword::Array => b"array",
             Keyword::Table => b"table",
+            Keyword::Const => b"const",
+            Keyword::For => b"for",
         }
     }
 }
@@ -363,6 +380,20 @@ pub enum Token<'a> {
     Number(Number),
     Mark(Mark),
     Keyword(Keyword),
+}
+
+impl<'a> Token<'a> {
+    /// The same token.
+    pub fn copy(&self) -> Token<'a>
+        ensures { result ≡ self.now }
+    {
+        match self {
+            Token::Name(name) => Token::Name(name.copy()),
+            Token::Number(number) => Token::Number(*number),
+            Token::Mark(mark) => Token::Mark(*mark),
+            Token::Keyword(keyword) => Token::Keyword(*keyword),
+        }
+    }
 }
 
 /// A token and the byte at which it begins.

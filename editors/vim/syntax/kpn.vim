@@ -19,7 +19,7 @@ syntax keyword kpnKeyword process network channel source sink in out par limit c
 syntax match kpnConstant /\%(\<\%(policy\|grow\)[ \t]\+\)\@<=\%(cycles\|all\|one\|double\)\>/
 syntax match kpnKeyword /language\ze[ \t]\+0*2[ \t]*;/
 syntax match kpnKeyword /\<array\ze[ \t]\+[A-Za-z_][A-Za-z0-9_]*[ \t]*\[/
-syntax match kpnKeyword /\<table\ze[ \t]\+[A-Za-z_][A-Za-z0-9_]*[ \t]*=/
+syntax match kpnKeyword /\<\%(table\|const\)\ze[ \t]\+[A-Za-z_][A-Za-z0-9_]*[ \t]*=/
 syntax match kpnFunction /\%(\<process[ \t]\+\)\@<=[A-Za-z_][A-Za-z0-9_]\{,31}\>/
 syntax match kpnComment /#.*$/
 

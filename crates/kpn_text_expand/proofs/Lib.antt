@@ -1,0 +1,11 @@
+-- The lemmas. Other crates may cite the public ones.
+mod Steps
+mod Folds
+mod Can
+mod PlainCapacities
+mod PlainSums
+mod SpelledCapacities
+mod SpelledSums
+pub mod Plain
+pub mod PlainSpelling
+pub mod Spelled

@@ -1,0 +1,37 @@
+-- Tokens that stand for themselves.
+use Rattle.std.specs.Prelude.{◌≡◌, Bool, true, false, not, if◌then◌else◌, List, [], ◌∷◌}
+use Rattle.kpn_text_tokens.specs.declared.tokens.Keyword.TheVariants as keyword
+use Rattle.kpn_text_tokens.specs.declared.tokens.Token.{Token}
+use Rattle.kpn_text_tokens.specs.declared.tokens.Token.TheVariants as token
+use Rattle.kpn_text_expand.specs.declared.capacities.Spot.{Spot}
+use Rattle.kpn_text_expand.specs.declared.capacities.Spot.TheVariants as spot
+use Rattle.kpn_text_expand.specs.Capacities.{spot_behind}
+use Rattle.kpn_text_expand.specs.Sums.{changes, is_assign}
+
+-- the first of the tokens is no `=`
+abbrev pub not_assigned : List Token → Bool
+not_assigned [] = false
+not_assigned (t ∷ ts) = not (is_assign t)
+
+-- no capacity stands among the settings of a network from here on
+abbrev pub capless : Spot → List Token → Bool
+capless p [] = true
+capless spot.Head (token.Keyword keyword.Cap ∷ ts) = false
+capless spot.Head (t ∷ ts) = capless (spot_behind spot.Head t) ts
+capless spot.Setting (t ∷ ts) = capless (spot_behind spot.Setting t) ts
+capless _ _ = true
+
+-- the token, which these follow, begins no short form
+abbrev pub is_plain : Token → List Token → Bool
+is_plain (token.Keyword keyword.Const) ts = false
+is_plain (token.Keyword keyword.For) ts = false
+is_plain (token.Keyword keyword.Network) ts = capless spot.Head ts
+is_plain (token.Mark m) ts = if changes m then not_assigned ts else true
+is_plain _ ts = true
+
+abbrev pub IsPlain : Token → List Token → Type 0
+IsPlain t ts = is_plain t ts ≡ true
+
+abbrev pub ArePlain : List Token → Type 0
+ArePlain [] = Unit {0}
+ArePlain (t ∷ ts) = IsPlain t ts × ArePlain ts

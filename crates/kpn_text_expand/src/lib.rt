@@ -1,0 +1,16 @@
+//! The short forms of language 2.
+//!
+//! Constants, the capacity of a whole network and assignments with an operator give way here to the tokens that they
+//! stand for. The grammar reads what is left, so it knows none of them. `constants` replaces names by numbers,
+//! `declaration` reads the declaration of one, and `expanding` makes all steps, one after the other.
+#![tactic(auto)]
+
+mod capacities;
+mod constants;
+mod declaration;
+mod expanding;
+mod fault;
+mod sums;
+
+pub use expanding::expanded;
+pub use fault::ExpandFault;

@@ -1,0 +1,237 @@
+//! Assignments with an operator: `x += e;` becomes `x = x + (e);`, and `a[i] += e;` becomes `a[i] = a[i] + (e);`.
+
+ghost use Rattle.std.specs.Prelude.{◌≡◌, ◌++◌, Ok, OnOk, IfErr};
+ghost use Rattle.kpn_text_expand.specs.Results.{Gives};
+ghost use Rattle.kpn_text_expand.specs.Sums as spec;
+
+use crate::constants::add;
+use crate::fault::ExpandFault;
+use kpn_lang::Sequence;
+use kpn_text_tokens::{Lexeme, Mark, Token};
+use std::alloc::Global;
+use std::mem;
+
+/// Where the next token stands.
+#[derive(Clone, Copy)]
+pub(crate) enum Spot {
+    /// Behind `;`, `{` or `}`.
+    Front,
+    /// Elsewhere.
+    Inside,
+    /// Behind a name at the front, or behind its index.
+    Target,
+    /// In that index, inside so many brackets more.
+    Index(usize),
+    /// Behind this operator at this byte, which stands behind a target.
+    Operator(Mark, usize),
+    /// In a value, where so many parentheses are open.
+    Value(usize),
+}
+
+/// What has gone by.
+#[derive(Drop)]
+pub(crate) struct Sums<'a> {
+    /// The tokens that are left.
+    left: Sequence<Lexeme<'a>>,
+    /// Those of the last target.
+    target: Sequence<Lexeme<'a>>,
+    spot: Spot,
+}
+
+/// Whether `=` right behind the mark makes an assignment of it.
+fn changes(mark: Mark) -> bool
+    ensures { result ≡ spec.changes mark }
+{
+    matches!(
+        mark,
+        Mark::Plus
+            | Mark::Minus
+            | Mark::Star
+            | Mark::Slash
+            | Mark::Percent
+            | Mark::BitAnd
+            | Mark::BitOr
+            | Mark::BitXor
+            | Mark::ShiftLeft
+            | Mark::ShiftRight
+    )
+}
+
+/// Whether a token is `=` right behind this mark at this byte.
+fn follows(mark: Mark, at: usize, lexeme: &Lexeme<'_>) -> bool
+    ensures { result ≡ spec.follows mark at lexeme.now }
+{
+    matches!(lexeme.token, Token::Mark(Mark::Assign))
+        && lexeme.start.saturating_sub(at) == mark.spelling().len()
+}
+
+/// Where the token behind one outside of targets and values stands.
+fn spot_behind(token: &Token<'_>) -> Spot
+    ensures { result ≡ spec.spot_behind token.now }
+{
+    match token {
+        Token::Mark(Mark::Semicolon | Mark::LeftBrace | Mark::RightBrace) => Spot::Front,
+        _ => Spot::Inside,
+    }
+}
+
+/// Where the token behind one of an index stands.
+fn spot_in_index(token: &Token<'_>, depth: usize) -> Spot
+    ensures { result ≡ spec.spot_in_index token.now depth }
+{
+    match token {
+        Token::Mark(Mark::LeftBracket) => Spot::Index(depth.saturating_add(1)),
+        Token::Mark(Mark::RightBracket) => {
+            if depth == 0 {
+                Spot::Target
+            } else {
+                Spot::Index(depth - 1)
+            }
+        }
+        _ => Spot::Index(depth),
+    }
+}
+
+/// How many parentheses are open behind a token of a value, if it is one: a `)` or `?` outside of them ends the value,
+/// and so does `;`.
+fn open_behind(token: &Token<'_>, depth: usize) -> Option<usize>
+    ensures { result ≡ spec.open_behind token.now depth }
+{
+    match token {
+        Token::Mark(Mark::Semicolon) => None,
+        Token::Mark(Mark::LeftParen) => Some(depth.saturating_add(1)),
+        Token::Mark(Mark::RightParen) if depth == 0 => None,
+        Token::Mark(Mark::RightParen) => Some(depth - 1),
+        Token::Mark(Mark::Question) if depth == 0 => None,
+        _ => Some(depth),
+    }
+}
+
+/// Adds tokens once more.
+fn add_all<'a>(tokens: &mut Sequence<Lexeme<'a>>, more: &[Lexeme<'a>]) -> Result<(), ExpandFault>
+    ensures added { OnOk result (tokens.new ≡ tokens.old ++ more.now) }
+    ensures only { IfErr result (λ fault. fault ≡ ExpandFault.NoMemory) }
+{
+    for lexeme in more {
+        add(tokens, lexeme.token.copy(), lexeme.start)?;
+    }
+    Ok(())
+}
+
+impl<'a> Sums<'a> {
+    /// Before the first token.
+    fn new(alloc: Global) -> Sums<'a>
+        ensures { result ≡ spec.at_first }
+    {
+        Sums {
+            left: Sequence::new(alloc),
+            target: Sequence::new(alloc),
+            spot: Spot::Inside,
+        }
+    }
+
+    /// A token that stays, behind which the next one has this spot.
+    fn keep(&mut self, lexeme: &Lexeme<'a>, spot: Spot) -> Result<(), ExpandFault>
+        ensures { Gives (λ _. self.new) result (Ok (spec.kept lexeme.now spot self.old)) }
+    {
+        self.spot = spot;
+        add(&mut self.left, lexeme.token.copy(), lexeme.start)
+    }
+
+    /// A token outside of targets and values.
+    fn pass(&mut self, lexeme: &Lexeme<'a>) -> Result<(), ExpandFault>
+        ensures { Gives (λ _. self.new) result (Ok (spec.passed lexeme.now self.old)) }
+    {
+        self.keep(lexeme, spot_behind(&lexeme.token))
+    }
+
+    /// A token of a target.
+    fn aim(&mut self, lexeme: &Lexeme<'a>, spot: Spot) -> Result<(), ExpandFault>
+        ensures { Gives (λ _. self.new) result (Ok (spec.aimed lexeme.now spot self.old)) }
+    {
+        add(&mut self.target, lexeme.token.copy(), lexeme.start)?;
+        self.keep(lexeme, spot)
+    }
+
+    /// The name that a target begins with.
+    fn begin(&mut self, alloc: Global, lexeme: &Lexeme<'a>) -> Result<(), ExpandFault>
+        ensures { Gives (λ _. self.new) result (Ok (spec.begun lexeme.now self.old)) }
+    {
+        drop(mem::replace(&mut self.target, Sequence::new(alloc)));
+        self.aim(lexeme, Spot::Target)
+    }
+
+    /// `=` behind an operator at this byte: `= x + (`.
+    fn open(&mut self, mark: Mark, at: usize) -> Result<(), ExpandFault>
+        ensures { Gives (λ _. self.new) result (Ok (spec.opened mark at self.old)) }
+    {
+        self.spot = Spot::Value(0);
+        add(&mut self.left, Token::Mark(Mark::Assign), at)?;
+        add_all(&mut self.left, self.target.as_slice())?;
+        add(&mut self.left, Token::Mark(mark), at)?;
+        add(&mut self.left, Token::Mark(Mark::LeftParen), at)
+    }
+
+    /// A token behind an operator at this byte, which stands behind a target.
+    fn operate(&mut self, mark: Mark, at: usize, lexeme: &Lexeme<'a>) -> Result<(), ExpandFault>
+        ensures { Gives (λ _. self.new) result (Ok (spec.operated mark at lexeme.now self.old)) }
+    {
+        if follows(mark, at, lexeme) {
+            return self.open(mark, at);
+        }
+        add(&mut self.left, Token::Mark(mark), at)?;
+        self.pass(lexeme)
+    }
+
+    /// A token of a value, or the first one behind it, before which `)` goes.
+    fn value(&mut self, depth: usize, lexeme: &Lexeme<'a>) -> Result<(), ExpandFault>
+        ensures { Gives (λ _. self.new) result (Ok (spec.valued depth lexeme.now self.old)) }
+    {
+        if let Some(depth) = open_behind(&lexeme.token, depth) {
+            return self.keep(lexeme, Spot::Value(depth));
+        }
+        add(&mut self.left, Token::Mark(Mark::RightParen), lexeme.start)?;
+        self.pass(lexeme)
+    }
+
+    /// A mark behind a target.
+    fn mark(&mut self, mark: Mark, lexeme: &Lexeme<'a>) -> Result<(), ExpandFault>
+        ensures { Gives (λ _. self.new) result (Ok (spec.marked mark lexeme.now self.old)) }
+    {
+        if changes(mark) {
+            self.spot = Spot::Operator(mark, lexeme.start);
+            return Ok(());
+        }
+        self.pass(lexeme)
+    }
+
+    /// The next token.
+    fn step(&mut self, alloc: Global, lexeme: &Lexeme<'a>) -> Result<(), ExpandFault>
+        ensures { Gives (λ _. self.new) result (Ok (spec.step self.old lexeme.now)) }
+    {
+        match (self.spot, &lexeme.token) {
+            (Spot::Front, Token::Name(_)) => self.begin(alloc, lexeme),
+            (Spot::Target, Token::Mark(Mark::LeftBracket)) => self.aim(lexeme, Spot::Index(0)),
+            (Spot::Index(depth), token) => self.aim(lexeme, spot_in_index(token, depth)),
+            (Spot::Target, Token::Mark(mark)) => self.mark(*mark, lexeme),
+            (Spot::Operator(mark, at), _) => self.operate(mark, at, lexeme),
+            (Spot::Value(depth), _) => self.value(depth, lexeme),
+            _ => self.pass(lexeme),
+        }
+    }
+}
+
+/// The tokens with plain assignments.
+pub(crate) fn with_sums<'a>(
+    alloc: Global,
+    tokens: &[Lexeme<'a>],
+) -> Result<Sequence<Lexeme<'a>>, ExpandFault>
+    ensures { Gives (λ left. left) result (Ok (spec.with_sums tokens.now)) }
+{
+    let mut sums = Sums::new(alloc);
+    for lexeme in tokens {
+        sums.step(alloc, lexeme)?;
+    }
+    let Sums { left, .. } = sums;
+    Ok(left)
+}
