@@ -70,7 +70,7 @@ fn carry_out<S: Shelf + Ports, I: NonblockingRead, O: Write, E: Write + Teller>(
     }
     let words = check_words(alloc, request, shelf)?;
     let document = load_document(alloc, shelf, request.file)?;
-    // It has no other end behind this one: to let go of a document once more is dear to prove.
+    // It has no other end after this one: to let go of a document once more is dear to prove.
     match places_for(alloc, &document, request, &words, shelf) {
         Ok(places) => {
             let asked = AskedStream {
@@ -115,7 +115,7 @@ impl AskedStream<'_> {
     }
 }
 
-/// What the words behind `--source` and `--sink` name.
+/// What the words after `--source` and `--sink` name.
 #[derive(Drop)]
 struct Words<'a> {
     sources: Vec<FileOption<'a>>,
@@ -157,7 +157,7 @@ fn is_dash_asked(trace: Option<&str>) -> bool
     }
 }
 
-/// What the words behind `--source` name. A word without `=` is refused.
+/// What the words after `--source` name. A word without `=` is refused.
 fn sources_of<'a>(
     alloc: Global,
     request: &StreamRequest<'a>,

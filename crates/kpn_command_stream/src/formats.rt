@@ -1,4 +1,4 @@
-//! The words behind `--format`: each is a format for all ends, or `NAME=FORMAT` for one.
+//! The words after `--format`: each is a format for all ends, or `NAME=FORMAT` for one.
 ghost use Rattle.std.specs.Prelude.{◌≡◌, ◌≢◌, false, true, All, IsTrue, map, option_map, MatchOption};
 ghost use Rattle.std.specs.List.{AllPairs};
 ghost use Rattle.kpn_stream_devices.specs.Formats.{IsNoFormat, NamesFormat};

@@ -38,7 +38,7 @@ pub(crate) struct EndPlaces<'a> {
 }
 
 /// The place of each of these ends, in order of their channels. The only one may be left out by the options, and is
-/// standard input or output then. If another is left out, the refusal names it. The words behind `--format` give the
+/// standard input or output then. If another is left out, the refusal names it. The words after `--format` give the
 /// formats.
 pub(crate) fn places_of<'a>(
     alloc: Global,

@@ -29,7 +29,7 @@ pub(crate) enum StreamRefusal {
     Unnamed(EndKind, String),
     /// Two sources have one input that is no plain file: the one would read what is meant for the other.
     SharedInput,
-    /// A word behind `--format` names no format or no end, or says what an earlier one has said.
+    /// A word after `--format` names no format or no end, or says what an earlier one has said.
     FormatWord,
 }
 

@@ -14,7 +14,7 @@ const STREAM_CHANNEL_HEADINGS: [&str; 5] = ["channel", "put", "read", "unread", 
 const STREAM_PROCESS_HEADINGS: [&str; 2] = ["process", "end"];
 
 /// A row for each channel, and a row for each process, which says how it ended or what it waits for. The tables stand
-/// alone, or behind an empty line.
+/// alone, or after an empty line.
 pub(crate) fn tables_of(
     alloc: Global,
     document: &Document,

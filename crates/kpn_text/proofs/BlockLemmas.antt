@@ -133,7 +133,7 @@ module _ (l : Language) (level : ℕ) (names : ProcessNames) (parts : Parts) (st
       ∙ ap (λ t. now ++ t) (sym (block_text-cons l level names (tree_of parts.blocks) (statement_of s) rest more))
       ∙ (rw (statements_left statements i s within read) at (so_far more))
 
--- the parts of an `if`, behind the words before its condition
+-- the parts of an `if`, after the words before its condition
 pub branch_text : {X E : Type 0} (r : Result X E) (l : Language) (level : ℕ) (word : List ℕ) (test : ExpressionNode)
     (first second : Statements) (a b c d e f : List ℕ)
     → Writes a b (indented level) → Writes b c (λ more. word ++ more)

@@ -65,7 +65,7 @@ line_read : {l : Language} (more : List ℕ) (tokens : List Token) → IsReadAs 
     → IsReadAs l (codes "  " ++ more) tokens
 line_read = indent_read 1
 
--- a name behind a word
+-- a name after a word
 word_name_read : {l : Language} (word : Keyword) (c more : List ℕ) (tokens : List Token) → has_keyword l word ≡ true
     → IsName l c → EndsWord more
     → IsReadAs l more tokens
@@ -73,7 +73,7 @@ word_name_read : {l : Language} (word : Keyword) (c more : List ℕ) (tokens : L
 word_name_read word c more tokens has is ends h =
     keyword_read word (codes " " ++ (c ++ more)) _ has refl (space_read _ _ (name_read c more tokens is ends h))
 
--- a number behind a word, up to the end of its line
+-- a number after a word, up to the end of its line
 word_number_read : {l : Language} (word : Keyword) (n : ℕ) (more : List ℕ) (tokens : List Token)
     → has_keyword l word ≡ true
     → n < 2 ^ 63 → IsReadAs l more tokens

@@ -1,4 +1,4 @@
--- Texts that are printed one behind the other.
+-- Texts that are printed one after the other.
 use Rattle.std.proofs.Common.{◌≡◌, ℕ, ℤ, pos, negsuc, suc, ◌+◌, ◌-◌, ◌<◌, false, List, [], ◌∷◌, ◌++◌, length, get_or, drop, map, nat_lt, Some, Result, Ok, Err, codes, OnOk, refl, ap, ◌∙◌, arith}
 use Rattle.std.specs.Fmt.{signed_decimal}
 use Rattle.std.specs.Prelude.{◌==◌}
@@ -61,13 +61,13 @@ all_text-append text (x ∷ xs) ys more = ap (text x) (all_text-append text xs y
 pub limit_written : (n : ℕ) → n < MAX_CAPACITY → limit_named n ≡ Some n
 limit_written n small = cond-true (nat_lt n MAX_CAPACITY) _ _ (lt-ltb n MAX_CAPACITY small)
 
--- some names, behind a space
+-- some names, after a space
 pub some_outs : {A : Type 0} (name : A → List ℕ) (xs : List A) → false ≡ (length xs == 0) → (more : List ℕ)
     → codes " " ++ names_text (map name xs) more ≡ outs_text (map name xs) more
 some_outs name [] some more = absurd cc
 some_outs name (x ∷ xs) some more = refl
 
--- some values, behind a semicolon
+-- some values, after a semicolon
 pub some_values : (vs : List ℤ) → false ≡ (length vs == 0) → (more : List ℕ)
     → codes "; " ++ list_text literal_text (map literal_named vs) more ≡ values_text (map literal_named vs) more
 some_values [] some more = absurd cc

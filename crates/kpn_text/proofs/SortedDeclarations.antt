@@ -97,7 +97,7 @@ taken_sum_last false false false false true false = refl
 taken_sum_last false false false false false true = refl
 taken_sum_last false false false false false false = refl
 
--- a name is taken behind a declaration if it was before, or if it is the declared one
+-- a name is taken after a declaration if it was before, or if it is the declared one
 taken_behind : (shared : List NameBytes) (s : NameScope) (d : Declaration) (y : NameBytes)
     → is_taken shared (with_declaration s d) y ≡ (is_taken shared s y || bytes_eq y (declared_name d))
 taken_behind shared s (array x n) y =
@@ -159,7 +159,7 @@ swapped shared s t x n =
 
 -- ---- all of them
 
--- a table goes past the arrays behind it
+-- a table goes past the arrays after it
 past_arrays : (shared : List NameBytes) (s : NameScope) (t : Table) (ds rest : List Declaration)
     → and_then (declare shared s (table t)) (λ u. each (declare shared) u (arrays_of ds ++ rest))
     ≡ each (declare shared) s (arrays_of ds ++ table t ∷ rest)

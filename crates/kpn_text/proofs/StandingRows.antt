@@ -1,4 +1,4 @@
--- Rows one behind another, each with a cell at least: the place of a row gives its name back.
+-- Rows one after another, each with a cell at least: the place of a row gives its name back.
 use Rattle.std.proofs.Common.{◌≡◌, ℕ, zero, suc, ◌+◌, ◌<◌, ◌≤◌, true, false, cond, List, [], ◌∷◌, ◌++◌, length, map, Option, Some, None, Ok, refl, sym, ap, subst, ◌∙◌, arith}
 use Rattle.std.specs.Prelude.{nat_eq}
 use Rattle.std.proofs.lemmas.Bool.Decides.{nat_tests}
@@ -55,7 +55,7 @@ stand_on : (p : ℕ) (rs : List Row) (e : ℕ) → Stand p rs e → p ≤ e
 stand_on p [] e h = omega (arith, h)
 stand_on p (r ∷ rs) e h = let rest : p + r.size ≤ e = stand_on (p + r.size) rs e h.2 in omega (arith, rest)
 
--- a row is at the first place or behind it
+-- a row is at the first place or after it
 at_or_behind : (p : ℕ) (rs : List Row) (e k : ℕ) → Stand p rs e → k < length rs → p ≤ (row_at rs k).base
 at_or_behind p [] e k h here = absurd (omega (arith, here))
 at_or_behind p (r ∷ rs) e zero h here = let is : r.base ≡ p = h.0 in omega (arith, is)
@@ -101,7 +101,7 @@ missed (x ∷ xs) (r ∷ rs) p e b z h behind =
     ap (λ c. cond c x (row_name_or (paired named_row xs rs) b z)) (not_at r.base b before)
     ∙ missed xs rs (p + r.size) e b z h.2 behind
 
--- ---- rows moved behind others
+-- ---- rows moved after others
 
 abbrev pub moved : ℕ → Row → Row
 moved from r = record { base = within_64_bits (from + r.base); size = r.size }

@@ -51,7 +51,7 @@ braces_read level inside spell more tokens inner h =
     (space_read _ _ (keyword_read keyword.Else (codes " {\n" ++ inside (indented level (codes "}\n" ++ more))) _ refl
     refl (open_read _ _ body))))
 
--- the second block of an `if`, behind the brace of the first one
+-- the second block of an `if`, after the brace of the first one
 else_read : (l : Language) (level : ℕ) (b : Statements) (inside branch : List ℕ → List ℕ)
     (spell : List Token → List Token) (more : List ℕ) (tokens : List Token)
     → ((rest : List ℕ) (others : List Token) → IsReadAs l rest others → IsReadAs l (inside rest) (spell others))

@@ -25,7 +25,7 @@ use Rattle.kpn_text.specs.Proper.{HasBrackets, IsProperTerm}
 use Rattle.kpn_text.specs.Text.{needs_no_parentheses, open_text, close_text, term_text, whole_text}
 use Rattle.kpn_text.proofs.TokenLemmas.{IsReadAs, name_read, number_read, mark_read, space_read}
 
--- a space comes behind each operator
+-- a space comes after each operator
 operator_ends : (l : Language) (op : Op) (more : List ℕ) → MarkEnds l (operator_mark op) (codes " " ++ more)
 operator_ends l operator.Add more = tt
 operator_ends l operator.Sub more = tt

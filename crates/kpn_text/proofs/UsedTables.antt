@@ -1,4 +1,4 @@
--- The shared tables that a body names stand behind the tables of its process.
+-- The shared tables that a body names stand after the tables of its process.
 use Rattle.std.proofs.Common.{◌≡◌, ℕ, ◌+◌, ◌≤◌, Bool, true, false, cond, List, [], ◌∷◌, ◌++◌, length, Option, Some, None, refl, sym, ap, ◌∙◌, append_assoc, append-nil, length-append, arith}
 use Rattle.std.specs.List.{flat_map}
 use Rattle.std.proofs.lemmas.List.Concat.{flat_map-append}
@@ -16,7 +16,7 @@ use Rattle.kpn_text.proofs.DeclaredRows.{Laid, rows_of, laid_more, rows_more, en
 abbrev pub AreFilled : SharedTables → Type 0
 AreFilled shared = (x : NameBytes) (k : ℕ) → number_of shared.names x ≡ Some k → 1 ≤ length (values_at shared k)
 
--- the tables of a process, and behind them shared ones
+-- the tables of a process, and after them shared ones
 pub record Uses (shared : SharedTables) (own ts : KnownTables) : Type 0 where
   pub laid : Laid 0 ts.rows
   pub values : ts.values ≡ own.values

@@ -20,7 +20,7 @@ use Rattle.kpn_text_names.specs.declared.network_names.ProcessNames.{ProcessName
 use Rattle.kpn_text_names.specs.Names.{name_at}
 use Rattle.kpn_text_names.specs.NetworkNames.{paired, process_names}
 
--- a whole number; one below 0 is written behind a minus
+-- a whole number; one below 0 is written after a minus
 abbrev pub number_named : ℤ → ExpressionNode
 number_named (pos n) = numeral n
 number_named (negsuc n) = minus (numeral (suc n))
@@ -69,7 +69,7 @@ literal_named (negsuc n) = negated (suc n)
 abbrev pub array_named : NamedRow → Declaration
 array_named r = array r.name r.size
 
--- the tables of a process, of which these are the values one behind another
+-- the tables of a process, of which these are the values one after another
 abbrev pub tables_named : List NamedRow → List ℤ → List Declaration
 tables_named [] values = []
 tables_named (r ∷ rs) values =

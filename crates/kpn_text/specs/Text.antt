@@ -111,7 +111,7 @@ abbrev pub all_text : {A : Type 0} → (A → List ℕ → List ℕ) → List A 
 all_text text [] more = more
 all_text text (x ∷ xs) more = text x (all_text text xs more)
 
--- behind a comma
+-- after a comma
 abbrev pub further_text : {A : Type 0} → (A → List ℕ → List ℕ) → A → List ℕ → List ℕ
 further_text text x more = codes ", " ++ text x more
 
@@ -145,7 +145,7 @@ declaration_text (table t) more = codes "  " ++ table_text t more
 
 -- ---- processes
 
--- a part of a head behind some bytes; nothing if it has no names
+-- a part of a head after some bytes; nothing if it has no names
 abbrev pub part_text : (before : List ℕ) → Keyword → List NameBytes → List ℕ → List ℕ
 part_text before word [] more = more
 part_text before word (x ∷ xs) more = before ++ (keyword_bytes word ++ (codes " " ++ names_text (x ∷ xs) more))
@@ -170,12 +170,12 @@ process_text l p more =
 
 -- ---- networks
 
--- the out channels of an instance, behind a space; nothing if there are none
+-- the out channels of an instance, after a space; nothing if there are none
 abbrev pub outs_text : List NameBytes → List ℕ → List ℕ
 outs_text [] more = more
 outs_text (x ∷ xs) more = codes " " ++ names_text (x ∷ xs) more
 
--- the values of an instance, behind its second semicolon; nothing if there are none
+-- the values of an instance, after its second semicolon; nothing if there are none
 abbrev pub values_text : List Literal → List ℕ → List ℕ
 values_text [] more = more
 values_text (v ∷ vs) more = codes "; " ++ list_text literal_text (v ∷ vs) more

@@ -30,7 +30,7 @@ pub(crate) struct Body<'a> {
 }
 
 impl Body<'_> {
-    /// The statements of a block at a level, with the blocks inside it, behind so many indents. It nests no deeper than
+    /// The statements of a block at a level, with the blocks inside it, after so many indents. It nests no deeper than
     /// the program does.
     #[cycle(body)]
     pub(crate) fn block(
@@ -176,7 +176,7 @@ impl Body<'_> {
         }
     }
 
-    /// The index of a statement, up to the sign behind it.
+    /// The index of a statement, up to the sign after it.
     fn index(&self, out: &mut Vec<u8>, index: &Expr) -> Result<(), AllocError>
         ensures { OnOk result (Writes out.old.items out.new.items
             (λ more.

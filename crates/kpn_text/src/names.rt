@@ -46,7 +46,7 @@ fn array(alloc: Global, name: &[u8], row: &Row) -> Result<NamedRow, AllocError>
     })
 }
 
-/// The row of a table with its name, behind the arrays.
+/// The row of a table with its name, after the arrays.
 fn table_row(
     alloc: Global,
     scope: &NameScope<'_>,
@@ -90,7 +90,7 @@ fn arrays(
     Ok(own)
 }
 
-/// The rows of tables with their names, behind the arrays.
+/// The rows of tables with their names, after the arrays.
 fn tables(
     alloc: Global,
     scope: &NameScope<'_>,

@@ -52,7 +52,7 @@ fn opening(out: &mut Vec<u8>, language: Language) -> Result<(), AllocError>
     }
 }
 
-/// The network behind the processes.
+/// The network after the processes.
 fn items(out: &mut Vec<u8>, network: &Network, names: &NetworkNames) -> Result<(), AllocError>
     requires { AreNamed names.now network.now }
     ensures { OnOk result
@@ -288,7 +288,7 @@ fn numbered(out: &mut Vec<u8>, names: &[Sequence<u8>], numbers: &[usize]) -> Res
     Ok(())
 }
 
-/// The out channels of an instance, behind a space; nothing if there are none.
+/// The out channels of an instance, after a space; nothing if there are none.
 fn outs(out: &mut Vec<u8>, names: &[Sequence<u8>], numbers: &[usize]) -> Result<(), AllocError>
     ensures { OnOk result
         (Writes out.old.items out.new.items
@@ -301,7 +301,7 @@ fn outs(out: &mut Vec<u8>, names: &[Sequence<u8>], numbers: &[usize]) -> Result<
     numbered(out, names, numbers)
 }
 
-/// The values of an instance, behind its second semicolon; nothing if there are none.
+/// The values of an instance, after its second semicolon; nothing if there are none.
 fn values(out: &mut Vec<u8>, values: &[i64]) -> Result<(), AllocError>
     ensures { OnOk result
         (Writes out.old.items out.new.items (values_text (map literal_named values.now))) }

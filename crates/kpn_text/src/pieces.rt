@@ -1,4 +1,4 @@
-//! The pieces of which a text is printed. Each goes behind the bytes so far. If memory runs out, the contracts leave
+//! The pieces of which a text is printed. Each goes after the bytes so far. If memory runs out, the contracts leave
 //! open how much was put by then.
 
 ghost use Rattle.std.specs.Prelude.{◌≡◌, ℕ, ◌++◌, map, OnOk};
@@ -21,7 +21,7 @@ pub(crate) fn bytes(out: &mut Vec<u8>, bytes: &[u8]) -> Result<(), AllocError>
     Ok(())
 }
 
-/// A number without leading zeros, behind a minus if it is below 0.
+/// A number without leading zeros, after a minus if it is below 0.
 pub(crate) fn number(out: &mut Vec<u8>, number: &i64) -> Result<(), AllocError>
     ensures expression { (l : Language) (tight : ℕ) → OnOk result
         (Writes out.old.items out.new.items (term_text l tight (number_named number.now))) }

@@ -79,7 +79,7 @@ fn separator(is_first: bool) -> &'static [u8]
     if is_first { b"" } else { b"; " }
 }
 
-/// A part of a head, behind these bytes; nothing if it has no names.
+/// A part of a head, after these bytes; nothing if it has no names.
 fn part(
     out: &mut Vec<u8>,
     before: &[u8],

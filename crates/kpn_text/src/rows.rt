@@ -10,7 +10,7 @@ use itoa::Buffer;
 use kpn_text_names::{NamedRow, NamedTable, ProcessNames};
 use std::alloc::AllocError;
 
-/// The arrays of a process and then its tables, of which these are the values one behind another.
+/// The arrays of a process and then its tables, of which these are the values one after another.
 pub(crate) fn declarations(
     out: &mut Vec<u8>,
     names: &ProcessNames,

@@ -16,6 +16,7 @@ use Rattle.kpn_text_expand.proofs.Folds.{all_seen}
 -- no capacity has stood at the head
 abbrev IsIdle : Spot → Type 0
 IsIdle spot.Elsewhere = Unit {0}
+IsIdle spot.Opening = Unit {0}
 IsIdle spot.Head = Unit {0}
 IsIdle spot.Setting = Unit {0}
 IsIdle _ = ⊥
@@ -46,6 +47,12 @@ takes spot.Elsewhere (token.Keyword _) l s ts fine plain = elsewhere l s ts
 takes spot.Elsewhere (token.Name x) l s ts fine plain = elsewhere l s ts
 takes spot.Elsewhere (token.Number n) l s ts fine plain = elsewhere l s ts
 takes spot.Elsewhere (token.Mark m) l s ts fine plain = elsewhere l s ts
+takes spot.Opening (token.Mark mark.LeftBrace) l s ts fine plain =
+    record { left = refl; fine = record { idle = tt; none = fine.none } }
+takes spot.Opening (token.Mark _) l s ts fine plain = elsewhere l s ts
+takes spot.Opening (token.Name x) l s ts fine plain = elsewhere l s ts
+takes spot.Opening (token.Number n) l s ts fine plain = elsewhere l s ts
+takes spot.Opening (token.Keyword k) l s ts fine plain = elsewhere l s ts
 takes spot.Head (token.Keyword keyword.Cap) l s ts fine plain = absurd (let no = fine.none in cc)
 takes spot.Head (token.Keyword keyword.Limit) l s ts fine plain =
     record { left = refl; fine = record { idle = tt; none = fine.none } }
@@ -54,8 +61,6 @@ takes spot.Head (token.Keyword keyword.Policy) l s ts fine plain =
 takes spot.Head (token.Keyword keyword.Grow) l s ts fine plain =
     record { left = refl; fine = record { idle = tt; none = fine.none } }
 takes spot.Head (token.Keyword _) l s ts fine plain = elsewhere l s ts
-takes spot.Head (token.Mark mark.LeftBrace) l s ts fine plain =
-    record { left = refl; fine = record { idle = tt; none = fine.none } }
 takes spot.Head (token.Mark _) l s ts fine plain = elsewhere l s ts
 takes spot.Head (token.Name x) l s ts fine plain = elsewhere l s ts
 takes spot.Head (token.Number n) l s ts fine plain = elsewhere l s ts

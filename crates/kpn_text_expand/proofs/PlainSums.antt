@@ -18,7 +18,7 @@ use Rattle.kpn_text_expand.specs.Plain.{ArePlain, IsPlain, not_assigned}
 use Rattle.kpn_text_expand.specs.Sums.{at_first, changes, follows, is_assign, opened, passed, spot_behind, spot_in_index, step, step_at, with_mark, with_sums}
 use Rattle.kpn_text_expand.proofs.Folds.{all_seen}
 
--- what is left, and an operator that waits for the token behind it
+-- what is left, and an operator that waits for the token after it
 abbrev seen_at : Spot → List Lexeme → List Lexeme
 seen_at (spot.Operator m at) ls = with_mark m at ls
 seen_at _ ls = ls
@@ -111,7 +111,7 @@ one s l ls goes =
     let here = takes s.spot l.token l s (kinds ls) refl goes.0 goes.1.0 in
     (here.0, (here.1, goes.1.1))
 
--- no operator waits behind the last token
+-- no operator waits after the last token
 all_seen_at : (p : Spot) (ls : List Lexeme) → Fine p [] → seen_at p ls ≡ ls
 all_seen_at spot.Front ls fine = refl
 all_seen_at spot.Inside ls fine = refl

@@ -60,6 +60,7 @@ takes spot.Open (token.Name x) l s is can t_can = keeps l _ s is can
 takes spot.Open (token.Number n) l s is can t_can = keeps l _ s is can
 takes spot.Open (token.Keyword k) l s is can t_can = keeps l _ s is can
 takes spot.Elsewhere t l s is can t_can = keeps l _ s is can
+takes spot.Opening t l s is can t_can = keeps l _ s is can
 takes spot.Setting t l s is can t_can = keeps l _ s is can
 takes spot.Entry t l s is can t_can = keeps l _ s is can
 

@@ -11,10 +11,10 @@ use Rattle.kpn_text_expand.specs.declared.capacities.Spot.{Spot}
 use Rattle.kpn_text_expand.specs.declared.capacities.Spot.TheVariants as spot
 use Rattle.kpn_text_expand.specs.Constants.{with_token}
 
--- where the token behind one that stays stands
+-- where the token after one that stays stands
 abbrev pub spot_behind : Spot → Token → Spot
-spot_behind spot.Elsewhere (token.Keyword keyword.Network) = spot.Head
-spot_behind spot.Head (token.Mark mark.LeftBrace) = spot.Head
+spot_behind spot.Elsewhere (token.Keyword keyword.Network) = spot.Opening
+spot_behind spot.Opening (token.Mark mark.LeftBrace) = spot.Head
 spot_behind spot.Head (token.Keyword keyword.Limit) = spot.Setting
 spot_behind spot.Head (token.Keyword keyword.Policy) = spot.Setting
 spot_behind spot.Head (token.Keyword keyword.Grow) = spot.Setting
@@ -31,11 +31,11 @@ spot_behind _ _ = spot.Elsewhere
 abbrev pub at_first : Capacities
 at_first = record { left = []; number = 0; spot = spot.Elsewhere }
 
--- a token that stays, behind which the next one has this spot
+-- a token that stays, after which the next one has this spot
 abbrev pub kept : Lexeme → Spot → Capacities → Capacities
 kept l p s = record s { left = s.left ++ l ∷ []; spot = p }
 
--- a token behind `cap` at the head that may not be there: the grammar refuses the word at its byte
+-- a token after `cap` at the head that may not be there: the grammar refuses the word at its byte
 abbrev pub refused : Lexeme → Capacities → Capacities
 refused l s = kept l spot.Elsewhere (record s { left = with_token (token.Keyword keyword.Cap) l.start s.left })
 

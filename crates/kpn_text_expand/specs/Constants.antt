@@ -1,4 +1,4 @@
--- Constants. The tokens go by one after the other: a declaration is taken out, and each name of a constant behind it is
+-- Constants. The tokens go by one after the other: a declaration is taken out, and each name of a constant after it is
 -- replaced by its number.
 use Rattle.std.specs.Prelude.{ℕ, ◌+◌, ◌-◌, ◌==◌, min, if◌then◌else◌, List, [], ◌∷◌, ◌++◌, Option, Some, None, Result, Ok, Err, option_map}
 use Rattle.std.specs.List.{find}
@@ -40,7 +40,7 @@ value_of s _ = None
 abbrev pub lexeme : Token → ℕ → Lexeme
 lexeme t at = record { token = t; start = at }
 
--- a token at a byte behind these
+-- a token at a byte after these
 abbrev pub with_token : Token → ℕ → List Lexeme → List Lexeme
 with_token t at ls = ls ++ lexeme t at ∷ []
 
@@ -63,7 +63,7 @@ meant s l = meant_as l (value_of s l.token)
 abbrev pub one_more : ℕ → ℕ
 one_more n = min (n + 1) 18446744073709551615
 
--- The place behind a token. The last `}` ends what the constants inside it are known in.
+-- The place after a token. The last `}` ends what the constants inside it are known in.
 abbrev pub behind : Token → Constants → Constants
 behind (token.Mark mark.LeftBrace) s = record s { depth = one_more s.depth; place = place.Front }
 behind (token.Mark mark.RightBrace) s = record s {
@@ -88,11 +88,11 @@ with_constant s c =
     then record s { shared = s.shared ++ c ∷ []; declaration = []; place = place.Front }
     else record s { own = s.own ++ c ∷ []; declaration = []; place = place.Front }
 
--- the `;` behind a declaration
+-- the `;` after a declaration
 abbrev pub with_declaration : (stop : ℕ) → Constants → Result Constants ExpandFault
 with_declaration stop s = declared stop s.declaration >>= λ c. Ok (with_constant s c)
 
--- A token at a place. Behind `;`, `{` or `}` the word `const` begins a declaration, which the next `;` ends.
+-- A token at a place. After `;`, `{` or `}` the word `const` begins a declaration, which the next `;` ends.
 abbrev pub step_at : Place → Token → Lexeme → Constants → Result Constants ExpandFault
 step_at place.Front (token.Keyword keyword.Const) l s = Ok (record s { place = place.Declaration })
 step_at place.Declaration (token.Mark mark.Semicolon) l s = with_declaration l.start s

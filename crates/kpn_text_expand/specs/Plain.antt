@@ -16,6 +16,7 @@ not_assigned (t ∷ ts) = not (is_assign t)
 -- no capacity stands among the settings of a network from here on
 abbrev pub capless : Spot → List Token → Bool
 capless p [] = true
+capless spot.Opening (t ∷ ts) = capless (spot_behind spot.Opening t) ts
 capless spot.Head (token.Keyword keyword.Cap ∷ ts) = false
 capless spot.Head (t ∷ ts) = capless (spot_behind spot.Head t) ts
 capless spot.Setting (t ∷ ts) = capless (spot_behind spot.Setting t) ts
@@ -25,7 +26,7 @@ capless _ _ = true
 abbrev pub is_plain : Token → List Token → Bool
 is_plain (token.Keyword keyword.Const) ts = false
 is_plain (token.Keyword keyword.For) ts = false
-is_plain (token.Keyword keyword.Network) ts = capless spot.Head ts
+is_plain (token.Keyword keyword.Network) ts = capless spot.Opening ts
 is_plain (token.Mark m) ts = if changes m then not_assigned ts else true
 is_plain _ ts = true
 

@@ -12,7 +12,7 @@ use Rattle.kpn_text_expand.specs.declared.sums.Spot.{Spot}
 use Rattle.kpn_text_expand.specs.declared.sums.Spot.TheVariants as spot
 use Rattle.kpn_text_expand.specs.Constants.{one_more, with_token}
 
--- `=` right behind the mark makes an assignment of it
+-- `=` right after the mark makes an assignment of it
 abbrev pub changes : Mark → Bool
 changes mark.Plus = true
 changes mark.Minus = true
@@ -30,24 +30,24 @@ abbrev pub is_assign : Token → Bool
 is_assign (token.Mark mark.Assign) = true
 is_assign _ = false
 
--- `=` right behind this mark at this byte
+-- `=` right after this mark at this byte
 abbrev pub follows : Mark → (at : ℕ) → Lexeme → Bool
 follows m at l = is_assign l.token && l.start - at == length (mark_bytes m)
 
--- where the token behind one outside of targets and values stands
+-- where the token after one outside of targets and values stands
 abbrev pub spot_behind : Token → Spot
 spot_behind (token.Mark mark.Semicolon) = spot.Front
 spot_behind (token.Mark mark.LeftBrace) = spot.Front
 spot_behind (token.Mark mark.RightBrace) = spot.Front
 spot_behind _ = spot.Inside
 
--- where the token behind one of an index stands, in which so many more brackets are open
+-- where the token after one of an index stands, in which this many brackets more are open
 abbrev pub spot_in_index : Token → ℕ → Spot
 spot_in_index (token.Mark mark.LeftBracket) n = spot.Index (one_more n)
 spot_in_index (token.Mark mark.RightBracket) n = if n == 0 then spot.Target else spot.Index (n - 1)
 spot_in_index _ n = spot.Index n
 
--- How many parentheses are open behind a token of a value, or nothing if it ends the value, as `;` does, and `)` and
+-- How many parentheses are open after a token of a value, or nothing if it ends the value, as `;` does, and `)` and
 -- `?` outside of them.
 abbrev pub open_behind : Token → ℕ → Option ℕ
 open_behind (token.Mark mark.Semicolon) n = None
@@ -60,7 +60,7 @@ open_behind _ n = Some n
 abbrev pub at_first : Sums
 at_first = record { left = []; target = []; spot = spot.Inside }
 
--- a token that stays, behind which the next one has this spot
+-- a token that stays, after which the next one has this spot
 abbrev pub kept : Lexeme → Spot → Sums → Sums
 kept l p s = record s { left = s.left ++ l ∷ []; spot = p }
 
@@ -78,14 +78,14 @@ begun l s = aimed l spot.Target (record s { target = [] })
 abbrev pub with_mark : Mark → ℕ → List Lexeme → List Lexeme
 with_mark m at ls = with_token (token.Mark m) at ls
 
--- the operator with `=` behind the target x: = x + (
+-- the operator with `=` after the target x: = x + (
 abbrev pub opened : Mark → ℕ → Sums → Sums
 opened m at s = record s {
   left = with_mark mark.LeftParen at (with_mark m at (with_mark mark.Assign at s.left ++ s.target));
   spot = spot.Value 0;
 }
 
--- a token behind an operator at this byte, which stands behind a target
+-- a token after an operator at this byte, which stands after a target
 abbrev pub operated : Mark → (at : ℕ) → Lexeme → Sums → Sums
 operated m at l s =
     if follows m at l then opened m at s else passed l (record s { left = with_mark m at s.left })
@@ -94,11 +94,11 @@ abbrev pub valued_by : Option ℕ → Lexeme → Sums → Sums
 valued_by (Some n) l s = kept l (spot.Value n) s
 valued_by None l s = passed l (record s { left = with_mark mark.RightParen l.start s.left })
 
--- a token of a value, or the first one behind it, before which `)` goes
+-- a token of a value, or the first one after it, before which `)` goes
 abbrev pub valued : ℕ → Lexeme → Sums → Sums
 valued n l s = valued_by (open_behind l.token n) l s
 
--- a mark behind a target
+-- a mark after a target
 abbrev pub marked : Mark → Lexeme → Sums → Sums
 marked m l s = if changes m then record s { spot = spot.Operator m l.start } else passed l s
 

@@ -15,15 +15,17 @@ use std::alloc::Global;
 pub(crate) enum Spot {
     /// Where nothing is looked at.
     Elsewhere,
+    /// Where the `{` of the network comes.
+    Opening,
     /// At the head of the network, where a setting may begin.
     Head,
     /// In a setting.
     Setting,
-    /// Behind `cap` at the head.
+    /// After `cap` at the head.
     Word,
-    /// Behind its number.
+    /// After its number.
     Amount,
-    /// Behind the capacity of the network.
+    /// After the capacity of the network.
     Entry,
     /// In a channel or a sink, which has had no `cap`.
     Open,
@@ -39,13 +41,13 @@ pub(crate) struct Capacities<'a> {
     spot: Spot,
 }
 
-/// Where the token behind one that stays stands.
+/// Where the token after one that stays stands.
 fn spot_behind(spot: Spot, token: &Token<'_>) -> Spot
     ensures { result ≡ spec.spot_behind spot token.now }
 {
     match (spot, token) {
-        (Spot::Elsewhere, Token::Keyword(Keyword::Network)) => Spot::Head,
-        (Spot::Head, Token::Mark(Mark::LeftBrace)) => Spot::Head,
+        (Spot::Elsewhere, Token::Keyword(Keyword::Network)) => Spot::Opening,
+        (Spot::Opening, Token::Mark(Mark::LeftBrace)) => Spot::Head,
         (Spot::Head, Token::Keyword(Keyword::Limit | Keyword::Policy | Keyword::Grow)) =>
             Spot::Setting,
         (Spot::Setting, Token::Mark(Mark::Semicolon)) => Spot::Head,
@@ -70,7 +72,7 @@ impl<'a> Capacities<'a> {
         }
     }
 
-    /// A token that stays, behind which the next one has this spot.
+    /// A token that stays, after which the next one has this spot.
     fn keep(&mut self, lexeme: &Lexeme<'a>, spot: Spot) -> Result<(), ExpandFault>
         ensures { Gives (λ _. self.new) result (Ok (spec.kept lexeme.now spot self.old)) }
     {
@@ -78,7 +80,7 @@ impl<'a> Capacities<'a> {
         add(&mut self.left, lexeme.token.copy(), lexeme.start)
     }
 
-    /// A token behind `cap` at the head that may not be there: the grammar refuses the word at its byte.
+    /// A token after `cap` at the head that may not be there: the grammar refuses the word at its byte.
     fn refuse(&mut self, lexeme: &Lexeme<'a>) -> Result<(), ExpandFault>
         ensures { Gives (λ _. self.new) result (Ok (spec.refused lexeme.now self.old)) }
     {

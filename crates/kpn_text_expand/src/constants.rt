@@ -1,4 +1,4 @@
-//! Constants. The tokens go by one after the other: a declaration is taken out, and each name of a constant behind it is
+//! Constants. The tokens go by one after the other: a declaration is taken out, and each name of a constant after it is
 //! replaced by its number.
 
 ghost use Rattle.std.specs.Prelude.{◌≡◌, [], ◌∷◌, ◌++◌, Ok, OnOk, IfErr};
@@ -15,11 +15,11 @@ use std::mem;
 /// Where the next token stands.
 #[derive(Clone, Copy)]
 pub(crate) enum Place {
-    /// Behind `;`, `{` or `}`.
+    /// After `;`, `{` or `}`.
     Front,
-    /// Behind another token.
+    /// After another token.
     Inside,
-    /// Behind `const`, up to the next `;`.
+    /// After `const`, up to the next `;`.
     Declaration,
 }
 
@@ -159,7 +159,7 @@ impl<'a> Constants<'a> {
         add_meant(&mut self.declaration, lexeme, value)
     }
 
-    /// Adds a constant, and goes on behind its declaration.
+    /// Adds a constant, and goes on after its declaration.
     fn add_constant(&mut self, alloc: Global, constant: Constant<'a>) -> Result<(), ExpandFault>
         ensures { Gives (λ _. self.new) result (Ok (spec.with_constant self.old constant.entry)) }
     {
@@ -173,7 +173,7 @@ impl<'a> Constants<'a> {
         Ok(())
     }
 
-    /// The `;` behind a declaration.
+    /// The `;` after a declaration.
     #[tactic(auto, unfolding(kpn_text_tokens::specs::Results::and_then))]
     fn declare(&mut self, alloc: Global, stop: usize) -> Result<(), ExpandFault>
         ensures { Gives (λ _. self.new) result (spec.with_declaration stop self.old) }

@@ -141,7 +141,7 @@ fn first_name<'t, 'a>(
     }
 }
 
-/// The tokens behind `=`.
+/// The tokens after `=`.
 fn behind_assign<'t, 'a>(
     tokens: &'t [Lexeme<'a>],
     stop: usize,

@@ -14,15 +14,15 @@ use std::mem;
 /// Where the next token stands.
 #[derive(Clone, Copy)]
 pub(crate) enum Spot {
-    /// Behind `;`, `{` or `}`.
+    /// After `;`, `{` or `}`.
     Front,
     /// Elsewhere.
     Inside,
-    /// Behind a name at the front, or behind its index.
+    /// After a name at the front, or after its index.
     Target,
     /// In that index, inside so many brackets more.
     Index(usize),
-    /// Behind this operator at this byte, which stands behind a target.
+    /// After this operator at this byte, which stands after a target.
     Operator(Mark, usize),
     /// In a value, where so many parentheses are open.
     Value(usize),
@@ -38,7 +38,7 @@ pub(crate) struct Sums<'a> {
     spot: Spot,
 }
 
-/// Whether `=` right behind the mark makes an assignment of it.
+/// Whether `=` right after the mark makes an assignment of it.
 fn changes(mark: Mark) -> bool
     ensures { result ≡ spec.changes mark }
 {
@@ -57,7 +57,7 @@ fn changes(mark: Mark) -> bool
     )
 }
 
-/// Whether a token is `=` right behind this mark at this byte.
+/// Whether a token is `=` right after this mark at this byte.
 fn follows(mark: Mark, at: usize, lexeme: &Lexeme<'_>) -> bool
     ensures { result ≡ spec.follows mark at lexeme.now }
 {
@@ -65,7 +65,7 @@ fn follows(mark: Mark, at: usize, lexeme: &Lexeme<'_>) -> bool
         && lexeme.start.saturating_sub(at) == mark.spelling().len()
 }
 
-/// Where the token behind one outside of targets and values stands.
+/// Where the token after one outside of targets and values stands.
 fn spot_behind(token: &Token<'_>) -> Spot
     ensures { result ≡ spec.spot_behind token.now }
 {
@@ -75,7 +75,7 @@ fn spot_behind(token: &Token<'_>) -> Spot
     }
 }
 
-/// Where the token behind one of an index stands.
+/// Where the token after one of an index stands.
 fn spot_in_index(token: &Token<'_>, depth: usize) -> Spot
     ensures { result ≡ spec.spot_in_index token.now depth }
 {
@@ -92,7 +92,7 @@ fn spot_in_index(token: &Token<'_>, depth: usize) -> Spot
     }
 }
 
-/// How many parentheses are open behind a token of a value, if it is one: a `)` or `?` outside of them ends the value,
+/// How many parentheses are open after a token of a value, if it is one: a `)` or `?` outside of them ends the value,
 /// and so does `;`.
 fn open_behind(token: &Token<'_>, depth: usize) -> Option<usize>
     ensures { result ≡ spec.open_behind token.now depth }
@@ -130,7 +130,7 @@ impl<'a> Sums<'a> {
         }
     }
 
-    /// A token that stays, behind which the next one has this spot.
+    /// A token that stays, after which the next one has this spot.
     fn keep(&mut self, lexeme: &Lexeme<'a>, spot: Spot) -> Result<(), ExpandFault>
         ensures { Gives (λ _. self.new) result (Ok (spec.kept lexeme.now spot self.old)) }
     {
@@ -161,7 +161,7 @@ impl<'a> Sums<'a> {
         self.aim(lexeme, Spot::Target)
     }
 
-    /// `=` behind an operator at this byte: `= x + (`.
+    /// `=` after an operator at this byte: `= x + (`.
     fn open(&mut self, mark: Mark, at: usize) -> Result<(), ExpandFault>
         ensures { Gives (λ _. self.new) result (Ok (spec.opened mark at self.old)) }
     {
@@ -172,7 +172,7 @@ impl<'a> Sums<'a> {
         add(&mut self.left, Token::Mark(Mark::LeftParen), at)
     }
 
-    /// A token behind an operator at this byte, which stands behind a target.
+    /// A token after an operator at this byte, which stands after a target.
     fn operate(&mut self, mark: Mark, at: usize, lexeme: &Lexeme<'a>) -> Result<(), ExpandFault>
         ensures { Gives (λ _. self.new) result (Ok (spec.operated mark at lexeme.now self.old)) }
     {
@@ -183,7 +183,7 @@ impl<'a> Sums<'a> {
         self.pass(lexeme)
     }
 
-    /// A token of a value, or the first one behind it, before which `)` goes.
+    /// A token of a value, or the first one after it, before which `)` goes.
     fn value(&mut self, depth: usize, lexeme: &Lexeme<'a>) -> Result<(), ExpandFault>
         ensures { Gives (λ _. self.new) result (Ok (spec.valued depth lexeme.now self.old)) }
     {
@@ -194,7 +194,7 @@ impl<'a> Sums<'a> {
         self.pass(lexeme)
     }
 
-    /// A mark behind a target.
+    /// A mark after a target.
     fn mark(&mut self, mark: Mark, lexeme: &Lexeme<'a>) -> Result<(), ExpandFault>
         ensures { Gives (λ _. self.new) result (Ok (spec.marked mark lexeme.now self.old)) }
     {

@@ -1,4 +1,4 @@
--- The values of the tables that were passed are behind those of the process.
+-- The values of the tables that were passed are after those of the process.
 use Rattle.std.proofs.Common.{◌≡◌, ◌++◌, take}
 use Rattle.std.specs.List.{flat_map}
 use Rattle.kpn_text_names.specs.Shared.{values_at}

@@ -1,4 +1,4 @@
--- Its parts, one behind the other.
+-- Its parts, one after the other.
 use Rattle.std.proofs.Common.{◌++◌, codes}
 use Rattle.kpn_net.specs.Tables.{instance_at}
 use Rattle.kpn_text_names.specs.Names.{name_at}

@@ -1,4 +1,4 @@
--- Its parts, one behind the other.
+-- Its parts, one after the other.
 use Rattle.std.proofs.Common.{◌++◌, codes, sym, ap}
 use Rattle.kpn_text_names.specs.NetworkNames.{paired}
 use Rattle.kpn_text.specs.Named.{channel_named, growth_named, instance_named, limit_named, policy_named}
