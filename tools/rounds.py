@@ -11,13 +11,15 @@ import re
 import typing
 
 TOKEN = re.compile(r'\s+|#[^\n]*|([A-Za-z_]\w*|\d\w*|\'(?:[^\\]|\\.)\''
-                   r'|<=|>=|==|!=|&&|\|\||<<|>>|[-(){}\[\];,=+*/%<>!?:~&|^])')
+                   r'|<<=|>>=|[-+*/%&|^]=|\.\.|<=|>=|==|!=|&&|\|\||<<|>>|[-(){}\[\];,=+*/%<>!?:~&|^])')
 SMALLEST, LARGEST = -2**63, 2**63 - 1
 LARGEST_CAPACITY = 1_048_576
 # How tightly each operator binds, from the loosest on. Those of one row go from the left.
 ROWS = (('||',), ('&&',), ('<', '<=', '>', '>=', '==', '!='), ('|',), ('^',), ('&',), ('<<', '>>'), ('+', '-'),
         ('*', '/', '%'))
 TIGHTNESS = {mark: number for number, row in enumerate(ROWS, 1) for mark in row}
+# What `x += e;` and the like compute.
+COMPOUND = {f'{mark}=': mark for mark in ('+', '-', '*', '/', '%', '&', '|', '^', '<<', '>>')}
 DIGITS, ESCAPED = frozenset("0123456789'"), {'n': 10, '\\': 92, "'": 39, '0': 0}
 COMPARING, SHIFTING, OPERAND = TIGHTNESS['<'], TIGHTNESS['<<'], len(ROWS) + 1
 
@@ -66,19 +68,39 @@ class Parser:
         self.tokens = [token for token in TOKEN.findall(text) if token]
         self.place = 0
         self.language, self.shared = 1, {}
+        # Those for all that follows, and those of a process or of the network.
+        self.constants, self.own, self.depth = {}, {}, 0
+
+    def settle(self):
+        """Goes past the constants that are declared here, and puts the value of one in place of its name."""
+        while self.language == 2 and self.tokens[self.place - 1] in ';{}' and self.tokens[self.place:][:1] == ['const']:
+            name = self.tokens[self.place + 1]
+            assert self.tokens[self.place + 2] == '=', name
+            self.place += 3
+            found = value(self.expression(), {})
+            self.next(';')
+            (self.own if self.depth else self.constants)[name] = found
+        for known in (self.constants, self.own):
+            if self.place < len(self.tokens) and self.tokens[self.place] in known:
+                found = known[self.tokens[self.place]]
+                self.tokens[self.place:self.place + 1] = ['-'] * (found < 0) + [str(abs(found))]
 
     def peek(self):
+        self.settle()
         return self.tokens[self.place] if self.place < len(self.tokens) else None
 
     def next(self, wanted=None):
-        token = self.tokens[self.place]
-        assert wanted is None or token == wanted, (token, wanted)
+        token = self.peek()
+        assert token is not None and wanted in (None, token), (token, wanted)
         self.place += 1
+        self.depth += (token == '{') - (token == '}')
+        if self.depth == 0:
+            self.own.clear()
         return token
 
     def took(self, token):
         if self.peek() == token:
-            self.place += 1
+            self.next()
             return True
         return False
 
@@ -145,8 +167,17 @@ class Parser:
         """Those of a block, behind its brace."""
         found = []
         while not self.took('}'):
-            found.append(self.statement())
+            found += self.loop() if self.language == 2 and self.took('for') else [self.statement()]
         return found
+
+    def loop(self):
+        """What a `for` stands for, behind that word."""
+        name = self.next()
+        self.next('in')
+        first = self.expression()
+        self.next('..')
+        test = '<', name, self.expression()
+        return [('assign', name, first), ('while', test, [*self.block(), ('assign', name, ('+', name, 1))])]
 
     def statement(self):
         word = self.next()
@@ -163,6 +194,8 @@ class Parser:
             found = 'set', word, self.index()
             self.next('=')
             found += self.expression(),
+        elif self.peek() in COMPOUND:
+            found = 'assign', word, (COMPOUND[self.next()], word, self.expression())
         else:
             self.next('=')
             found = 'assign', word, self.expression()
@@ -214,12 +247,15 @@ class Parser:
     def network(self):
         self.next('network')
         self.next('{')
-        growing, channels, instances = self.growing(), {}, {}
+        growing, channels, instances, usual = self.growing(), {}, {}, None
+        if self.took('cap'):
+            usual = number(self.next())
+            self.next(';')
         while not self.took('}'):
             word = self.next()
             if word in ('channel', 'sink', 'source'):
                 name = self.next()
-                channels[name] = word, number(self.next()) if self.took('cap') else None
+                channels[name] = word, number(self.next()) if self.took('cap') else usual if word != 'source' else None
             else:
                 self.next('=')
                 instances[word] = self.instance()
