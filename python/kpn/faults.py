@@ -99,6 +99,13 @@ class Values:
             raise Stop('index', tree)
         return number
 
+    def known(self, tree: Expression) -> Optional[int]:
+        """The value of an expression, if it has one."""
+        try:
+            return self.value(tree)
+        except Stop:
+            return None
+
 
 class Frame(Values):
     """A process with its variables, which gets these items."""
@@ -140,13 +147,6 @@ class Frame(Values):
             self.variables[it.target] = self.value(it.value)
         elif isinstance(it, Write):
             self.value(it.value)
-
-    def known(self, tree: Expression) -> Optional[int]:
-        """The value of an expression, if it has one."""
-        try:
-            return self.value(tree)
-        except Stop:
-            return None
 
     def values(self, tree: Expression) -> Iterator[Tuple[str, int]]:
         """The values of the names and the cells in an expression; of a cell that is not there how many there are."""

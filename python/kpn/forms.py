@@ -5,17 +5,19 @@
 from __future__ import annotations
 
 import collections
-from typing import Dict, List, Mapping, Optional, Sequence
+from typing import Dict, List, Mapping, Optional, Sequence, Tuple
 
 from .errors import LARGEST, KpnError, Spot
-from .faults import Stop, Values
-from .language import Reader, Token, is_name, number_of
+from .faults import Values
+from .language import SIGNS, TIGHTNESS, Reader, Token, is_name, number_of
 from .process import Process
 from .program import explain
 
 # Behind these a constant may be declared, and a statement begins.
 BEGINNINGS = frozenset(';{}')
-COMPOUND = {f'{mark}=': mark for mark in '+ - * / % & | ^ << >>'.split()}
+# The operators that an assignment may have, and all marks of expressions.
+CHANGING = frozenset('+ - * / % & | ^ << >>'.split())
+INNER = SIGNS[2] | TIGHTNESS.keys() | set('()[]?:')
 SETTINGS = ('limit', 'policy', 'grow')
 # How many tokens `language 2;` has, and a setting.
 OPENING = SETTING = 3
@@ -45,7 +47,7 @@ class FullReader(Reader):
                 continue
             found += replaced(token, known)
             self.place += 1
-            depth += (token.text == '{') - (token.text == '}')
+            depth = max(depth + (token.text == '{') - (token.text == '}'), 0)
             if not depth:
                 own.clear()
         return found
@@ -57,20 +59,20 @@ class FullReader(Reader):
             self.fail()
         name = self.name()
         self.need('=')
-        end = place_of(self.tokens, self.place, ';')
-        tokens = [it for token in self.tokens[self.place:end] for it in replaced(token, known)]
-        if any(is_name(it.text, self.language) for it in tokens):
-            self.fail()
-        self.tokens[self.place:end] = tokens
         start = self.place
-        try:
-            value = Values().value(self.expression())
-        except Stop:
-            value = -LARGEST - 1
-        if value < -LARGEST:
+        end = next((it for it in range(start, len(self.tokens)) if self.tokens[it].text == ';'), len(self.tokens) - 1)
+        tokens = [it for token in self.tokens[start:end] for it in replaced(token, known)]
+        self.tokens[start:end] = tokens
+        for number, token in enumerate(tokens):
+            if is_name(token.text, self.language):
+                self.place += number
+                self.fail()
+        tree = self.expression()
+        self.need(';')
+        value = Values().known(tree)
+        if value is None or value < -LARGEST:
             self.place = start
             self.fail()
-        self.need(';')
         return {name: value}
 
 
@@ -82,20 +84,17 @@ def replaced(token: Token, known: Mapping[str, int]) -> List[Token]:
     return [Token('-', token.start)] * (value < 0) + [Token(str(abs(value)), token.start)]
 
 
-def place_of(tokens: Sequence[Token], start: int, *wanted: str) -> int:
-    """Where the next of some tokens stands, or else the last token of all."""
-    return next((it for it in range(start, len(tokens)) if tokens[it].text in wanted), len(tokens) - 1)
-
-
 class Plain:
-    """Tokens without constants become those that the grammar knows. What has no right form stays, and is refused."""
+    """Tokens without constants become those that the grammar knows. It refuses a form that is not right where that
+    shows: the word of the form is left there."""
 
     def __init__(self, tokens: List[Token]):
         self.tokens, self.place, self.found = tokens, OPENING, tokens[:OPENING]
         # The variable of each `for` whose block is open, and nothing of another block.
         self.blocks: List[Optional[Token]] = []
-        # Where the settings of the network begin, and what channels have that say nothing.
-        self.head, self.cap = 0, tokens[:0]
+        # Where the settings of the network begin, and what channels get that have no capacity.
+        self.head = 0
+        self.cap: Tuple[str, ...] = ()
 
     def all(self) -> List[Token]:
         """All tokens."""
@@ -104,60 +103,74 @@ class Plain:
                 self.other()
         return self.found
 
-    def texts(self, count: int) -> List[str]:
-        """The next tokens."""
-        return [it.text for it in self.tokens[self.place:self.place + count]]
+    def text(self, number: int) -> str:
+        """One of the tokens from the next one on."""
+        return self.tokens[self.place + number].text
 
     def put(self, *words: str, at: Token) -> None:
         """Puts tokens in that come from another one."""
         self.found += [Token(it, at.start) for it in words]
 
-    def compound(self) -> bool:
-        """`x += e;` becomes `x = x + (e);`."""
-        name, mark = [*self.texts(2), ''][:2]
-        if not is_name(name, 2) or mark not in COMPOUND:
-            return False
-        target, at = self.tokens[self.place:self.place + 2]
-        end = place_of(self.tokens, self.place, ';')
-        self.found.append(target)
-        self.put('=', at=at)
-        self.found.append(target)
-        self.put(COMPOUND[mark], '(', at=at)
-        self.found += self.tokens[self.place + 2:end]
+    def refuse(self, word: str, number: int) -> bool:
+        """Goes to one of the tokens from the next one on, where a form with this word is not right."""
+        self.place += number
+        self.put(word, at=self.tokens[self.place])
+        return True
+
+    def value(self, start: int) -> None:
+        """Goes past a value that begins here, and puts it in behind a parenthesis, which it closes."""
+        end = end_of(self.tokens, start)
+        self.found += self.tokens[start:end]
         self.put(')', at=self.tokens[end])
         self.place = end
+
+    def compound(self) -> bool:
+        """`x += e;` becomes `x = x + (e);`."""
+        if not is_name(self.text(0), 2) or self.text(1) not in CHANGING or self.text(2) != '=':
+            return False
+        target, mark, sign = self.tokens[self.place:self.place + 3]
+        if sign.start > mark.start + len(mark.text):
+            return False
+        self.found.append(target)
+        self.put('=', at=mark)
+        self.found.append(target)
+        self.put(mark.text, '(', at=mark)
+        self.value(self.place + 3)
         return True
 
     def loop(self) -> bool:
         """`for i in a..b {` becomes `i = a; while i < (b) {`."""
-        start = self.place + 3
-        dots = place_of(self.tokens, start, '..', ';', '{', '}')
-        end = place_of(self.tokens, dots + 1, ';', '{', '}')
-        word, name, behind = [*self.texts(3), '', ''][:3]
-        ends = self.tokens[dots].text, self.tokens[end].text
-        if (word, behind, *ends) != ('for', 'in', '..', '{') or not is_name(name, 2):
+        if self.text(0) != 'for' or not self.blocks or self.head:
             return False
-        head, variable = self.tokens[self.place:self.place + 2]
+        if not is_name(self.text(1), 2) or self.text(2) != 'in':
+            return self.refuse('for', 1 + is_name(self.text(1), 2))
+        variable, word = self.tokens[self.place + 1:self.place + 3]
+        dots = end_of(self.tokens, self.place + 3)
         self.found.append(variable)
-        self.put('=', at=head)
-        self.found += self.tokens[start:dots]
-        self.put(';', 'while', at=head)
+        self.put('=', at=word)
+        self.found += self.tokens[self.place + 3:dots]
+        if self.tokens[dots].text != '..':
+            return self.refuse('for', dots - self.place)
+        self.put(';', 'while', at=self.tokens[dots])
         self.found.append(variable)
         self.put('<', '(', at=self.tokens[dots])
-        self.found += self.tokens[dots + 1:end]
-        self.put(')', '{', at=self.tokens[end])
-        self.blocks.append(variable)
-        self.place = end + 1
+        self.value(dots + 1)
+        if self.text(0) == '{':
+            self.found.append(self.tokens[self.place])
+            self.blocks.append(variable)
+            self.place += 1
         return True
 
     def capped(self) -> bool:
         """`cap N;` behind the settings of the network, for channels that have none."""
-        word, number, end, behind = [*self.texts(4), '', '', '', ''][:4]
-        if (word, end) != ('cap', ';') or number_of(number, 2) is None or not self.head or behind in SETTINGS:
+        settings = [it.text for it in self.found[self.head::SETTING]]
+        if self.text(0) != 'cap' or not self.head or self.cap or any(it not in SETTINGS for it in settings):
             return False
-        if any(it.text not in SETTINGS for it in self.found[self.head::SETTING]):
-            return False
-        self.cap, self.head = self.tokens[self.place:self.place + 2], 0
+        if number_of(self.text(1), 2) is None:
+            return self.refuse('cap', 1)
+        if self.text(2) != ';' or self.text(3) in SETTINGS:
+            return self.refuse('cap', 2 + (self.text(2) == ';'))
+        self.cap = 'cap', self.text(1)
         self.place += SETTING
         return True
 
@@ -170,11 +183,23 @@ class Plain:
         elif token.text == '}' and self.blocks:
             variable = self.blocks.pop()
             if variable:
-                self.put(variable.text, '=', variable.text, '+', '1', ';', at=variable)
-        elif token.text == ';' and [it.text for it in self.found[-2:-1]] in (['channel'], ['sink']):
-            self.found += self.cap
+                self.put(variable.text, '=', variable.text, '+', '1', ';', at=token)
+        elif token.text == ';' and self.found[-2].text in ('channel', 'sink'):
+            self.put(*self.cap, at=token)
         self.found.append(token)
         self.place += 1
+
+
+def end_of(tokens: Sequence[Token], start: int) -> int:
+    """Where a value ends that begins here: in front of what can be in none, or closes or divides what is around it."""
+    depth, place = 0, start
+    while True:
+        text = tokens[place].text
+        depth += (text in ('(', '[')) - (text in (')', ']'))
+        is_inner = text in INNER or is_name(text, 2) or number_of(text, 2) is not None
+        if not is_inner or depth < 0 or not depth and text in ('?', ':'):
+            return place
+        place += 1
 
 
 def read_process(text: str) -> Process:

@@ -38,10 +38,9 @@ INDEX = '[]'
 LEFT_OUT = frozenset('( ) { } else -'.split())
 SPACE = re.compile(r'(?:[ \t\r\n]|#[^\n]*)*')
 MARKS = r'<=|>=|==|!=|&&|\|\||<<|>>|[-(){}\[\];,=+*/%<>!~&|^?:]'
-MARKS_OF_TWO = rf'<<=|>>=|[-+*/%&|^]=|\.\.|{MARKS}'
 QUOTED = r"'[ -&(-\[\]-~]'|'\\[n\\'0]'"
 TOKEN = {1: re.compile(rf'{NAME.pattern}|[0-9]+|{MARKS}'),
-         2: re.compile(rf'{NAME.pattern}|[0-9][A-Za-z0-9_]*|{QUOTED}|{MARKS_OF_TWO}')}
+         2: re.compile(rf'{NAME.pattern}|[0-9][A-Za-z0-9_]*|{QUOTED}|\.\.|{MARKS}')}
 
 
 class Token(NamedTuple):

@@ -47,7 +47,7 @@ def by_tokens(numbers, text):
         tokens[place], tokens[other] = tokens[other], tokens[place]
     else:
         tokens[place] = tokens[other] if kind == 3 else numbers.choice(TOKENS)
-    return ' '.join(tokens)
+    return re.sub(r'([-+*/%&|^]|<<|>>) =(?!=)', r'\1=', ' '.join(tokens))
 
 
 def by_lines(numbers, text):
