@@ -105,8 +105,9 @@ class RoundTrips(unittest.TestCase):
         for old, new in (('const K', 'const N'), ('K = N', 'K = x'), ('2 + 1', '; '), ('0..K', '0..'), ('in k', 'of k'),
                          ('N - 2', '1 / 0'), ('K = N', 'K = ~9223372036854775807 + 0 * N'), ('x *= 2', 'x * = 2'),
                          ('const M', 'const K'), ('a[j] =', 'a[j] +='), ('cap ROOM', 'cap K'), ('const R', 'R'),
-                         ('cap ROOM; source', 'source')):
-            self.assertRaises(kpn.KpnError, kpn.Network.from_text, text.replace(old, new))
+                         ('cap ROOM; source', 'source'), ('2 + 1', 'x ? 2 : 1'), ('2 + 1', '2) + (1'),
+                         ('0..K', '0..K) + (0'), ('x; } }', 'x } }'), ('cap ROOM;', 'cap ROOM; cap 1;')):
+            self.assertRaisesRegex(kpn.KpnError, r'2[012] \w+ at', kpn.Network.from_text, text.replace(old, new))
         head = f'language 2; {shared}'
         for old, new in (('2 + 1', '2 + u'), ('0..K', '0..u'), ('k .. K', 'u .. K'), ('x - M', 'M - u')):
             wrong = own.replace(old, new)
