@@ -18,7 +18,7 @@ LARGEST_CAPACITY = 1_048_576
 ROWS = (('||',), ('&&',), ('<', '<=', '>', '>=', '==', '!='), ('|',), ('^',), ('&',), ('<<', '>>'), ('+', '-'),
         ('*', '/', '%'))
 TIGHTNESS = {mark: number for number, row in enumerate(ROWS, 1) for mark in row}
-# What `x += e;` and the like compute.
+# What `x += e;`, `a[i] += e;` and the like compute.
 COMPOUND = {f'{mark}=': mark for mark in ('+', '-', '*', '/', '%', '&', '|', '^', '<<', '>>')}
 DIGITS, ESCAPED = frozenset("0123456789'"), {'n': 10, '\\': 92, "'": 39, '0': 0}
 COMPARING, SHIFTING, OPERAND = TIGHTNESS['<'], TIGHTNESS['<<'], len(ROWS) + 1
@@ -191,16 +191,19 @@ class Parser:
         elif word == 'write':
             found = word, self.next(), self.expression()
         elif self.took('['):
-            found = 'set', word, self.index()
-            self.next('=')
-            found += self.expression(),
-        elif self.peek() in COMPOUND:
-            found = 'assign', word, (COMPOUND[self.next()], word, self.expression())
+            index = self.index()
+            found = 'set', word, index, self.assigned(('[]', word, index))
         else:
-            self.next('=')
-            found = 'assign', word, self.expression()
+            found = 'assign', word, self.assigned(word)
         self.next(';')
         return found
+
+    def assigned(self, target):
+        """What a target gets."""
+        if self.peek() in COMPOUND:
+            return COMPOUND[self.next()], target, self.expression()
+        self.next('=')
+        return self.expression()
 
     def index(self):
         """The number of a cell, behind its bracket."""

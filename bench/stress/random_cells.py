@@ -50,7 +50,9 @@ def statements(chance, cells, arrays):
         value = expression(chance, known, cells)
         if arrays and chance.random() < 0.6:
             name = chance.choice(arrays)
-            found.append(f'{name}[{index(chance, name, known, 2)}] = ({value}) & 65535;')
+            cell = f'{name}[{index(chance, name, known, 2)}]'
+            found.append(f'{cell} {chance.choice(COMPOUND[:-2])} {value}; {cell} &= 65535;' if chance.random() < 0.3
+                         else f'{cell} = ({value}) & 65535;')
         elif chance.random() < 0.3:
             found.append(f'if {value} {{ y = {expression(chance, known, cells)}; }} else if x {{ y = 5; }}')
         elif chance.random() < 0.5:

@@ -124,18 +124,28 @@ class Plain:
         self.put(')', at=self.tokens[end])
         self.place = end
 
+    def target(self) -> List[Token]:
+        """What begins like the target of an assignment: a name, and its index."""
+        end, depth = self.place + 1, 0
+        while self.tokens[end].text == '[' or depth and self.tokens[end].text:
+            depth += (self.tokens[end].text == '[') - (self.tokens[end].text == ']')
+            end += 1
+        return self.tokens[self.place:end]
+
     def compound(self) -> bool:
-        """`x += e;` becomes `x = x + (e);`."""
-        if not is_name(self.text(0), 2) or self.text(1) not in CHANGING or self.text(2) != '=':
+        """`x += e;` becomes `x = x + (e);`, and `a[i] += e;` becomes `a[i] = a[i] + (e);`."""
+        if not is_name(self.text(0), 2):
             return False
-        target, mark, sign = self.tokens[self.place:self.place + 3]
-        if sign.start > mark.start + len(mark.text):
+        target = self.target()
+        start = self.place + len(target)
+        mark = self.tokens[start]
+        if mark.text not in CHANGING or self.tokens[start + 1] != Token('=', mark.start + len(mark.text)):
             return False
-        self.found.append(target)
+        self.found += target
         self.put('=', at=mark)
-        self.found.append(target)
+        self.found += target
         self.put(mark.text, '(', at=mark)
-        self.value(self.place + 3)
+        self.value(start + 2)
         return True
 
     def loop(self) -> bool:
