@@ -9,15 +9,16 @@ from typing import Dict, List, Mapping, Optional, Sequence, Tuple
 
 from .errors import LARGEST, KpnError, Spot
 from .faults import Values
-from .language import SIGNS, TIGHTNESS, Reader, Token, is_name, number_of
+from .language import LONGEST_NAME, Reader, Token, is_name, number_of
 from .process import Process
 from .program import explain
 
 # Behind these a constant may be declared, and a statement begins.
 BEGINNINGS = frozenset(';{}')
-# The operators that an assignment may have, and all marks of expressions.
+# The operators that an assignment may have.
 CHANGING = frozenset('+ - * / % & | ^ << >>'.split())
-INNER = SIGNS[2] | TIGHTNESS.keys() | set('()[]?:')
+# The names of the variables that keep the ends of loops are beginnings of this.
+ENDS = f'to{"_" * (LONGEST_NAME - 2)}'
 SETTINGS = ('limit', 'policy', 'grow')
 # How many tokens `language 2;` has, and a setting.
 OPENING = SETTING = 3
@@ -95,6 +96,8 @@ class Plain:
         # Where the settings of the network begin, and what channels get that have no capacity.
         self.head = 0
         self.cap: Tuple[str, ...] = ()
+        # The length of the longest name of the text that `ENDS` begins with.
+        self.taken = max((len(it.text) for it in tokens if ENDS.startswith(it.text)), default=0)
 
     def all(self) -> List[Token]:
         """All tokens."""
@@ -148,27 +151,35 @@ class Plain:
         self.value(start + 2)
         return True
 
+    def copied(self, start: int, mark: str) -> Token:
+        """Puts in what stands from here up to a mark or `;`, goes there, and gives that token."""
+        end = next((it for it in range(start, len(self.tokens)) if self.tokens[it].text in (mark, ';')),
+                   len(self.tokens) - 1)
+        self.found += self.tokens[start:end]
+        self.place = end
+        return self.tokens[end]
+
     def loop(self) -> bool:
-        """`for i in a..b {` becomes `i = a; while i < (b) {`."""
+        """`for i in a..b {` becomes `i = a; to = b; while i < to {`, with a name for `to` that is nowhere else."""
         if self.text(0) != 'for' or not self.blocks or self.head:
             return False
         if not is_name(self.text(1), 2) or self.text(2) != 'in':
             return self.refuse('for', 1 + is_name(self.text(1), 2))
         variable, word = self.tokens[self.place + 1:self.place + 3]
-        dots = end_of(self.tokens, self.place + 3)
+        # It is longer in each block.
+        length = self.taken + len(self.blocks) + 1
         self.found.append(variable)
         self.put('=', at=word)
-        self.found += self.tokens[self.place + 3:dots]
-        if self.tokens[dots].text != '..':
-            return self.refuse('for', dots - self.place)
-        self.put(';', 'while', at=self.tokens[dots])
-        self.found.append(variable)
-        self.put('<', '(', at=self.tokens[dots])
-        self.value(dots + 1)
-        if self.text(0) == '{':
-            self.found.append(self.tokens[self.place])
-            self.blocks.append(variable)
-            self.place += 1
+        dots = self.copied(self.place + 3, '..')
+        if dots.text != '..' or length > LONGEST_NAME:
+            return self.refuse('for', 0)
+        self.put(';', ENDS[:length], '=', at=dots)
+        brace = self.copied(self.place + 1, '{')
+        if brace.text != '{':
+            return self.refuse('for', 0)
+        self.put(';', 'while', variable.text, '<', ENDS[:length], '{', at=brace)
+        self.blocks.append(variable)
+        self.place += 1
         return True
 
     def capped(self) -> bool:
@@ -201,15 +212,14 @@ class Plain:
 
 
 def end_of(tokens: Sequence[Token], start: int) -> int:
-    """Where a value ends that begins here: in front of what can be in none, or closes or divides what is around it."""
-    depth, place = 0, start
-    while True:
+    """Where a value ends that begins here: in front of `;`, or of `)` or `?` outside of its parentheses."""
+    depth = 0
+    for place in range(start, len(tokens)):
         text = tokens[place].text
-        depth += (text in ('(', '[')) - (text in (')', ']'))
-        is_inner = text in INNER or is_name(text, 2) or number_of(text, 2) is not None
-        if not is_inner or depth < 0 or not depth and text in ('?', ':'):
+        if text == ';' or not depth and text in (')', '?'):
             return place
-        place += 1
+        depth += (text == '(') - (text == ')')
+    return len(tokens) - 1
 
 
 def read_process(text: str) -> Process:
