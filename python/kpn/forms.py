@@ -130,7 +130,7 @@ class Plain:
     def target(self) -> List[Token]:
         """What begins like the target of an assignment: a name, and its index."""
         end, depth = self.place + 1, 0
-        while self.tokens[end].text == '[' or depth and self.tokens[end].text:
+        while end < len(self.tokens) - 1 and (depth or self.tokens[end].text == '['):
             depth += (self.tokens[end].text == '[') - (self.tokens[end].text == ']')
             end += 1
         return self.tokens[self.place:end]
