@@ -72,6 +72,8 @@ class Parser:
         self.language, self.shared = 1, {}
         # Those for all that follows, and those of a process or of the network.
         self.constants, self.own, self.depth = {}, {}, 0
+        # What channels have that say nothing.
+        self.usual = None
         # The length of the longest name that may be one of an end.
         declared = {name for word, name in zip(self.tokens, self.tokens[1:]) if word == 'const'}
         self.taken = max((len(it) for it in {*self.tokens} - declared if ENDS.startswith(it)), default=0)
@@ -256,15 +258,13 @@ class Parser:
     def network(self):
         self.next('network')
         self.next('{')
-        growing, channels, instances, usual = self.growing(), {}, {}, None
-        if self.took('cap'):
-            usual = number(self.next())
-            self.next(';')
+        growing, channels, instances = self.growing(), {}, {}
         while not self.took('}'):
             word = self.next()
             if word in ('channel', 'sink', 'source'):
                 name = self.next()
-                channels[name] = word, number(self.next()) if self.took('cap') else usual if word != 'source' else None
+                given = number(self.next()) if self.took('cap') else self.usual
+                channels[name] = word, None if word == 'source' else given
             else:
                 self.next('=')
                 instances[word] = self.instance()
@@ -273,13 +273,23 @@ class Parser:
 
     def growing(self):
         limit = LARGEST_CAPACITY
+        self.capacity()
         if self.took('limit'):
             limit = number(self.next())
             self.next(';')
-        return Growing(self.choice('policy', 'cycles', 'all'), self.choice('grow', 'one', 'double'), limit)
+        policy, growth = self.choice('policy', 'cycles', 'all'), self.choice('grow', 'one', 'double')
+        self.capacity()
+        return Growing(policy, growth, limit)
+
+    def capacity(self):
+        """Goes past that of all channels, if it stands here among the settings."""
+        if self.took('cap'):
+            self.usual = number(self.next())
+            self.next(';')
 
     def choice(self, word, *names):
         """The name behind the word, if that is next; else the first of the names."""
+        self.capacity()
         if not self.took(word):
             return names[0]
         found = self.next()

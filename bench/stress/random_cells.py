@@ -97,5 +97,5 @@ def network(chance):
     channels = ' '.join(f'channel {it}{chance.choice(("", " cap SIZE", " cap 1"))};' for it in ends[1:-1])
     rows = ' '.join(f'i{n} = p{n}({ends[n]}; {ends[n + 1]});' for n in range(count))
     items = [chance.randrange(-9, 100) for _ in range(chance.choice((3, 40, 200)))]
-    usual = chance.choice(('cap 1;', 'cap SIZE;', 'const ROOM = SIZE / 2; cap ROOM;'))
+    usual = chance.choice(('cap 1;', 'cap SIZE; grow double;', 'limit 9; const ROOM = SIZE / 2; cap ROOM; policy all;'))
     return f'{text}network {{ {usual} source s; {channels} sink z cap 2; {rows} }}\n', {'s': items}

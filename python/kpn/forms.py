@@ -183,14 +183,13 @@ class Plain:
         return True
 
     def capped(self) -> bool:
-        """`cap N;` behind the settings of the network, for channels that have none."""
+        """`cap N;` among the settings of the network, for channels that have none."""
         settings = [it.text for it in self.found[self.head::SETTING]]
         if self.text(0) != 'cap' or not self.head or self.cap or any(it not in SETTINGS for it in settings):
             return False
-        if number_of(self.text(1), 2) is None:
-            return self.refuse('cap', 1)
-        if self.text(2) != ';' or self.text(3) in SETTINGS:
-            return self.refuse('cap', 2 + (self.text(2) == ';'))
+        is_number = number_of(self.text(1), 2) is not None
+        if not is_number or self.text(2) != ';':
+            return self.refuse('cap', 1 + is_number)
         self.cap = 'cap', self.text(1)
         self.place += SETTING
         return True

@@ -94,7 +94,7 @@ class RoundTrips(unittest.TestCase):
         own = 'process p(in i; out o) { const K = N - 2; array a[N]; read i x; x *= 2 + 1; ' \
             'for k in 0..K { x += t[k]; for j in k .. K + -LOW - 1 { a[j] += x; } } const M = -K; x <<= K; ' \
             'write o x - M; }'
-        text = f'language 2; {shared}{own} const ROOM = N; network {{ grow double; cap ROOM; source s; sink z; ' \
+        text = f'language 2; {shared}{own} const ROOM = N; network {{ cap ROOM; grow double; source s; sink z; ' \
             'channel c cap 1; a = p(s; c); b = p(c; z); }'
         printed = answer('print', text)
         net = kpn.Network.from_text(text)
@@ -105,7 +105,7 @@ class RoundTrips(unittest.TestCase):
         for old, new in (('const K', 'const N'), ('K = N', 'K = x'), ('2 + 1', '; '), ('0..K', '0..'), ('in k', 'of k'),
                          ('N - 2', '1 / 0'), ('K = N', 'K = ~9223372036854775807 + 0 * N'), ('x *= 2', 'x * = 2'),
                          ('const M', 'const K'), ('a[j] +=', 'a[j] + ='), ('a[j]', 'a[j'), ('cap ROOM', 'cap K'),
-                         ('const R', 'R'), ('cap ROOM; source', 'source'), ('2 + 1', 'x ? 2 : 1'), ('2 + 1', '2) + (1'),
+                         ('const R', 'R'), ('cap ROOM; grow', 'grow'), ('2 + 1', 'x ? 2 : 1'), ('2 + 1', '2) + (1'),
                          ('0..K', '0..K) + (0'), ('x; } }', 'x } }'), ('cap ROOM;', 'cap ROOM; cap 1;')):
             self.assertRaisesRegex(kpn.KpnError, r'2[012] \w+ at', kpn.Network.from_text, text.replace(old, new))
         head = f'language 2; {shared}'
