@@ -20,8 +20,6 @@ ROWS = (('||',), ('&&',), ('<', '<=', '>', '>=', '==', '!='), ('|',), ('^',), ('
 TIGHTNESS = {mark: number for number, row in enumerate(ROWS, 1) for mark in row}
 # What `x += e;`, `a[i] += e;` and the like compute.
 COMPOUND = {f'{mark}=': mark for mark in ('+', '-', '*', '/', '%', '&', '|', '^', '<<', '>>')}
-# The names of the variables that keep the ends of loops are beginnings of this.
-ENDS = 'to' + '_' * 30
 DIGITS, ESCAPED = frozenset("0123456789'"), {'n': 10, '\\': 92, "'": 39, '0': 0}
 COMPARING, SHIFTING, OPERAND = TIGHTNESS['<'], TIGHTNESS['<<'], len(ROWS) + 1
 
@@ -74,9 +72,6 @@ class Parser:
         self.constants, self.own, self.depth = {}, {}, 0
         # What channels have that say nothing.
         self.usual = None
-        # The length of the longest name that may be one of an end.
-        declared = {name for word, name in zip(self.tokens, self.tokens[1:]) if word == 'const'}
-        self.taken = max((len(it) for it in {*self.tokens} - declared if ENDS.startswith(it)), default=0)
 
     def settle(self):
         """Goes past the constants that are declared here, and puts the value of one in place of its name."""
@@ -174,18 +169,8 @@ class Parser:
         """Those of a block, behind its brace."""
         found = []
         while not self.took('}'):
-            found += self.loop() if self.language == 2 and self.took('for') else [self.statement()]
+            found.append(self.statement())
         return found
-
-    def loop(self):
-        """What a `for` stands for, behind that word."""
-        name = self.next()
-        self.next('in')
-        first = self.expression()
-        self.next('..')
-        end = ENDS[:self.taken + self.depth + 1]
-        return [('assign', name, first), ('assign', end, self.expression()),
-                ('while', ('<', name, end), [*self.block(), ('assign', name, ('+', name, 1))])]
 
     def statement(self):
         word = self.next()

@@ -70,10 +70,8 @@ def loop(chance, cell):
     """A loop over the first two cells, and perhaps one around it."""
     first, end = chance.choice(('0', 'LESS + 1', 'SIZE - FEW - 1')), chance.choice(('2', 'FEW - 1', 'SIZE / 2'))
     body = chance.choice((f'y += {cell};', f'const THIS = FEW; y -= {cell} * THIS;', f'if x {{ y ^= {cell}; }}'))
-    inner = f'for k in {first}..{end} {{ {body} }}'
-    if chance.random() < 0.3:
-        return f'for j in {first} .. FEW {{ {inner} }}'
-    return inner if chance.random() < 0.7 else f'k = 0; while k < 2 {{ {body} k = k + 1; }}'
+    inner = f'k = {first}; while k < {end} {{ {body} k += 1; }}'
+    return f'j = {first}; while j < FEW {{ {inner} j += 1; }}' if chance.random() < 0.3 else inner
 
 
 def process(chance, name, has_arrays):

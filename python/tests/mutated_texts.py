@@ -21,8 +21,8 @@ TEXTS = [file.read_text() for folder in (TOP / 'examples', TOP / 'examples/langu
 TOKENS = ('(', ')', '{', '}', ';', ',', '=', '-', '0', '1', '007', '1048577', '9223372036854775808', 'x', 'cap',
           'limit', 'policy', 'grow', 'all', 'double', 'source', 'sink', 'channel', 'read', 'in', 'out', '_' * 33, '&',
           '~', '?', ':', '<<', '+', '==', 'language', 'table', 'array', '[', ']', 'if', 'else', '0xfF', '0b1_0', '1_',
-          '12ab', "'A'", "'\\n'", "'", 'const', 'for', '..', '+=', '<<=', 'const N = 3;', 'const _ = -1;', 'x ^= 2;',
-          'a[0] += 1;', 'for i in 0..2 {', 'cap 2;')
+          '12ab', "'A'", "'\\n'", "'", 'const', 'for', '+=', '<<=', 'const N = 3;', 'const _ = -1;', 'x ^= 2;',
+          'a[0] += 1;', 'cap 2;')
 CHARACTERS = ('', *'(){}[];,=-1x#\n\r\t\x00\x0b&', '\u00b2', '\ufeff', '\udc80', '# \u00e9 \ud800\n', '\r\n')
 PARTS = re.compile(r'(\w+ = \w+\()([^;)]*);([^;)]*)(;[^;)]*)?\);')
 
