@@ -11,13 +11,15 @@ import re
 import typing
 
 TOKEN = re.compile(r'\s+|#[^\n]*|([A-Za-z_]\w*|\d\w*|\'(?:[^\\]|\\.)\''
-                   r'|<=|>=|==|!=|&&|\|\||<<|>>|[-(){}\[\];,=+*/%<>!?:~&|^])')
+                   r'|<<=|>>=|[-+*/%&|^]=|\.\.|<=|>=|==|!=|&&|\|\||<<|>>|[-(){}\[\];,=+*/%<>!?:~&|^])')
 SMALLEST, LARGEST = -2**63, 2**63 - 1
 LARGEST_CAPACITY = 1_048_576
 # How tightly each operator binds, from the loosest on. Those of one row go from the left.
 ROWS = (('||',), ('&&',), ('<', '<=', '>', '>=', '==', '!='), ('|',), ('^',), ('&',), ('<<', '>>'), ('+', '-'),
         ('*', '/', '%'))
 TIGHTNESS = {mark: number for number, row in enumerate(ROWS, 1) for mark in row}
+# What `x += e;`, `a[i] += e;` and the like compute.
+COMPOUND = {f'{mark}=': mark for mark in ('+', '-', '*', '/', '%', '&', '|', '^', '<<', '>>')}
 DIGITS, ESCAPED = frozenset("0123456789'"), {'n': 10, '\\': 92, "'": 39, '0': 0}
 COMPARING, SHIFTING, OPERAND = TIGHTNESS['<'], TIGHTNESS['<<'], len(ROWS) + 1
 
@@ -66,19 +68,41 @@ class Parser:
         self.tokens = [token for token in TOKEN.findall(text) if token]
         self.place = 0
         self.language, self.shared = 1, {}
+        # Those for all that follows, and those of a process or of the network.
+        self.constants, self.own, self.depth = {}, {}, 0
+        # What channels have that say nothing.
+        self.usual = None
+
+    def settle(self):
+        """Goes past the constants that are declared here, and puts the value of one in place of its name."""
+        while self.language == 2 and self.tokens[self.place - 1] in ';{}' and self.tokens[self.place:][:1] == ['const']:
+            name = self.tokens[self.place + 1]
+            assert self.tokens[self.place + 2] == '=', name
+            self.place += 3
+            found = value(self.expression(), {})
+            self.next(';')
+            (self.own if self.depth else self.constants)[name] = found
+        for known in (self.constants, self.own):
+            if self.place < len(self.tokens) and self.tokens[self.place] in known:
+                found = known[self.tokens[self.place]]
+                self.tokens[self.place:self.place + 1] = ['-'] * (found < 0) + [str(abs(found))]
 
     def peek(self):
+        self.settle()
         return self.tokens[self.place] if self.place < len(self.tokens) else None
 
     def next(self, wanted=None):
-        token = self.tokens[self.place]
-        assert wanted is None or token == wanted, (token, wanted)
+        token = self.peek()
+        assert token is not None and wanted in (None, token), (token, wanted)
         self.place += 1
+        self.depth += (token == '{') - (token == '}')
+        if self.depth == 0:
+            self.own.clear()
         return token
 
     def took(self, token):
         if self.peek() == token:
-            self.place += 1
+            self.next()
             return True
         return False
 
@@ -160,14 +184,19 @@ class Parser:
         elif word == 'write':
             found = word, self.next(), self.expression()
         elif self.took('['):
-            found = 'set', word, self.index()
-            self.next('=')
-            found += self.expression(),
+            index = self.index()
+            found = 'set', word, index, self.assigned(('[]', word, index))
         else:
-            self.next('=')
-            found = 'assign', word, self.expression()
+            found = 'assign', word, self.assigned(word)
         self.next(';')
         return found
+
+    def assigned(self, target):
+        """What a target gets."""
+        if self.peek() in COMPOUND:
+            return COMPOUND[self.next()], target, self.expression()
+        self.next('=')
+        return self.expression()
 
     def index(self):
         """The number of a cell, after its bracket."""
@@ -219,7 +248,8 @@ class Parser:
             word = self.next()
             if word in ('channel', 'sink', 'source'):
                 name = self.next()
-                channels[name] = word, number(self.next()) if self.took('cap') else None
+                given = number(self.next()) if self.took('cap') else self.usual
+                channels[name] = word, None if word == 'source' else given
             else:
                 self.next('=')
                 instances[word] = self.instance()
@@ -228,13 +258,23 @@ class Parser:
 
     def growing(self):
         limit = LARGEST_CAPACITY
+        self.capacity()
         if self.took('limit'):
             limit = number(self.next())
             self.next(';')
-        return Growing(self.choice('policy', 'cycles', 'all'), self.choice('grow', 'one', 'double'), limit)
+        policy, growth = self.choice('policy', 'cycles', 'all'), self.choice('grow', 'one', 'double')
+        self.capacity()
+        return Growing(policy, growth, limit)
+
+    def capacity(self):
+        """Goes past that of all channels, if it stands here among the settings."""
+        if self.took('cap'):
+            self.usual = number(self.next())
+            self.next(';')
 
     def choice(self, word, *names):
         """The name after the word, if that is next; else the first of the names."""
+        self.capacity()
         if not self.took(word):
             return names[0]
         found = self.next()

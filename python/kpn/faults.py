@@ -62,16 +62,12 @@ def word_of(mark: str, operands: List[int]) -> str:
     return 'overflow' if mark in ('/', '%') and operands == [-LARGEST - 1, -1] else ''
 
 
-class Frame:
-    """A process with its variables, which gets these items."""
+class Values:
+    """Variables and cells, and the values of expressions over them."""
 
-    def __init__(self, process: Process, entry: Entry, found: Description, items: Iterator[int]):
-        code = code_of(process)
-        self.block, self.items, self.steps = code.block, items, 0
-        self.variables: Dict[str, int] = dict(zip(process.pars, entry.values))
-        self.cells: Dict[str, Any] = {it.name: it.values for it in (*found.tables, *code.tables)}
-        self.cells.update((it.name, [0] * it.size) for it in code.arrays)
-        self.at: Optional[Statement] = None
+    def __init__(self) -> None:
+        self.variables: Dict[str, int] = {}
+        self.cells: Dict[str, Any] = {}
 
     def value(self, tree: Expression) -> int:
         """The value of an expression."""
@@ -103,6 +99,26 @@ class Frame:
             raise Stop('index', tree)
         return number
 
+    def known(self, tree: Expression) -> Optional[int]:
+        """The value of an expression, if it has one."""
+        try:
+            return self.value(tree)
+        except Stop:
+            return None
+
+
+class Frame(Values):
+    """A process with its variables, which gets these items."""
+
+    def __init__(self, process: Process, entry: Entry, found: Description, items: Iterator[int]):
+        super().__init__()
+        code = code_of(process)
+        self.block, self.items, self.steps = code.block, items, 0
+        self.variables.update(zip(process.pars, entry.values))
+        self.cells.update((it.name, it.values) for it in (*found.tables, *code.tables))
+        self.cells.update((it.name, [0] * it.size) for it in code.arrays)
+        self.at: Optional[Statement] = None
+
     def run(self, block: Block) -> None:
         """Steps through a block."""
         for it in block:
@@ -131,13 +147,6 @@ class Frame:
             self.variables[it.target] = self.value(it.value)
         elif isinstance(it, Write):
             self.value(it.value)
-
-    def known(self, tree: Expression) -> Optional[int]:
-        """The value of an expression, if it has one."""
-        try:
-            return self.value(tree)
-        except Stop:
-            return None
 
     def values(self, tree: Expression) -> Iterator[Tuple[str, int]]:
         """The values of the names and the cells in an expression; of a cell that is not there how many there are."""

@@ -12,14 +12,13 @@ from typing import Any, Dict, Iterator, List, NamedTuple, NoReturn, Optional, Se
 
 from .errors import LARGEST, KpnError, Spot
 from .process import Process
-from .program import explain
 
 LONGEST_TEXT = LARGEST_CAPACITY = 1_048_576
 LONGEST_NAME = 32
 RESERVED = frozenset('process in out par read write if else while network limit channel cap source sink policy grow'
                      .split())
 # These words are reserved in language 2 besides.
-RESERVED_IN_TWO = frozenset('language array table'.split())
+RESERVED_IN_TWO = frozenset('language array table const for'.split())
 MOST_LEVELS = 32
 NUMBER = re.compile(r'[0-9]{1,19}')
 # In language 2 besides: with a base, `_` after digits, and a byte in quotes.
@@ -41,7 +40,7 @@ SPACE = re.compile(r'(?:[ \t\r\n]|#[^\n]*)*')
 MARKS = r'<=|>=|==|!=|&&|\|\||<<|>>|[-(){}\[\];,=+*/%<>!~&|^?:]'
 QUOTED = r"'[ -&(-\[\]-~]'|'\\[n\\'0]'"
 TOKEN = {1: re.compile(rf'{NAME.pattern}|[0-9]+|{MARKS}'),
-         2: re.compile(rf'{NAME.pattern}|[0-9][A-Za-z0-9_]*|{QUOTED}|{MARKS}')}
+         2: re.compile(rf'{NAME.pattern}|[0-9][A-Za-z0-9_]*|{QUOTED}|\.\.|{MARKS}')}
 
 
 class Token(NamedTuple):
@@ -572,19 +571,6 @@ def places_of(lines: str, tokens: Sequence[Token]) -> List[int]:
     left = iter(tokens)
     return [next(it.start for it in left if it.text == token.text or it.text not in LEFT_OUT)
             for token in tokens_of(lines)[:-1]]
-
-
-def read_process(text: str) -> Process:
-    """Reads a text that is one process, after `language 2;` and shared tables if it is of that language."""
-    reader = Reader(text, 'the process')
-    try:
-        process = reader.process(reader.shared())
-        reader.need('')
-        return process
-    except KpnError as error:
-        if not error.place:
-            raise
-        raise explain(text + '\nnetwork {\n}\n', lambda offset: Spot(reader.what, text, offset)) or error from None
 
 
 def in_language(process: Process, language: int) -> Process:

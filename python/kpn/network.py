@@ -9,7 +9,8 @@ from typing import Union
 
 from . import compiled, running
 from .errors import LARGEST, KpnError, Spot, whole
-from .language import LARGEST_CAPACITY, LONGEST_NAME, LONGEST_TEXT, Description, Reader, Table, in_language
+from .forms import FullReader
+from .language import LARGEST_CAPACITY, LONGEST_NAME, LONGEST_TEXT, Description, Table, in_language
 from .language import is_name, tokens_of
 from .live import Live
 from .process import MOST_PORTS, Capacities, Instance, Outputs, Process, Stream, forking
@@ -112,7 +113,7 @@ class Network:
         try:
             if len(as_bytes(text)) > LONGEST_TEXT:
                 raise KpnError(f'the text is too long: it has to have at most {LONGEST_TEXT} bytes')
-            found = Reader(text, 'the network').description()
+            found = FullReader(text, 'the network').description()
             settings = found.settings
             net = cls(int(settings.get('limit', LARGEST_CAPACITY)), settings.get('policy', 'cycles'),
                       settings.get('grow', 'one'))

@@ -53,11 +53,11 @@ class Process:
     def from_text(cls, text: str) -> Process:
         """Reads a process, as in `Process.from_text("process gain(in i; out o; par k) { .. }")`.
 
-        One of language 2 stands after `language 2;`, and after shared tables, which become its own.
+        One of language 2 stands after `language 2;`, and after constants and shared tables, which become its own.
 
         Raises KpnError with the place if no text of the language goes on so; a wrong name is found when it runs.
         """
-        from .language import read_process  # it gives processes, so it needs this class first
+        from .forms import read_process  # it gives processes, so it needs this class first
         return read_process(text)
 
     def renamed(self, name: str) -> Process:

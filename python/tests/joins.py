@@ -9,7 +9,8 @@ import tempfile
 from typing import Dict, List, NamedTuple, Optional, Tuple
 
 from kpn.errors import KpnError
-from kpn.language import Description, Reader
+from kpn.forms import FullReader
+from kpn.language import Description
 from kpn.mpi import Audit, rank_count
 from kpn.program import Program, call
 from kpn.trace import Event, Trace
@@ -44,7 +45,7 @@ class Part(NamedTuple):
 
 def read_description(path: pathlib.Path) -> Description:
     """The description in a file."""
-    return Reader(path.read_bytes().decode('utf-8', 'replace'), str(path)).description()
+    return FullReader(path.read_bytes().decode('utf-8', 'replace'), str(path)).description()
 
 
 def read_cut(path: pathlib.Path, whole_text: Description) -> Dict[str, int]:

@@ -12,6 +12,7 @@ import tempfile
 from support import GALLERY, TOP, kpn
 
 from kpn.language import tokens_of
+import random_cells
 from kpn.program import as_bytes, call
 from random_networks import Maker
 
@@ -20,7 +21,8 @@ TEXTS = [file.read_text() for folder in (TOP / 'examples', TOP / 'examples/langu
 TOKENS = ('(', ')', '{', '}', ';', ',', '=', '-', '0', '1', '007', '1048577', '9223372036854775808', 'x', 'cap',
           'limit', 'policy', 'grow', 'all', 'double', 'source', 'sink', 'channel', 'read', 'in', 'out', '_' * 33, '&',
           '~', '?', ':', '<<', '+', '==', 'language', 'table', 'array', '[', ']', 'if', 'else', '0xfF', '0b1_0', '1_',
-          '12ab', "'A'", "'\\n'", "'")
+          '12ab', "'A'", "'\\n'", "'", 'const', 'for', '+=', '<<=', 'const N = 3;', 'const _ = -1;', 'x ^= 2;',
+          'a[0] += 1;', 'cap 2;')
 CHARACTERS = ('', *'(){}[];,=-1x#\n\r\t\x00\x0b&', '\u00b2', '\ufeff', '\udc80', '# \u00e9 \ud800\n', '\r\n')
 PARTS = re.compile(r'(\w+ = \w+\()([^;)]*);([^;)]*)(;[^;)]*)?\);')
 
@@ -45,7 +47,7 @@ def by_tokens(numbers, text):
         tokens[place], tokens[other] = tokens[other], tokens[place]
     else:
         tokens[place] = tokens[other] if kind == 3 else numbers.choice(TOKENS)
-    return ' '.join(tokens)
+    return re.sub(r'([-+*/%&|^]|<<|>>) =(?!=)', r'\1=', ' '.join(tokens))
 
 
 def by_lines(numbers, text):
@@ -88,7 +90,9 @@ def by_processes(numbers, text):
 
 def mutant(numbers):
     """A text of a random network, or of one that is stored, with some mutations."""
-    text = str(Maker(numbers).network()) if numbers.randrange(4) else numbers.choice(TEXTS)
+    kind = numbers.randrange(4)
+    text = random_cells.network(numbers)[0] if kind == 1 else str(Maker(numbers).network()) if kind else \
+        numbers.choice(TEXTS)
     for _ in range(numbers.randrange(4)):
         text = numbers.choice((by_characters, by_tokens, by_lines, by_ports, by_processes))(numbers, text) or 'x'
     return text + f'\n#{"x" * 1_048_576}' if numbers.randrange(100) == 0 else text

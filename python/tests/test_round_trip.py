@@ -88,6 +88,32 @@ class RoundTrips(unittest.TestCase):
             wrong = text.replace(old, error)
             self.assertRaisesRegex(kpn.KpnError, '21 Grammar', kpn.Network.from_text, wrong)
 
+    def test_constants_and_shorter_forms(self):
+        """They stand for other tokens, and what is wrong is found where it stands in the text of the process."""
+        shared = 'const N = 2 << 1; const LOW = 1 - N; table t = N, LOW; '
+        own = 'process p(in i; out o) { const K = N - 2; array a[N]; read i x; x *= 2 + 1; ' \
+            'while k < K { x += t[k]; j = k; while j < K + -LOW - 1 { a[j] += x; j += 1; } k += 1; } ' \
+            'const M = -K; x <<= K; ' \
+            'write o x - M; }'
+        text = f'language 2; {shared}{own} const ROOM = N; network {{ cap ROOM; grow double; source s; sink z; ' \
+            'channel c cap 1; a = p(s; c); b = p(c; z); }'
+        printed = answer('print', text)
+        net = kpn.Network.from_text(text)
+        self.assertEqual((str(net), second_canonical(text)), (printed, printed))
+        self.assertIn('  sink z cap 4;\n  channel c cap 1;\n', printed)
+        self.assertIn('  x = x << 2;\n  write o x - -2;\n', printed)
+        self.assertEqual(dict(net.run({'s': [5]})), {'z': [798]})
+        for old, new in (('const K', 'const N'), ('K = N', 'K = x'), ('2 + 1', '; '), ('k < K', 'k < '),
+                         ('N - 2', '1 / 0'), ('K = N', 'K = ~9223372036854775807 + 0 * N'), ('x *= 2', 'x * = 2'),
+                         ('const M', 'const K'), ('a[j] +=', 'a[j] + ='), ('a[j]', 'a[j'), ('cap ROOM', 'cap K'),
+                         ('const R', 'R'), ('cap ROOM; grow', 'grow'), ('2 + 1', 'x ? 2 : 1'), ('2 + 1', '2) + (1'),
+                         ('j += 1;', 'j += 1'), ('cap ROOM;', 'cap ROOM; cap 1;')):
+            self.assertRaisesRegex(kpn.KpnError, r'2[012] \w+ at', kpn.Network.from_text, text.replace(old, new))
+        head = f'language 2; {shared}'
+        for old, new in (('2 + 1', '2 + u'), ('k < K', 'k < u'), ('j < K', 'u < K'), ('x - M', 'M - u')):
+            wrong = own.replace(old, new)
+            self.assertEqual(self.column(head + wrong), ('table t = N, LOW; ' + wrong).index('u', 60) + 1, new)
+
     def test_a_process_with_shared_tables(self):
         """Those that it names become its own, and two processes may have two tables of one name."""
         text = 'table t = 7,-1; table no = 0; process %s(in i; out o) { table v = -0; array a[1]; read i x; ' \

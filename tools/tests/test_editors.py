@@ -26,7 +26,7 @@ EXAMPLES = sorted((TOP / 'examples').glob('*.kpn')) + sorted((TOP / 'examples').
 REFUSED = sorted((TOP / 'examples/refused').iterdir())
 TRIED = 40
 # Without the marks of language 2, which are operators in any text.
-WRONG = b'$."\x00\x80\xff_9az#\n'
+WRONG = b'$@"\x00\x80\xff_9az#\n'
 MARKS = set('(){}[];,')
 # What the names of scopes, of tokens and of vim's groups begin with.
 SCOPES = {'comment': 'comment', 'keyword.operator': 'operator', 'keyword': 'word', 'constant.numeric': 'number',

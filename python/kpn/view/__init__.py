@@ -15,7 +15,8 @@ import re
 from typing import Any, Dict, List, Optional, Sequence, Tuple, Union
 
 from ..errors import KpnError
-from ..language import Description, Reader, tokens_of
+from ..forms import FullReader
+from ..language import Description, tokens_of
 from ..process import Process
 from ..program import Program, call, failure
 from .events import Events
@@ -55,7 +56,7 @@ def page(file: Path, trace: Path, *, steps: Optional[int] = None, program: Progr
     Raises KpnError if `kpn stats` finds that the description is not right or that the trace is not legal.
     """
     stats = stats_of(file, trace, steps, program)
-    found = Reader(pathlib.Path(file).read_bytes().decode('utf-8', 'replace')).description()
+    found = FullReader(pathlib.Path(file).read_bytes().decode('utf-8', 'replace')).description()
     events = Events(trace, [cap for _, _, cap in found.channels]).data()
     shown = title if title is not None else f'{pathlib.Path(file).name}, {pathlib.Path(trace).name}'
     codes, items = events.pop('codes'), events.pop('items')
