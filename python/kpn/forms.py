@@ -13,7 +13,7 @@ from .language import Reader, Token, is_name, number_of
 from .process import Process
 from .program import explain
 
-# Behind these a constant may be declared, and a statement begins.
+# After these a constant may be declared, and a statement begins.
 BEGINNINGS = frozenset(';{}')
 # The operators that an assignment may have.
 CHANGING = frozenset('+ - * / % & | ^ << >>'.split())
@@ -115,7 +115,7 @@ class Plain:
         return True
 
     def value(self, start: int) -> None:
-        """Goes past a value that begins here, and puts it in behind a parenthesis, which it closes."""
+        """Goes past a value that begins here, and puts it in after a parenthesis, which it closes."""
         end = end_of(self.tokens, start)
         self.found += self.tokens[start:end]
         self.put(')', at=self.tokens[end])
@@ -180,7 +180,7 @@ def end_of(tokens: Sequence[Token], start: int) -> int:
 
 
 def read_process(text: str) -> Process:
-    """Reads a text that is one process, behind `language 2;` and shared tables if it is of that language."""
+    """Reads a text that is one process, after `language 2;` and shared tables if it is of that language."""
     what = 'the process'
     try:
         reader = FullReader(text, what)
