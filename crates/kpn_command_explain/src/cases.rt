@@ -12,7 +12,7 @@ use kpn_lang::ProgramFault;
 use kpn_limits::MAX_TEXT_BYTES;
 use kpn_net::NetFault;
 use kpn_text::TextFault;
-use kpn_text_tokens::{Language, Lexeme, language_of};
+use kpn_text_tokens::{Keyword, Language, LexFault, Lexeme, language_of, lexemes};
 use std::alloc::{AllocError, Global};
 
 /// The kind of a fault of a text with these tokens and these places.
@@ -26,7 +26,7 @@ pub(crate) fn case_of<'a>(
     match fault {
         TextFault::TooLong(_) if text.len() > MAX_TEXT_BYTES => Ok(Case::LongText),
         TextFault::TooLong(_) => Ok(Case::LongName),
-        TextFault::Token(at) => Ok(token_case(text, at)),
+        TextFault::Token(at) => token_case(alloc, text, at),
         TextFault::Grammar(at) => grammar_case(alloc, text, at),
         TextFault::UnknownName(at) => Ok(unknown_case(text, tokens, at, places.second)),
         TextFault::DoubleName(at) => Ok(double_case(text, tokens, at)),
@@ -45,13 +45,20 @@ pub(crate) fn case_of<'a>(
     }
 }
 
-fn token_case(text: &[u8], at: usize) -> Case {
+// If each token is whole, the fault is one of the value of a constant.
+fn token_case(alloc: Global, text: &[u8], at: usize) -> Result<Case, AllocError> {
+    let language = language_of(text);
+    match lexemes(alloc, language, text) {
+        Ok(_) => return Ok(Case::ConstantValue),
+        Err(LexFault::NoMemory) => return Err(AllocError),
+        Err(_) => {}
+    }
     let begins_number = !name_at(text, at).is_empty();
-    match language_of(text) {
+    Ok(match language {
         Language::One if begins_number => Case::BadNumber,
         Language::Two if begins_number || back(text, at).starts_with(b"'") => Case::BadNumeral,
         _ => Case::NoToken,
-    }
+    })
 }
 
 fn grammar_case(alloc: Global, text: &[u8], at: usize) -> Result<Case, AllocError> {
@@ -59,18 +66,36 @@ fn grammar_case(alloc: Global, text: &[u8], at: usize) -> Result<Case, AllocErro
         return Ok(Case::EarlyEnd);
     }
     let (front, here) = (front(text, at), back(text, at));
-    // A word of the language, where a name may stand. Where a block may end, it is one only if it is assigned to.
-    let is_reserved = begins_name(here)
-        && may_stand(alloc, front, b"x")?
-        && (assigns_next(here) || !may_stand(alloc, front, b"}")?);
-    if is_reserved {
-        Ok(Case::Reserved)
-    } else {
+    if !begins_name(here) {
+        return Ok(Case::Misplaced);
+    }
+    // Where a name may stand, there is a word of the language, or a constant, which gave way to its number. Where a
+    // block may end, a name is meant only if it is assigned to.
+    let is_name = may_stand(alloc, front, b"x")?;
+    let is_meant = is_name && (assigns_next(here) || !may_stand(alloc, front, b"}")?);
+    let language = language_of(text);
+    if is_keyword(language, name_at(text, at)) {
+        Ok(if is_meant { Case::Reserved } else { Case::Misplaced })
+    } else if is_meant {
+        Ok(Case::Constant)
+    } else if is_name || language == Language::One || !may_stand(alloc, front, b"1")? {
         Ok(Case::Misplaced)
+    } else {
+        Ok(Case::NoConstant)
     }
 }
 
+fn is_keyword(language: Language, name: &[u8]) -> bool {
+    Keyword::ALL
+        .iter()
+        .any(|word| word.is_of(language) && word.spelling() == name)
+}
+
+// A text whose constants have a fault has no tokens.
 fn unknown_case(text: &[u8], tokens: &[Lexeme<'_>], at: usize, second: Option<usize>) -> Case {
+    if tokens.is_empty() {
+        return Case::NoConstant;
+    }
     match spot_at(tokens, at) {
         TokenSpot::InPort => Case::UnknownInPort,
         TokenSpot::OutPort => Case::UnknownOutPort,

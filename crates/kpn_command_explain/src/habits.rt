@@ -108,6 +108,8 @@ pub(crate) enum Habit {
     Values,
     /// Another way to declare an array or a table.
     Declaration,
+    /// An operator after a number that no expression may be.
+    Computed,
 }
 
 /// The way of writing at the first place of a fault of this kind.

@@ -22,7 +22,7 @@ fn without_parentheses(habit: Habit) -> &'static [u8] {
         Habit::ElseIf => b"Write `else if`: `if x { } else if y { }`.",
         Habit::Changes => b"A variable changes by an assignment of its own: `x += 1;`.",
         Habit::NoCapacity =>
-            b"Write a capacity behind the name, or `cap 1;` for all at the head of the network.",
+            b"Write a capacity after the name, or `cap 1;` for all at the head of the network.",
         Habit::Compares => b"`=` assigns. Compare by `==`: `x == 1`.",
         Habit::And => b"Write `&&` for and: `x && y`.",
         Habit::Or => b"Write `||` for or: `x || y`.",
@@ -31,7 +31,7 @@ fn without_parentheses(habit: Habit) -> &'static [u8] {
         Habit::Calls =>
             b"There are no functions: `(x < 0 ? -x : x)` is abs(x), and `(x < y ? x : y)` is min(x, y).",
         Habit::Constant =>
-            b"Declare it behind `;`, `{` or `}`, from numbers and constants: `const n = 5;`.",
+            b"Declare it after `;`, `{` or `}`, from numbers and constants: `const n = 5;`.",
         other => usual(other),
     }
 }
@@ -106,7 +106,7 @@ const NO_OUTS: &[u8] =
     b"A `;` stands after the in channels of an instance, even if there are no out channels: `e = eat(c;);`.";
 
 const CONSTANT: &[u8] =
-    b"There are no constants: write the number, or give it to a process as a parameter, as in `par n`.";
+    b"Write the number, give it to a process as a parameter, or begin the text with `language 2;`.";
 
 fn usual(habit: Habit) -> &'static [u8] {
     match habit {
@@ -155,6 +155,8 @@ fn usual(habit: Habit) -> &'static [u8] {
         Habit::LateTable =>
             b"Move it to the front of the text: tables that are shared stand before all processes.",
         Habit::Outside => OUTSIDE_PROCESSES,
+        Habit::Computed =>
+            b"Declare a constant for it, as in `const N = 2 * 8;`, and write its name here.",
         Habit::Size => b"Write a number of at least 1 as the size, as in `array x[9];`.",
         Habit::Values => VALUES,
         Habit::Declaration => DECLARATION,

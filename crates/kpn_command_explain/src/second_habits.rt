@@ -112,6 +112,8 @@ fn declaring_habit(
         Habit::Comment
     } else if is_size {
         Habit::Size
+    } else if computes(here) {
+        Habit::Computed
     } else if last.starts_with(b"]") && here.starts_with(b"=") {
         Habit::Values
     } else {
@@ -126,7 +128,14 @@ fn elsewhere_habit_of_two(last: &[u8], here: &[u8]) -> Option<Habit> {
         Some(Habit::LateTable)
     } else if is_word(here, b"array") {
         Some(Habit::Outside)
+    } else if computes(here) && !begins_comment(here) {
+        Some(Habit::Computed)
     } else {
         habit_at(Stand::Elsewhere, last, here)
     }
+}
+
+// An operator with two sides.
+fn computes(here: &[u8]) -> bool {
+    begins_shift(here) || begins_any(here, &[b"+", b"-", b"*", b"/", b"%", b"&", b"|", b"^"])
 }

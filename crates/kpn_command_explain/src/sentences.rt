@@ -38,6 +38,12 @@ pub(crate) enum Case {
     NoToken,
     /// A word of the language stands where a name is meant.
     Reserved,
+    /// A constant stands where a name is meant.
+    Constant,
+    /// Another name stands where a number or a constant is meant.
+    NoConstant,
+    /// A constant has no value.
+    ConstantValue,
     /// Another token may not stand there.
     Misplaced,
     /// The text ends too early.
@@ -116,7 +122,7 @@ pub(crate) const READ_CELL: &[u8] =
 pub(crate) fn is_named(case: Case) -> bool {
     match case {
         Case::LongText | Case::LongName | Case::BadNumber | Case::BadNumeral => false,
-        Case::NoToken | Case::Misplaced | Case::EarlyEnd => false,
+        Case::ConstantValue | Case::NoToken | Case::Misplaced | Case::EarlyEnd => false,
         Case::LargeNetwork(_) | Case::BadLimit | Case::NoMemory => false,
         _ => true,
     }
@@ -131,6 +137,10 @@ pub(crate) fn said(case: Case) -> &'static [u8] {
         Case::BadNumeral => b"this is no number, or one above 9223372036854775807",
         Case::NoToken => b"no name, number or mark begins with this byte",
         Case::Reserved => b" is a word of the language, and no name",
+        Case::Constant => b" is a constant, and no name",
+        Case::NoConstant => b" is no constant here",
+        Case::ConstantValue =>
+            b"this constant is no number from -9223372036854775807 to 9223372036854775807",
         Case::Misplaced => b"this may not stand here",
         Case::EarlyEnd => b"the text ends too early",
         Case::UnknownVariable => b" is used before anything is assigned to it",
@@ -178,6 +188,11 @@ pub(crate) fn advice(case: Case) -> &'static [u8] {
         Case::NoToken =>
             b"Names have letters, digits and `_`. A comment goes from `#` to the end of its line.",
         Case::Reserved => b"Choose another name, or write the name that is missing just before it.",
+        Case::Constant => b"Give one of the two another name: a constant stands for its number.",
+        Case::NoConstant =>
+            b"Declare it before this place, from numbers and constants: `const N = 64;`.",
+        Case::ConstantValue =>
+            b"Look for an overflow, a division by 0, a shift by more than 63, or more than 32 levels.",
         Case::Misplaced =>
             b"Look also at what stands just before it: something may be missing there.",
         Case::EarlyEnd => b"Close each `{` by a `}`. A network has to follow the processes.",

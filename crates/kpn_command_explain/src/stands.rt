@@ -43,9 +43,14 @@ pub(crate) fn stand_of(
     match spot_at(tokens, at) {
         TokenSpot::Target | TokenSpot::Variable => stand_in_block(alloc, text, before, front),
         TokenSpot::Row | TokenSpot::Shared => Ok(Stand::Declaring),
-        _ if may_stand(alloc, front, b"cap")? => Ok(Stand::BeforeCapacity),
+        _ if lacks_capacity(alloc, front)? => Ok(Stand::BeforeCapacity),
         _ => Ok(Stand::Elsewhere),
     }
+}
+
+// `cap` may stand there, and not as that of the network, which a channel may follow.
+fn lacks_capacity(alloc: Global, front: &[u8]) -> Result<bool, AllocError> {
+    Ok(may_stand(alloc, front, b"cap")? && !may_stand(alloc, front, b"channel")?)
 }
 
 // The place after a text that ends in a block, and whose last token begins at `before`.
