@@ -14,6 +14,8 @@ use Rattle.kpn_history.specs.declared.event.Event.TheVariants.{Get, Put, Grow}
 use Rattle.kpn_text_names.specs.Names.{name_at}
 use Rattle.kpn_text.specs.Document.{Document}
 use Rattle.kpn_ticks.specs.Ticks.{Clocks, latest_of, get_tick, put_tick, clocks_with_event, start, clocks_after}
+use Rattle.kpn_command_views.specs.declared.boxes.Bar.{Bar}
+use Rattle.kpn_command_views.specs.declared.boxes.ProcessRow.{ProcessRow}
 use Rattle.kpn_command_views.specs.declared.scale.Scale.{Scale}
 use Rattle.kpn_command_views.specs.TimelineText.{each_below}
 
@@ -98,25 +100,29 @@ abbrev pub box_name : (kind : List ℕ) (x y wide : ℕ) (name : List ℕ) → L
 box_name kind x y wide name =
     if nat_le (length name) ((wide - 4) / 5) then picture_name_text kind (x + wide / 2) y name else []
 
--- a box of this kind in a row that begins here, with a title and the name of its channel
-abbrev pub whole_box : (kind : List ℕ) (x row wide : ℕ) (title name : List ℕ) → List ℕ
-whole_box kind x row wide title name =
-    box_front kind x (row + 6) wide ++ title ++ box_name kind x (row + 19) wide name
+-- a box of this kind at a bar, with a title and the name of its channel
+abbrev pub whole_box : (kind : List ℕ) → Bar → (title name : List ℕ) → List ℕ
+whole_box kind bar title name =
+    box_front kind bar.x (bar.row + 6) bar.wide ++ title ++ box_name kind bar.x (bar.row + 19) bar.wide name
 
--- the same from the end of tick `begin` to that of tick `end`, if something of it is shown
-abbrev pub box : Scale → (kind : List ℕ) (p begin end : ℕ) (title name : List ℕ) → List ℕ
-box s kind p begin end title name =
-    let wide = edge_of s end - edge_of s begin in
-    if nat_eq wide 0 then [] else whole_box kind (edge_of s begin) (row_place p) wide title name
+-- the same, if something of it is shown
+abbrev pub shown_box : (kind : List ℕ) → Bar → (title name : List ℕ) → List ℕ
+shown_box kind bar title name = if nat_eq bar.wide 0 then [] else whole_box kind bar title name
+
+-- the bar from the end of tick `begin` to that of tick `end`, in the row of process p
+abbrev pub bar_between : Scale → (p begin end : ℕ) → Bar
+bar_between s p begin end =
+    record { x = edge_of s begin; row = row_place p; wide = edge_of s end - edge_of s begin }
 
 -- a get or put of process p in this tick
 abbrev pub item_box : Scale → (p tick : ℕ) (word name : List ℕ) → ℤ → List ℕ
-item_box s p tick word name item = box s word p (tick - 1) tick (item_title word name item tick) name
+item_box s p tick word name item =
+    shown_box word (bar_between s p (tick - 1) tick) (item_title word name item tick) name
 
 -- a wait of process p from behind its latest tick to before this one
 abbrev pub wait_box : Scale → (p latest tick : ℕ) (kind what name : List ℕ) → List ℕ
 wait_box s p latest tick kind what name =
-    box s kind p latest (tick - 1) (wait_title what name (latest + 1) (tick - 1)) name
+    shown_box kind (bar_between s p latest (tick - 1)) (wait_title what name (latest + 1) (tick - 1)) name
 
 -- a get or put, and the wait before it
 abbrev pub move_boxes : Scale → (p latest tick : ℕ) (word kind what name : List ℕ) → ℤ → List ℕ
@@ -162,7 +168,7 @@ last_title what name first =
 -- a wait of process p from behind its latest tick to the tick behind the last one
 abbrev pub last_wait_box : Scale → (p latest last : ℕ) (kind what name : List ℕ) → List ℕ
 last_wait_box s p latest last kind what name =
-    box s kind p latest (last + 1) (last_title what name (latest + 1)) name
+    shown_box kind (bar_between s p latest (last + 1)) (last_title what name (latest + 1)) name
 
 -- what is drawn of process p, which waits so at the end
 abbrev pub last_box : (names : List (List ℕ)) → Scale → Clocks → (p : ℕ) → Wait → List ℕ
@@ -323,3 +329,9 @@ abbrev pub picture_size : Document → Tables → (first last : ℕ) → List Wa
 picture_size d t first last waits events =
     let s = scale_of d t first last events in
     max (ticks_in s) (boxes_in t s (length t.instances) waits (clocks_after t true events) events)
+
+-- ---- scaffolding
+
+-- the row of process p, after so many ticks
+abbrev pub row_of_process : Scale → Clocks → (p : ℕ) → ProcessRow
+row_of_process s clocks p = record { scale = s; p = p; latest = latest_of clocks p }

@@ -2,10 +2,8 @@
 ghost use Rattle.std.specs.Prelude.{◌≡◌, ◌+◌, ◌*◌, ◌<◌, ◌≤◌, ◌^◌, ◌-◌, ◌++◌, ℕ, codes};
 ghost use Rattle.kpn_command_base.specs.Added.{Adds};
 ghost use Rattle.kpn_net.specs.Tables.{Tables};
-ghost use Rattle.kpn_text_names.specs.Names.{name_at};
-ghost use Rattle.kpn_ticks.specs.Ticks.{latest_of, get_tick, put_tick};
 ghost use Rattle.kpn_ticks.specs.Shown.{shown, AreClocks};
-ghost use Rattle.kpn_command_views.specs.PictureText.{row_place, box_front, item_title, wait_title, picture_name_text, box_name, whole_box, item_box, wait_box, move_boxes, growth_mark_text, growth_mark, event_boxes, last_title, last_wait_box, last_box, shown_between, move_count, growth_count, box_count, last_count};
+ghost use Rattle.kpn_command_views.specs.PictureText.{row_place, row_of_process, bar_between, box_front, item_title, wait_title, picture_name_text, box_name, shown_box, item_box, wait_box, growth_mark_text, growth_mark, event_boxes, last_title, last_wait_box, last_box, shown_between, move_count, growth_count, box_count, last_count};
 ghost use Rattle.kpn_command_views.specs.Drawable.{IsDrawable};
 
 use crate::scale::Scale;
@@ -32,78 +30,29 @@ pub(crate) fn push_event(
 {
     match event {
         Event::Get(p, c, item) => {
-            push_get(text, document, scale, clocks, p.into(), c.into(), item)
+            let process = usize::from(p);
+            let channel = usize::from(c);
+            let row = ProcessRow::of(scale, clocks, process);
+            let tick = clocks.get_tick(process, channel);
+            let name = document.channel_name(channel);
+            row.push_wait(text, "empty", "an item", name, tick)?;
+            row.push_item(text, "get", name, item, tick)
         }
-        Event::Put(p, c, item) => push_put(
-            text,
-            document,
-            network,
-            scale,
-            clocks,
-            p.into(),
-            c.into(),
-            item,
-        ),
+        Event::Put(p, c, item) => {
+            let process = usize::from(p);
+            let channel = usize::from(c);
+            let row = ProcessRow::of(scale, clocks, process);
+            let tick = clocks.put_tick(network, process, channel);
+            let name = document.channel_name(channel);
+            row.push_wait(text, "full", "room", name, tick)?;
+            row.push_item(text, "put", name, item, tick)
+        }
         Event::Grow(p, c, _) => {
-            let latest = clocks.latest_of(p.into());
-            let name = document.channel_name(c.into());
-            push_growth(text, scale, p.into(), latest, name)
+            let row = ProcessRow::of(scale, clocks, p.into());
+            row.push_growth(text, document.channel_name(c.into()))
         }
         _ => Ok(()),
     }
-}
-
-fn push_get(
-    text: &mut String,
-    document: &Document,
-    scale: Scale,
-    clocks: &Clocks,
-    p: usize,
-    c: usize,
-    item: i64,
-) -> Pushed
-    requires drawable { IsDrawable scale }
-    requires clocks { (t : Tables) × AreClocks t (shown clocks.now) }
-    requires fits { (shown clocks.now).last + 1 < 2 ^ 64 }
-    requires row { p < 2 ^ 16 }
-    ensures { let s = shown clocks.now in
-        Adds result text.old text.new (move_boxes scale p (latest_of s p) (get_tick s p c)
-        (codes "get") (codes "empty") (codes "an item")
-        (name_at document.now.names.channels c) item) }
-{
-    let tick = clocks.get_tick(p, c);
-    let latest = clocks.latest_of(p);
-    let name = document.channel_name(c);
-    push_move(
-        text, scale, p, latest, tick, "get", "empty", "an item", name, item,
-    )
-}
-
-fn push_put(
-    text: &mut String,
-    document: &Document,
-    network: &Network,
-    scale: Scale,
-    clocks: &Clocks,
-    p: usize,
-    c: usize,
-    item: i64,
-) -> Pushed
-    requires drawable { IsDrawable scale }
-    requires clocks { AreClocks network.now (shown clocks.now) }
-    requires fits { (shown clocks.now).last + 1 < 2 ^ 64 }
-    requires row { p < 2 ^ 16 }
-    ensures { let s = shown clocks.now in
-        Adds result text.old text.new (move_boxes scale p (latest_of s p)
-        (put_tick network.now s p c) (codes "put") (codes "full") (codes "room")
-        (name_at document.now.names.channels c) item) }
-{
-    let tick = clocks.put_tick(network, p, c);
-    let latest = clocks.latest_of(p);
-    let name = document.channel_name(c);
-    push_move(
-        text, scale, p, latest, tick, "put", "full", "room", name, item,
-    )
 }
 
 /// What is drawn of process `p`, which waits so at the end.
@@ -122,17 +71,13 @@ pub(crate) fn push_last(
     ensures { Adds result text.old text.new
         (last_box document.now.names.channels scale (shown clocks.now) p wait) }
 {
-    let latest = clocks.latest_of(p);
+    let row = ProcessRow::of(scale, clocks, p);
     let last = clocks.last();
     match wait {
         Wait::Empty(c) => {
-            let name = document.channel_name(c);
-            push_last_wait(text, scale, p, latest, last, "empty", "an item", name)
+            row.push_last_wait(text, "empty", "an item", document.channel_name(c), last)
         }
-        Wait::Full(c) => {
-            let name = document.channel_name(c);
-            push_last_wait(text, scale, p, latest, last, "full", "room", name)
-        }
+        Wait::Full(c) => row.push_last_wait(text, "full", "room", document.channel_name(c), last),
         Wait::Nobody => Ok(()),
     }
 }
@@ -205,169 +150,167 @@ fn shown_between(scale: Scale, begin: usize, end: usize) -> usize
     if wide == 0 { 0 } else { 1 }
 }
 
-// A get or put, and the wait before it.
-fn push_move(
-    text: &mut String,
+/// The row of a process, and its latest tick.
+#[derive(Clone, Copy)]
+struct ProcessRow {
     scale: Scale,
     p: usize,
     latest: usize,
-    tick: usize,
-    word: &str,
-    kind: &str,
-    what: &str,
-    name: &str,
-    item: i64,
-) -> Pushed
-    requires drawable { IsDrawable scale }
-    requires row { p < 2 ^ 16 }
-    requires fits { latest + 1 < 2 ^ 64 }
-    ensures { Adds result text.old text.new
-        (move_boxes scale p latest tick word.now kind.now what.now name.now item) }
-{
-    push_wait(text, scale, p, latest, tick, kind, what, name)?;
-    push_item(text, scale, p, tick, word, name, item)?;
-    Ok(())
 }
 
-// A wait from behind the latest tick to before this one, if something of it is shown.
-fn push_wait(
-    text: &mut String,
-    scale: Scale,
-    p: usize,
-    latest: usize,
-    tick: usize,
-    kind: &str,
-    what: &str,
-    name: &str,
-) -> Pushed
-    requires drawable { IsDrawable scale }
-    requires row { p < 2 ^ 16 }
-    requires fits { latest + 1 < 2 ^ 64 }
-    ensures { Adds result text.old text.new
-        (wait_box scale p latest tick kind.now what.now name.now) }
-{
-    let end = tick.saturating_sub(1);
-    let x = scale.place_of(latest);
-    let wide = scale.place_of(end).saturating_sub(x);
-    if wide == 0 {
-        Ok(())
-    } else {
-        push_wait_box(text, x, row_of(p), wide, kind, what, name, latest + 1, end)
+impl ProcessRow {
+    fn of(scale: Scale, clocks: &Clocks, p: usize) -> ProcessRow
+        ensures { result ≡ row_of_process scale (shown clocks.now) p }
+    {
+        let latest = clocks.latest_of(p);
+        ProcessRow { scale, p, latest }
+    }
+
+    // From the end of tick `begin` to that of tick `end`.
+    fn bar(self, begin: usize, end: usize) -> Bar
+        requires drawable { IsDrawable self.scale }
+        requires row { self.p < 2 ^ 16 }
+        ensures exact { result ≡ bar_between self.scale self.p begin end }
+        ensures fits { result.x + result.row + result.wide < 2 ^ 32 }
+    {
+        let x = self.scale.place_of(begin);
+        let wide = self.scale.place_of(end).saturating_sub(x);
+        let row = row_of(self.p);
+        Bar { x, row, wide }
+    }
+
+    // A wait from behind the latest tick to before this one, if something of it is shown.
+    fn push_wait(self, text: &mut String, kind: &str, what: &str, name: &str, tick: usize) -> Pushed
+        requires drawable { IsDrawable self.scale }
+        requires row { self.p < 2 ^ 16 }
+        requires fits { self.latest + 1 < 2 ^ 64 }
+        ensures { Adds result text.old text.new
+            (wait_box self.scale self.p self.latest tick kind.now what.now name.now) }
+    {
+        let end = tick.saturating_sub(1);
+        let bar = self.bar(self.latest, end);
+        bar.push_wait(text, kind, what, name, self.latest + 1, end)
+    }
+
+    // A wait from behind the latest tick to the one behind the last one, if something of it is shown.
+    fn push_last_wait(
+        self,
+        text: &mut String,
+        kind: &str,
+        what: &str,
+        name: &str,
+        last: usize,
+    ) -> Pushed
+        requires drawable { IsDrawable self.scale }
+        requires row { self.p < 2 ^ 16 }
+        requires fits { self.latest + 1 < 2 ^ 64 }
+        requires ends { last + 1 < 2 ^ 64 }
+        ensures { Adds result text.old text.new
+            (last_wait_box self.scale self.p self.latest last kind.now what.now name.now) }
+    {
+        let bar = self.bar(self.latest, last + 1);
+        bar.push_last_wait(text, kind, what, name, self.latest + 1)
+    }
+
+    // A get or put, if it is shown.
+    fn push_item(self, text: &mut String, word: &str, name: &str, item: i64, tick: usize) -> Pushed
+        requires drawable { IsDrawable self.scale }
+        requires row { self.p < 2 ^ 16 }
+        ensures { Adds result text.old text.new
+            (item_box self.scale self.p tick word.now name.now item) }
+    {
+        let bar = self.bar(tick.saturating_sub(1), tick);
+        bar.push_item(text, word, name, item, tick)
+    }
+
+    // The growth of a channel, if its tick is shown.
+    fn push_growth(self, text: &mut String, name: &str) -> Pushed
+        requires drawable { IsDrawable self.scale }
+        requires row { self.p < 2 ^ 16 }
+        ensures { Adds result text.old text.new
+            (growth_mark self.scale self.p self.latest name.now) }
+    {
+        if self.scale.front <= self.latest && self.latest <= self.scale.back {
+            push_growth_text(
+                text,
+                self.scale.place_of(self.latest),
+                row_of(self.p) + 1,
+                name,
+            )
+        } else {
+            Ok(())
+        }
     }
 }
 
-// A wait from behind the latest tick to the one behind the last one, if something of it is shown.
-fn push_last_wait(
-    text: &mut String,
-    scale: Scale,
-    p: usize,
-    latest: usize,
-    last: usize,
-    kind: &str,
-    what: &str,
-    name: &str,
-) -> Pushed
-    requires drawable { IsDrawable scale }
-    requires row { p < 2 ^ 16 }
-    requires fits { latest + 1 < 2 ^ 64 }
-    requires ends { last + 1 < 2 ^ 64 }
-    ensures { Adds result text.old text.new
-        (last_wait_box scale p latest last kind.now what.now name.now) }
-{
-    let x = scale.place_of(latest);
-    let wide = scale.place_of(last + 1).saturating_sub(x);
-    if wide == 0 {
+/// Where a box begins, the row that it is in, and how wide it is. One without width is not shown.
+#[derive(Clone, Copy)]
+struct Bar {
+    x: usize,
+    row: usize,
+    wide: usize,
+}
+
+impl Bar {
+    // A wait in these ticks.
+    fn push_wait(
+        self,
+        text: &mut String,
+        kind: &str,
+        what: &str,
+        name: &str,
+        first: usize,
+        last: usize,
+    ) -> Pushed
+        requires { self.x + self.row + self.wide < 2 ^ 32 }
+        ensures { Adds result text.old text.new
+            (shown_box kind.now self (wait_title what.now name.now first last) name.now) }
+    {
+        if self.wide == 0 {
+            return Ok(());
+        }
+        push_front(text, kind, self.x, self.row + 6, self.wide)?;
+        push_wait_title(text, what, name, first, last)?;
+        push_name(text, kind, self.x, self.row + 19, self.wide, name)?;
         Ok(())
-    } else {
-        push_last_wait_box(text, x, row_of(p), wide, kind, what, name, latest + 1)
     }
-}
 
-// A get or put, if it is shown.
-fn push_item(
-    text: &mut String,
-    scale: Scale,
-    p: usize,
-    tick: usize,
-    word: &str,
-    name: &str,
-    item: i64,
-) -> Pushed
-    requires drawable { IsDrawable scale }
-    requires row { p < 2 ^ 16 }
-    ensures { Adds result text.old text.new (item_box scale p tick word.now name.now item) }
-{
-    let x = scale.place_of(tick.saturating_sub(1));
-    let wide = scale.place_of(tick).saturating_sub(x);
-    if wide == 0 {
+    // A wait from this tick on.
+    fn push_last_wait(
+        self,
+        text: &mut String,
+        kind: &str,
+        what: &str,
+        name: &str,
+        first: usize,
+    ) -> Pushed
+        requires { self.x + self.row + self.wide < 2 ^ 32 }
+        ensures { Adds result text.old text.new
+            (shown_box kind.now self (last_title what.now name.now first) name.now) }
+    {
+        if self.wide == 0 {
+            return Ok(());
+        }
+        push_front(text, kind, self.x, self.row + 6, self.wide)?;
+        push_last_title(text, what, name, first)?;
+        push_name(text, kind, self.x, self.row + 19, self.wide, name)?;
         Ok(())
-    } else {
-        push_item_box(text, x, row_of(p), wide, word, name, item, tick)
     }
-}
 
-// A wait in these ticks, in a row that begins here.
-fn push_wait_box(
-    text: &mut String,
-    x: usize,
-    row: usize,
-    wide: usize,
-    kind: &str,
-    what: &str,
-    name: &str,
-    first: usize,
-    last: usize,
-) -> Pushed
-    requires { x + row + wide < 2 ^ 32 }
-    ensures { Adds result text.old text.new (whole_box kind.now x row wide
-        (wait_title what.now name.now first last) name.now) }
-{
-    push_front(text, kind, x, row + 6, wide)?;
-    push_wait_title(text, what, name, first, last)?;
-    push_name(text, kind, x, row + 19, wide, name)?;
-    Ok(())
-}
-
-// A wait from this tick on, in a row that begins here.
-fn push_last_wait_box(
-    text: &mut String,
-    x: usize,
-    row: usize,
-    wide: usize,
-    kind: &str,
-    what: &str,
-    name: &str,
-    first: usize,
-) -> Pushed
-    requires { x + row + wide < 2 ^ 32 }
-    ensures { Adds result text.old text.new (whole_box kind.now x row wide
-        (last_title what.now name.now first) name.now) }
-{
-    push_front(text, kind, x, row + 6, wide)?;
-    push_last_title(text, what, name, first)?;
-    push_name(text, kind, x, row + 19, wide, name)?;
-    Ok(())
-}
-
-// A get or put in this tick, in a row that begins here.
-fn push_item_box(
-    text: &mut String,
-    x: usize,
-    row: usize,
-    wide: usize,
-    word: &str,
-    name: &str,
-    item: i64,
-    tick: usize,
-) -> Pushed
-    requires { x + row + wide < 2 ^ 32 }
-    ensures { Adds result text.old text.new (whole_box word.now x row wide
-        (item_title word.now name.now item tick) name.now) }
-{
-    push_front(text, word, x, row + 6, wide)?;
-    push_item_title(text, word, name, item, tick)?;
-    push_name(text, word, x, row + 19, wide, name)?;
-    Ok(())
+    // A get or put in this tick.
+    fn push_item(self, text: &mut String, word: &str, name: &str, item: i64, tick: usize) -> Pushed
+        requires { self.x + self.row + self.wide < 2 ^ 32 }
+        ensures { Adds result text.old text.new
+            (shown_box word.now self (item_title word.now name.now item tick) name.now) }
+    {
+        if self.wide == 0 {
+            return Ok(());
+        }
+        push_front(text, word, self.x, self.row + 6, self.wide)?;
+        push_item_title(text, word, name, item, tick)?;
+        push_name(text, word, self.x, self.row + 19, self.wide, name)?;
+        Ok(())
+    }
 }
 
 // A box up to its title.
@@ -433,19 +376,6 @@ fn push_name_text(text: &mut String, kind: &str, middle: usize, y: usize, name: 
         text,
         "<text class=\"{kind}\" x=\"{middle}\" y=\"{y}\">{name}</text>\n"
     )
-}
-
-// The growth of a channel, if its tick is shown.
-fn push_growth(text: &mut String, scale: Scale, p: usize, latest: usize, name: &str) -> Pushed
-    requires drawable { IsDrawable scale }
-    requires row { p < 2 ^ 16 }
-    ensures { Adds result text.old text.new (growth_mark scale p latest name.now) }
-{
-    if scale.front <= latest && latest <= scale.back {
-        push_growth_text(text, scale.place_of(latest), row_of(p) + 1, name)
-    } else {
-        Ok(())
-    }
 }
 
 fn push_growth_text(text: &mut String, x: usize, y: usize, name: &str) -> Pushed

@@ -4,7 +4,7 @@ ghost use Rattle.kpn_command_base.specs.Added.{Adds};
 ghost use Rattle.kpn_net.specs.Tables.{Tables};
 ghost use Rattle.kpn_ticks.specs.Ticks.{start};
 ghost use Rattle.kpn_ticks.specs.Shown.{shown, AreClocks};
-ghost use Rattle.kpn_command_views.specs.PictureText.{all_event_boxes, last_boxes, all_box_count, last_counts, boxes_text, picture_with, picture_size};
+ghost use Rattle.kpn_command_views.specs.PictureText.{all_event_boxes, last_boxes, all_box_count, last_counts, picture_with, picture_size};
 ghost use Rattle.kpn_command_views.specs.Drawable.{IsDrawable};
 ghost use Rattle.kpn_command_views.specs.PictureAnswers.{IsPicture, IsNoPicture};
 
@@ -22,38 +22,70 @@ use std::alloc::{AllocError, Global};
 /// The most ticks of a picture, and the most boxes and marks.
 const MOST_DRAWN: usize = 2_000;
 
-/// The picture of ticks `first` to `last` of these events of the network, which has the names of the document, and of
-/// the waits behind them. It refuses one of more than 2,000 ticks, or boxes and marks.
-#[tactic(auto, using(crate::proofs::Pictured::few_rows))]
-pub(crate) fn picture_of(
-    alloc: Global,
-    document: &Document,
-    network: &Network,
-    first: usize,
-    last: usize,
-    waits: &[Wait],
-    events: &[Event],
-) -> Result<Vec<u8>, Refusal>
-    ensures ok { IfOk result
-        (λ text. IsPicture document.now network.now first last waits.now events.now text.items) }
-    ensures refused { IfErr result
-        (IsNoPicture (picture_size document.now network.now first last waits.now events.now)) }
-{
-    network.known();
-    let ends = clocks_after(alloc, network, true, events)?;
-    let processes = network.instances();
-    let scale = Scale::new(document, processes, first, last, ends.last());
-    if scale.ticks() > MOST_DRAWN {
-        return Err(Refusal::PictureWords);
+/// A run that is drawn: events of a network, which has the names of the document, and the waits behind them.
+#[derive(Clone, Copy)]
+pub(crate) struct DrawnRun<'a> {
+    pub(crate) document: &'a Document,
+    pub(crate) network: &'a Network,
+    pub(crate) waits: &'a [Wait],
+    pub(crate) events: &'a [Event],
+}
+
+impl DrawnRun<'_> {
+    /// The picture of ticks `first` to `last`. It refuses one of more than 2,000 ticks, or boxes and marks.
+    #[tactic(auto, using(crate::proofs::Pictured::few_rows))]
+    pub(crate) fn picture(
+        self,
+        alloc: Global,
+        first: usize,
+        last: usize,
+    ) -> Result<Vec<u8>, Refusal>
+        ensures ok { let r = self.entry in IfOk result (λ text. IsPicture r.document.now
+            r.network.now first last r.waits.now r.events.now text.items) }
+        ensures refused { let r = self.entry in IfErr result (IsNoPicture
+            (picture_size r.document.now r.network.now first last r.waits.now r.events.now)) }
+    {
+        self.network.known();
+        let ends = clocks_after(alloc, self.network, true, self.events)?;
+        let processes = self.network.instances();
+        let scale = Scale::new(self.document, processes, first, last, ends.last());
+        if scale.ticks() > MOST_DRAWN {
+            return Err(Refusal::PictureWords);
+        }
+        let boxes = count_boxes(alloc, self.network, scale, self.events)?;
+        if boxes + count_last(scale, processes, self.waits, &ends) > MOST_DRAWN {
+            return Err(Refusal::PictureWords);
+        }
+        let text = self.text_at(alloc, scale, processes, &ends)?;
+        Ok(text)
     }
-    let boxes = count_boxes(alloc, network, scale, events)?;
-    if boxes + count_last(scale, processes, waits, &ends) > MOST_DRAWN {
-        return Err(Refusal::PictureWords);
+
+    // The picture at this scale, of so many processes, with these clocks at the end.
+    fn text_at(
+        self,
+        alloc: Global,
+        scale: Scale,
+        processes: usize,
+        ends: &Clocks,
+    ) -> Result<Vec<u8>, AllocError>
+        requires drawable { IsDrawable scale }
+        requires rows { processes < 2 ^ 16 }
+        requires fits { scale.front + 1 < 2 ^ 64 }
+        requires clocks { (t : Tables) × AreClocks t (shown ends.now) }
+        requires ends { (shown ends.now).last + 1 < 2 ^ 64 }
+        ensures { let r = self.entry in IfOk result (λ text. text.items
+            ≡ picture_with r.document.now r.network.now scale processes r.waits.now
+            (shown ends.now) r.events.now) }
+    {
+        let (document, network) = (self.document, self.network);
+        let mut text = String::new(alloc);
+        push_head(&mut text, scale, processes, ends.last())?;
+        push_grid(&mut text, document, scale, processes)?;
+        push_events(alloc, &mut text, document, network, scale, self.events)?;
+        push_last_waits(&mut text, document, scale, processes, self.waits, ends)?;
+        push_legend(&mut text, processes)?;
+        Ok(text.into_bytes())
     }
-    let text = text_of(
-        alloc, document, network, scale, processes, waits, &ends, events,
-    )?;
-    Ok(text)
 }
 
 // How many boxes and marks are drawn of these events.
@@ -89,59 +121,6 @@ fn count_last(scale: Scale, processes: usize, waits: &[Wait], ends: &Clocks) -> 
         count += last_count(scale, ends, p, wait_at(waits, p));
     }
     count
-}
-
-// The picture at this scale of events that end with these clocks.
-fn text_of(
-    alloc: Global,
-    document: &Document,
-    network: &Network,
-    scale: Scale,
-    processes: usize,
-    waits: &[Wait],
-    ends: &Clocks,
-    events: &[Event],
-) -> Result<Vec<u8>, AllocError>
-    requires drawable { IsDrawable scale }
-    requires rows { processes < 2 ^ 16 }
-    requires fits { scale.front + 1 < 2 ^ 64 }
-    requires clocks { (t : Tables) × AreClocks t (shown ends.now) }
-    requires ends { (shown ends.now).last + 1 < 2 ^ 64 }
-    ensures { IfOk result (λ text. text.items ≡ picture_with document.now network.now scale
-        processes waits.now (shown ends.now) events.now) }
-{
-    let mut text = String::new(alloc);
-    push_head(&mut text, scale, processes, ends.last())?;
-    push_grid(&mut text, document, scale, processes)?;
-    push_boxes(
-        alloc, &mut text, document, network, scale, processes, waits, ends, events,
-    )?;
-    push_legend(&mut text, processes)?;
-    Ok(text.into_bytes())
-}
-
-// All boxes and marks.
-fn push_boxes(
-    alloc: Global,
-    text: &mut String,
-    document: &Document,
-    network: &Network,
-    scale: Scale,
-    processes: usize,
-    waits: &[Wait],
-    ends: &Clocks,
-    events: &[Event],
-) -> Pushed
-    requires drawable { IsDrawable scale }
-    requires rows { processes < 2 ^ 16 }
-    requires clocks { (t : Tables) × AreClocks t (shown ends.now) }
-    requires ends { (shown ends.now).last + 1 < 2 ^ 64 }
-    ensures { Adds result text.old text.new (boxes_text document.now network.now scale
-        processes waits.now (shown ends.now) events.now) }
-{
-    push_events(alloc, text, document, network, scale, events)?;
-    push_last_waits(text, document, scale, processes, waits, ends)?;
-    Ok(())
 }
 
 // What is drawn of each event.

@@ -6,12 +6,11 @@ ghost use Rattle.kpn_command_base.specs.Audited.{IsTextFor};
 ghost use Rattle.kpn_command_views.specs.PictureText.{picture_size};
 ghost use Rattle.kpn_command_views.specs.PictureAnswers.{IsPictured, IsPicture, IsPictureOf, IsRefusalOfPicture, size_for, IsNoPicture};
 
-use crate::picture::picture_of;
+use crate::picture::DrawnRun;
 use kpn_command_base::{Audited, Conclusion, Finding, Refusal, load_audited};
-use kpn_history::{Event, Version};
-use kpn_net::{Growth, Policy, Wait};
+use kpn_history::Version;
+use kpn_net::{Growth, Policy};
 use kpn_shelf::Shelf;
-use kpn_text::Document;
 use std::alloc::Global;
 
 /// What `kpn timeline FILE TRACE --svg` comes to: a picture of the ticks from `first` to `last`. Each process may make
@@ -55,8 +54,14 @@ fn conclusion_of(
             let trace = &audited.trace;
             let events = trace.events.as_slice();
             let waits = audit.waits.as_slice();
-            let (document, version) = (&audited.document, trace.version);
-            match picture_under(alloc, document, version, waits, events, first, last) {
+            let document = &audited.document;
+            let run = DrawnRun {
+                document,
+                network: document.network(),
+                waits,
+                events,
+            };
+            match run.picture_under(alloc, trace.version, first, last) {
                 Ok(text) => Ok(Conclusion {
                     text,
                     status: 0,
@@ -72,27 +77,37 @@ fn conclusion_of(
     }
 }
 
-// The picture of events of this version, under the rules of growth that it has.
-fn picture_under(
-    alloc: Global,
-    document: &Document,
-    version: Version,
-    waits: &[Wait],
-    events: &[Event],
-    first: usize,
-    last: usize,
-) -> Result<Vec<u8>, Refusal>
-    ensures ok { let t = audited_under version document.now.tables in
-        IfOk result (λ text. IsPicture document.now t first last waits.now events.now text.items) }
-    ensures refused { let t = audited_under version document.now.tables in
-        IfErr result (IsNoPicture (picture_size document.now t first last waits.now events.now)) }
-{
-    let network = document.network();
-    match version {
-        Version::One => {
-            let plain = network.under(Policy::Cycles, Growth::One)?;
-            picture_of(alloc, document, &plain, first, last, waits, events)
+impl DrawnRun<'_> {
+    // The picture of events of this version, under the rules of growth that it has.
+    fn picture_under(
+        self,
+        alloc: Global,
+        version: Version,
+        first: usize,
+        last: usize,
+    ) -> Result<Vec<u8>, Refusal>
+        requires { self.network.now ≡ self.document.now.tables }
+        ensures ok { let r = self.entry in
+            let t = audited_under version r.document.now.tables in
+            IfOk result (λ text. IsPicture r.document.now t first last r.waits.now r.events.now
+            text.items) }
+        ensures refused { let r = self.entry in
+            let t = audited_under version r.document.now.tables in
+            IfErr result (IsNoPicture
+            (picture_size r.document.now t first last r.waits.now r.events.now)) }
+    {
+        match version {
+            Version::One => {
+                let plain = self.network.under(Policy::Cycles, Growth::One)?;
+                let run = DrawnRun {
+                    document: self.document,
+                    network: &plain,
+                    waits: self.waits,
+                    events: self.events,
+                };
+                run.picture(alloc, first, last)
+            }
+            Version::Two => self.picture(alloc, first, last),
         }
-        Version::Two => picture_of(alloc, document, network, first, last, waits, events),
     }
 }

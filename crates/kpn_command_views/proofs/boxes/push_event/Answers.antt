@@ -1,23 +1,43 @@
--- What is pushed of a get or put is what is drawn of the event.
-use Rattle.std.proofs.Common.{SFits, w64, rules}
+-- The wait and the box of a get or put are what is drawn of the event.
+use Rattle.std.proofs.Common.{SFits, w64, codes, rules, ap, ap₂, ◌∙◌}
 use Rattle.std.proofs.lemmas.Int.{to_z-of_z}
-use Rattle.kpn_command_base.specs.Added.{Adds}
+use Rattle.std.proofs.lemmas.Result.{on_ok_weaker}
+use Rattle.std.specs.String.{string_bytes}
+use Rattle.kpn_text_names.specs.Names.{name_at}
+use Rattle.kpn_ticks.specs.Ticks.{get_tick, put_tick}
 use Rattle.kpn_ticks.specs.Shown.{shown}
-use Rattle.kpn_command_views.proofs.Drawn.{got, had_put}
+use Rattle.kpn_command_views.proofs.Drawn.{moved}
 use Rattle.kpn_command_views.proofs.boxes.push_event.Goals as goal
 
-pub returns-in-Get : goal.returns-in-Get
-returns-in-Get c =
+pub returns-in_ok-push_wait-in-Get : goal.returns-in_ok-push_wait-in-Get
+returns-in_ok-push_wait-in-Get c =
     let a = c.args in
-    let fits : SFits w64 c.in-Get.item = search rules in
-    got (Adds c.push_get.result a.text.now c.push_get.new.text) a.document.now.names.channels a.network.now a.scale
-    (shown a.clocks.now) a.event c.into.result c.in-Get.p c.into-in-Get.result c.in-Get.c _ c.in-Get.item c.in-Get.is
-    c.into.ensures c.into-in-Get.ensures (to_z-of_z w64 c.in-Get.item fits) c.push_get.ensures
+    let k = shown a.clocks.now in
+    let e = c.in-Get in
+    let fits : SFits w64 e.item = search rules in
+    rw e.is
+    (on_ok_weaker c.push_item.result
+    (moved a.scale k c.from-process.result e.p c.of-row.result c.get_tick-tick.result _ (codes "get") (codes "empty")
+    (codes "an item") c.channel_name-name.result.now _ _ e.item (string_bytes a.text.now)
+    (string_bytes c.push_wait.new.text) (string_bytes c.push_item.new.text) c.from-process.ensures c.of-row.ensures
+    (c.get_tick-tick.ensures ∙ ap₂ (get_tick k) c.from-process.ensures c.from-channel.ensures)
+    (c.channel_name-name.ensures ∙ ap (name_at a.document.now.names.channels) c.from-channel.ensures)
+    (to_z-of_z w64 e.item fits) c.in_ok-push_wait-in-Get.ensures)
+    c.push_item.ensures)
 
-pub returns-in-Put : goal.returns-in-Put
-returns-in-Put c =
+pub returns-in_ok-push_wait-in-Put : goal.returns-in_ok-push_wait-in-Put
+returns-in_ok-push_wait-in-Put c =
     let a = c.args in
-    let fits : SFits w64 c.in-Put.item = search rules in
-    had_put (Adds c.push_put.result a.text.now c.push_put.new.text) a.document.now.names.channels a.network.now a.scale
-    (shown a.clocks.now) a.event c.into-in-Put.result c.in-Put.p c.into-in-Put-2.result c.in-Put.c _ c.in-Put.item
-    c.in-Put.is c.into-in-Put.ensures c.into-in-Put-2.ensures (to_z-of_z w64 c.in-Put.item fits) c.push_put.ensures
+    let k = shown a.clocks.now in
+    let e = c.in-Put in
+    let fits : SFits w64 e.item = search rules in
+    rw e.is
+    (on_ok_weaker c.push_item-in-Put.result
+    (moved a.scale k c.from-process-in-Put.result e.p c.of-row-in-Put.result c.put_tick-tick.result _ (codes "put")
+    (codes "full") (codes "room") c.channel_name-name-in-Put.result.now _ _ e.item (string_bytes a.text.now)
+    (string_bytes c.push_wait-in-Put.new.text) (string_bytes c.push_item-in-Put.new.text) c.from-process-in-Put.ensures
+    c.of-row-in-Put.ensures
+    (c.put_tick-tick.ensures ∙ ap₂ (put_tick a.network.now k) c.from-process-in-Put.ensures c.from-channel-in-Put.ensures)
+    (c.channel_name-name-in-Put.ensures ∙ ap (name_at a.document.now.names.channels) c.from-channel-in-Put.ensures)
+    (to_z-of_z w64 e.item fits) c.in_ok-push_wait-in-Put.ensures)
+    c.push_item-in-Put.ensures)

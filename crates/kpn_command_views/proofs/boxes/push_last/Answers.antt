@@ -1,6 +1,7 @@
 -- The ticks and the name are those of the clocks and of the document.
 use Rattle.std.proofs.Common.{codes}
 use Rattle.kpn_command_base.specs.Added.{Adds}
+use Rattle.kpn_ticks.specs.Shown.{shown}
 use Rattle.kpn_command_views.proofs.Drawn.{lasted}
 use Rattle.kpn_command_views.proofs.boxes.push_last.Goals as goal
 
@@ -8,14 +9,14 @@ pub returns-in-Empty : goal.returns-in-Empty
 returns-in-Empty c =
     let a = c.args in
     rw c.in-Empty.is
-    (lasted (Adds c.push_last_wait.result a.text.now c.push_last_wait.new.text) a.scale a.p _ _ _ _ (codes "empty")
-    (codes "an item") _ _ c.latest_of-latest.ensures c.last-last.ensures c.channel_name-name.ensures
-    c.push_last_wait.ensures)
+    (lasted (Adds c.push_last_wait.result a.text.now c.push_last_wait.new.text) a.scale (shown a.clocks.now) a.p
+    c.of-row.result _ _ (codes "empty") (codes "an item") _ _ c.of-row.ensures c.last-last.ensures
+    c.channel_name.ensures c.push_last_wait.ensures)
 
 pub returns-in-Full : goal.returns-in-Full
 returns-in-Full c =
     let a = c.args in
     rw c.in-Full.is
-    (lasted (Adds c.push_last_wait-in-Full.result a.text.now c.push_last_wait-in-Full.new.text) a.scale a.p _ _ _ _
-    (codes "full") (codes "room") _ _ c.latest_of-latest.ensures c.last-last.ensures
-    c.channel_name-name-in-Full.ensures c.push_last_wait-in-Full.ensures)
+    (lasted (Adds c.push_last_wait-in-Full.result a.text.now c.push_last_wait-in-Full.new.text) a.scale
+    (shown a.clocks.now) a.p c.of-row.result _ _ (codes "full") (codes "room") _ _ c.of-row.ensures c.last-last.ensures
+    c.channel_name-in-Full.ensures c.push_last_wait-in-Full.ensures)

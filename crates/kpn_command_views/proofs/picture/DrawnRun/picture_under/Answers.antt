@@ -6,37 +6,37 @@ use Rattle.kpn_net.specs.declared.tables.Policy.TheVariants.{Cycles}
 use Rattle.kpn_net.specs.declared.tables.Growth.TheVariants as growth
 use Rattle.kpn_command_views.specs.PictureText.{picture_size}
 use Rattle.kpn_command_views.specs.PictureAnswers.{IsPicture, IsNoPicture}
-use Rattle.kpn_command_views.proofs.svg_command.picture_under.Goals as goal
+use Rattle.kpn_command_views.proofs.picture.DrawnRun.picture_under.Goals as goal
 
 pub returns-in_ok-plain-in-One-clause-ok : goal.returns-in_ok-plain-in-One-clause-ok
 returns-in_ok-plain-in-One-clause-ok c =
     let a = c.args in
     rw c.in-One.is
-    (subst (λ (t : Tables). IfOk c.picture_of.result
-    (λ text. IsPicture a.document.now t a.first a.last a.waits.now a.events.now text.items))
-    (c.in_ok-plain-in-One.ensures ∙ ap (under Cycles growth.One) c.network-network.ensures) c.picture_of.ensures.ok)
+    (subst (λ (t : Tables). IfOk c.picture.result
+    (λ text. IsPicture a.self.document.now t a.first a.last a.self.waits.now a.self.events.now text.items))
+    (c.in_ok-plain-in-One.ensures ∙ ap (under Cycles growth.One) c.requires) c.picture.ensures.ok)
 
 pub returns-in_ok-plain-in-One-clause-refused : goal.returns-in_ok-plain-in-One-clause-refused
 returns-in_ok-plain-in-One-clause-refused c =
     let a = c.args in
     rw c.in-One.is
-    (subst (λ (t : Tables). IfErr c.picture_of.result
-    (IsNoPicture (picture_size a.document.now t a.first a.last a.waits.now a.events.now)))
-    (c.in_ok-plain-in-One.ensures ∙ ap (under Cycles growth.One) c.network-network.ensures)
-    c.picture_of.ensures.refused)
+    (subst (λ (t : Tables). IfErr c.picture.result
+    (IsNoPicture (picture_size a.self.document.now t a.first a.last a.self.waits.now a.self.events.now)))
+    (c.in_ok-plain-in-One.ensures ∙ ap (under Cycles growth.One) c.requires)
+    c.picture.ensures.refused)
 
 pub returns-in-Two-clause-ok : goal.returns-in-Two-clause-ok
 returns-in-Two-clause-ok c =
     let a = c.args in
     rw c.in-Two.is
-    (subst (λ (t : Tables). IfOk c.picture_of-in-Two.result
-    (λ text. IsPicture a.document.now t a.first a.last a.waits.now a.events.now text.items)) c.network-network.ensures
-    c.picture_of-in-Two.ensures.ok)
+    (subst (λ (t : Tables). IfOk c.picture-in-Two.result
+    (λ text. IsPicture a.self.document.now t a.first a.last a.self.waits.now a.self.events.now text.items)) c.requires
+    c.picture-in-Two.ensures.ok)
 
 pub returns-in-Two-clause-refused : goal.returns-in-Two-clause-refused
 returns-in-Two-clause-refused c =
     let a = c.args in
     rw c.in-Two.is
-    (subst (λ (t : Tables). IfErr c.picture_of-in-Two.result
-    (IsNoPicture (picture_size a.document.now t a.first a.last a.waits.now a.events.now))) c.network-network.ensures
-    c.picture_of-in-Two.ensures.refused)
+    (subst (λ (t : Tables). IfErr c.picture-in-Two.result
+    (IsNoPicture (picture_size a.self.document.now t a.first a.last a.self.waits.now a.self.events.now))) c.requires
+    c.picture-in-Two.ensures.refused)
