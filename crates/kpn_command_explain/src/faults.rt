@@ -8,7 +8,7 @@ use crate::trace_names::process;
 use crate::trace_words::push_event;
 use kpn_audit::Audit;
 use kpn_command_base::Pushed;
-use kpn_history::{Event, How, Trace};
+use kpn_history::{Event, How, Trace, Version};
 use kpn_text::Document;
 use kpn_trace::how_word;
 use std::alloc::{AllocError, Global};
@@ -55,9 +55,7 @@ fn push_faults(alloc: Global, text: &mut String, document: &Document, trace: &Tr
             continue;
         };
         let before = last.get(p).copied().unwrap_or(None);
-        if let Event::Ended(_, how) = *event {
-            push_fault(text, document, trace, k, p, how, before)?;
-        }
+        push_fault(text, document, trace.version, k, *event, before)?;
         if p < last.len() {
             last[p] = Some(*event);
         }
@@ -65,25 +63,27 @@ fn push_faults(alloc: Global, text: &mut String, document: &Document, trace: &Tr
     Ok(())
 }
 
-// What follows the end of a process, if it is by a fault.
+// What follows event `k`, if a process ends by a fault there.
 fn push_fault(
     text: &mut String,
     document: &Document,
-    trace: &Trace,
+    version: Version,
     k: usize,
-    p: usize,
-    how: How,
+    event: Event,
     before: Option<Event>,
 ) -> Pushed {
+    let Event::Ended(p, how) = event else {
+        return Ok(());
+    };
     if !is_fault(Some(how)) {
         return Ok(());
     }
-    let (name, word) = (process(document, p), how_word(how));
+    let (name, word) = (process(document, p.into()), how_word(how));
     write!(text, "fault: {name} ends with `{word}` at event {k}, ")?;
     match before {
         Some(event) => {
             text.push_str("right after ")?;
-            push_event(text, document, trace.version, event)?;
+            push_event(text, document, version, event)?;
         }
         None => text.push_str("before it reads or writes")?,
     }
