@@ -1,5 +1,5 @@
 //! The command reads a network and a trace, and explains what an audit of the trace finds.
-ghost use Rattle.std.specs.Prelude.{◌≡◌, ◌≢◌, ◌⊎◌, ◌<◌, ℕ, length, IfOk, IfErr};
+ghost use Rattle.std.specs.Prelude.{◌≡◌, ◌≢◌, ◌⊎◌, IfOk, IfErr};
 ghost use Rattle.kpn_command_base.specs.Conclusion.{TellsOnly};
 ghost use Rattle.kpn_command_base.specs.Audited.{IsNoFinding};
 ghost use Rattle.kpn_command_base.specs.Refusal.{status_of};

@@ -13,7 +13,7 @@ use crate::watching::StreamWatcher;
 use kpn_command_base::{QUOTA, Refusal, StreamRequest, Teller};
 use kpn_shelf::{NonblockingRead, Ports, Shelf};
 use kpn_stream::{Keeping, Limits, SinkFault, Sinks, Streamed, stream};
-use kpn_stream_devices::{SinkOutput, SinkOutputs, SourceInput, SourceInputs};
+use kpn_stream_devices::{SinkOutputs, SourceInputs};
 use kpn_text::Document;
 use std::alloc::{AllocError, Global};
 use std::io::Write;

@@ -9,8 +9,8 @@ use Rattle.kpn_ticks.specs.Shown.{shown}
 use Rattle.kpn_command_views.proofs.Drawn.{moved}
 use Rattle.kpn_command_views.proofs.boxes.push_event.Goals as goal
 
-pub returns-in-Get : goal.returns-in-Get
-returns-in-Get c =
+pub returns-in_ok-push_wait-in-Get : goal.returns-in_ok-push_wait-in-Get
+returns-in_ok-push_wait-in-Get c =
     let a = c.args in
     let k = shown a.clocks.now in
     let e = c.in-Get in
@@ -25,8 +25,8 @@ returns-in-Get c =
     (to_z-of_z w64 e.item fits) c.in_ok-push_wait-in-Get.ensures)
     c.push_item.ensures)
 
-pub returns-in-Put : goal.returns-in-Put
-returns-in-Put c =
+pub returns-in_ok-push_wait-in-Put : goal.returns-in_ok-push_wait-in-Put
+returns-in_ok-push_wait-in-Put c =
     let a = c.args in
     let k = shown a.clocks.now in
     let e = c.in-Put in
