@@ -93,6 +93,8 @@ fn operand_habit_of_two(last: &[u8], here: &[u8]) -> Option<Habit> {
 fn statement_habit_of_two(here: &[u8]) -> Option<Habit> {
     if is_word(here, b"array") || is_word(here, b"table") {
         Some(Habit::LateRow)
+    } else if is_word(here, b"for") {
+        Some(Habit::For)
     } else if begins_comment(here) {
         Some(Habit::Comment)
     } else {
