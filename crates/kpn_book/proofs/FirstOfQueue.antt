@@ -1,7 +1,7 @@
 -- The first process of the queue makes steps and is committed. It is held in between, though no state says so.
 use Rattle.std.proofs.Common.{◌≡◌, ◌≢◌, ℕ, ◌+◌, ◌-◌, ◌<◌, ◌≤◌, ◌^◌, ℤ, Bool, true, false, cond, is_some, List, [], ◌∷◌, ◌++◌, drop, slice_get, slice_index, Option, Some, None, Result, Ok, Err, refl, sym, ap, ◌∙◌, subst, arith, inl, inr}
 use Rattle.std.specs.List.{last_or}
-use Rattle.std.specs.Prelude.{OnErr}
+use Rattle.std.specs.Prelude.{OnErr, IfNone}
 use Rattle.std.proofs.lemmas.Bool.{cases_eq, false≢true}
 use Rattle.std.proofs.lemmas.List.{set-set}
 use Rattle.kpn_net.specs.Tables.{Tables, instance_at, channel_at, is_sink}
@@ -420,6 +420,10 @@ runs_till_idle quota most n first now with_memory same so_far within nobody =
 pub refused_with : {T E P : Type 0} (r : Result T E) → P → OnErr r P
 refused_with (Ok x) holds = tt
 refused_with (Err e) holds = holds
+
+pub none_with : {T P : Type 0} (r : Option T) → P → IfNone r P
+none_with None is = is
+none_with (Some x) is = tt
 
 -- memory has run out before a turn, or in it
 pub refused_before : (quota most n : ℕ) (first now after : Book) → after ≡ now → IsSoFar quota n first now → n < most

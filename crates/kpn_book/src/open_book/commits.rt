@@ -23,17 +23,10 @@ ghost use Rattle.kpn_book.specs.Open.{book_of, reserves_by, IsSound, IsHeldBy, h
 use super::{Hold, OpenBook, number, wake};
 use crate::answers::Done;
 use crate::schedule::Schedule;
-use kpn_chan::Channel;
 use kpn_history::{Event, How, State};
-use kpn_machine::{Got, in_channel, out_channel};
+use kpn_machine::{Got, Put, in_channel, out_channel};
 use kpn_step::Stop;
 use std::alloc::{AllocError, Allocator};
-
-/// A put: the process that it wakes.
-#[derive(Clone, Copy)]
-pub(super) struct Put {
-    pub(super) woken: Option<usize>,
-}
 
 impl<'n, A: Allocator> OpenBook<'n, A> {
     /// Reserves what process `p` may need at this stop: two events, and for a write an item.
@@ -121,10 +114,7 @@ impl<'n, A: Allocator> OpenBook<'n, A> {
     {
         let network = self.network;
         network.known();
-        if !self.machine.has_item(c) {
-            return None;
-        }
-        let got = self.machine.get(network, p, c);
+        let got = self.machine.get(network, p, c)?;
         self.history
             .push(Event::Get(number(p), number(c), got.item));
         Some(got)
@@ -161,12 +151,9 @@ impl<'n, A: Allocator> OpenBook<'n, A> {
     {
         let network = self.network;
         network.known();
-        if !is_open(self.machine.channel(c)) {
-            return None;
-        }
-        let woken = self.machine.put(network, p, c, item);
+        let put = self.machine.put(network, p, c, item)?;
         self.history.push(Event::Put(number(p), number(c), item));
-        Some(Put { woken })
+        Some(put)
     }
 
     // The next three are rare. They write the state of the process once: a ready one goes from there to its wait or
@@ -308,15 +295,6 @@ impl<'n, A: Allocator> OpenBook<'n, A> {
             .push(Event::Grow(number(p), number(d), grown.capacity));
         wake(&mut self.schedule, grown.woken);
     }
-}
-
-/// Whether an item can be put on a channel at once: it is not full, and the item is reserved.
-#[inline(always)]
-fn is_open<A: Allocator>(channel: &Channel<A>) -> bool
-    ensures open { result ≡ true → IsTrue channel.now.is_reserved × (is_channel_full channel.now ≡ false) }
-    ensures full { result ≡ false → IsTrue channel.now.is_reserved → is_channel_full channel.now ≡ true }
-{
-    !channel.is_full() && channel.room()
 }
 
 /// Puts process `p`, which is held, to the tail of the queue, and a process that was woken behind it.
