@@ -9,7 +9,7 @@ use Rattle.kpn_net.specs.declared.tables.End.{End}
 use Rattle.kpn_net.specs.declared.tables.End.TheVariants.{Process}
 use Rattle.kpn_net.specs.Tables.{Tables, channel_at, is_sink, writer_of, reader_of}
 use Rattle.kpn_net.specs.Faults.{IsNetwork}
-use Rattle.kpn_chan.specs.Channel.{ChannelState, unread, has_places_for, readable}
+use Rattle.kpn_chan.specs.Channel.{ChannelState, unread, has_places_for, roomy, readable}
 use Rattle.kpn_history.specs.declared.event.How.{How}
 use Rattle.kpn_machine.specs.Machine.{Machine, channel_in, wait_in, end_in, frame_in, no_frame}
 use Rattle.kpn_machine.proofs.Moments.{within_capacity}

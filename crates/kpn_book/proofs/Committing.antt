@@ -1,5 +1,5 @@
 -- A commit, and a step in place: a process is held, goes to the end of its steps, and is committed there.
-use Rattle.std.proofs.Common.{◌≡◌, ◌≢◌, ℕ, ◌+◌, ◌-◌, ◌<◌, ◌≤◌, ◌^◌, ℤ, true, false, cond, if◌then◌else◌, is_ok, IsTrue, length, set, Option, None, refl, sym, ap, ◌∙◌, subst, inl, inr, arith, Result, Ok, Err, slice_index}
+use Rattle.std.proofs.Common.{◌≡◌, ◌≢◌, ℕ, ◌+◌, ◌-◌, ◌<◌, ◌≤◌, ◌^◌, ℤ, true, false, cond, if◌then◌else◌, is_ok, IsTrue, List, length, set, Option, None, refl, sym, ap, ◌∙◌, subst, inl, inr, arith, Result, Ok, Err, slice_index}
 use Rattle.std.proofs.lemmas.Bool.{cases_eq, cases_lt, false≢true}
 use Rattle.std.proofs.lemmas.List.{length-set, get_or-set_same, get_or-set_other, get_or_past}
 use Rattle.kpn_net.specs.Tables.{Tables, instance_at, program_of, channel_at, is_source}

@@ -1,7 +1,7 @@
 -- The first process of the queue makes steps and is committed. It is held in between, though no state says so.
 use Rattle.std.proofs.Common.{◌≡◌, ◌≢◌, ℕ, ◌+◌, ◌-◌, ◌<◌, ◌≤◌, ◌^◌, ℤ, Bool, true, false, cond, is_some, List, [], ◌∷◌, ◌++◌, drop, slice_get, slice_index, Option, Some, None, Result, Ok, Err, refl, sym, ap, ◌∙◌, subst, arith, inl, inr}
 use Rattle.std.specs.List.{last_or}
-use Rattle.std.specs.Prelude.{OnErr, IfNone}
+use Rattle.std.specs.Prelude.{OnErr}
 use Rattle.std.proofs.lemmas.Bool.{cases_eq, false≢true}
 use Rattle.std.proofs.lemmas.List.{set-set}
 use Rattle.kpn_net.specs.Tables.{Tables, instance_at, channel_at, is_sink}
@@ -178,16 +178,6 @@ handles_write o reserved a p d v s sink but asks made = record {
 
 -- ---- its turn
 
--- the first process of the queue, p, has made its steps to this stop, before it is committed there
-pub record FirstHasStepped (quota p : ℕ) (b o : Book) (s : Stop) : Type 0 where
-  pub holds : HoldsFirst p b.schedule (first_held p b.schedule)
-  pub held : IsKept (first_claimed p o)
-  pub kept : IsKept o
-  pub in_vain : s ≢ stop.Paused → StepsUncommitted quota b o
-  pub fits : (sink : Option ℕ) (a : Book) → HandlesFirst p s sink (first_claimed p o) a → a.commits + 1 < 2 ^ 64
-  pub turn : (sink : Option ℕ) (a : Book) → HandlesFirst p s sink (first_claimed p o) a → IsSchedule a.schedule
-      → IsTurn quota sink b (with_one_commit a)
-
 module _ (quota p : ℕ) (b : Book) (kept : IsKept b) (holds : HoldsFirst p b.schedule (first_held p b.schedule))
     (more : b.commits + held_count b + 1 < 2 ^ 64) (s : Machine) (x : Advanced)
     (own : IsOwnAdvance (first_claimed p b) p x) (advance : IsAdvance x) (within : IsWithinQuota quota x)
@@ -208,14 +198,14 @@ module _ (quota p : ℕ) (b : Book) (kept : IsKept b) (holds : HoldsFirst p b.sc
   kept_was : IsKept was
   kept_was = kept_first b kept p holds more
 
-  first_kept : IsKept stepped
+  pub first_kept : IsKept stepped
   first_kept = stepped_kept quota p b was x claimed_was kept_was own advance within stepped is_stepped
 
   pub first_sound : IsSound stepped
   first_sound = record { in_step = first_kept.in_step; nothing_owed = first_kept.nothing_owed }
 
   -- if memory has run out, it is not held
-  kept_in_vain : IsKept (moved b s b.schedule)
+  pub kept_in_vain : IsKept (moved b s b.schedule)
   kept_in_vain =
       let there = holds.there in
       let long = kept.in_step.processes in
@@ -223,7 +213,7 @@ module _ (quota p : ℕ) (b : Book) (kept : IsKept b) (holds : HoldsFirst p b.sc
       (kept_moved b kept p (omega (arith, there, long)) x advance (record { program = own.program; from = own.from }))
 
   -- and stays the first
-  turn_in_vain : x.stop ≢ stop.Paused → slice_get b.schedule.queue 0 ≡ Some p
+  pub turn_in_vain : x.stop ≢ stop.Paused → slice_get b.schedule.queue 0 ≡ Some p
       → StepsUncommitted quota b (moved b s b.schedule)
   turn_in_vain wants first = record {
     process = p;
@@ -245,7 +235,7 @@ module _ (quota p : ℕ) (b : Book) (kept : IsKept b) (holds : HoldsFirst p b.sc
         held_reserved x.stop stepped h.reserved h.but p
         (stepped_held quota p b was x claimed_was kept_was own advance within stepped is_stepped)
 
-    turn_fits : a.commits + 1 < 2 ^ 64
+    pub turn_fits : a.commits + 1 < 2 ^ 64
     turn_fits =
         fits_after h.reserved a p (λ z. z ≡ x.stop) x.stop h.answered.answer refl kept_then held_then
         h.answered.answered
@@ -298,7 +288,7 @@ module _ (quota p : ℕ) (b : Book) (kept : IsKept b) (holds : HoldsFirst p b.sc
         let one = held_more b.schedule.states p holds.there (ap is_held holds.was_ready) in
         omega (arith, released, same, one)
 
-    turn_made : IsBook b → IsSchedule (with_one_commit a).schedule → IsTurn quota sink b (with_one_commit a)
+    pub turn_made : IsBook b → IsSchedule (with_one_commit a).schedule → IsTurn quota sink b (with_one_commit a)
     turn_made book schedule = record {
       step = record {
         was = book;
@@ -314,22 +304,6 @@ module _ (quota p : ℕ) (b : Book) (kept : IsKept b) (holds : HoldsFirst p b.sc
       kept = turn_kept;
       commits = turn_commits;
       held = turn_held;
-    }
-
-pub first_has_stepped : (quota p : ℕ) (b : Book) → IsBook b → slice_get b.schedule.queue 0 ≡ Some p
-    → b.commits + held_count b + 1 < 2 ^ 64 → (s : Machine) (x : Advanced) → IsOwnAdvance (first_claimed p b) p x
-    → IsAdvance x → IsWithinQuota quota x → s ≡ with_frame p x.to b.machine
-    → FirstHasStepped quota p b (moved b s b.schedule) x.stop
-first_has_stepped quota p b book first more s x own advance within after =
-    let holds = holds_first b.schedule book.schedule p first in
-    record {
-      holds = holds;
-      held = first_kept quota p b book.kept holds more s x own advance within after;
-      kept = kept_in_vain quota p b book.kept holds more s x own advance within after;
-      in_vain = λ wants. turn_in_vain quota p b book.kept holds more s x own advance within after wants first;
-      fits = turn_fits quota p b book.kept holds more s x own advance within after;
-      turn = λ sink a h schedule.
-          turn_made quota p b book.kept holds more s x own advance within after sink a h book schedule;
     }
 
 -- ---- turns in a row
@@ -420,10 +394,6 @@ runs_till_idle quota most n first now with_memory same so_far within nobody =
 pub refused_with : {T E P : Type 0} (r : Result T E) → P → OnErr r P
 refused_with (Ok x) holds = tt
 refused_with (Err e) holds = holds
-
-pub none_with : {T P : Type 0} (r : Option T) → P → IfNone r P
-none_with None is = is
-none_with (Some x) is = tt
 
 -- memory has run out before a turn, or in it
 pub refused_before : (quota most n : ℕ) (first now after : Book) → after ≡ now → IsSoFar quota n first now → n < most

@@ -1,47 +1,41 @@
 -- Turns of which nobody sees the order. A commit that leaves its process the first of the queue is one after which the
 -- queue is in another order.
-use Rattle.std.proofs.Common.{◌≡◌, ℕ, ◌+◌, ◌<◌, ◌≤◌, ◌^◌, false, is_some, List, [], ◌∷◌, ◌++◌, length, set, drop, slice_get, Option, Some, None, refl, sym, ap, ◌∙◌, subst, arith}
+use Rattle.std.proofs.Common.{◌≡◌, ◌≢◌, ℕ, ◌+◌, ◌<◌, ◌≤◌, ◌^◌, true, false, is_some, List, [], ◌∷◌, ◌++◌, length, set, drop, slice_get, Option, Some, None, refl, sym, ap, ◌∙◌, subst, arith}
 use Rattle.std.specs.Option.{option_to_list}
 use Rattle.std.proofs.lemmas.Bool.{false≢true}
 use Rattle.std.proofs.lemmas.List.{set-set, set-get_or}
 use Rattle.kpn_net.proofs.Cycles.{Contains-first}
-use Rattle.kpn_step.specs.declared.stop.Stop.{Stop}
+use Rattle.kpn_step.specs.Stops.{Advanced, IsAdvance, IsWithinQuota}
 use Rattle.kpn_history.specs.declared.state.State.TheVariants.{Ready, Held}
 use Rattle.kpn_history.specs.Views.{is_ready}
-use Rattle.kpn_machine.specs.Machine.{Machine}
+use Rattle.kpn_machine.specs.Machine.{Machine, with_frame}
 use Rattle.kpn_book.specs.Schedule.{Schedule, state_at, IsSchedule, HoldsFirst, first_held, made_ready}
 use Rattle.kpn_book.specs.Book.{Book, held_count, with_one_commit}
 use Rattle.kpn_book.specs.Appending.{all_made_ready}
+use Rattle.kpn_book.specs.Commits.{IsOwnAdvance}
 use Rattle.kpn_book.specs.Kept.{IsKept, IsBook}
 use Rattle.kpn_book.specs.InARow.{StepsUncommitted}
 use Rattle.kpn_book.specs.GoingOn.{IsReordered, TurnsInAnyOrder, no_turn, another_order, steps_on, one_turn_more, RunsInAnyOrder, AnyOrderInVain}
-use Rattle.kpn_book.specs.Open.{with_ready, MayBeReady, Exchanges, HandlesAhead, IsTurn, IsTurnAhead, GoesFurther}
+use Rattle.kpn_book.specs.Open.{first_claimed, with_ready, MayBeReady, HandlesAhead, IsTurn, IsTurnAhead, GoesFurther}
 use Rattle.kpn_book.proofs.Queueing.{scheduled, rotated, IsSchedule-rotated, IsSchedule-made_ready}
 use Rattle.kpn_book.proofs.Following.{moved}
-use Rattle.kpn_book.proofs.FirstOfQueue.{FirstHasStepped}
+use Rattle.kpn_book.proofs.FirstOfQueue.{turn_made}
 
 -- ---- the queue in another order
 
 -- the first of the queue is held and ready again: no state has changed
-stays : (p : ℕ) (s : Schedule) → HoldsFirst p s (first_held p s) → (made_ready p (first_held p s)).states ≡ s.states
+pub stays : (p : ℕ) (s : Schedule) → HoldsFirst p s (first_held p s) → (made_ready p (first_held p s)).states ≡ s.states
 stays p s holds =
     set-set s.states p Held Ready
     ∙ ap (set s.states p) (sym holds.was_ready)
     ∙ set-get_or s.states p Ready
 
-may_stay : (s x : Schedule) (ps : List ℕ) → x.states ≡ s.states → MayBeReady x ps → MayBeReady s ps
+pub may_stay : (s x : Schedule) (ps : List ℕ) → x.states ≡ s.states → MayBeReady x ps → MayBeReady s ps
 may_stay s x ps same may = record {
   once = may.once;
   each = λ q there.
       subst (λ xs. (q < length xs) × (is_ready (state_at xs q) ≡ false)) same (may.each q there);
 }
-
--- whom a commit wakes that leaves its process the first
-pub stays_woken : (p : ℕ) (s now : Schedule) (woken : Option ℕ) → HoldsFirst p s (first_held p s) → now ≡ s
-    → MayBeReady (made_ready p (first_held p s)) (option_to_list woken) → MayBeReady now (option_to_list woken)
-stays_woken p s now woken holds same may =
-    subst (λ z. MayBeReady z (option_to_list woken)) (sym same)
-    (may_stay s (made_ready p (first_held p s)) (option_to_list woken) (stays p s holds) may)
 
 same_then : (ps : List ℕ) (a b : Schedule) → a.states ≡ b.states
     → (all_made_ready ps a).states ≡ (all_made_ready ps b).states
@@ -106,20 +100,11 @@ goes_back b p book holds first s same =
 
 -- ---- a turn
 
--- whom a get or put wakes is ready, and p stays the first
-pub ahead_of : (p : ℕ) (z : Stop) (woken sink : Option ℕ) (before now : Book) → Exchanges p z woken sink before now
-    → (order : Schedule) → order ≡ all_made_ready (option_to_list woken) now.schedule
-    → HandlesAhead p z sink before (moved now now.machine order)
-ahead_of p z woken sink before now made order is = record {
-  woken = woken;
-  may = made.may;
-  schedule = is ∙ ap (all_made_ready (option_to_list woken)) made.schedule;
-  handles = made.handles;
-}
-
-module _ (quota p : ℕ) (b : Book) (book : IsBook b) (first : slice_get b.schedule.queue 0 ≡ Some p) (s : Machine)
-    (z : Stop) (has : FirstHasStepped quota p b (moved b s b.schedule) z) (sink : Option ℕ) (now : Book)
-    (h : HandlesAhead p z sink (moved b s b.schedule) now) where
+module _ (quota p : ℕ) (b : Book) (book : IsBook b) (holds : HoldsFirst p b.schedule (first_held p b.schedule))
+    (first : slice_get b.schedule.queue 0 ≡ Some p) (more : b.commits + held_count b + 1 < 2 ^ 64) (s : Machine)
+    (x : Advanced) (own : IsOwnAdvance (first_claimed p b) p x) (advance : IsAdvance x)
+    (within : IsWithinQuota quota x) (after : s ≡ with_frame p x.to b.machine) (sink : Option ℕ) (now : Book)
+    (h : HandlesAhead p x.stop sink (moved b s b.schedule) now) where
   abbrev again : Schedule
   again = made_ready p (first_held p b.schedule)
 
@@ -129,28 +114,28 @@ module _ (quota p : ℕ) (b : Book) (book : IsBook b) (first : slice_get b.sched
 
   turn : IsTurn quota sink b (with_one_commit committed)
   turn =
-      has.turn sink committed h.handles
+      turn_made quota p b book.kept holds more s x own advance within after sink committed h.handles book
       (IsSchedule-woken h.woken again (IsSchedule-again p b.schedule book.schedule first) h.may)
 
   states_same : now.schedule.states ≡ (all_made_ready (option_to_list h.woken) again).states
   states_same =
       ap (λ z. z.states) h.schedule
-      ∙ same_then (option_to_list h.woken) b.schedule again (sym (stays p b.schedule has.holds))
+      ∙ same_then (option_to_list h.woken) b.schedule again (sym (stays p b.schedule holds))
 
-  ahead_schedule : IsSchedule now.schedule
-  ahead_schedule =
-      subst IsSchedule (sym h.schedule)
-      (IsSchedule-woken h.woken b.schedule book.schedule
-      (may_stay b.schedule again (option_to_list h.woken) (stays p b.schedule has.holds) h.may))
-
-  pub ahead_made : IsTurnAhead quota sink b (with_one_commit now)
-  ahead_made = record {
+  pub ahead_made : IsSchedule now.schedule → IsTurnAhead quota sink b (with_one_commit now)
+  ahead_made schedule = record {
     between = with_one_commit committed;
     turn = turn;
     order =
-        reordered (with_one_commit committed) (with_one_commit now) turn.step.is ahead_schedule
+        reordered (with_one_commit committed) (with_one_commit now) turn.step.is schedule
         (ap (λ xs. with_one_commit (moved now now.machine (scheduled xs now.schedule.queue))) states_same);
   }
+
+  pub ahead_schedule : IsSchedule now.schedule
+  ahead_schedule =
+      subst IsSchedule (sym h.schedule)
+      (IsSchedule-woken h.woken b.schedule book.schedule
+      (may_stay b.schedule again (option_to_list h.woken) (stays p b.schedule holds) h.may))
 
   pub ahead_first : slice_get now.schedule.queue 0 ≡ Some p
   ahead_first = subst (λ z. slice_get z.queue 0 ≡ Some p) (sym h.schedule) (first_stays p h.woken b.schedule first)

@@ -14,7 +14,7 @@ use Rattle.kpn_book.specs.Schedule.{Schedule}
 use Rattle.kpn_book.specs.Book.{Book}
 use Rattle.kpn_book.specs.Appending.{Appends, Happens, all_made_ready, woken_by}
 use Rattle.kpn_book.specs.Refusals.{IsAtBound, Feeds, Closes, closes_by, Takes, Leaves, leaves_by}
-use Rattle.kpn_book.specs.Open.{Follows, reserved_on}
+use Rattle.kpn_book.specs.Open.{Follows, IsSound, reserved_on}
 use Rattle.kpn_book.specs.Kept.{IsKept}
 use Rattle.kpn_book.proofs.Following.{recorded, moved, same_recorded, followed, own_none}
 use Rattle.kpn_book.proofs.Committing.{kept_reserved_on, source_there}
@@ -46,6 +46,13 @@ module _ (b : Book) (h : Recorded) (events : h.events ≡ b.history) (keeps : h.
 
   pub kept_with_memory : IsKept b → IsKept (recorded b h b.machine b.schedule)
   kept_with_memory kept = subst IsKept (sym same) kept
+
+  pub sound_reserved : IsKept b → IsSound (recorded b h b.machine b.schedule)
+  sound_reserved kept =
+      subst IsSound (sym same) (record { in_step = kept.in_step; nothing_owed = kept.nothing_owed })
+
+  pub follows_reserved : (e : Event) (m : Book) → Follows e (recorded b h b.machine b.schedule) m → Follows e b m
+  follows_reserved e m follows = subst (λ x. Follows e x m) same follows
 
 pub closed : (b a : Book) (c : ℕ) → is_source (channel_at b.tables c) ≡ true → closed_in b.machine c ≡ false
     → Happens (event.Close c) b a → Closes c b a

@@ -232,15 +232,17 @@ pub record IsTurn (quota : ℕ) (sink : Option ℕ) (before after : Book) : Type
 
 -- ---- turns in any order
 
--- the first process of the queue, p, has made the get or put of this stop, which wakes this process, and has put an item
--- on this sink or on none. The schedule stays. With that of a commit, the book would be that of the commit
-pub record Exchanges (p : ℕ) (s : Stop) (woken sink : Option ℕ) (before after : Book) : Type 0 where
-  pub schedule : after.schedule ≡ before.schedule
+-- the first process of the queue, p, is committed at a stop of this kind, and stays the first. With the schedule of a
+-- commit, which it does not have, the book would be that of the commit
+pub record StaysFirst {A : Type 0} (p : ℕ) (asks : Stop → Type 0) (answer : Done) (before after : OpenBook A)
+    : Type 0 where
+  pub woken : Option ℕ
   pub may : MayBeReady (made_ready p (first_held p before.schedule)) (option_to_list woken)
-  pub handles : HandlesFirst p s sink (first_claimed p before)
-      (with_ready (option_to_list woken) (made_ready p (first_held p before.schedule)) after)
+  pub schedule : after.schedule ≡ all_made_ready (option_to_list woken) before.schedule
+  pub answered : Answered p asks answer (first_claimed p (book_of before))
+      (with_ready (option_to_list woken) (made_ready p (first_held p before.schedule)) (book_of after))
 
--- the same, and whom it wakes is ready; p stays the first of the queue
+-- the same at this stop, by which it has put an item on this sink or on none
 pub record HandlesAhead (p : ℕ) (s : Stop) (sink : Option ℕ) (before after : Book) : Type 0 where
   pub woken : Option ℕ
   pub may : MayBeReady (made_ready p (first_held p before.schedule)) (option_to_list woken)

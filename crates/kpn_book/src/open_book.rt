@@ -17,6 +17,7 @@ use std::alloc::Allocator;
 mod ahead;
 mod claims;
 mod commits;
+mod outside;
 pub(crate) mod regions;
 mod turns;
 

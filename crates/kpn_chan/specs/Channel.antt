@@ -43,10 +43,6 @@ fills count (Some capacity) = nat_le capacity count
 abbrev pub is_channel_full : ChannelState → Bool
 is_channel_full c = not c.is_retired && fills (length (unread c)) c.capacity
 
--- whether an item can be put at once: it is reserved, and the channel is not full
-abbrev pub is_open : ChannelState → Bool
-is_open c = c.is_reserved && not (is_channel_full c)
-
 -- the item that a read returns: the oldest unread one, and none once the reader is gone
 abbrev pub next_item : ChannelState → Option ℤ
 next_item c = if c.is_retired then None else slice_get (unread c) 0

@@ -1,8 +1,8 @@
 //! A channel: the journal of all items that were put, in chunks, and a ring of the unread ones, so that a read looks
 //! into no chunk.
 ghost use Rattle.std.specs.Option.{unwrap_or, is_none};
-ghost use Rattle.std.specs.Prelude.{◌≡◌, ◌++◌, drop, ◌+◌, ◌*◌, ◌<◌, ◌≤◌, ◌^◌, max, length, [], ◌↔◌, IsTrue, false, IfErr, IfNone, true, IsOk, OnOk, OnErr, IfOk, is_ok, if◌then◌else◌, slice_get, take, nat_lt};
-ghost use Rattle.kpn_chan.specs.Channel.{unread, is_channel_full, is_open, next_item, item_after, readable, opened, opened_as, kept_journal, with_room, after_put, after_get, retired, MayGrow, grown_by_one, MayGrowTo, grown_to, roomy, with_reserved, MayJoin, batch_joined, has_places_for};
+ghost use Rattle.std.specs.Prelude.{◌≡◌, ◌++◌, drop, ◌+◌, ◌*◌, ◌<◌, ◌≤◌, ◌^◌, max, length, [], ◌↔◌, IsTrue, false, IfErr, true, IsOk, OnOk, OnErr, IfOk, is_ok, if◌then◌else◌, slice_get, take, nat_lt};
+ghost use Rattle.kpn_chan.specs.Channel.{unread, is_channel_full, next_item, item_after, readable, opened, opened_as, kept_journal, with_room, after_put, after_get, retired, MayGrow, grown_by_one, MayGrowTo, grown_to, roomy, with_reserved, MayJoin, batch_joined, has_places_for};
 ghost use Rattle.kpn_chan.specs.Ring.{MayPass, passed_through};
 ghost use Rattle.kpn_chan.specs.declared.unread.Unread.TheVariants.{Forgotten};
 ghost use Rattle.kpn_chan.specs.declared.channel.TheConstants.{FIRST_PLACES};
@@ -232,20 +232,6 @@ impl<A: Allocator> Channel<A> {
         self.journal.push_reserved(item);
     }
 
-    /// Puts an item as `put` does, if it is reserved and the channel is not full. It returns whether it did.
-    #[inline(always)]
-    pub fn put_if_open(&mut self, item: i64) -> bool
-        ensures put { result ≡ is_open self.old }
-        ensures after { self.new
-            ≡ (if result then after_put item self.new.is_reserved self.old else self.old) }
-    {
-        if self.is_full() || !self.room() {
-            return false;
-        }
-        self.put(item);
-        true
-    }
-
     /// The oldest unread item, which is then read. If nothing is unread or the channel is retired, it returns `None`
     /// and leaves the channel as it was.
     ///
@@ -254,7 +240,6 @@ impl<A: Allocator> Channel<A> {
         ensures item { result ≡ next_item self.old }
         ensures after { self.new ≡ after_get result self.new.is_reserved self.old }
         ensures reserved { IsTrue self.old.is_reserved → IsTrue self.new.is_reserved }
-        ensures as_before { IfNone result (self.new ≡ self.old) }
     {
         let Some(ring) = &mut self.ring else {
             return None;

@@ -1,7 +1,7 @@
 -- What each call does to a machine: its parts change as the call's event changes them.
 use Rattle.std.proofs.Common.{◌≡◌, ◌≢◌, ℕ, ◌+◌, ◌<◌, Bool, true, false, ◌||◌, ℤ, eqb, eq-eqb, IsTrue, List, [], ◌∷◌, ◌++◌, length, get_or, slice_set, Option, Some, refl, sym, ap, ◌∙◌, subst, inl, inr, arith, append-nil, add-zero, length-set}
 use Rattle.std.proofs.lemmas.Bool.{cases_eq, ne_eqb, eqb-true}
-use Rattle.std.proofs.lemmas.List.{get_or-set_same, get_or-set_other, set-get_or, get_or_default}
+use Rattle.std.proofs.lemmas.List.{get_or-set_same, get_or-set_other, get_or_default}
 use Rattle.kpn_net.specs.declared.wait.Wait.{Wait}
 use Rattle.kpn_net.specs.declared.wait.Wait.TheVariants.{Nobody, Empty, Full}
 use Rattle.kpn_net.specs.declared.tables.End.TheVariants.{Process, Sink}
@@ -126,15 +126,6 @@ not_nobody (Full c) some = refl
 pub element : {X : Type 0} (xs ys : List X) (i : ℕ) (x d : X) → xs ≡ ys → i < length ys → x ≡ get_or xs i x
     → x ≡ get_or ys i d
 element xs ys i x d same below is = is ∙ ap (λ zs. get_or zs i x) same ∙ get_or_default ys i x d below
-
--- a channel is put back as it was
-pub channel_unchanged : (inside s : Machine) (c : ℕ) (before after : ChannelState) → inside ≡ s
-    → before ≡ get_or inside.channels c before → after ≡ before
-    → record inside { channels = slice_set inside.channels c after } ≡ s
-channel_unchanged inside s c before after same is stays =
-    ap (λ x. record inside { channels = slice_set inside.channels c x }) (stays ∙ is)
-    ∙ ap (λ xs. record inside { channels = xs }) (set-get_or inside.channels c before)
-    ∙ same
 
 module _ (t : Tables) (s : Machine) (shape : IsMachine t s) where
   -- for a machine that is given in full

@@ -4,7 +4,7 @@ use Rattle.std.proofs.lemmas.Bool.{cases_eq}
 use Rattle.std.proofs.lemmas.List.{get_or-set_same, get_or-set_other, set-get_or}
 use Rattle.kpn_net.specs.declared.wait.Wait.TheVariants.{Full}
 use Rattle.kpn_net.specs.Tables.{Tables, channel_at, is_source}
-use Rattle.kpn_chan.specs.Channel.{ChannelState, is_channel_full, is_open, opened, with_room, roomy, with_reserved, most_after}
+use Rattle.kpn_chan.specs.Channel.{ChannelState, opened, with_room, roomy, with_reserved, most_after}
 use Rattle.kpn_history.specs.declared.event.Event.{Event}
 use Rattle.kpn_history.specs.Channels.{written_in}
 use Rattle.kpn_machine.specs.Machine.{Machine, channel_in, wait_in, IsMachine, with_channel}
@@ -52,14 +52,6 @@ has_room_made false reserved before after is keep =
     }
 
 module _ (s : Machine) (c : ℕ) (there : c < length s.channels) where
-  -- a put that is due can be made once an item is reserved
-  pub open_then : (d : Machine) → d ≡ with_channel c (with_room (channel_in s c)) s
-      → is_channel_full (channel_in s c) ≡ false → is_open (channel_in d c) ≡ true
-  open_then d after due =
-      ap (λ x. is_open (channel_in x c)) after
-      ∙ ap is_open (get_or-set_same s.channels c (with_room (channel_in s c)) (opened None false) there)
-      ∙ ap not due
-
   -- the code writes the channel back even if it is as before
   pub room_made : (b : Bool) (channel before : ChannelState) → channel ≡ cond b (with_room before) before
       → before ≡ channel_in s c

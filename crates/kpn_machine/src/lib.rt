@@ -8,5 +8,5 @@ mod machine;
 mod port_channels;
 
 pub use ends::stop_of;
-pub use machine::{Got, Grown, Machine, OwedGrowth, Put, frames_at_start};
+pub use machine::{Got, Grown, Machine, OwedGrowth, frames_at_start};
 pub use port_channels::{in_channel, out_channel};

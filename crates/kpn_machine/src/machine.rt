@@ -28,7 +28,7 @@ mod verdicts;
 
 pub use growth::{Grown, OwedGrowth};
 use marked_waits::MarkedWaits;
-pub use processes::{Got, Put};
+pub use processes::Got;
 pub use start::frames_at_start;
 
 /// The states of the processes of a network and the contents of its channels at one moment of a run.

@@ -84,9 +84,8 @@ fn get(state: &mut Machine, network: &Network, p: usize, c: usize, item: i64) ->
     ensures { IsMachine network.now state.new }
 {
     to_read(state, network, p, c)?;
-    let Some(got) = state.get(network, p, c) else {
-        bail!("there is no item");
-    };
+    ensure!(state.has_item(c), "there is no item");
+    let got = state.get(network, p, c);
     ensure!(got.item == item, "another item was got");
     woken(got.woken)
 }
@@ -100,10 +99,8 @@ fn put(state: &mut Machine, network: &Network, p: usize, c: usize, item: i64) ->
     let written = to_write(state, network, p, c)?;
     ensure!(written == item, "the process writes another item");
     ensure!(state.channel(c).room(), "there is no room");
-    let Some(put) = state.put(network, p, c, written) else {
-        bail!("the channel is full");
-    };
-    woken(put.woken)
+    ensure!(!state.channel(c).is_full(), "the channel is full");
+    woken(state.put(network, p, c, written))
 }
 
 fn wait_on_empty(state: &mut Machine, network: &Network, p: usize, c: usize) -> Woken

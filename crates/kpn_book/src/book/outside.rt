@@ -77,8 +77,7 @@ impl<'n, A: Allocator> Book<'n, A> {
             return Ok(());
         }
         self.parts.history.reserve(2)?;
-        self.parts.machine.close(network, source);
-        self.parts.history.push(Event::Close(number(source)));
+        self.parts.close(source);
         let _grown = self.parts.grow_at_stop();
         Ok(())
     }
@@ -102,11 +101,9 @@ impl<'n, A: Allocator> Book<'n, A> {
             return Ok(None);
         }
         self.parts.history.reserve(2)?;
-        let got = self.parts.machine.take(network, sink);
-        self.parts.history.push(Event::Take(number(sink), got.item));
-        wake(&mut self.parts.schedule, got.woken);
+        let item = self.parts.take(sink);
         let _grown = self.parts.grow_at_stop();
-        Ok(Some(got.item))
+        Ok(Some(item))
     }
 
     /// Leaves a sink: the outside takes nothing from it any more, and it is never full. A second call changes nothing
@@ -125,9 +122,7 @@ impl<'n, A: Allocator> Book<'n, A> {
             return Ok(());
         }
         self.parts.history.reserve(2)?;
-        let woken = self.parts.machine.leave(network, sink);
-        self.parts.history.push(Event::Leave(number(sink)));
-        wake(&mut self.parts.schedule, woken);
+        self.parts.leave(sink);
         let _grown = self.parts.grow_at_stop();
         Ok(())
     }

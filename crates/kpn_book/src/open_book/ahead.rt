@@ -1,20 +1,38 @@
 //! Turns of which nobody sees the order. A process gets and puts items in place, as long as it can. It stays the first
 //! of the queue, and then goes to its tail without an event. Only if it could do nothing, it is committed at its stop.
-ghost use Rattle.std.specs.Prelude.{◌≡◌, ◌≢◌, ◌<◌, ◌≤◌, ◌+◌, ◌*◌, ◌^◌, false, slice_get, Some, IfOk, OnErr};
+ghost use Rattle.std.specs.Prelude.{◌≡◌, ◌≢◌, ◌<◌, ◌≤◌, ◌+◌, ◌*◌, ◌^◌, ℤ, true, false, slice_get, Some, IfSome, IfNone, IfOk, OnErr};
+ghost use Rattle.kpn_net.specs.Tables.{program_of};
+ghost use Rattle.kpn_step.specs.Frame.{Frame};
+ghost use Rattle.kpn_step.specs.Stops.{IsAtPort};
 ghost use Rattle.kpn_step.specs.declared.stop.Stop.TheVariants as stops;
+ghost use Rattle.kpn_machine.specs.Due.{Stands, ReadsFrom, WritesTo};
+ghost use Rattle.kpn_book.specs.Schedule.{HoldsFirst, first_held};
 ghost use Rattle.kpn_book.specs.declared.open_book.ahead.TheConstants.{LONGEST_TURN};
+ghost use Rattle.kpn_book.specs.declared.answers.Done.TheVariants as done;
+ghost use Rattle.kpn_book.specs.declared.open_book.Hold.TheVariants as hold;
 ghost use Rattle.kpn_book.specs.Book.{held_count};
+ghost use Rattle.kpn_book.specs.Commits.{IsReadFrom, IsWriteTo};
 ghost use Rattle.kpn_book.specs.GoingOn.{RunsInAnyOrder, AnyOrderInVain};
 ghost use Rattle.kpn_book.specs.InARow.{StepsUncommitted};
 ghost use Rattle.kpn_book.specs.Kept.{IsKept};
-ghost use Rattle.kpn_book.specs.Open.{book_of, GoesFurther};
+ghost use Rattle.kpn_book.specs.Open.{book_of, first_claimed, MayCommit, StaysFirst, HandlesAhead, GoesFurther};
 
-use super::{OpenBook, wake};
+use super::turns::{if_sink, is_open};
+use super::{Hold, OpenBook, wake};
+use kpn_chan::Channel;
+use kpn_machine::{in_channel, out_channel};
 use kpn_step::Stop;
 use std::alloc::{AllocError, Allocator};
 
 /// How many gets and puts a process makes in its turn at most.
 const LONGEST_TURN: u64 = 128;
+
+/// A get or put: on which sink an item was put, if it was, and whether a put has filled its channel.
+#[derive(Clone, Copy)]
+pub(crate) struct Exchanged {
+    sink: Option<usize>,
+    fills: bool,
+}
 
 impl<'n, A: Allocator> OpenBook<'n, A> {
     /// Makes turns in any order, as `Book::go_on` says.
@@ -111,7 +129,6 @@ impl<'n, A: Allocator> OpenBook<'n, A> {
             self.schedule.rotate(p);
             return Ok(Some(None));
         };
-        wake(&mut self.schedule, exchanged.woken);
         self.commits += 1;
         if exchanged.sink.is_some() {
             return Ok(Some(exchanged.sink));
@@ -121,6 +138,94 @@ impl<'n, A: Allocator> OpenBook<'n, A> {
             return Ok(Some(None));
         }
         Ok(None)
+    }
+
+    /// Process `p`, which is the first of the queue, makes the get or put of this stop, if it can at once. It stays the
+    /// first.
+    #[inline(always)]
+    fn exchange(&mut self, p: usize, stop: Stop) -> Option<Exchanged>
+        requires first { HoldsFirst p self.old.schedule (first_held p self.old.schedule) }
+        requires kept { IsKept (first_claimed p (book_of self.old)) }
+        requires room { 2 ≤ self.old.history.room }
+        requires stands { Stands self.old.network.now self.old.machine p stop }
+        requires port { (f : Frame) × IsAtPort (program_of self.old.network.now p) f stop }
+        ensures goes { IfSome result (λ made.
+            HandlesAhead p stop made.sink (book_of self.old) (book_of self.new)) }
+        ensures stuck { IfNone result (self.new ≡ self.old) }
+        ensures room { self.old.history.room ≤ self.new.history.room + 1 }
+    {
+        let network = self.network;
+        network.known();
+        match stop {
+            Stop::WantRead(port) => {
+                let c = in_channel(network, p, port);
+                if !self.get_ahead(p, c) {
+                    return None;
+                }
+                Some(Exchanged {
+                    sink: None,
+                    fills: false,
+                })
+            }
+            Stop::WantWrite(port, item) => {
+                let c = out_channel(network, p, port);
+                let fills = is_filled_by_one(self.machine.channel(c));
+                if !self.put_ahead(p, c, item) {
+                    return None;
+                }
+                let sink = if_sink(network, c);
+                Some(Exchanged { sink, fills })
+            }
+            _ => None,
+        }
+    }
+
+    /// Process `p`, which is the first of the queue and at a read from channel `c`, gets its next item, if it has one.
+    #[inline(always)]
+    fn get_ahead(&mut self, p: usize, c: usize) -> bool
+        requires may { MayCommit hold.First p self.old }
+        requires reads { ReadsFrom self.old.network.now self.old.machine p c }
+        ensures got { let t = self.old.network.now in result ≡ true → (v : ℤ)
+            × StaysFirst p (λ s. IsReadFrom t p s c) (done.Got v) self.old self.new }
+        ensures as_before { result ≡ false → self.new ≡ self.old }
+        ensures room { self.old.history.room ≤ self.new.history.room + 1 }
+    {
+        self.network.known();
+        if !self.machine.has_item(c) {
+            return false;
+        }
+        let got = self.get_item(Hold::First, p, c);
+        wake(&mut self.schedule, got.woken);
+        true
+    }
+
+    /// Process `p`, which is the first of the queue and at a write of this item to channel `c`, puts it there, if it
+    /// can at once.
+    #[inline(always)]
+    fn put_ahead(&mut self, p: usize, c: usize, item: i64) -> bool
+        requires may { MayCommit hold.First p self.old }
+        requires writes { WritesTo self.old.network.now self.old.machine p c item }
+        ensures put { let t = self.old.network.now in result ≡ true
+            → StaysFirst p (λ s. IsWriteTo t p s c item) done.Put self.old self.new }
+        ensures as_before { result ≡ false → self.new ≡ self.old }
+        ensures room { self.old.history.room ≤ self.new.history.room + 1 }
+    {
+        self.network.known();
+        if !is_open(self.machine.channel(c)) {
+            return false;
+        }
+        let woken = self.put_item(Hold::First, p, c, item);
+        wake(&mut self.schedule, woken);
+        true
+    }
+}
+
+/// Whether one item more fills a channel.
+#[inline(always)]
+fn is_filled_by_one<A: Allocator>(channel: &Channel<A>) -> bool {
+    match channel.cap() {
+        Some(capacity) => capacity as usize <= channel.len().saturating_add(1),
+        None => false,
     }
 }
 

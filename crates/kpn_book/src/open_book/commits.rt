@@ -1,12 +1,12 @@
 //! The commit of a held process at its stop. One function for each kind of stop makes the event that is due there, and
 //! after a wait or an end the growth that is owed.
-ghost use Rattle.std.specs.Prelude.{◌≡◌, ◌≢◌, ◌<◌, ◌≤◌, ◌+◌, ℕ, ℤ, [], true, false, length, option_to_list, IsTrue, IfSome, IfNone};
+ghost use Rattle.std.specs.Prelude.{◌≡◌, ◌≢◌, ◌<◌, ◌≤◌, ◌+◌, ℕ, ℤ, [], true, false, length, option_to_list, IsSome, IsTrue};
 ghost use Rattle.kpn_net.specs.Tables.{program_of};
 ghost use Rattle.kpn_step.specs.declared.stop.Stop.{Stop as Place};
 ghost use Rattle.kpn_step.specs.declared.stop.Stop.TheVariants.{Paused};
 ghost use Rattle.kpn_step.specs.Frame.{Frame};
 ghost use Rattle.kpn_step.specs.Stops.{IsAtPort};
-ghost use Rattle.kpn_chan.specs.Channel.{is_channel_full, unread};
+ghost use Rattle.kpn_chan.specs.Channel.{is_channel_full, next_item, unread};
 ghost use Rattle.kpn_history.specs.Legal.{OwesGrowth, growth_after};
 ghost use Rattle.kpn_history.specs.Stops.{OwesNoCycleGrowth};
 ghost use Rattle.kpn_history.specs.Views.{is_ready};
@@ -24,7 +24,7 @@ use super::{Hold, OpenBook, number, wake};
 use crate::answers::Done;
 use crate::schedule::Schedule;
 use kpn_history::{Event, How, State};
-use kpn_machine::{Got, Put, in_channel, out_channel};
+use kpn_machine::{Got, in_channel, out_channel};
 use kpn_step::Stop;
 use std::alloc::{AllocError, Allocator};
 
@@ -94,30 +94,32 @@ impl<'n, A: Allocator> OpenBook<'n, A> {
         ensures { let t = self.old.network.now in
             IsCommit hold p (λ s. IsReadFrom t p s c) result self.old self.new }
     {
-        let Some(got) = self.get_item(hold, p, c) else {
+        let network = self.network;
+        network.known();
+        if !self.machine.has_item(c) {
             return self.wait_on_empty(hold, p, c);
-        };
+        }
+        let got = self.get_item(hold, p, c);
         go_on(&mut self.schedule, hold, p, got.woken);
         Done::Got(got.item)
     }
 
-    /// Process `p`, which is at a read from channel `c`, gets its next item. The schedule stays: that `p` and the
-    /// process that this wakes are ready is left to the caller. `None` if there is no item; then nothing has changed.
+    /// Process `p` gets the next item of channel `c`, at a read from which it is. The schedule stays: that `p` and the
+    /// process that this wakes are ready is left to the caller.
     #[inline(always)]
-    pub(super) fn get_item(&mut self, hold: Hold, p: usize, c: usize) -> Option<Got>
+    pub(super) fn get_item(&mut self, hold: Hold, p: usize, c: usize) -> Got
         requires may { MayCommit hold p self.old }
         requires reads { ReadsFrom self.old.network.now self.old.machine p c }
-        ensures gets { let t = self.old.network.now in IfSome result (λ got. LeavesReady hold p
-            (λ s. IsReadFrom t p s c) (done.Got got.item) got.woken self.old self.new) }
-        ensures empty { IfNone result (unread (channel_in self.old.machine c) ≡ []) }
-        ensures as_before { IfNone result (self.new ≡ self.old) }
+        requires item { IsSome (next_item (channel_in self.old.machine c)) }
+        ensures { let t = self.old.network.now in
+            LeavesReady hold p (λ s. IsReadFrom t p s c) (done.Got result.item) result.woken self.old self.new }
     {
         let network = self.network;
         network.known();
-        let got = self.machine.get(network, p, c)?;
+        let got = self.machine.get(network, p, c);
         self.history
             .push(Event::Get(number(p), number(c), got.item));
-        Some(got)
+        got
     }
 
     /// Process `p`, which is at a write of this item to channel `c`, puts it there, or waits if the channel is full.
@@ -129,31 +131,45 @@ impl<'n, A: Allocator> OpenBook<'n, A> {
         ensures { let t = self.old.network.now in
             IsCommit hold p (λ s. IsWriteTo t p s c item) result self.old self.new }
     {
-        let Some(put) = self.put_item(hold, p, c, item) else {
+        let network = self.network;
+        network.known();
+        if self.machine.channel(c).is_full() {
             return self.wait_on_full(hold, p, c, item);
-        };
-        go_on(&mut self.schedule, hold, p, put.woken);
+        }
+        self.put(hold, p, c, item);
         Done::Put
     }
 
-    /// Process `p`, which is at a write of this item to channel `c`, puts it there, if the channel is not full and the
-    /// item is reserved. The schedule stays: that `p` and the process that this wakes are ready is left to the caller.
-    /// `None` if it can't; then nothing has changed.
+    /// The same if the channel is not full.
     #[inline(always)]
-    pub(super) fn put_item(&mut self, hold: Hold, p: usize, c: usize, item: i64) -> Option<Put>
+    pub(super) fn put(&mut self, hold: Hold, p: usize, c: usize, item: i64)
         requires may { MayCommit hold p self.old }
         requires writes { WritesTo self.old.network.now self.old.machine p c item }
-        ensures puts { let t = self.old.network.now in IfSome result (λ put. LeavesReady hold p
-            (λ s. IsWriteTo t p s c item) done.Put put.woken self.old self.new) }
-        ensures full { IfNone result (IsTrue (channel_in self.old.machine c).is_reserved
-            → is_channel_full (channel_in self.old.machine c) ≡ true) }
-        ensures as_before { IfNone result (self.new ≡ self.old) }
+        requires ready { is_channel_full (channel_in self.old.machine c) ≡ false }
+        requires reserved { IsTrue (channel_in self.old.machine c).is_reserved }
+        ensures { let t = self.old.network.now in
+            IsCommit hold p (λ s. IsWriteTo t p s c item) done.Put self.old self.new }
+    {
+        let woken = self.put_item(hold, p, c, item);
+        go_on(&mut self.schedule, hold, p, woken);
+    }
+
+    /// Process `p` puts this item on channel `c`, at a write of it to which it is. The schedule stays: that `p` and the
+    /// process that this wakes are ready is left to the caller.
+    #[inline(always)]
+    pub(super) fn put_item(&mut self, hold: Hold, p: usize, c: usize, item: i64) -> Option<usize>
+        requires may { MayCommit hold p self.old }
+        requires writes { WritesTo self.old.network.now self.old.machine p c item }
+        requires ready { is_channel_full (channel_in self.old.machine c) ≡ false }
+        requires reserved { IsTrue (channel_in self.old.machine c).is_reserved }
+        ensures { let t = self.old.network.now in
+            LeavesReady hold p (λ s. IsWriteTo t p s c item) done.Put result self.old self.new }
     {
         let network = self.network;
         network.known();
-        let put = self.machine.put(network, p, c, item)?;
+        let woken = self.machine.put(network, p, c, item);
         self.history.push(Event::Put(number(p), number(c), item));
-        Some(put)
+        woken
     }
 
     // The next three are rare. They write the state of the process once: a ready one goes from there to its wait or
@@ -300,12 +316,7 @@ impl<'n, A: Allocator> OpenBook<'n, A> {
 /// Puts process `p`, which is held, to the tail of the queue, and a process that was woken behind it.
 // It tests first whether there is one. So where the channel has no mark, no value says that nobody was woken.
 #[inline(always)]
-pub(super) fn go_on<A: Allocator>(
-    schedule: &mut Schedule<A>,
-    hold: Hold,
-    p: usize,
-    woken: Option<usize>,
-)
+fn go_on<A: Allocator>(schedule: &mut Schedule<A>, hold: Hold, p: usize, woken: Option<usize>)
     requires held { IsHeldBy hold p schedule.old }
     requires woken { MayBeReady (made_ready p (holding hold p schedule.old)) (option_to_list woken) }
     ensures { schedule.new ≡ all_made_ready (option_to_list woken)

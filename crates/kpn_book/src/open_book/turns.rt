@@ -1,6 +1,7 @@
 //! Turns in a row: the first process of the queue makes steps and is committed, again and again. A process that gets or
 //! puts an item stays ready, so its state is not written: the queue is rotated.
-ghost use Rattle.std.specs.Prelude.{◌≡◌, ◌≢◌, ◌<◌, ◌≤◌, ◌+◌, ◌*◌, ◌^◌, length, slice_get, Some, IfSome, IfNone, IfOk, OnErr, IsTrue};
+ghost use Rattle.std.specs.Prelude.{◌≡◌, ◌≢◌, ◌<◌, ◌≤◌, ◌+◌, ◌*◌, ◌^◌, true, false, length, slice_get, Some, IfOk, OnErr, IsTrue};
+ghost use Rattle.kpn_chan.specs.Channel.{is_channel_full};
 ghost use Rattle.kpn_net.specs.Tables.{program_of};
 ghost use Rattle.kpn_step.specs.Frame.{Frame};
 ghost use Rattle.kpn_step.specs.declared.stop.Stop.TheVariants as stops;
@@ -13,24 +14,15 @@ ghost use Rattle.kpn_book.specs.Book.{held_count};
 ghost use Rattle.kpn_book.specs.Commits.{IsWriteTo};
 ghost use Rattle.kpn_book.specs.Kept.{IsKept};
 ghost use Rattle.kpn_book.specs.InARow.{RunsInRow, RunsInVain, StepsUncommitted};
-ghost use Rattle.kpn_book.specs.Open.{book_of, first_claimed, MayCommit, if_sink, AnsweredFirst, HandlesFirst, IsTurn, Exchanges};
+ghost use Rattle.kpn_book.specs.Open.{book_of, first_claimed, MayCommit, if_sink, AnsweredFirst, HandlesFirst, IsTurn};
 
-use super::commits::go_on;
 use super::{Hold, OpenBook};
 use crate::answers::Done;
 use kpn_chan::Channel;
-use kpn_machine::{in_channel, out_channel};
+use kpn_machine::out_channel;
 use kpn_net::Network;
 use kpn_step::Stop;
 use std::alloc::{AllocError, Allocator};
-
-/// A get or put: whom it wakes, on which sink an item was put, if it was, and whether a put has filled its channel.
-#[derive(Clone, Copy)]
-pub(super) struct Exchanged {
-    pub(super) woken: Option<usize>,
-    pub(super) sink: Option<usize>,
-    pub(super) fills: bool,
-}
 
 impl<'n, A: Allocator> OpenBook<'n, A> {
     /// Makes turns in a row, as `Book::run_on` says.
@@ -83,63 +75,15 @@ impl<'n, A: Allocator> OpenBook<'n, A> {
         network.known();
         self.schedule.known();
         let (_, stop) = self.machine.step(network, p, quota);
-        let Some(exchanged) = self.exchange(p, stop) else {
-            let sink = self.handle_first(p, stop)?;
-            self.commits += 1;
-            self.schedule.known();
-            return Ok(sink);
-        };
-        go_on(&mut self.schedule, Hold::First, p, exchanged.woken);
+        let sink = self.handle_first(p, stop)?;
         self.commits += 1;
         self.schedule.known();
-        Ok(exchanged.sink)
+        Ok(sink)
     }
 
-    /// Process `p`, which is the first of the queue, makes the get or put of this stop, if it can at once. The schedule
-    /// stays: who is woken is left to the caller.
+    /// Commits process `p`, which is the first of the queue, at this stop. Returns the sink on which it has put an
+    /// item, if it has. The error is that memory ran out, and then nothing has changed.
     #[inline(always)]
-    pub(super) fn exchange(&mut self, p: usize, stop: Stop) -> Option<Exchanged>
-        requires first { HoldsFirst p self.old.schedule (first_held p self.old.schedule) }
-        requires kept { IsKept (first_claimed p (book_of self.old)) }
-        requires room { 2 ≤ self.old.history.room }
-        requires stands { Stands self.old.network.now self.old.machine p stop }
-        requires port { (f : Frame) × IsAtPort (program_of self.old.network.now p) f stop }
-        ensures goes { IfSome result (λ made.
-            Exchanges p stop made.woken made.sink (book_of self.old) (book_of self.new)) }
-        ensures stuck { IfNone result (self.new ≡ self.old) }
-        ensures room { self.old.history.room ≤ self.new.history.room + 1 }
-    {
-        let network = self.network;
-        network.known();
-        match stop {
-            Stop::WantRead(port) => {
-                let c = in_channel(network, p, port);
-                let got = self.get_item(Hold::First, p, c)?;
-                Some(Exchanged {
-                    woken: got.woken,
-                    sink: None,
-                    fills: false,
-                })
-            }
-            Stop::WantWrite(port, item) => {
-                let c = out_channel(network, p, port);
-                let fills = is_filled_by_one(self.machine.channel(c));
-                let put = self.put_item(Hold::First, p, c, item)?;
-                Some(Exchanged {
-                    woken: put.woken,
-                    sink: if_sink(network, c),
-                    fills,
-                })
-            }
-            _ => None,
-        }
-    }
-
-    /// Commits process `p`, which is the first of the queue, at this stop. For a write it reserves the item first.
-    /// Returns the sink on which it has put an item, if it has. The error is that memory ran out, and then nothing has
-    /// changed.
-    #[cold]
-    #[inline(never)]
     pub(super) fn handle_first(&mut self, p: usize, stop: Stop) -> Result<Option<usize>, AllocError>
     where
         A: Copy,
@@ -161,11 +105,17 @@ impl<'n, A: Allocator> OpenBook<'n, A> {
             return Ok(None);
         };
         let c = out_channel(network, p, port);
+        if is_open(self.machine.channel(c)) {
+            self.put(Hold::First, p, c, item);
+            return Ok(if_sink(network, c));
+        }
         self.machine.reserve_one(c)?;
         Ok(self.write_later(p, c, item))
     }
 
     /// Puts an item as `write` does, and returns the channel if it is a sink that got it.
+    #[cold]
+    #[inline(never)]
     fn write_later(&mut self, p: usize, c: usize, item: i64) -> Option<usize>
         requires may { MayCommit hold.First p self.old }
         requires writes { WritesTo self.old.network.now self.old.machine p c item }
@@ -195,17 +145,17 @@ fn turns_for(room: usize, left: u64) -> u64
     if turns < left { turns } else { left }
 }
 
-/// Whether one item more fills a channel.
+/// Whether an item can be put on a channel at once: its reader is there, it is not full, and the item is reserved.
+// The reader comes first, since the compiler then tests only once whether there is a ring.
 #[inline(always)]
-fn is_filled_by_one<A: Allocator>(channel: &Channel<A>) -> bool {
-    match channel.cap() {
-        Some(capacity) => capacity as usize <= channel.len().saturating_add(1),
-        None => false,
-    }
+pub(super) fn is_open<A: Allocator>(channel: &Channel<A>) -> bool
+    ensures { result ≡ true → IsTrue channel.now.is_reserved × (is_channel_full channel.now ≡ false) }
+{
+    !channel.is_retired() && !channel.is_full() && channel.room()
 }
 
 /// The channel, if it is a sink.
-fn if_sink(network: &Network, c: usize) -> Option<usize>
+pub(super) fn if_sink(network: &Network, c: usize) -> Option<usize>
     requires { c < length network.now.channels }
     ensures { result ≡ if_sink network.now c }
 {

@@ -3,8 +3,8 @@
 ghost use Rattle.std.specs.List.{Contains, filter_map};
 ghost use Rattle.std.specs.Option.{option_to_list};
 ghost use Rattle.arrayvec.specs.ArrayVec.{array_vec_len};
-ghost use Rattle.std.specs.Prelude.{◌≡◌, ◌+◌, ◌<◌, ◌≤◌, ℕ, ℤ, true, List, [], ◌∷◌, ◌++◌, length, is_some, IsTrue, IfSome, IfNone, Some, None};
-ghost use Rattle.kpn_chan.specs.Channel.{unread, is_channel_full, is_open, next_item};
+ghost use Rattle.std.specs.Prelude.{◌≡◌, ◌+◌, ◌<◌, ◌≤◌, ℕ, ℤ, true, false, List, [], ◌∷◌, ◌++◌, length, IsTrue, IsSome, Some};
+ghost use Rattle.kpn_chan.specs.Channel.{unread, is_channel_full, next_item};
 ghost use Rattle.kpn_net.specs.Waits.{AreWaits};
 ghost use Rattle.kpn_history.specs.declared.event.Event.{Event};
 ghost use Rattle.kpn_history.specs.declared.event.Event.TheVariants as event;
@@ -31,70 +31,57 @@ pub struct Got {
     pub woken: Option<usize>,
 }
 
-/// The process that a put wakes: the reader of the channel, if it waited on it as empty.
-#[derive(Clone, Copy, Debug, PartialEq, Eq)]
-pub struct Put {
-    pub woken: Option<usize>,
-}
-
 impl<A: Allocator> Machine<A> {
-    /// Process `p`, which is at a read from channel `c`, gets the next item of the channel, if there is one. `None` if
-    /// there is none; then nothing has changed.
+    /// Process `p`, which is at a read from channel `c`, gets the next item of the channel.
     #[inline(always)]
-    pub fn get(&mut self, network: &Network, p: usize, c: usize) -> Option<Got>
+    pub fn get(&mut self, network: &Network, p: usize, c: usize) -> Got
         requires shape { IsMachine network.now self.old }
         requires process { p < length network.now.instances }
         requires free { IsFree self.old p }
         requires reads { ReadsFrom network.now self.old p c }
-        ensures item { IfSome result (λ got. next_item (channel_in self.old c) ≡ Some got.item) }
-        ensures woken { IfSome result (λ got. got.woken ≡ waiting_writer network.now self.old.waits c) }
-        ensures changes { IfSome result (λ got.
-            Changes network.now (event.Get p c got.item) self.old self.new) }
+        requires ready { IsSome (next_item (channel_in self.old c)) }
+        ensures item { next_item (channel_in self.old c) ≡ Some result.item }
+        ensures woken { result.woken ≡ waiting_writer network.now self.old.waits c }
+        ensures changes { Changes network.now (event.Get p c result.item) self.old self.new }
         ensures shape { IsMachine network.now self.new }
-        ensures run { IfSome result (λ got. (H : List Event) → IsRun network.now H self.old
-            → OwesNothing network.now H
-            → IsRun network.now (H ++ event.Get p c got.item ∷ []) self.new) }
-        ensures nothing { IfNone result (next_item (channel_in self.old c) ≡ None) }
-        ensures as_before { IfNone result (self.new ≡ self.old) }
+        ensures run { (H : List Event) → IsRun network.now H self.old → OwesNothing network.now H
+            → IsRun network.now (H ++ event.Get p c result.item ∷ []) self.new }
     {
         network.known();
         // First the item leaves the ring, and then the frame passes its read. The other order takes 5 instructions a
         // commit more.
         let channel = &mut self.channels[c];
         let Some(item) = channel.get() else {
-            return None;
+            unreachable!();
         };
         let frame = &mut self.frames[p];
         frame.pass_read(network.program(p), item);
         let woken = self.waits.wake_writer(network, c);
-        Some(Got { item, woken })
+        Got { item, woken }
     }
 
-    /// Process `p`, which is at a write of this item to channel `c`, puts it there, if the channel is not full and the
-    /// item is reserved. `None` if it can't; then nothing has changed.
-    #[inline(always)]
-    pub fn put(&mut self, network: &Network, p: usize, c: usize, item: i64) -> Option<Put>
+    /// Process `p`, which is at a write of this item to channel `c`, puts it there. The channel is not full and has
+    /// room reserved. It returns the process that this wakes, which is the reader of the channel, if it waited on it as
+    /// empty.
+    pub fn put(&mut self, network: &Network, p: usize, c: usize, item: i64) -> Option<usize>
         requires shape { IsMachine network.now self.old }
         requires process { p < length network.now.instances }
         requires free { IsFree self.old p }
         requires writes { WritesTo network.now self.old p c item }
-        ensures can { is_some result ≡ is_open (channel_in self.old c) }
-        ensures woken { IfSome result (λ put. put.woken ≡ waiting_reader network.now self.old.waits c) }
-        ensures changes { IfSome result (λ _. Changes network.now (event.Put p c item) self.old self.new) }
+        requires ready { is_channel_full (channel_in self.old c) ≡ false }
+        requires reserved { IsTrue (channel_in self.old c).is_reserved }
+        ensures woken { result ≡ waiting_reader network.now self.old.waits c }
+        ensures changes { Changes network.now (event.Put p c item) self.old self.new }
         ensures shape { IsMachine network.now self.new }
-        ensures run { IfSome result (λ _. (H : List Event) → IsRun network.now H self.old
-            → OwesNothing network.now H → IsRun network.now (H ++ event.Put p c item ∷ []) self.new) }
-        ensures as_before { IfNone result (self.new ≡ self.old) }
+        ensures run { (H : List Event) → IsRun network.now H self.old → OwesNothing network.now H
+            → IsRun network.now (H ++ event.Put p c item ∷ []) self.new }
     {
         network.known();
         let channel = &mut self.channels[c];
-        if !channel.put_if_open(item) {
-            return None;
-        }
+        channel.put(item);
         let frame = &mut self.frames[p];
         frame.pass_write(network.program(p));
-        let woken = self.waits.wake_reader(network, c);
-        Some(Put { woken })
+        self.waits.wake_reader(network, c)
     }
 
     /// Process `p`, which is at a read from channel `c`, waits on it as empty. Nothing is unread there.

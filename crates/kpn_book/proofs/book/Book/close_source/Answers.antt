@@ -1,62 +1,33 @@
-use Rattle.std.proofs.Common.{◌≡◌, true, false, [], ◌∷◌, ◌++◌, refl, sym, ap, ◌∙◌, subst, rules}
+use Rattle.std.proofs.Common.{◌≡◌, true, false, refl, subst, rules, sym}
 use Rattle.kpn_net.specs.Tables.{channel_at, is_source}
 use Rattle.kpn_history.specs.declared.event.Event.TheVariants as event
 use Rattle.kpn_machine.specs.Machine.{closed_in}
-use Rattle.kpn_machine.proofs.Due.{Legal-due}
 use Rattle.kpn_book.specs.Refusals.{Closes}
-use Rattle.kpn_book.specs.Open.{book_of, Follows}
-use Rattle.kpn_book.proofs.Following.{own_none, followed, recorded, channel_fits}
+use Rattle.kpn_book.specs.Open.{book_of}
+use Rattle.kpn_book.proofs.Following.{recorded}
 use Rattle.kpn_book.proofs.Answering.{no_cycle_then, happens}
 use Rattle.kpn_book.proofs.Committing.{kept_grown, source_there}
-use Rattle.kpn_book.proofs.Outside.{closed, in_closed, kept_with_memory}
-use Rattle.kpn_book.proofs.book.Book.close_source.Given as given
+use Rattle.kpn_book.proofs.Outside.{sound_reserved, follows_reserved, closed, in_closed, kept_with_memory}
 use Rattle.kpn_book.proofs.book.Book.close_source.Goals as goal
-use Rattle.kpn_book.proofs.book.Book.close_source.Goals.{After-push}
 
-follows : (g : given.Over) (c : After-push g)
-    → let b = book_of c.self.inside.parts in
-    Follows (event.Close c.args.source) b (recorded b c.push.new.self c.close.new.self b.schedule)
-follows g c =
-    let b = book_of c.self.inside.parts in
-    let e = event.Close c.args.source in
-    let step = c.self.invariant.in_step in
-    let source : is_source (channel_at b.tables c.args.source) ≡ true = search rules in
-    let not_closed : closed_in b.machine c.args.source ≡ false = search rules in
-    followed b c.known.ensures step e (own_none b) tt c.close.new.self c.close.ensures.changes c.close.ensures.shape
-    (Legal-due b.tables c.known.ensures b.history b.machine step.run c.self.invariant.nothing_owed e
-    (source_there b.tables c.args.source source) (source, not_closed))
-    (event.Close c.number.result) c.push.new.self b.schedule b.schedule [] (ap (λ x. event.Close x) c.number.ensures)
-    (c.push.ensures.events ∙ ap (λ H. H ++ event.Close c.number.result ∷ []) c.reserve.ensures.events)
-    (c.push.ensures.kept ∙ c.reserve.ensures.kept) refl refl refl
-
-pub close-requires-clause-channel : goal.close-requires-clause-channel
-close-requires-clause-channel g c =
-    let b = book_of c.self.inside.parts in
-    let source : is_source (channel_at b.tables c.args.source) ≡ true = search rules in
-    source_there b.tables c.args.source source
-
-pub number-requires : goal.number-requires
-number-requires g c =
-    let b = book_of c.self.inside.parts in
-    let source : is_source (channel_at b.tables c.args.source) ≡ true = search rules in
-    channel_fits b.tables c.known.ensures c.args.source (source_there b.tables c.args.source source)
-
-pub grow_at_stop-grown-requires-clause-step : goal.grow_at_stop-grown-requires-clause-step
-grow_at_stop-grown-requires-clause-step g c =
-    (follows g (goal.at.grow_at_stop-grown-requires-clause-step g c).After-push).in_step
+pub close-requires-clause-sound : goal.close-requires-clause-sound
+close-requires-clause-sound g c =
+    sound_reserved (book_of c.self.inside.parts) c.reserve.new.self c.in_ok-reserve.ensures.events c.in_ok-reserve.ensures.kept
+    c.self.invariant
 
 pub grow_at_stop-grown-requires-clause-no_cycle : goal.grow_at_stop-grown-requires-clause-no_cycle
 grow_at_stop-grown-requires-clause-no_cycle g c =
     let b = book_of c.self.inside.parts in
-    no_cycle_then (event.Close c.args.source) b (recorded b c.push.new.self c.close.new.self b.schedule)
-    (follows g (goal.at.grow_at_stop-grown-requires-clause-no_cycle g c).After-push) refl
+    no_cycle_then (event.Close c.args.source) (recorded b c.reserve.new.self b.machine b.schedule)
+    (book_of c.close.new.self) c.close.ensures.follows refl
 
 pub invariant_of-self-2 : goal.invariant_of-self-2
 invariant_of-self-2 g c =
     let b = book_of c.self.inside.parts in
-    kept_grown b (recorded b c.push.new.self c.close.new.self b.schedule) _ (event.Close c.args.source)
-    c.grow_at_stop-grown.result c.self.invariant
-    (follows g (goal.at.invariant_of-self-2 g c).After-push) refl c.grow_at_stop-grown.ensures.grows
+    kept_grown b (book_of c.close.new.self) _ (event.Close c.args.source) c.grow_at_stop-grown.result c.self.invariant
+    (follows_reserved b c.reserve.new.self c.in_ok-reserve.ensures.events c.in_ok-reserve.ensures.kept (event.Close c.args.source)
+    (book_of c.close.new.self)
+    c.close.ensures.follows) refl c.grow_at_stop-grown.ensures.grows
 
 pub returns-clause-done : goal.returns-clause-done
 returns-clause-done g c =
@@ -66,9 +37,10 @@ returns-clause-done g c =
     let not_closed : closed_in b.machine c.args.source ≡ false = search rules in
     subst (λ x. Closes c.args.source x a) c.self.view_is
     (closed b a c.args.source source not_closed
-    (happens (event.Close c.args.source) b (recorded b c.push.new.self c.close.new.self b.schedule) a
-    c.grow_at_stop-grown.result (follows g (goal.at.returns-clause-done g c).After-push)
-    c.grow_at_stop-grown.ensures.grows))
+    (happens (event.Close c.args.source) b (book_of c.close.new.self) a c.grow_at_stop-grown.result
+    (follows_reserved b c.reserve.new.self c.in_ok-reserve.ensures.events c.in_ok-reserve.ensures.kept (event.Close c.args.source)
+    (book_of c.close.new.self)
+    c.close.ensures.follows) c.grow_at_stop-grown.ensures.grows))
 
 pub is_closed-requires : goal.is_closed-requires
 is_closed-requires g c =
@@ -78,5 +50,4 @@ is_closed-requires g c =
 
 pub invariant_of-self : goal.invariant_of-self
 invariant_of-self g c =
-    kept_with_memory (book_of c.self.inside.parts) c.reserve.new.self c.reserve.ensures.events c.reserve.ensures.kept
-    c.self.invariant
+    kept_with_memory (book_of c.self.inside.parts) c.reserve.new.self c.reserve.ensures.events c.reserve.ensures.kept c.self.invariant

@@ -1,4 +1,4 @@
-use Rattle.std.proofs.Common.{◌≡◌, refl, sym, subst, ◌∙◌, inl, arith, w64, SFits, rules, to_z, of_z}
+use Rattle.std.proofs.Common.{◌≡◌, true, refl, sym, subst, ◌∙◌, inl, arith, w64, SFits, rules, to_z, of_z}
 use Rattle.std.proofs.lemmas.Int.{to_z-of_z}
 use Rattle.std.proofs.lemmas.List.Elements.{Contains-get_or}
 use Rattle.std.specs.List.{Contains}
@@ -49,80 +49,85 @@ out_channel-c-requires-clause-port g c =
     let long = (IsInstance-of o.tables c.known.ensures c.args.p there).outs in
     omega (arith, below, long)
 
-pub get_item-requires-clause-may : goal.get_item-requires-clause-may
-get_item-requires-clause-may g c = may g (goal.at.get_item-requires-clause-may g c).After-known
+pub get_ahead-requires-clause-may : goal.get_ahead-requires-clause-may
+get_ahead-requires-clause-may g c = may g (goal.at.get_ahead-requires-clause-may g c).After-known
 
-pub put_item-requires-clause-may : goal.put_item-requires-clause-may
-put_item-requires-clause-may g c = may g (goal.at.put_item-requires-clause-may g c).After-known
+pub put_ahead-requires-clause-may : goal.put_ahead-requires-clause-may
+put_ahead-requires-clause-may g c = may g (goal.at.put_ahead-requires-clause-may g c).After-known
 
-pub get_item-requires-clause-reads : goal.get_item-requires-clause-reads
-get_item-requires-clause-reads g c =
+pub get_ahead-requires-clause-reads : goal.get_ahead-requires-clause-reads
+get_ahead-requires-clause-reads g c =
     reads_from c.args.self.now.network.now c.args.self.now.machine c.args.p c.in_channel-c.result
     c.in-WantRead.port c.args.stop c.in-WantRead.is c.in_channel-c.ensures c.requires.stands
 
-pub put_item-requires-clause-writes : goal.put_item-requires-clause-writes
-put_item-requires-clause-writes g c =
+pub put_ahead-requires-clause-writes : goal.put_ahead-requires-clause-writes
+put_ahead-requires-clause-writes g c =
     let v = c.in-WantWrite.item in
     let fits : SFits w64 v = search rules in
     writes_to c.args.self.now.network.now c.args.self.now.machine c.args.p c.out_channel-c.result
     c.in-WantWrite.port v (to_z w64 (of_z w64 v)) c.args.stop c.in-WantWrite.is (to_z-of_z w64 v fits)
     c.out_channel-c.ensures c.requires.stands
 
-pub if_sink-requires : goal.if_sink-requires
-if_sink-requires g c =
+pub if_sink-sink-requires : goal.if_sink-sink-requires
+if_sink-sink-requires g c =
     let t = c.args.self.now.network.now in
     let outs = (instance_at t c.args.p).outs in
     out_is_there t c.known.ensures c.args.p c.out_channel-c.result
     (subst (λ x. Contains outs x) c.out_channel-c.ensures.1
     (Contains-get_or outs c.in-WantWrite.port 0 c.out_channel-c.ensures.0))
 
-pub returns-in_ok-got-in-WantRead-clause-goes : goal.returns-in_ok-got-in-WantRead-clause-goes
-returns-in_ok-got-in-WantRead-clause-goes g c =
+pub returns-else-not-get_ahead-clause-goes : goal.returns-else-not-get_ahead-clause-goes
+returns-else-not-get_ahead-clause-goes g c =
     let b = book_of c.args.self.now in
     let o = first_claimed c.args.p b in
-    let got = c.in_ok-got-in-WantRead.got in
-    let left = c.in_ok-got-in-WantRead.ensures.gets in
-    let woken = option_to_list got.woken in
+    let went : c.get_ahead.result ≡ true = search rules in
+    let made = c.get_ahead.ensures.got went in
+    let order = made.1 in
+    let now =
+    with_ready (option_to_list order.woken) (made_ready c.args.p (first_held c.args.p b.schedule))
+    (book_of c.get_ahead.new.self) in
     record {
-      schedule = left.schedule;
-      may = left.may;
+      woken = order.woken;
+      may = order.may;
+      schedule = order.schedule;
       handles = record {
         reserved = o;
         but = inl refl;
         answered = record {
-          answer = done.Got got.item;
+          answer = done.Got made.0;
           answered =
               asked_otherwise c.args.p (λ s. IsReadFrom b.tables c.args.p s c.in_channel-c.result)
-              (λ s. s ≡ c.args.stop) (done.Got got.item) o
-              (with_ready woken (made_ready c.args.p (first_held c.args.p b.schedule)) (book_of c.get_item.new.self))
+              (λ s. s ≡ c.args.stop) (done.Got made.0) o now
               (λ s is. record {
                 port = c.in-WantRead.port;
                 asks = is ∙ c.in-WantRead.is;
                 channel = c.in_channel-c.ensures;
-              }) left.answered;
+              }) order.answered;
           sink_is = λ s is.
-              sym (puts_on_none b.tables c.args.p (done.Got got.item)
-              (λ put. let clash : done.Got got.item ≡ done.Put = put in absurd cc) s);
+              sym (puts_on_none b.tables c.args.p (done.Got made.0)
+              (λ put. let clash : done.Got made.0 ≡ done.Put = put in absurd cc) s);
         };
       };
     }
 
-pub returns-in_ok-put-in-WantWrite-clause-goes : goal.returns-in_ok-put-in-WantWrite-clause-goes
-returns-in_ok-put-in-WantWrite-clause-goes g c =
+pub returns-else-not-put_ahead-clause-goes : goal.returns-else-not-put_ahead-clause-goes
+returns-else-not-put_ahead-clause-goes g c =
     let b = book_of c.args.self.now in
     let o = first_claimed c.args.p b in
     let d = c.out_channel-c.result in
     let v = c.in-WantWrite.item in
     let fits : SFits w64 v = search rules in
-    let left = c.in_ok-put-in-WantWrite.ensures.puts in
-    let woken = option_to_list c.in_ok-put-in-WantWrite.put.woken in
+    let went : c.put_ahead.result ≡ true = search rules in
+    let order = c.put_ahead.ensures.put went in
     let now =
-    with_ready woken (made_ready c.args.p (first_held c.args.p b.schedule)) (book_of c.put_item.new.self) in
+    with_ready (option_to_list order.woken) (made_ready c.args.p (first_held c.args.p b.schedule))
+    (book_of c.put_ahead.new.self) in
     record {
-      schedule = left.schedule;
-      may = left.may;
+      woken = order.woken;
+      may = order.may;
+      schedule = order.schedule;
       handles =
-          handles_write o o now c.args.p d v c.args.stop c.if_sink.result (inl refl)
+          handles_write o o now c.args.p d v c.args.stop c.if_sink-sink.result (inl refl)
           (λ s is. record {
             port = c.in-WantWrite.port;
             asks = is ∙ c.in-WantWrite.is;
@@ -132,8 +137,8 @@ returns-in_ok-put-in-WantWrite-clause-goes g c =
             answer = done.Put;
             answered =
                 subst (λ w. Answered c.args.p (λ s. IsWriteTo b.tables c.args.p s d w) done.Put o now)
-                (to_z-of_z w64 v fits) left.answered;
-            sink_is = λ s asks. puts_on_it b.tables c.args.p d v s asks c.if_sink.result c.if_sink.ensures;
+                (to_z-of_z w64 v fits) order.answered;
+            sink_is = λ s asks. puts_on_it b.tables c.args.p d v s asks c.if_sink-sink.result c.if_sink-sink.ensures;
           });
     }
 

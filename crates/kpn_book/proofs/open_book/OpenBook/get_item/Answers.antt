@@ -1,36 +1,25 @@
-use Rattle.std.proofs.Common.{is_some, refl, ap, ◌∙◌, arith, w64, SFits, to_z, of_z, rules}
+use Rattle.std.proofs.Common.{refl, ap, ◌∙◌, arith, w64, SFits, to_z, of_z, rules}
 use Rattle.std.proofs.lemmas.Int.{to_z-of_z}
 use Rattle.std.specs.Option.{option_to_list}
 use Rattle.kpn_history.specs.declared.event.Event.TheVariants as event
 use Rattle.kpn_machine.proofs.Ports.{reads_below}
 use Rattle.kpn_machine.proofs.Due.{Legal-due}
-use Rattle.kpn_machine.proofs.Exact.{gets_or_waits}
 use Rattle.kpn_book.specs.Schedule.{made_ready}
 use Rattle.kpn_book.specs.Appending.{all_made_ready}
 use Rattle.kpn_book.specs.Open.{book_of, held_by}
 use Rattle.kpn_book.proofs.Following.{own_held, held_is_there, held_is_free, may_be_woken, followed, recorded, process_fits, channel_fits}
 use Rattle.kpn_book.proofs.Answering.{answered_got}
-use Rattle.kpn_book.proofs.FirstOfQueue.{held_so, none_with}
+use Rattle.kpn_book.proofs.FirstOfQueue.{held_so}
 use Rattle.kpn_book.proofs.open_book.OpenBook.get_item.Goals as goal
 
-pub returns-in_err-got-clause-empty : goal.returns-in_err-got-clause-empty
-returns-in_err-got-clause-empty g c =
-    let o = held_by c.args.hold c.args.p (book_of c.args.self.now) in
-    let held = held_so c.args.hold c.args.p (book_of c.args.self.now) c.requires.may.held in
-    let step = c.requires.may.sound.in_step in
-    none_with c.from_residual.result
-    (gets_or_waits o.tables c.known.ensures o.history o.machine step.run c.args.p c.args.c
-    (held_is_there o step c.args.p held) (held_is_free o step c.args.p held) c.requires.reads
-    (ap is_some c.in_err-got.ensures.nothing))
-
-pub get-requires-clause-process : goal.get-requires-clause-process
-get-requires-clause-process g c =
+pub get-got-requires-clause-process : goal.get-got-requires-clause-process
+get-got-requires-clause-process g c =
     let o = held_by c.args.hold c.args.p (book_of c.args.self.now) in
     let held = held_so c.args.hold c.args.p (book_of c.args.self.now) c.requires.may.held in
     held_is_there o c.requires.may.sound.in_step c.args.p held
 
-pub get-requires-clause-free : goal.get-requires-clause-free
-get-requires-clause-free g c =
+pub get-got-requires-clause-free : goal.get-got-requires-clause-free
+get-got-requires-clause-free g c =
     let o = held_by c.args.hold c.args.p (book_of c.args.self.now) in
     let held = held_so c.args.hold c.args.p (book_of c.args.self.now) c.requires.may.held in
     held_is_free o c.requires.may.sound.in_step c.args.p held
@@ -49,17 +38,17 @@ number-requires-2 g c =
     channel_fits o.tables c.known.ensures c.args.c
     (reads_below o.tables c.known.ensures o.machine c.args.p there c.args.c c.requires.reads)
 
-pub returns-clause-gets : goal.returns-clause-gets
-returns-clause-gets g c =
+pub returns : goal.returns
+returns g c =
     let o = held_by c.args.hold c.args.p (book_of c.args.self.now) in
     let held = held_so c.args.hold c.args.p (book_of c.args.self.now) c.requires.may.held in
-    let e = event.Get c.args.p c.args.c c.in_ok-got.got.item in
+    let e = event.Get c.args.p c.args.c c.get-got.result.item in
     let step = c.requires.may.sound.in_step in
     let there = held_is_there o step c.args.p held in
     let below = reads_below o.tables c.known.ensures o.machine c.args.p there c.args.c c.requires.reads in
-    let fits : SFits w64 c.in_ok-got.got.item = search rules in
-    let item = to_z w64 (of_z w64 c.in_ok-got.got.item) in
-    let woken = option_to_list c.in_ok-got.got.woken in
+    let fits : SFits w64 c.get-got.result.item = search rules in
+    let item = to_z w64 (of_z w64 c.get-got.result.item) in
+    let woken = option_to_list c.get-got.result.woken in
     let ready = made_ready c.args.p o.schedule in
     let order = all_made_ready woken ready in
     let pushed = c.push.ensures.room in
@@ -67,18 +56,18 @@ returns-clause-gets g c =
       schedule = refl;
       may =
           may_be_woken o c.known.ensures step e (own_held o c.args.p held) tt ready woken refl
-          (ap option_to_list c.in_ok-got.ensures.woken);
+          (ap option_to_list c.get-got.ensures.woken);
       answered =
-          answered_got o (recorded o c.push.new.self c.get.new.self order) c.known.ensures c.args.p c.args.c
-          c.in_ok-got.got.item c.in_ok-got.ensures.item
-          (followed o c.known.ensures step e (own_held o c.args.p held) tt c.get.new.self
-          c.in_ok-got.ensures.changes c.get.ensures.shape
+          answered_got o (recorded o c.push.new.self c.get-got.new.self order) c.known.ensures c.args.p c.args.c
+          c.get-got.result.item c.get-got.ensures.item
+          (followed o c.known.ensures step e (own_held o c.args.p held) tt c.get-got.new.self
+          c.get-got.ensures.changes c.get-got.ensures.shape
           (Legal-due o.tables c.known.ensures o.history o.machine step.run c.requires.may.sound.nothing_owed e
-          (there, below) (held_is_free o step c.args.p held, c.requires.reads, c.in_ok-got.ensures.item))
+          (there, below) (held_is_free o step c.args.p held, c.requires.reads, c.get-got.ensures.item))
           (event.Get c.number.result c.number-2.result item) c.push.new.self ready order woken
           (ap (λ x. event.Get x c.number-2.result item) c.number.ensures
           ∙ ap (λ x. event.Get c.args.p x item) c.number-2.ensures
-          ∙ ap (λ x. event.Get c.args.p c.args.c x) (to_z-of_z w64 c.in_ok-got.got.item fits))
-          c.push.ensures.events c.push.ensures.kept refl refl (ap option_to_list c.in_ok-got.ensures.woken));
+          ∙ ap (λ x. event.Get c.args.p c.args.c x) (to_z-of_z w64 c.get-got.result.item fits))
+          c.push.ensures.events c.push.ensures.kept refl refl (ap option_to_list c.get-got.ensures.woken));
       room = omega (arith, pushed);
     }

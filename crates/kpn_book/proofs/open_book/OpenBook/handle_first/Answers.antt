@@ -8,16 +8,24 @@ use Rattle.kpn_net.proofs.PortsApart.{out_is_there}
 use Rattle.kpn_step.specs.Stops.{IsAtPort}
 use Rattle.kpn_machine.specs.Machine.{channel_in}
 use Rattle.kpn_machine.specs.Due.{WritesTo}
+use Rattle.kpn_book.specs.declared.answers.Done.TheVariants as done
 use Rattle.kpn_book.specs.Commits.{IsWriteTo}
-use Rattle.kpn_book.specs.Open.{book_of, first_claimed, reserved_on, sink_by, AnsweredFirst}
+use Rattle.kpn_book.specs.Open.{book_of, first_claimed, reserved_on, sink_by, Answered, AnsweredFirst, IsSound}
 use Rattle.kpn_book.specs.Kept.{IsKept}
 use Rattle.kpn_book.proofs.Following.{held_is_there, moved}
 use Rattle.kpn_book.proofs.Committing.{no_pause, kept_reserved_on, writes_to}
 use Rattle.kpn_book.proofs.Reserved.{is_reserved_here}
-use Rattle.kpn_book.proofs.FirstOfQueue.{held_first, refused_with, puts_nowhere, handles_write}
+use Rattle.kpn_book.proofs.FirstOfQueue.{held_first, refused_with, puts_on_it, puts_nowhere, handles_write}
 use Rattle.kpn_book.proofs.open_book.OpenBook.handle_first.Given as given
 use Rattle.kpn_book.proofs.open_book.OpenBook.handle_first.Goals as goal
-use Rattle.kpn_book.proofs.open_book.OpenBook.handle_first.Goals.{After-out_channel-c}
+use Rattle.kpn_book.proofs.open_book.OpenBook.handle_first.Goals.{After-known, After-out_channel-c}
+
+sound : (g : given.Over) (c : After-known g) → IsSound (first_claimed c.args.p (book_of c.args.self.now))
+sound g c = record { in_step = c.requires.kept.in_step; nothing_owed = c.requires.kept.nothing_owed }
+
+pub put-requires-clause-may : goal.put-requires-clause-may
+put-requires-clause-may g c =
+    record { held = c.requires.first; sound = sound g (goal.at.put-requires-clause-may g c).After-known; room = c.requires.room }
 
 pub out_channel-c-requires-clause-port : goal.out_channel-c-requires-clause-port
 out_channel-c-requires-clause-port g c =
@@ -47,6 +55,12 @@ out_there g c =
     let long = c.requires.kept.in_step.run.shape.channels in
     omega (arith, there, long)
 
+pub if_sink-requires : goal.if_sink-requires
+if_sink-requires g c = out_below g (goal.at.if_sink-requires g c).After-out_channel-c
+
+pub channel-requires : goal.channel-requires
+channel-requires g c = out_there g (goal.at.channel-requires g c).After-out_channel-c
+
 pub reserve_one-requires : goal.reserve_one-requires
 reserve_one-requires g c = out_there g (goal.at.reserve_one-requires g c).After-out_channel-c
 
@@ -56,6 +70,26 @@ write_later-requires-clause-reserved g c =
     (sym c.in_ok-reserve_one.ensures.after)
     (is_reserved_here (book_of c.args.self.now) c.out_channel-c.result
     (out_there g (goal.at.write_later-requires-clause-reserved g c).After-out_channel-c))
+
+pub returns-then-is_open-clause-handles : goal.returns-then-is_open-clause-handles
+returns-then-is_open-clause-handles g c =
+    let b = book_of c.args.self.now in
+    let o = first_claimed c.args.p b in
+    let d = c.out_channel-c.result in
+    let fits : SFits w64 c.in-WantWrite.item = search rules in
+    handles_write o o (book_of c.put.new.self) c.args.p d c.in-WantWrite.item c.args.stop c.if_sink.result (inl refl)
+    (λ s is. record {
+      port = c.in-WantWrite.port;
+      asks = is ∙ c.in-WantWrite.is;
+      channel = c.out_channel-c.ensures;
+    })
+    (record {
+      answer = done.Put;
+      answered =
+          subst (λ v. Answered c.args.p (λ s. IsWriteTo b.tables c.args.p s d v) done.Put o (book_of c.put.new.self))
+          (to_z-of_z w64 c.in-WantWrite.item fits) c.put.ensures.answered;
+      sink_is = λ s asks. puts_on_it b.tables c.args.p d c.in-WantWrite.item s asks c.if_sink.result c.if_sink.ensures;
+    })
 
 pub returns-clause-handles :
     goal.returns-clause-handles
@@ -84,6 +118,14 @@ returns-clause-handles g c =
       asks = is ∙ c.in-WantWrite.is;
       channel = c.out_channel-c.ensures;
     }) made
+
+pub put-requires-clause-writes : goal.put-requires-clause-writes
+put-requires-clause-writes g c =
+    let v = c.in-WantWrite.item in
+    let fits : SFits w64 v = search rules in
+    writes_to c.args.self.now.network.now c.args.self.now.machine c.args.p c.out_channel-c.result
+    c.in-WantWrite.port v (to_z w64 (of_z w64 v)) c.args.stop c.in-WantWrite.is (to_z-of_z w64 v fits)
+    c.out_channel-c.ensures c.requires.stands
 
 pub write_later-requires-clause-writes : goal.write_later-requires-clause-writes
 write_later-requires-clause-writes g c =

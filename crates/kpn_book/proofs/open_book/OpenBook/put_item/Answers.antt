@@ -1,10 +1,7 @@
-use Rattle.std.proofs.Common.{◌&&◌, not, is_some, refl, sym, ap, subst, ◌∙◌, arith, w64, SFits, to_z, of_z, rules}
+use Rattle.std.proofs.Common.{refl, ap, subst, ◌∙◌, arith, w64, SFits, to_z, of_z, rules}
 use Rattle.std.proofs.lemmas.Int.{to_z-of_z}
-use Rattle.std.proofs.lemmas.Bool.{and_parts, not-true, not-false}
 use Rattle.std.specs.Option.{option_to_list}
-use Rattle.kpn_chan.specs.Channel.{is_channel_full}
 use Rattle.kpn_history.specs.declared.event.Event.TheVariants as event
-use Rattle.kpn_machine.specs.Machine.{channel_in}
 use Rattle.kpn_machine.specs.Changes.{Changes}
 use Rattle.kpn_machine.proofs.Ports.{writes_below}
 use Rattle.kpn_machine.proofs.Due.{Legal-due}
@@ -13,24 +10,17 @@ use Rattle.kpn_book.specs.Appending.{all_made_ready}
 use Rattle.kpn_book.specs.Open.{book_of, held_by}
 use Rattle.kpn_book.proofs.Following.{own_held, held_is_there, held_is_free, may_be_woken, followed, recorded, process_fits, channel_fits}
 use Rattle.kpn_book.proofs.Answering.{answered_put}
-use Rattle.kpn_book.proofs.FirstOfQueue.{held_so, none_with}
+use Rattle.kpn_book.proofs.FirstOfQueue.{held_so}
 use Rattle.kpn_book.proofs.open_book.OpenBook.put_item.Goals as goal
 
-pub returns-in_err-put-clause-full : goal.returns-in_err-put-clause-full
-returns-in_err-put-clause-full g c =
-    let full = is_channel_full (channel_in c.args.self.now.machine c.args.c) in
-    none_with c.from_residual.result
-    (λ reserved. not-false full
-    (ap (λ b. b && not full) (sym reserved) ∙ sym c.put.ensures.can ∙ ap is_some c.in_err-put.was))
-
-pub put-requires-clause-process : goal.put-requires-clause-process
-put-requires-clause-process g c =
+pub put-woken-requires-clause-process : goal.put-woken-requires-clause-process
+put-woken-requires-clause-process g c =
     let o = held_by c.args.hold c.args.p (book_of c.args.self.now) in
     let held = held_so c.args.hold c.args.p (book_of c.args.self.now) c.requires.may.held in
     held_is_there o c.requires.may.sound.in_step c.args.p held
 
-pub put-requires-clause-free : goal.put-requires-clause-free
-put-requires-clause-free g c =
+pub put-woken-requires-clause-free : goal.put-woken-requires-clause-free
+put-woken-requires-clause-free g c =
     let o = held_by c.args.hold c.args.p (book_of c.args.self.now) in
     let held = held_so c.args.hold c.args.p (book_of c.args.self.now) c.requires.may.held in
     held_is_free o c.requires.may.sound.in_step c.args.p held
@@ -49,8 +39,8 @@ number-requires-2 g c =
     channel_fits o.tables c.known.ensures c.args.c
     (writes_below o.tables c.known.ensures o.machine c.args.p there c.args.c c.args.item c.requires.writes)
 
-pub returns-clause-puts : goal.returns-clause-puts
-returns-clause-puts g c =
+pub returns : goal.returns
+returns g c =
     let o = held_by c.args.hold c.args.p (book_of c.args.self.now) in
     let held = held_so c.args.hold c.args.p (book_of c.args.self.now) c.requires.may.held in
     let e = event.Put c.args.p c.args.c c.args.item in
@@ -58,13 +48,10 @@ returns-clause-puts g c =
     let there = held_is_there o step c.args.p held in
     let below =
     writes_below o.tables c.known.ensures o.machine c.args.p there c.args.c c.args.item c.requires.writes in
-    let ch = channel_in o.machine c.args.c in
-    let ready =
-    not-true (is_channel_full ch)
-    (and_parts ch.is_reserved (not (is_channel_full ch)) (sym c.put.ensures.can ∙ ap is_some c.in_ok-put.was)).1 in
+    let ready = c.requires.ready in
     let fits : SFits w64 c.args.item = search rules in
     let item = to_z w64 (of_z w64 c.args.item) in
-    let woken = option_to_list c.in_ok-put.put.woken in
+    let woken = option_to_list c.put-woken.result in
     let again = made_ready c.args.p o.schedule in
     let order = all_made_ready woken again in
     let pushed = c.push.ensures.room in
@@ -72,19 +59,19 @@ returns-clause-puts g c =
       schedule = refl;
       may =
           may_be_woken o c.known.ensures step e (own_held o c.args.p held) tt again woken refl
-          (ap option_to_list c.in_ok-put.ensures.woken);
+          (ap option_to_list c.put-woken.ensures.woken);
       answered =
-          answered_put o (recorded o c.push.new.self c.put.new.self order) c.known.ensures c.args.p c.args.c
+          answered_put o (recorded o c.push.new.self c.put-woken.new.self order) c.known.ensures c.args.p c.args.c
           c.args.item ready
-          (followed o c.known.ensures step e (own_held o c.args.p held) tt c.put.new.self
-          (subst (λ x. Changes o.tables (event.Put c.args.p c.args.c x) o.machine c.put.new.self)
-          (to_z-of_z w64 c.args.item fits) c.in_ok-put.ensures.changes) c.put.ensures.shape
+          (followed o c.known.ensures step e (own_held o c.args.p held) tt c.put-woken.new.self
+          (subst (λ x. Changes o.tables (event.Put c.args.p c.args.c x) o.machine c.put-woken.new.self)
+          (to_z-of_z w64 c.args.item fits) c.put-woken.ensures.changes) c.put-woken.ensures.shape
           (Legal-due o.tables c.known.ensures o.history o.machine step.run c.requires.may.sound.nothing_owed e
           (there, below) (held_is_free o step c.args.p held, c.requires.writes, ready))
           (event.Put c.number.result c.number-2.result item) c.push.new.self again order woken
           (ap (λ x. event.Put x c.number-2.result item) c.number.ensures
           ∙ ap (λ x. event.Put c.args.p x item) c.number-2.ensures
           ∙ ap (λ x. event.Put c.args.p c.args.c x) (to_z-of_z w64 c.args.item fits))
-          c.push.ensures.events c.push.ensures.kept refl refl (ap option_to_list c.in_ok-put.ensures.woken));
+          c.push.ensures.events c.push.ensures.kept refl refl (ap option_to_list c.put-woken.ensures.woken));
       room = omega (arith, pushed);
     }

@@ -1,5 +1,6 @@
-use Rattle.std.proofs.Common.{◌<◌, length, to_z, of_z, None, Some, false, IsTrue, SFits, w64, rules, refl, sym, ap, ◌∙◌, subst, arith, slice_set}
+use Rattle.std.proofs.Common.{◌<◌, length, to_z, of_z, None, Some, IsSome, false, IsTrue, SFits, w64, rules, refl, sym, ap, ◌∙◌, subst, arith, slice_set}
 use Rattle.std.proofs.lemmas.Int.{to_z-of_z}
+use Rattle.std.proofs.lemmas.Bool.{false≢true}
 use Rattle.kpn_net.specs.declared.wait.Wait.TheVariants.{Full}
 use Rattle.kpn_net.specs.Tables.{program_of, writer_of}
 use Rattle.kpn_net.specs.Waits.{AreWaits}
@@ -7,9 +8,9 @@ use Rattle.kpn_step.specs.Frame.{fits}
 use Rattle.kpn_step.specs.Stops.{IsGiven, StandsAtRead}
 use Rattle.kpn_chan.specs.Channel.{opened, next_item, after_get}
 use Rattle.kpn_history.specs.declared.event.Event.TheVariants.{Get}
-use Rattle.kpn_machine.specs.Machine.{Machine, frame_in, no_frame, IsMachine}
+use Rattle.kpn_machine.specs.Machine.{Machine, frame_in, no_frame}
 use Rattle.kpn_machine.specs.Woken.{is_wait}
-use Rattle.kpn_machine.proofs.Calls.{element, channel_unchanged, Made-got}
+use Rattle.kpn_machine.proofs.Calls.{element, Made-got}
 use Rattle.kpn_machine.proofs.Due.{Legal-got}
 use Rattle.kpn_machine.proofs.Mirror.{mirror_kept}
 use Rattle.kpn_machine.proofs.Ports.{reads_below, at_read}
@@ -53,6 +54,18 @@ pass_read-requires-clause-read g c =
     (subst (StandsAtRead (program_of t c.args.p).blocks) (sym frame)
     (at_read t c.known.ensures s c.args.p c.requires.process c.args.c c.requires.reads))
 
+pub unreachable-requires : goal.unreachable-requires
+unreachable-requires g c =
+    let t = c.args.network.now in
+    let s = c.args.self.now in
+    let there = reads_below t c.known.ensures s c.args.p c.requires.process c.args.c c.requires.reads in
+    let value =
+    element c.self.inside.channels.items s.channels c.args.c c.index_mut-channel.result.now (opened None false)
+    (ap (λ x. x.channels) c.self.view_is) (omega (arith, c.requires.shape.channels)) c.index_mut-channel.ensures.value
+    in
+    false≢true
+    (subst IsSome (ap next_item (sym value) ∙ sym c.get.ensures.item ∙ c.in_default.is) c.requires.ready)
+
 pub wake_writer-woken-requires-clause-channel : goal.wake_writer-woken-requires-clause-channel
 wake_writer-woken-requires-clause-channel g c =
     reads_below c.args.network.now c.known.ensures c.args.self.now c.args.p c.requires.process c.args.c
@@ -65,37 +78,9 @@ wake_writer-woken-requires-clause-waits g c =
 pub invariant_of-self : goal.invariant_of-self
 invariant_of-self g c =
     mirror_kept c.self.inside.channels.items c.self.inside.capacities.items c.args.c c.get.new.self
-    c.index_mut-channel.result.now c.self.invariant (ap (λ x. x.capacity) c.in_default.ensures.as_before)
-    c.index_mut-channel.ensures.value
-
-pub invariant_of-self-2 : goal.invariant_of-self-2
-invariant_of-self-2 g c =
-    mirror_kept c.self.inside.channels.items c.self.inside.capacities.items c.args.c c.get.new.self
     c.index_mut-channel.result.now c.self.invariant
     (ap (λ x. x.capacity) (c.get.ensures.after ∙ ap (λ o. after_get o c.get.new.self.is_reserved
     c.index_mut-channel.result.now) c.in-Some.is)) c.index_mut-channel.ensures.value
-
-pub returns-in_default : goal.returns-in_default
-returns-in_default g c =
-    let s = c.args.self.now in
-    let value =
-    element c.self.inside.channels.items s.channels c.args.c c.index_mut-channel.result.now (opened None false)
-    (ap (λ x. x.channels) c.self.view_is)
-    (subst (λ n. c.args.c < n) (sym c.requires.shape.channels)
-    (reads_below c.args.network.now c.known.ensures s c.args.p c.requires.process c.args.c c.requires.reads))
-    c.index_mut-channel.ensures.value in
-    let same =
-    channel_unchanged _ s c.args.c c.index_mut-channel.result.now c.get.new.self c.self.view_is
-    c.index_mut-channel.ensures.value c.in_default.ensures.as_before in
-    record {
-      item = tt;
-      woken = tt;
-      changes = tt;
-      shape = subst (IsMachine c.args.network.now) (sym same) c.requires.shape;
-      run = tt;
-      nothing = ap next_item (sym value) ∙ sym c.get.ensures.item ∙ c.in_default.is;
-      as_before = same;
-    }
 
 pub returns : goal.returns
 returns g c =
@@ -152,6 +137,4 @@ returns g c =
           (Legal-got t c.known.ensures H s run owes c.args.p c.requires.process c.requires.free c.args.c item there
           c.requires.reads next)
           made.changes made.shape;
-      nothing = tt;
-      as_before = tt;
     }
