@@ -75,7 +75,11 @@ fn grammar_case(alloc: Global, text: &[u8], at: usize) -> Result<Case, AllocErro
     let is_meant = is_name && (assigns_next(here) || !may_stand(alloc, front, b"}")?);
     let language = language_of(text);
     if is_keyword(language, name_at(text, at)) {
-        Ok(if is_meant { Case::Reserved } else { Case::Misplaced })
+        Ok(if is_meant {
+            Case::Reserved
+        } else {
+            Case::Misplaced
+        })
     } else if is_meant {
         Ok(Case::Constant)
     } else if is_name || language == Language::One || !may_stand(alloc, front, b"1")? {

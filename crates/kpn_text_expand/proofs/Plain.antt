@@ -11,10 +11,10 @@ use Rattle.kpn_text_tokens.specs.declared.tokens.Token.TheVariants as token
 use Rattle.kpn_text_tokens.specs.Results.{and_then}
 use Rattle.kpn_text_grammar.specs.Spelling.{kinds}
 use Rattle.kpn_text_expand.specs.declared.constants.Constants.{Constants}
-use Rattle.kpn_text_expand.specs.declared.constants.Place.{Place}
-use Rattle.kpn_text_expand.specs.declared.constants.Place.TheVariants as place
+use Rattle.kpn_text_expand.specs.declared.constants.ConstantPlace.{ConstantPlace}
+use Rattle.kpn_text_expand.specs.declared.constants.ConstantPlace.TheVariants as place
 use Rattle.kpn_text_expand.specs.declared.declaration.Constant.{Constant}
-use Rattle.kpn_text_expand.specs.Constants.{at_first, behind, meant, meant_as, passed, step_at, step, steps, value_in, value_of, first_of, finished, finished_at, without_constants}
+use Rattle.kpn_text_expand.specs.Constants.{at_first, gone_past, meant, meant_as, token_passed, step_at, step, steps, value_in, value_of, own_or_shared, finished, finished_at, without_constants}
 use Rattle.kpn_text_expand.specs.Expanding.{all_forms, expanded, without_forms}
 use Rattle.kpn_text_expand.specs.Sums.{with_sums}
 use Rattle.kpn_text_expand.specs.Plain.{IsPlain, ArePlain}
@@ -23,7 +23,7 @@ use Rattle.kpn_text_expand.proofs.PlainCapacities.{capacities_kept}
 use Rattle.kpn_text_expand.proofs.PlainSums.{sums_kept}
 
 -- not in a declaration
-abbrev IsOutside : Place → Type 0
+abbrev IsOutside : ConstantPlace → Type 0
 IsOutside p = (p ≡ place.Front) ⊎ (p ≡ place.Inside)
 
 -- no constant has been declared
@@ -32,8 +32,8 @@ record IsIdle (s : Constants) : Type 0 where
   own : s.own ≡ []
   outside : IsOutside s.place
 
-step_passes : (p : Place) (t : Token) (l : Lexeme) (s : Constants) (ts : List Token) → IsOutside p → IsPlain t ts
-    → step_at p t l s ≡ Ok (passed l s)
+step_passes : (p : ConstantPlace) (t : Token) (l : Lexeme) (s : Constants) (ts : List Token) → IsOutside p → IsPlain t ts
+    → step_at p t l s ≡ Ok (token_passed l s)
 step_passes place.Front (token.Name x) l s ts out is = refl
 step_passes place.Front (token.Number n) l s ts out is = refl
 step_passes place.Front (token.Mark m) l s ts out is = refl
@@ -45,7 +45,7 @@ step_passes place.Declaration t l s ts (inr e) is = absurd cc
 
 value_of_none : (t : Token) (s : Constants) → IsIdle s → value_of s t ≡ None
 value_of_none (token.Name x) s idle =
-    ap (λ (cs : List Constant). first_of (value_in cs x) (value_in s.shared x)) idle.own
+    ap (λ (cs : List Constant). own_or_shared (value_in cs x) (value_in s.shared x)) idle.own
     ∙ ap (λ (cs : List Constant). value_in cs x) idle.shared
 value_of_none (token.Number n) s idle = refl
 value_of_none (token.Mark m) s idle = refl
@@ -56,14 +56,14 @@ none_or true cs e = refl
 none_or false cs e = e
 
 -- a token takes what has gone by on, and declares nothing
-behind_left : (t : Token) (s : Constants) → (behind t s).left ≡ s.left
+behind_left : (t : Token) (s : Constants) → (gone_past t s).left ≡ s.left
 behind_left (token.Name x) s = refl
 behind_left (token.Number n) s = refl
 behind_left (token.Mark mark.LeftBrace) s = refl
 behind_left (token.Mark _) s = refl
 behind_left (token.Keyword k) s = refl
 
-behind_idle : (t : Token) (s : Constants) → s.shared ≡ [] → s.own ≡ [] → IsIdle (behind t s)
+behind_idle : (t : Token) (s : Constants) → s.shared ≡ [] → s.own ≡ [] → IsIdle (gone_past t s)
 behind_idle (token.Name x) s shared own = record { shared = shared; own = own; outside = inr refl }
 behind_idle (token.Number n) s shared own = record { shared = shared; own = own; outside = inr refl }
 behind_idle (token.Mark mark.LeftBrace) s shared own = record { shared = shared; own = own; outside = inl refl }
@@ -84,7 +84,7 @@ leaves : (ls : List Lexeme) (s : Constants) → IsIdle s → ArePlain (kinds ls)
 unfolding each and_then
 leaves [] s idle are = record { after = s; is = refl; left = sym (append-nil s.left); idle = idle }
 leaves (l ∷ ls) s idle are =
-    let t : Constants = passed l s in
+    let t : Constants = token_passed l s in
     let one : step s l ≡ Ok t = step_passes s.place l.token l s (kinds ls) idle.outside are.0 in
     let same : meant s l ≡ l ∷ [] = ap (meant_as l) (value_of_none l.token s idle) in
     let left : t.left ≡ s.left ++ l ∷ [] =
@@ -97,7 +97,7 @@ leaves (l ∷ ls) s idle are =
       idle = rest.idle;
     }
 
-finished_outside : (p : Place) (end : ℕ) (s : Constants) → IsOutside p → finished_at p end s ≡ Ok s.left
+finished_outside : (p : ConstantPlace) (end : ℕ) (s : Constants) → IsOutside p → finished_at p end s ≡ Ok s.left
 finished_outside place.Front end s out = refl
 finished_outside place.Inside end s out = refl
 finished_outside place.Declaration end s (inl e) = absurd cc

@@ -7,21 +7,21 @@ use Rattle.kpn_text_tokens.specs.declared.tokens.Token.{Token}
 use Rattle.kpn_text_tokens.specs.declared.tokens.Token.TheVariants as token
 use Rattle.kpn_text_grammar.specs.Spelling.{kinds}
 use Rattle.kpn_text_expand.specs.declared.capacities.Capacities.{Capacities}
-use Rattle.kpn_text_expand.specs.declared.capacities.Spot.{Spot}
-use Rattle.kpn_text_expand.specs.declared.capacities.Spot.TheVariants as spot
-use Rattle.kpn_text_expand.specs.Capacities.{at_first, kept, step, step_at, with_capacities}
+use Rattle.kpn_text_expand.specs.declared.capacities.HeadSpot.{HeadSpot}
+use Rattle.kpn_text_expand.specs.declared.capacities.HeadSpot.TheVariants as spot
+use Rattle.kpn_text_expand.specs.Capacities.{at_first, token_kept, step, step_at, with_capacities}
 use Rattle.kpn_text_expand.specs.Plain.{ArePlain, IsPlain, capless}
 use Rattle.kpn_text_expand.proofs.Folds.{all_seen}
 
 -- no capacity has stood at the head
-abbrev IsIdle : Spot → Type 0
+abbrev IsIdle : HeadSpot → Type 0
 IsIdle spot.Elsewhere = Unit {0}
 IsIdle spot.Opening = Unit {0}
 IsIdle spot.Head = Unit {0}
 IsIdle spot.Setting = Unit {0}
 IsIdle _ = ⊥
 
-record Fine (p : Spot) (ts : List Token) : Type 0 where
+record Fine (p : HeadSpot) (ts : List Token) : Type 0 where
   idle : IsIdle p
   none : capless p ts ≡ true
 
@@ -36,10 +36,10 @@ pub first_none : (ts : List Token) → capless spot.Elsewhere ts ≡ true
 first_none [] = refl
 first_none (t ∷ ts) = refl
 
-elsewhere : (l : Lexeme) (s : Capacities) (ts : List Token) → Takes s l ts (kept l spot.Elsewhere s)
+elsewhere : (l : Lexeme) (s : Capacities) (ts : List Token) → Takes s l ts (token_kept l spot.Elsewhere s)
 elsewhere l s ts = record { left = refl; fine = record { idle = tt; none = first_none ts } }
 
-takes : (p : Spot) (t : Token) (l : Lexeme) (s : Capacities) (ts : List Token) → Fine p (t ∷ ts) → IsPlain t ts
+takes : (p : HeadSpot) (t : Token) (l : Lexeme) (s : Capacities) (ts : List Token) → Fine p (t ∷ ts) → IsPlain t ts
     → Takes s l ts (step_at p t l s)
 takes spot.Elsewhere (token.Keyword keyword.Network) l s ts fine plain =
     record { left = refl; fine = record { idle = tt; none = plain } }

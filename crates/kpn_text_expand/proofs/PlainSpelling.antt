@@ -13,7 +13,7 @@ use Rattle.kpn_text_grammar.specs.Operators.{left_side, operator_mark, right_sid
 use Rattle.kpn_text_grammar.specs.Syntax.{NameBytes, ExpressionNode, numeral, variable, element, minus, negation, complement, binary, conditional, StatementNode, assign, store, receive, send, choice, loop, Statements, no_statements, statement, Literal, plain, negated, Table, Declaration, array, table, ProcessNode, Item, channel, source, sink, instance, NetworkNode, Description}
 use Rattle.kpn_text_grammar.specs.Spelling.{spell_term, spell_tight, spell_expression, spell_else, spell_statement, spell_statements, spell_all, spell_further, spell_list, spell_name, spell_names, spell_literal, spell_table, spell_declaration, spell_part, spell_later_part, spell_parts, spell_process, spell_values, spell_item, spell_setting, spell_limit, spell_policy, spell_growth, spell_network, spell_description}
 use Rattle.kpn_text_grammar.specs.Words.{growth_word, policy_word}
-use Rattle.kpn_text_expand.specs.declared.capacities.Spot.TheVariants as spot
+use Rattle.kpn_text_expand.specs.declared.capacities.HeadSpot.TheVariants as spot
 use Rattle.kpn_text_expand.specs.Plain.{IsPlain, ArePlain, capless, not_assigned}
 use Rattle.kpn_text_expand.specs.Sums.{changes}
 use Rattle.kpn_text_expand.proofs.PlainCapacities.{first_none}
@@ -209,7 +209,7 @@ item (instance i) more h =
 
 module _ {A : Type 0} (word : Keyword) (spelled : A → Token) (is : (ts : List Token) → IsPlain (token.Keyword word) ts)
     (one : (x : A) (ts : List Token) → IsPlain (spelled x) ts) where
-  pub setting : (written : Option A) → Adds (spell_setting word spelled written)
+  pub setting : (value_written : Option A) → Adds (spell_setting word spelled value_written)
   setting None more h = h
   setting (Some x) more h = (is _, (one x _, (refl, h)))
 
@@ -225,8 +225,8 @@ items_head (instance i ∷ is) more = refl
 module _ {A : Type 0} (word : Keyword) (spelled : A → Token)
     (heads : (x : A) (more : List Token) → capless spot.Head more ≡ true
     → capless spot.Head (token.Keyword word ∷ spelled x ∷ token.Mark mark.Semicolon ∷ more) ≡ true) where
-  pub setting_head : (written : Option A) (more : List Token) → capless spot.Head more ≡ true
-      → capless spot.Head (spell_setting word spelled written more) ≡ true
+  pub setting_head : (value_written : Option A) (more : List Token) → capless spot.Head more ≡ true
+      → capless spot.Head (spell_setting word spelled value_written more) ≡ true
   setting_head None more h = h
   setting_head (Some x) more h = heads x more h
 

@@ -18,13 +18,13 @@ use Rattle.kpn_text_grammar.specs.Syntax.{NameBytes}
 use Rattle.kpn_text_names.specs.Constant.{constant_value}
 use Rattle.kpn_text_names.proofs.Chains.{ok_is, went}
 use Rattle.kpn_text_expand.specs.declared.constants.Constants.{Constants}
-use Rattle.kpn_text_expand.specs.declared.constants.Place.{Place}
-use Rattle.kpn_text_expand.specs.declared.constants.Place.TheVariants as place
+use Rattle.kpn_text_expand.specs.declared.constants.ConstantPlace.{ConstantPlace}
+use Rattle.kpn_text_expand.specs.declared.constants.ConstantPlace.TheVariants as place
 use Rattle.kpn_text_expand.specs.declared.declaration.Constant.{Constant}
 use Rattle.kpn_text_expand.specs.declared.declaration.Value.{Value}
 use Rattle.kpn_text_expand.specs.declared.fault.ExpandFault.{ExpandFault}
-use Rattle.kpn_text_expand.specs.Declaration.{written, written_if, or_no_number, computed, tree, nameless, start_of, number, first_name, behind_assign, declared}
-use Rattle.kpn_text_expand.specs.Constants.{at_first, behind, kept, passed, meant, meant_as, value_in, value_of, first_of, value_tokens, with_constant, with_declaration, step_at, step, steps, finished_at, finished, without_constants}
+use Rattle.kpn_text_expand.specs.Declaration.{value_written, written_if, or_no_number, value_computed, tree, nameless, first_byte, number, name_declared, behind_assign, declared}
+use Rattle.kpn_text_expand.specs.Constants.{at_first, gone_past, token_kept, token_passed, meant, meant_as, value_in, value_of, own_or_shared, value_tokens, with_constant, with_declared, step_at, step, steps, finished_at, finished, without_constants}
 use Rattle.kpn_text_expand.specs.Results.{each}
 use Rattle.kpn_text_expand.specs.Expanding.{all_forms, expanded, without_forms}
 use Rattle.kpn_text_expand.proofs.Can.{CanBe, Spelled, both_spelled, mark_can, number_can}
@@ -40,7 +40,7 @@ SmallIf None = Unit {0}
 abbrev IsSmall : Constant → Type 0
 IsSmall c = c.value.size < 2 ^ 63
 
-written_small : (z : ℤ) → SmallIf (written z)
+written_small : (z : ℤ) → SmallIf (value_written z)
 written_small z =
     cond_both (nat_le (unsigned_abs z) MAX_NUMBER) _ None SmallIf
     (λ e. let few : unsigned_abs z ≤ MAX_NUMBER = leb-true (unsigned_abs z) MAX_NUMBER e in omega (arith, few)) (λ e. tt)
@@ -57,15 +57,15 @@ read_small : (stop : ℕ) (ls : List Lexeme) (v : Value) → number stop ls ≡ 
 unfolding number
 read_small stop ls v e =
     let a = went (nameless ls) _ v e in
-    let start = start_of stop a.value in
-    let b = went (tree start stop a.value) (computed start) v a.rest in
+    let start = first_byte stop a.value in
+    let b = went (tree start stop a.value) (value_computed start) v a.rest in
     let found = constant_value b.value in
     number_small start (written_if found) v (if_small found) b.rest
 
 declared_small : (stop : ℕ) (ls : List Lexeme) (c : Constant) → declared stop ls ≡ Ok c → IsSmall c
 unfolding declared
 declared_small stop ls c e =
-    let x = went (first_name stop ls) _ c e in
+    let x = went (name_declared stop ls) _ c e in
     let rest = went (behind_assign stop x.value.1) _ c x.rest in
     let v = went (number stop rest.value) _ c rest.rest in
     subst IsSmall (ok_is _ c v.rest) (read_small stop rest.value v.value v.first)
@@ -78,7 +78,7 @@ found_small (c ∷ cs) x all =
     cond_both (bytes_eq c.name x) (Some c) (find (λ c. bytes_eq c.name x) cs)
     (λ (o : Option Constant). SmallIf (option_map (λ c. c.value) o)) (λ e. all.0) (λ e. found_small cs x all.1)
 
-first_small : (a b : Option Value) → SmallIf a → SmallIf b → SmallIf (first_of a b)
+first_small : (a b : Option Value) → SmallIf a → SmallIf b → SmallIf (own_or_shared a b)
 first_small (Some v) b first second = first
 first_small None b first second = second
 
@@ -114,7 +114,7 @@ none_or_small : (b : Bool) (cs : List Constant) → AllByRecursion IsSmall cs
 none_or_small true cs all = tt
 none_or_small false cs all = all
 
-behind_sound : (t : Token) (s : Constants) → IsSound s → IsSound (behind t s)
+behind_sound : (t : Token) (s : Constants) → IsSound s → IsSound (gone_past t s)
 behind_sound (token.Name x) s is = record { left = is.left; own = is.own; shared = is.shared }
 behind_sound (token.Number n) s is = record { left = is.left; own = is.own; shared = is.shared }
 behind_sound (token.Mark mark.RightBrace) s is =
@@ -122,7 +122,7 @@ behind_sound (token.Mark mark.RightBrace) s is =
 behind_sound (token.Mark _) s is = record { left = is.left; own = is.own; shared = is.shared }
 behind_sound (token.Keyword k) s is = record { left = is.left; own = is.own; shared = is.shared }
 
-passed_sound : (l : Lexeme) (s : Constants) → IsSound s → CanBe l.token → IsSound (passed l s)
+passed_sound : (l : Lexeme) (s : Constants) → IsSound s → CanBe l.token → IsSound (token_passed l s)
 passed_sound l s is can =
     behind_sound l.token (record s { left = s.left ++ meant s l })
     (record { left = both_spelled s.left (meant s l) is.left (meant_spelled s is l can); own = is.own; shared = is.shared })
@@ -138,21 +138,21 @@ with_sound s c is one =
     (λ e. record { left = is.left; own = is.own; shared = all_small s.shared c is.shared one })
     (λ e. record { left = is.left; own = all_small s.own c is.own one; shared = is.shared })
 
-declaration_sound : (stop : ℕ) (s t : Constants) → IsSound s → with_declaration stop s ≡ Ok t → IsSound t
+declaration_sound : (stop : ℕ) (s t : Constants) → IsSound s → with_declared stop s ≡ Ok t → IsSound t
 declaration_sound stop s t is e =
     let c = went (declared stop s.declaration) (λ c. Ok (with_constant s c)) t e in
     subst IsSound (ok_is (with_constant s c.value) t c.rest)
     (with_sound s c.value is (declared_small stop s.declaration c.value c.first))
 
-passes : (l : Lexeme) (s t : Constants) → IsSound s → CanBe l.token → ◌≡◌ {A = Result Constants ExpandFault} (Ok (passed l s)) (Ok t)
+passes : (l : Lexeme) (s t : Constants) → IsSound s → CanBe l.token → ◌≡◌ {A = Result Constants ExpandFault} (Ok (token_passed l s)) (Ok t)
     → IsSound t
-passes l s t is can e = subst IsSound (ok_is (passed l s) t e) (passed_sound l s is can)
+passes l s t is can e = subst IsSound (ok_is (token_passed l s) t e) (passed_sound l s is can)
 
-keeps : (l : Lexeme) (s t : Constants) → IsSound s → ◌≡◌ {A = Result Constants ExpandFault} (Ok (kept l s)) (Ok t) → IsSound t
+keeps : (l : Lexeme) (s t : Constants) → IsSound s → ◌≡◌ {A = Result Constants ExpandFault} (Ok (token_kept l s)) (Ok t) → IsSound t
 keeps l s t is e =
-    subst IsSound (ok_is (kept l s) t e) (record { left = is.left; own = is.own; shared = is.shared })
+    subst IsSound (ok_is (token_kept l s) t e) (record { left = is.left; own = is.own; shared = is.shared })
 
-step_sound : (p : Place) (k : Token) (l : Lexeme) (s t : Constants) → IsSound s → CanBe l.token
+step_sound : (p : ConstantPlace) (k : Token) (l : Lexeme) (s t : Constants) → IsSound s → CanBe l.token
     → step_at p k l s ≡ Ok t → IsSound t
 step_sound place.Front (token.Keyword keyword.Const) l s t is can e =
     subst IsSound (ok_is (record s { place = place.Declaration }) t e)
@@ -175,7 +175,7 @@ steps_sound (l ∷ ls) s t is spelled e =
     let u = went (step s l) (λ u. steps u ls) t e in
     steps_sound ls u.value t (step_sound s.place l.token l s u.value is spelled.0 u.first) spelled.1 u.rest
 
-finished_spelled : (p : Place) (end : ℕ) (s : Constants) (ms : List Lexeme) → IsSound s → finished_at p end s ≡ Ok ms
+finished_spelled : (p : ConstantPlace) (end : ℕ) (s : Constants) (ms : List Lexeme) → IsSound s → finished_at p end s ≡ Ok ms
     → Spelled ms
 finished_spelled place.Front end s ms is e = subst Spelled (ok_is s.left ms e) is.left
 finished_spelled place.Inside end s ms is e = subst Spelled (ok_is s.left ms e) is.left

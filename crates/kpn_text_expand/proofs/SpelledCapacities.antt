@@ -6,10 +6,10 @@ use Rattle.kpn_text_tokens.specs.declared.tokens.Mark.TheVariants as mark
 use Rattle.kpn_text_tokens.specs.declared.tokens.Token.{Token}
 use Rattle.kpn_text_tokens.specs.declared.tokens.Token.TheVariants as token
 use Rattle.kpn_text_expand.specs.declared.capacities.Capacities.{Capacities}
-use Rattle.kpn_text_expand.specs.declared.capacities.Spot.{Spot}
-use Rattle.kpn_text_expand.specs.declared.capacities.Spot.TheVariants as spot
+use Rattle.kpn_text_expand.specs.declared.capacities.HeadSpot.{HeadSpot}
+use Rattle.kpn_text_expand.specs.declared.capacities.HeadSpot.TheVariants as spot
 use Rattle.kpn_text_expand.specs.Constants.{with_token}
-use Rattle.kpn_text_expand.specs.Capacities.{at_first, filled, kept, refused, step, step_at, with_capacities}
+use Rattle.kpn_text_expand.specs.Capacities.{at_first, entry_filled, token_kept, refused, step, step_at, with_capacities}
 use Rattle.kpn_text_expand.proofs.Folds.{all_hold}
 use Rattle.kpn_text_expand.proofs.Can.{CanBe, Spelled, both_spelled, cap_can, nothing_can}
 
@@ -17,7 +17,7 @@ record IsSound (s : Capacities) : Type 0 where
   left : Spelled s.left
   number : CanBe (token.Number s.number)
 
-keeps : (l : Lexeme) (p : Spot) (s : Capacities) → IsSound s → CanBe l.token → IsSound (kept l p s)
+keeps : (l : Lexeme) (p : HeadSpot) (s : Capacities) → IsSound s → CanBe l.token → IsSound (token_kept l p s)
 keeps l p s is can = record { left = both_spelled s.left (l ∷ []) is.left (can, tt); number = is.number }
 
 capped : (l : Lexeme) (s : Capacities) → IsSound s → Spelled (with_token (token.Keyword keyword.Cap) l.start s.left)
@@ -27,7 +27,7 @@ refuses : (l : Lexeme) (s : Capacities) → IsSound s → CanBe l.token → IsSo
 refuses l s is can = keeps l spot.Elsewhere (record s { left = with_token (token.Keyword keyword.Cap) l.start s.left })
     (record { left = capped l s is; number = is.number }) can
 
-fills : (l : Lexeme) (s : Capacities) → IsSound s → CanBe l.token → IsSound (filled l s)
+fills : (l : Lexeme) (s : Capacities) → IsSound s → CanBe l.token → IsSound (entry_filled l s)
 fills l s is can =
     keeps l spot.Entry
     (record s {
@@ -38,7 +38,7 @@ fills l s is can =
       number = is.number;
     }) can
 
-takes : (p : Spot) (t : Token) (l : Lexeme) (s : Capacities) → IsSound s → CanBe l.token → CanBe t
+takes : (p : HeadSpot) (t : Token) (l : Lexeme) (s : Capacities) → IsSound s → CanBe l.token → CanBe t
     → IsSound (step_at p t l s)
 takes spot.Head (token.Keyword keyword.Cap) l s is can t_can = record { left = is.left; number = is.number }
 takes spot.Head (token.Keyword _) l s is can t_can = keeps l _ s is can

@@ -11,8 +11,8 @@ use Rattle.kpn_text_tokens.specs.declared.tokens.Token.TheVariants as token
 use Rattle.kpn_text_tokens.specs.Results.{◌>>=◌}
 use Rattle.kpn_text_grammar.specs.Syntax.{NameBytes}
 use Rattle.kpn_text_expand.specs.declared.constants.Constants.{Constants}
-use Rattle.kpn_text_expand.specs.declared.constants.Place.{Place}
-use Rattle.kpn_text_expand.specs.declared.constants.Place.TheVariants as place
+use Rattle.kpn_text_expand.specs.declared.constants.ConstantPlace.{ConstantPlace}
+use Rattle.kpn_text_expand.specs.declared.constants.ConstantPlace.TheVariants as place
 use Rattle.kpn_text_expand.specs.declared.declaration.Constant.{Constant}
 use Rattle.kpn_text_expand.specs.declared.declaration.Value.{Value}
 use Rattle.kpn_text_expand.specs.declared.fault.ExpandFault.{ExpandFault}
@@ -27,13 +27,13 @@ at_first = record { left = []; shared = []; own = []; depth = 0; place = place.I
 abbrev pub value_in : List Constant → NameBytes → Option Value
 value_in cs x = option_map (λ c. c.value) (find (λ c. bytes_eq c.name x) cs)
 
-abbrev pub first_of : Option Value → Option Value → Option Value
-first_of (Some v) other = Some v
-first_of None other = other
+abbrev pub own_or_shared : Option Value → Option Value → Option Value
+own_or_shared (Some v) other = Some v
+own_or_shared None other = other
 
 -- the value of a token, if it is the name of a constant
 abbrev pub value_of : Constants → Token → Option Value
-value_of s (token.Name x) = first_of (value_in s.own x) (value_in s.shared x)
+value_of s (token.Name x) = own_or_shared (value_in s.own x) (value_in s.shared x)
 value_of s _ = None
 
 -- a token at a byte
@@ -60,27 +60,27 @@ abbrev pub meant : Constants → Lexeme → List Lexeme
 meant s l = meant_as l (value_of s l.token)
 
 -- one brace more, as far as 64 bits can count
-abbrev pub one_more : ℕ → ℕ
-one_more n = min (n + 1) 18446744073709551615
+abbrev pub one_brace_more : ℕ → ℕ
+one_brace_more n = min (n + 1) 18446744073709551615
 
 -- The place after a token. The last `}` ends what the constants inside it are known in.
-abbrev pub behind : Token → Constants → Constants
-behind (token.Mark mark.LeftBrace) s = record s { depth = one_more s.depth; place = place.Front }
-behind (token.Mark mark.RightBrace) s = record s {
+abbrev pub gone_past : Token → Constants → Constants
+gone_past (token.Mark mark.LeftBrace) s = record s { depth = one_brace_more s.depth; place = place.Front }
+gone_past (token.Mark mark.RightBrace) s = record s {
   own = if s.depth - 1 == 0 then [] else s.own;
   depth = s.depth - 1;
   place = place.Front;
 }
-behind (token.Mark mark.Semicolon) s = record s { place = place.Front }
-behind _ s = record s { place = place.Inside }
+gone_past (token.Mark mark.Semicolon) s = record s { place = place.Front }
+gone_past _ s = record s { place = place.Inside }
 
 -- a token outside of a declaration
-abbrev pub passed : Lexeme → Constants → Constants
-passed l s = behind l.token (record s { left = s.left ++ meant s l })
+abbrev pub token_passed : Lexeme → Constants → Constants
+token_passed l s = gone_past l.token (record s { left = s.left ++ meant s l })
 
 -- a token of a declaration
-abbrev pub kept : Lexeme → Constants → Constants
-kept l s = record s { declaration = s.declaration ++ meant s l }
+abbrev pub token_kept : Lexeme → Constants → Constants
+token_kept l s = record s { declaration = s.declaration ++ meant s l }
 
 abbrev pub with_constant : Constants → Constant → Constants
 with_constant s c =
@@ -89,20 +89,20 @@ with_constant s c =
     else record s { own = s.own ++ c ∷ []; declaration = []; place = place.Front }
 
 -- the `;` after a declaration
-abbrev pub with_declaration : (stop : ℕ) → Constants → Result Constants ExpandFault
-with_declaration stop s = declared stop s.declaration >>= λ c. Ok (with_constant s c)
+abbrev pub with_declared : (stop : ℕ) → Constants → Result Constants ExpandFault
+with_declared stop s = declared stop s.declaration >>= λ c. Ok (with_constant s c)
 
 -- A token at a place. After `;`, `{` or `}` the word `const` begins a declaration, which the next `;` ends.
-abbrev pub step_at : Place → Token → Lexeme → Constants → Result Constants ExpandFault
+abbrev pub step_at : ConstantPlace → Token → Lexeme → Constants → Result Constants ExpandFault
 step_at place.Front (token.Keyword keyword.Const) l s = Ok (record s { place = place.Declaration })
-step_at place.Declaration (token.Mark mark.Semicolon) l s = with_declaration l.start s
-step_at place.Declaration _ l s = Ok (kept l s)
-step_at _ _ l s = Ok (passed l s)
+step_at place.Declaration (token.Mark mark.Semicolon) l s = with_declared l.start s
+step_at place.Declaration _ l s = Ok (token_kept l s)
+step_at _ _ l s = Ok (token_passed l s)
 
 abbrev pub step : Constants → Lexeme → Result Constants ExpandFault
 step s l = step_at s.place l.token l s
 
-abbrev pub finished_at : Place → (end : ℕ) → Constants → Result (List Lexeme) ExpandFault
+abbrev pub finished_at : ConstantPlace → (end : ℕ) → Constants → Result (List Lexeme) ExpandFault
 finished_at place.Declaration end s = declared end s.declaration >>= λ c. Err (fault.Grammar end)
 finished_at _ end s = Ok s.left
 

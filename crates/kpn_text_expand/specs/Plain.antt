@@ -3,8 +3,8 @@ use Rattle.std.specs.Prelude.{◌≡◌, Bool, true, false, not, if◌then◌els
 use Rattle.kpn_text_tokens.specs.declared.tokens.Keyword.TheVariants as keyword
 use Rattle.kpn_text_tokens.specs.declared.tokens.Token.{Token}
 use Rattle.kpn_text_tokens.specs.declared.tokens.Token.TheVariants as token
-use Rattle.kpn_text_expand.specs.declared.capacities.Spot.{Spot}
-use Rattle.kpn_text_expand.specs.declared.capacities.Spot.TheVariants as spot
+use Rattle.kpn_text_expand.specs.declared.capacities.HeadSpot.{HeadSpot}
+use Rattle.kpn_text_expand.specs.declared.capacities.HeadSpot.TheVariants as spot
 use Rattle.kpn_text_expand.specs.Capacities.{spot_behind}
 use Rattle.kpn_text_expand.specs.Sums.{changes, is_assign}
 
@@ -14,7 +14,7 @@ not_assigned [] = false
 not_assigned (t ∷ ts) = not (is_assign t)
 
 -- no capacity stands among the settings of a network from here on
-abbrev pub capless : Spot → List Token → Bool
+abbrev pub capless : HeadSpot → List Token → Bool
 capless p [] = true
 capless spot.Opening (t ∷ ts) = capless (spot_behind spot.Opening t) ts
 capless spot.Head (token.Keyword keyword.Cap ∷ ts) = false
@@ -23,15 +23,15 @@ capless spot.Setting (t ∷ ts) = capless (spot_behind spot.Setting t) ts
 capless _ _ = true
 
 -- the token, which these follow, begins no short form
-abbrev pub is_plain : Token → List Token → Bool
-is_plain (token.Keyword keyword.Const) ts = false
-is_plain (token.Keyword keyword.For) ts = false
-is_plain (token.Keyword keyword.Network) ts = capless spot.Opening ts
-is_plain (token.Mark m) ts = if changes m then not_assigned ts else true
-is_plain _ ts = true
+abbrev pub is_itself : Token → List Token → Bool
+is_itself (token.Keyword keyword.Const) ts = false
+is_itself (token.Keyword keyword.For) ts = false
+is_itself (token.Keyword keyword.Network) ts = capless spot.Opening ts
+is_itself (token.Mark m) ts = if changes m then not_assigned ts else true
+is_itself _ ts = true
 
 abbrev pub IsPlain : Token → List Token → Type 0
-IsPlain t ts = is_plain t ts ≡ true
+IsPlain t ts = is_itself t ts ≡ true
 
 abbrev pub ArePlain : List Token → Type 0
 ArePlain [] = Unit {0}

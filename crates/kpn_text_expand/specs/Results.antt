@@ -13,9 +13,9 @@ Fails (fault.Token at) r = r ≡ Err (fault.Token at)
 Fails (fault.UnknownName at) r = r ≡ Err (fault.UnknownName at)
 
 -- what a call returned, seen by a view, is this, unless memory ran out
-abbrev pub Gives : {A B : Type 0} → (A → B) → Result A ExpandFault → Result B ExpandFault → Type 0
-Gives view (Ok x) r = r ≡ Ok (view x)
-Gives view (Err e) r = Fails e r
+abbrev pub Yields : {A B : Type 0} → (A → B) → Result A ExpandFault → Result B ExpandFault → Type 0
+Yields view (Ok x) r = r ≡ Ok (view x)
+Yields view (Err e) r = Fails e r
 
 -- tokens go by one after the other, until one is wrong
 unfoldable pub each : {S : Type 0} → (S → Lexeme → Result S ExpandFault) → S → List Lexeme → Result S ExpandFault

@@ -2,7 +2,7 @@
 
 ghost use Rattle.std.specs.Prelude.{◌≡◌, Ok};
 ghost use Rattle.kpn_text_expand.specs.Capacities as spec;
-ghost use Rattle.kpn_text_expand.specs.Results.{Gives};
+ghost use Rattle.kpn_text_expand.specs.Results.{Yields};
 
 use crate::constants::add;
 use crate::fault::ExpandFault;
@@ -12,7 +12,7 @@ use std::alloc::Global;
 
 /// Where the next token stands.
 #[derive(Clone, Copy)]
-pub(crate) enum Spot {
+pub(crate) enum HeadSpot {
     /// Where nothing is looked at.
     Elsewhere,
     /// Where the `{` of the network comes.
@@ -38,25 +38,25 @@ pub(crate) struct Capacities<'a> {
     left: Sequence<Lexeme<'a>>,
     /// The capacity of the network, once it is known.
     number: Number,
-    spot: Spot,
+    spot: HeadSpot,
 }
 
 /// Where the token after one that stays stands.
-fn spot_behind(spot: Spot, token: &Token<'_>) -> Spot
+fn spot_behind(spot: HeadSpot, token: &Token<'_>) -> HeadSpot
     ensures { result ≡ spec.spot_behind spot token.now }
 {
     match (spot, token) {
-        (Spot::Elsewhere, Token::Keyword(Keyword::Network)) => Spot::Opening,
-        (Spot::Opening, Token::Mark(Mark::LeftBrace)) => Spot::Head,
-        (Spot::Head, Token::Keyword(Keyword::Limit | Keyword::Policy | Keyword::Grow)) =>
-            Spot::Setting,
-        (Spot::Setting, Token::Mark(Mark::Semicolon)) => Spot::Head,
-        (Spot::Setting, _) => Spot::Setting,
-        (Spot::Entry, Token::Keyword(Keyword::Channel | Keyword::Sink)) => Spot::Open,
-        (Spot::Open, Token::Keyword(Keyword::Cap)) => Spot::Entry,
-        (Spot::Entry, _) => Spot::Entry,
-        (Spot::Open, _) => Spot::Open,
-        _ => Spot::Elsewhere,
+        (HeadSpot::Elsewhere, Token::Keyword(Keyword::Network)) => HeadSpot::Opening,
+        (HeadSpot::Opening, Token::Mark(Mark::LeftBrace)) => HeadSpot::Head,
+        (HeadSpot::Head, Token::Keyword(Keyword::Limit | Keyword::Policy | Keyword::Grow)) =>
+            HeadSpot::Setting,
+        (HeadSpot::Setting, Token::Mark(Mark::Semicolon)) => HeadSpot::Head,
+        (HeadSpot::Setting, _) => HeadSpot::Setting,
+        (HeadSpot::Entry, Token::Keyword(Keyword::Channel | Keyword::Sink)) => HeadSpot::Open,
+        (HeadSpot::Open, Token::Keyword(Keyword::Cap)) => HeadSpot::Entry,
+        (HeadSpot::Entry, _) => HeadSpot::Entry,
+        (HeadSpot::Open, _) => HeadSpot::Open,
+        _ => HeadSpot::Elsewhere,
     }
 }
 
@@ -68,13 +68,13 @@ impl<'a> Capacities<'a> {
         Capacities {
             left: Sequence::new(alloc),
             number: Number::new(0),
-            spot: Spot::Elsewhere,
+            spot: HeadSpot::Elsewhere,
         }
     }
 
     /// A token that stays, after which the next one has this spot.
-    fn keep(&mut self, lexeme: &Lexeme<'a>, spot: Spot) -> Result<(), ExpandFault>
-        ensures { Gives (λ _. self.new) result (Ok (spec.kept lexeme.now spot self.old)) }
+    fn keep(&mut self, lexeme: &Lexeme<'a>, spot: HeadSpot) -> Result<(), ExpandFault>
+        ensures { Yields (λ _. self.new) result (Ok (spec.token_kept lexeme.now spot self.old)) }
     {
         self.spot = spot;
         add(&mut self.left, lexeme.token.copy(), lexeme.start)
@@ -82,34 +82,34 @@ impl<'a> Capacities<'a> {
 
     /// A token after `cap` at the head that may not be there: the grammar refuses the word at its byte.
     fn refuse(&mut self, lexeme: &Lexeme<'a>) -> Result<(), ExpandFault>
-        ensures { Gives (λ _. self.new) result (Ok (spec.refused lexeme.now self.old)) }
+        ensures { Yields (λ _. self.new) result (Ok (spec.refused lexeme.now self.old)) }
     {
         add(&mut self.left, Token::Keyword(Keyword::Cap), lexeme.start)?;
-        self.keep(lexeme, Spot::Elsewhere)
+        self.keep(lexeme, HeadSpot::Elsewhere)
     }
 
     /// The `;` of a channel or a sink without a capacity becomes `cap N;`.
     fn fill(&mut self, lexeme: &Lexeme<'a>) -> Result<(), ExpandFault>
-        ensures { Gives (λ _. self.new) result (Ok (spec.filled lexeme.now self.old)) }
+        ensures { Yields (λ _. self.new) result (Ok (spec.entry_filled lexeme.now self.old)) }
     {
         add(&mut self.left, Token::Keyword(Keyword::Cap), lexeme.start)?;
         add(&mut self.left, Token::Number(self.number), lexeme.start)?;
-        self.keep(lexeme, Spot::Entry)
+        self.keep(lexeme, HeadSpot::Entry)
     }
 
     /// The next token.
     fn step(&mut self, lexeme: &Lexeme<'a>) -> Result<(), ExpandFault>
-        ensures { Gives (λ _. self.new) result (Ok (spec.step self.old lexeme.now)) }
+        ensures { Yields (λ _. self.new) result (Ok (spec.step self.old lexeme.now)) }
     {
         match (self.spot, &lexeme.token) {
-            (Spot::Head, Token::Keyword(Keyword::Cap)) => self.spot = Spot::Word,
-            (Spot::Word, Token::Number(number)) => {
+            (HeadSpot::Head, Token::Keyword(Keyword::Cap)) => self.spot = HeadSpot::Word,
+            (HeadSpot::Word, Token::Number(number)) => {
                 self.number = *number;
-                self.spot = Spot::Amount;
+                self.spot = HeadSpot::Amount;
             }
-            (Spot::Amount, Token::Mark(Mark::Semicolon)) => self.spot = Spot::Entry,
-            (Spot::Word | Spot::Amount, _) => self.refuse(lexeme)?,
-            (Spot::Open, Token::Mark(Mark::Semicolon)) => self.fill(lexeme)?,
+            (HeadSpot::Amount, Token::Mark(Mark::Semicolon)) => self.spot = HeadSpot::Entry,
+            (HeadSpot::Word | HeadSpot::Amount, _) => self.refuse(lexeme)?,
+            (HeadSpot::Open, Token::Mark(Mark::Semicolon)) => self.fill(lexeme)?,
             (spot, token) => self.keep(lexeme, spot_behind(spot, token))?,
         }
         Ok(())
@@ -121,7 +121,7 @@ pub(crate) fn with_capacities<'a>(
     alloc: Global,
     tokens: &[Lexeme<'a>],
 ) -> Result<Sequence<Lexeme<'a>>, ExpandFault>
-    ensures { Gives (λ left. left) result (Ok (spec.with_capacities tokens.now)) }
+    ensures { Yields (λ left. left) result (Ok (spec.with_capacities tokens.now)) }
 {
     let mut capacities = Capacities::new(alloc);
     for lexeme in tokens {

@@ -3,7 +3,7 @@
 
 ghost use Rattle.std.specs.Prelude.{◌≡◌, [], ◌∷◌, ◌++◌, Ok, OnOk, IfErr};
 ghost use Rattle.kpn_text_expand.specs.Constants as spec;
-ghost use Rattle.kpn_text_expand.specs.Results.{Gives};
+ghost use Rattle.kpn_text_expand.specs.Results.{Yields};
 
 use crate::declaration::{Constant, Value, declared};
 use crate::fault::ExpandFault;
@@ -14,7 +14,7 @@ use std::mem;
 
 /// Where the next token stands.
 #[derive(Clone, Copy)]
-pub(crate) enum Place {
+pub(crate) enum ConstantPlace {
     /// After `;`, `{` or `}`.
     Front,
     /// After another token.
@@ -34,7 +34,7 @@ pub(crate) struct Constants<'a> {
     pub own: Sequence<Constant<'a>>,
     /// How many braces are open.
     pub depth: usize,
-    pub place: Place,
+    pub place: ConstantPlace,
     /// The tokens of a declaration.
     pub declaration: Sequence<Lexeme<'a>>,
 }
@@ -102,7 +102,7 @@ impl<'a> Constants<'a> {
             shared: Sequence::new(alloc),
             own: Sequence::new(alloc),
             depth: 0,
-            place: Place::Inside,
+            place: ConstantPlace::Inside,
             declaration: Sequence::new(alloc),
         }
     }
@@ -122,28 +122,28 @@ impl<'a> Constants<'a> {
 
     /// Counts a brace, and says where the next token stands.
     fn go_behind(&mut self, alloc: Global, token: &Token<'a>)
-        ensures { self.new ≡ spec.behind token.now self.old }
+        ensures { self.new ≡ spec.gone_past token.now self.old }
     {
         match token {
             Token::Mark(Mark::LeftBrace) => {
                 self.depth = self.depth.saturating_add(1);
-                self.place = Place::Front;
+                self.place = ConstantPlace::Front;
             }
             Token::Mark(Mark::RightBrace) => {
                 self.depth = self.depth.saturating_sub(1);
-                self.place = Place::Front;
+                self.place = ConstantPlace::Front;
                 if self.depth == 0 {
                     drop(mem::replace(&mut self.own, Sequence::new(alloc)));
                 }
             }
-            Token::Mark(Mark::Semicolon) => self.place = Place::Front,
-            _ => self.place = Place::Inside,
+            Token::Mark(Mark::Semicolon) => self.place = ConstantPlace::Front,
+            _ => self.place = ConstantPlace::Inside,
         }
     }
 
     /// A token outside of a declaration.
     fn pass(&mut self, alloc: Global, lexeme: &Lexeme<'a>) -> Result<(), ExpandFault>
-        ensures { Gives (λ _. self.new) result (Ok (spec.passed lexeme.now self.old)) }
+        ensures { Yields (λ _. self.new) result (Ok (spec.token_passed lexeme.now self.old)) }
     {
         let value = self.value_of(&lexeme.token);
         add_meant(&mut self.left, lexeme, value)?;
@@ -153,7 +153,7 @@ impl<'a> Constants<'a> {
 
     /// A token of a declaration.
     fn keep(&mut self, lexeme: &Lexeme<'a>) -> Result<(), ExpandFault>
-        ensures { Gives (λ _. self.new) result (Ok (spec.kept lexeme.now self.old)) }
+        ensures { Yields (λ _. self.new) result (Ok (spec.token_kept lexeme.now self.old)) }
     {
         let value = self.value_of(&lexeme.token);
         add_meant(&mut self.declaration, lexeme, value)
@@ -161,10 +161,10 @@ impl<'a> Constants<'a> {
 
     /// Adds a constant, and goes on after its declaration.
     fn add_constant(&mut self, alloc: Global, constant: Constant<'a>) -> Result<(), ExpandFault>
-        ensures { Gives (λ _. self.new) result (Ok (spec.with_constant self.old constant.entry)) }
+        ensures { Yields (λ _. self.new) result (Ok (spec.with_constant self.old constant.entry)) }
     {
         drop(mem::replace(&mut self.declaration, Sequence::new(alloc)));
-        self.place = Place::Front;
+        self.place = ConstantPlace::Front;
         if self.depth == 0 {
             self.shared.push(constant)?;
         } else {
@@ -176,7 +176,7 @@ impl<'a> Constants<'a> {
     /// The `;` after a declaration.
     #[tactic(auto, unfolding(kpn_text_tokens::specs::Results::and_then))]
     fn declare(&mut self, alloc: Global, stop: usize) -> Result<(), ExpandFault>
-        ensures { Gives (λ _. self.new) result (spec.with_declaration stop self.old) }
+        ensures { Yields (λ _. self.new) result (spec.with_declared stop self.old) }
     {
         let constant = declared(alloc, self.declaration.as_slice(), stop)?;
         self.add_constant(alloc, constant)
@@ -184,15 +184,18 @@ impl<'a> Constants<'a> {
 
     /// The next token.
     pub(crate) fn step(&mut self, alloc: Global, lexeme: &Lexeme<'a>) -> Result<(), ExpandFault>
-        ensures { Gives (λ _. self.new) result (spec.step self.old lexeme.now) }
+        ensures { Yields (λ _. self.new) result (spec.step self.old lexeme.now) }
     {
         match (self.place, &lexeme.token) {
-            (Place::Front, Token::Keyword(Keyword::Const)) => {
-                self.place = Place::Declaration;
+            (ConstantPlace::Front, Token::Keyword(Keyword::Const)) => {
+                self.place = ConstantPlace::Declaration;
                 Ok(())
             }
-            (Place::Declaration, Token::Mark(Mark::Semicolon)) => self.declare(alloc, lexeme.start),
-            (Place::Declaration, _) => self.keep(lexeme),
+            (ConstantPlace::Declaration, Token::Mark(Mark::Semicolon)) => self.declare(
+                alloc,
+                lexeme.start,
+            ),
+            (ConstantPlace::Declaration, _) => self.keep(lexeme),
             _ => self.pass(alloc, lexeme),
         }
     }
@@ -204,7 +207,7 @@ impl<'a> Constants<'a> {
         alloc: Global,
         end: usize,
     ) -> Result<Sequence<Lexeme<'a>>, ExpandFault>
-        ensures { Gives (λ left. left) result (spec.finished end self.entry) }
+        ensures { Yields (λ left. left) result (spec.finished end self.entry) }
     {
         let Constants {
             left,
@@ -213,7 +216,7 @@ impl<'a> Constants<'a> {
             ..
         } = self;
         match place {
-            Place::Declaration => {
+            ConstantPlace::Declaration => {
                 declared(alloc, declaration.as_slice(), end)?;
                 Err(ExpandFault::Grammar(end))
             }

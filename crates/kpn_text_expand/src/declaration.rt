@@ -3,7 +3,7 @@
 ghost use Rattle.std.specs.Prelude.{◌≡◌};
 ghost use Rattle.kpn_text_grammar.specs.View.{term};
 ghost use Rattle.kpn_text_expand.specs.Declaration as spec;
-ghost use Rattle.kpn_text_expand.specs.Results.{Gives};
+ghost use Rattle.kpn_text_expand.specs.Results.{Yields};
 
 use crate::constants::add;
 use crate::fault::ExpandFault;
@@ -29,7 +29,7 @@ pub(crate) struct Constant<'a> {
 
 /// A value as it is written, if it can be.
 fn written(value: i64) -> Option<Value>
-    ensures { result ≡ spec.written value }
+    ensures { result ≡ spec.value_written value }
 {
     let size = value.unsigned_abs();
     if size > MAX_NUMBER {
@@ -43,7 +43,7 @@ fn written(value: i64) -> Option<Value>
 
 /// A value as it is written, or the fault of an expression that begins at this byte.
 fn or_no_number(value: Option<i64>, start: usize) -> Result<Value, ExpandFault>
-    ensures { Gives (λ v. v) result (spec.or_no_number start (spec.written_if value)) }
+    ensures { Yields (λ v. v) result (spec.or_no_number start (spec.written_if value)) }
 {
     let Some(value) = value else {
         return Err(ExpandFault::Token(start));
@@ -56,7 +56,7 @@ fn or_no_number(value: Option<i64>, start: usize) -> Result<Value, ExpandFault>
 
 /// The value of an expression that begins at this byte.
 fn computed(alloc: Global, expression: &Expression<'_>, start: usize) -> Result<Value, ExpandFault>
-    ensures { Gives (λ v. v) result (spec.computed start (term expression.now)) }
+    ensures { Yields (λ v. v) result (spec.value_computed start (term expression.now)) }
 {
     match constant_value(alloc, expression) {
         Ok(found) => or_no_number(found, start),
@@ -71,7 +71,7 @@ fn tree<'a>(
     start: usize,
     stop: usize,
 ) -> Result<Expression<'a>, ExpandFault>
-    ensures { Gives term result (spec.tree start stop tokens.now) }
+    ensures { Yields term result (spec.tree start stop tokens.now) }
 {
     match expression(alloc, Language::Two, tokens, stop) {
         Ok(tree) => Ok(tree),
@@ -83,7 +83,7 @@ fn tree<'a>(
 
 /// Adds a token, which may be no name, and so borrows nothing from the text.
 fn add_nameless<'b>(left: &mut Sequence<Lexeme<'b>>, lexeme: &Lexeme<'_>) -> Result<(), ExpandFault>
-    ensures { Gives (λ _. left.new) result (spec.with_nameless left.old lexeme.now) }
+    ensures { Yields (λ _. left.new) result (spec.with_nameless left.old lexeme.now) }
 {
     match &lexeme.token {
         Token::Name(_) => Err(ExpandFault::UnknownName(lexeme.start)),
@@ -95,7 +95,7 @@ fn add_nameless<'b>(left: &mut Sequence<Lexeme<'b>>, lexeme: &Lexeme<'_>) -> Res
 
 /// The same tokens, if none is a name.
 fn nameless<'b>(alloc: Global, tokens: &[Lexeme<'_>]) -> Result<Sequence<Lexeme<'b>>, ExpandFault>
-    ensures { Gives (λ left. left) result (spec.nameless tokens.now) }
+    ensures { Yields (λ left. left) result (spec.nameless tokens.now) }
 {
     let mut left = Sequence::new(alloc);
     for lexeme in tokens {
@@ -106,7 +106,7 @@ fn nameless<'b>(alloc: Global, tokens: &[Lexeme<'_>]) -> Result<Sequence<Lexeme<
 
 /// The byte at which these tokens begin, or that of what follows them.
 fn start_of(tokens: &[Lexeme<'_>], stop: usize) -> usize
-    ensures { result ≡ spec.start_of stop tokens.now }
+    ensures { result ≡ spec.first_byte stop tokens.now }
 {
     match tokens.first() {
         Some(first) => first.start,
@@ -117,7 +117,7 @@ fn start_of(tokens: &[Lexeme<'_>], stop: usize) -> usize
 /// The value that all these tokens are. What follows them is at the byte `stop`.
 #[tactic(auto, unfolding(crate::specs::Declaration::number, kpn_text_tokens::specs::Results::and_then))]
 fn number(alloc: Global, tokens: &[Lexeme<'_>], stop: usize) -> Result<Value, ExpandFault>
-    ensures { Gives (λ v. v) result (spec.number stop tokens.now) }
+    ensures { Yields (λ v. v) result (spec.number stop tokens.now) }
 {
     let nameless = nameless(alloc, tokens)?;
     let start = start_of(nameless.as_slice(), stop);
@@ -130,7 +130,7 @@ fn first_name<'t, 'a>(
     tokens: &'t [Lexeme<'a>],
     stop: usize,
 ) -> Result<(Name<'a>, &'t [Lexeme<'a>]), ExpandFault>
-    ensures { Gives (λ x. (x.0, x.1.now)) result (spec.first_name stop tokens.now) }
+    ensures { Yields (λ x. (x.0, x.1.now)) result (spec.name_declared stop tokens.now) }
 {
     match tokens.split_first() {
         Some((first, rest)) => match &first.token {
@@ -146,7 +146,7 @@ fn behind_assign<'t, 'a>(
     tokens: &'t [Lexeme<'a>],
     stop: usize,
 ) -> Result<&'t [Lexeme<'a>], ExpandFault>
-    ensures { Gives (λ x. x.now) result (spec.behind_assign stop tokens.now) }
+    ensures { Yields (λ x. x.now) result (spec.behind_assign stop tokens.now) }
 {
     match tokens.split_first() {
         Some((first, rest)) => match &first.token {
@@ -164,7 +164,7 @@ pub(crate) fn declared<'a>(
     tokens: &[Lexeme<'a>],
     stop: usize,
 ) -> Result<Constant<'a>, ExpandFault>
-    ensures { Gives (λ c. c) result (spec.declared stop tokens.now) }
+    ensures { Yields (λ c. c) result (spec.declared stop tokens.now) }
 {
     let (name, tokens) = first_name(tokens, stop)?;
     let tokens = behind_assign(tokens, stop)?;

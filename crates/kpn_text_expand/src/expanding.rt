@@ -3,7 +3,7 @@
 ghost use Rattle.std.specs.Prelude.{Ok};
 ghost use Rattle.kpn_text_expand.specs.Constants.{without_constants};
 ghost use Rattle.kpn_text_expand.specs.Expanding as spec;
-ghost use Rattle.kpn_text_expand.specs.Results.{Gives};
+ghost use Rattle.kpn_text_expand.specs.Results.{Yields};
 
 use crate::capacities::with_capacities;
 use crate::constants::Constants;
@@ -15,7 +15,7 @@ use std::alloc::Global;
 
 /// All tokens of a text have gone by.
 fn all_steps<'a>(alloc: Global, tokens: &[Lexeme<'a>]) -> Result<Constants<'a>, ExpandFault>
-    ensures { Gives (λ s. s) result (spec.all_steps tokens.now) }
+    ensures { Yields (λ s. s) result (spec.all_steps tokens.now) }
 {
     let mut constants = Constants::new(alloc);
     for lexeme in tokens {
@@ -31,7 +31,7 @@ fn without_constants<'a>(
     tokens: &[Lexeme<'a>],
     end: usize,
 ) -> Result<Sequence<Lexeme<'a>>, ExpandFault>
-    ensures { Gives (λ left. left) result (without_constants end tokens.now) }
+    ensures { Yields (λ left. left) result (without_constants end tokens.now) }
 {
     let constants = all_steps(alloc, tokens)?;
     constants.finish(alloc, end)
@@ -42,7 +42,7 @@ fn without_forms<'a>(
     alloc: Global,
     tokens: &[Lexeme<'a>],
 ) -> Result<Sequence<Lexeme<'a>>, ExpandFault>
-    ensures { Gives (λ left. left) result (Ok (spec.without_forms tokens.now)) }
+    ensures { Yields (λ left. left) result (Ok (spec.without_forms tokens.now)) }
 {
     let filled = with_capacities(alloc, tokens)?;
     with_sums(alloc, filled.as_slice())
@@ -55,7 +55,7 @@ fn all_forms<'a>(
     tokens: &[Lexeme<'a>],
     end: usize,
 ) -> Result<Sequence<Lexeme<'a>>, ExpandFault>
-    ensures { Gives (λ left. left) result (spec.all_forms end tokens.now) }
+    ensures { Yields (λ left. left) result (spec.all_forms end tokens.now) }
 {
     let left = without_constants(alloc, tokens, end)?;
     without_forms(alloc, left.as_slice())
@@ -79,7 +79,7 @@ pub fn expanded<'a>(
     tokens: Vec<Lexeme<'a>>,
     end: usize,
 ) -> Result<Sequence<Lexeme<'a>>, ExpandFault>
-    ensures { Gives (λ found. found) result (spec.expanded language end tokens.entry.items) }
+    ensures { Yields (λ found. found) result (spec.expanded language end tokens.entry.items) }
 {
     match language {
         Language::One => Ok(Sequence::from_vec(tokens)),

@@ -1,7 +1,7 @@
 //! Assignments with an operator: `x += e;` becomes `x = x + (e);`, and `a[i] += e;` becomes `a[i] = a[i] + (e);`.
 
 ghost use Rattle.std.specs.Prelude.{◌≡◌, ◌++◌, Ok, OnOk, IfErr};
-ghost use Rattle.kpn_text_expand.specs.Results.{Gives};
+ghost use Rattle.kpn_text_expand.specs.Results.{Yields};
 ghost use Rattle.kpn_text_expand.specs.Sums as spec;
 
 use crate::constants::add;
@@ -13,7 +13,7 @@ use std::mem;
 
 /// Where the next token stands.
 #[derive(Clone, Copy)]
-pub(crate) enum Spot {
+pub(crate) enum SumSpot {
     /// After `;`, `{` or `}`.
     Front,
     /// Elsewhere.
@@ -35,7 +35,7 @@ pub(crate) struct Sums<'a> {
     left: Sequence<Lexeme<'a>>,
     /// Those of the last target.
     target: Sequence<Lexeme<'a>>,
-    spot: Spot,
+    spot: SumSpot,
 }
 
 /// Whether `=` right after the mark makes an assignment of it.
@@ -66,29 +66,29 @@ fn follows(mark: Mark, at: usize, lexeme: &Lexeme<'_>) -> bool
 }
 
 /// Where the token after one outside of targets and values stands.
-fn spot_behind(token: &Token<'_>) -> Spot
+fn spot_behind(token: &Token<'_>) -> SumSpot
     ensures { result ≡ spec.spot_behind token.now }
 {
     match token {
-        Token::Mark(Mark::Semicolon | Mark::LeftBrace | Mark::RightBrace) => Spot::Front,
-        _ => Spot::Inside,
+        Token::Mark(Mark::Semicolon | Mark::LeftBrace | Mark::RightBrace) => SumSpot::Front,
+        _ => SumSpot::Inside,
     }
 }
 
 /// Where the token after one of an index stands.
-fn spot_in_index(token: &Token<'_>, depth: usize) -> Spot
+fn spot_in_index(token: &Token<'_>, depth: usize) -> SumSpot
     ensures { result ≡ spec.spot_in_index token.now depth }
 {
     match token {
-        Token::Mark(Mark::LeftBracket) => Spot::Index(depth.saturating_add(1)),
+        Token::Mark(Mark::LeftBracket) => SumSpot::Index(depth.saturating_add(1)),
         Token::Mark(Mark::RightBracket) => {
             if depth == 0 {
-                Spot::Target
+                SumSpot::Target
             } else {
-                Spot::Index(depth - 1)
+                SumSpot::Index(depth - 1)
             }
         }
-        _ => Spot::Index(depth),
+        _ => SumSpot::Index(depth),
     }
 }
 
@@ -126,13 +126,13 @@ impl<'a> Sums<'a> {
         Sums {
             left: Sequence::new(alloc),
             target: Sequence::new(alloc),
-            spot: Spot::Inside,
+            spot: SumSpot::Inside,
         }
     }
 
     /// A token that stays, after which the next one has this spot.
-    fn keep(&mut self, lexeme: &Lexeme<'a>, spot: Spot) -> Result<(), ExpandFault>
-        ensures { Gives (λ _. self.new) result (Ok (spec.kept lexeme.now spot self.old)) }
+    fn keep(&mut self, lexeme: &Lexeme<'a>, spot: SumSpot) -> Result<(), ExpandFault>
+        ensures { Yields (λ _. self.new) result (Ok (spec.token_kept lexeme.now spot self.old)) }
     {
         self.spot = spot;
         add(&mut self.left, lexeme.token.copy(), lexeme.start)
@@ -140,14 +140,14 @@ impl<'a> Sums<'a> {
 
     /// A token outside of targets and values.
     fn pass(&mut self, lexeme: &Lexeme<'a>) -> Result<(), ExpandFault>
-        ensures { Gives (λ _. self.new) result (Ok (spec.passed lexeme.now self.old)) }
+        ensures { Yields (λ _. self.new) result (Ok (spec.token_passed lexeme.now self.old)) }
     {
         self.keep(lexeme, spot_behind(&lexeme.token))
     }
 
     /// A token of a target.
-    fn aim(&mut self, lexeme: &Lexeme<'a>, spot: Spot) -> Result<(), ExpandFault>
-        ensures { Gives (λ _. self.new) result (Ok (spec.aimed lexeme.now spot self.old)) }
+    fn aim(&mut self, lexeme: &Lexeme<'a>, spot: SumSpot) -> Result<(), ExpandFault>
+        ensures { Yields (λ _. self.new) result (Ok (spec.aimed lexeme.now spot self.old)) }
     {
         add(&mut self.target, lexeme.token.copy(), lexeme.start)?;
         self.keep(lexeme, spot)
@@ -155,17 +155,17 @@ impl<'a> Sums<'a> {
 
     /// The name that a target begins with.
     fn begin(&mut self, alloc: Global, lexeme: &Lexeme<'a>) -> Result<(), ExpandFault>
-        ensures { Gives (λ _. self.new) result (Ok (spec.begun lexeme.now self.old)) }
+        ensures { Yields (λ _. self.new) result (Ok (spec.begun lexeme.now self.old)) }
     {
         drop(mem::replace(&mut self.target, Sequence::new(alloc)));
-        self.aim(lexeme, Spot::Target)
+        self.aim(lexeme, SumSpot::Target)
     }
 
     /// `=` after an operator at this byte: `= x + (`.
     fn open(&mut self, mark: Mark, at: usize) -> Result<(), ExpandFault>
-        ensures { Gives (λ _. self.new) result (Ok (spec.opened mark at self.old)) }
+        ensures { Yields (λ _. self.new) result (Ok (spec.value_opened mark at self.old)) }
     {
-        self.spot = Spot::Value(0);
+        self.spot = SumSpot::Value(0);
         add(&mut self.left, Token::Mark(Mark::Assign), at)?;
         add_all(&mut self.left, self.target.as_slice())?;
         add(&mut self.left, Token::Mark(mark), at)?;
@@ -174,7 +174,7 @@ impl<'a> Sums<'a> {
 
     /// A token after an operator at this byte, which stands after a target.
     fn operate(&mut self, mark: Mark, at: usize, lexeme: &Lexeme<'a>) -> Result<(), ExpandFault>
-        ensures { Gives (λ _. self.new) result (Ok (spec.operated mark at lexeme.now self.old)) }
+        ensures { Yields (λ _. self.new) result (Ok (spec.operator_kept mark at lexeme.now self.old)) }
     {
         if follows(mark, at, lexeme) {
             return self.open(mark, at);
@@ -185,10 +185,10 @@ impl<'a> Sums<'a> {
 
     /// A token of a value, or the first one after it, before which `)` goes.
     fn value(&mut self, depth: usize, lexeme: &Lexeme<'a>) -> Result<(), ExpandFault>
-        ensures { Gives (λ _. self.new) result (Ok (spec.valued depth lexeme.now self.old)) }
+        ensures { Yields (λ _. self.new) result (Ok (spec.valued depth lexeme.now self.old)) }
     {
         if let Some(depth) = open_behind(&lexeme.token, depth) {
-            return self.keep(lexeme, Spot::Value(depth));
+            return self.keep(lexeme, SumSpot::Value(depth));
         }
         add(&mut self.left, Token::Mark(Mark::RightParen), lexeme.start)?;
         self.pass(lexeme)
@@ -196,10 +196,10 @@ impl<'a> Sums<'a> {
 
     /// A mark after a target.
     fn mark(&mut self, mark: Mark, lexeme: &Lexeme<'a>) -> Result<(), ExpandFault>
-        ensures { Gives (λ _. self.new) result (Ok (spec.marked mark lexeme.now self.old)) }
+        ensures { Yields (λ _. self.new) result (Ok (spec.mark_kept mark lexeme.now self.old)) }
     {
         if changes(mark) {
-            self.spot = Spot::Operator(mark, lexeme.start);
+            self.spot = SumSpot::Operator(mark, lexeme.start);
             return Ok(());
         }
         self.pass(lexeme)
@@ -207,15 +207,18 @@ impl<'a> Sums<'a> {
 
     /// The next token.
     fn step(&mut self, alloc: Global, lexeme: &Lexeme<'a>) -> Result<(), ExpandFault>
-        ensures { Gives (λ _. self.new) result (Ok (spec.step self.old lexeme.now)) }
+        ensures { Yields (λ _. self.new) result (Ok (spec.step self.old lexeme.now)) }
     {
         match (self.spot, &lexeme.token) {
-            (Spot::Front, Token::Name(_)) => self.begin(alloc, lexeme),
-            (Spot::Target, Token::Mark(Mark::LeftBracket)) => self.aim(lexeme, Spot::Index(0)),
-            (Spot::Index(depth), token) => self.aim(lexeme, spot_in_index(token, depth)),
-            (Spot::Target, Token::Mark(mark)) => self.mark(*mark, lexeme),
-            (Spot::Operator(mark, at), _) => self.operate(mark, at, lexeme),
-            (Spot::Value(depth), _) => self.value(depth, lexeme),
+            (SumSpot::Front, Token::Name(_)) => self.begin(alloc, lexeme),
+            (SumSpot::Target, Token::Mark(Mark::LeftBracket)) => self.aim(
+                lexeme,
+                SumSpot::Index(0),
+            ),
+            (SumSpot::Index(depth), token) => self.aim(lexeme, spot_in_index(token, depth)),
+            (SumSpot::Target, Token::Mark(mark)) => self.mark(*mark, lexeme),
+            (SumSpot::Operator(mark, at), _) => self.operate(mark, at, lexeme),
+            (SumSpot::Value(depth), _) => self.value(depth, lexeme),
             _ => self.pass(lexeme),
         }
     }
@@ -226,7 +229,7 @@ pub(crate) fn with_sums<'a>(
     alloc: Global,
     tokens: &[Lexeme<'a>],
 ) -> Result<Sequence<Lexeme<'a>>, ExpandFault>
-    ensures { Gives (λ left. left) result (Ok (spec.with_sums tokens.now)) }
+    ensures { Yields (λ left. left) result (Ok (spec.with_sums tokens.now)) }
 {
     let mut sums = Sums::new(alloc);
     for lexeme in tokens {

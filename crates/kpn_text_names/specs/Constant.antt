@@ -27,8 +27,8 @@ abbrev pub constant_value : ExpressionNode → Option ℤ
 constant_value e = of_term (term_in nothing_known e)
 
 -- Scaffolding, of the call that computes it: the expression has no names.
-abbrev pub IsClosed : Expr → Type 0
-IsClosed e = names_below 0 (term_of e) ≡ true
+abbrev pub HasNoNames : Expr → Type 0
+HasNoNames e = names_below 0 (term_of e) ≡ true
 
 abbrev pub computed : Expr → Option ℤ
 computed e = if_any (value (term_of e) [])

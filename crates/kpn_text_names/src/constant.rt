@@ -13,7 +13,7 @@ use std::alloc::{AllocError, Global};
 
 /// The value of an expression in which no name is known.
 fn value(expr: &Expr) -> Option<i64>
-    requires { spec.IsClosed expr.now }
+    requires { spec.HasNoNames expr.now }
     ensures { result ≡ spec.computed expr.now }
 {
     match eval(expr, &[]) {
