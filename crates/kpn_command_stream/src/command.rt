@@ -6,13 +6,14 @@ ghost use Rattle.kpn_command_base.specs.SourceRefusals.{IsRefusalOfWords};
 ghost use Rattle.kpn_command_stream.specs.Formats.{AreForEnds};
 ghost use Rattle.kpn_command_stream.specs.EndPlaces.{HaveOwnInputs, standard};
 ghost use Rattle.kpn_command_stream.specs.Words.{AreStreamOutputsApart, names_standard};
-ghost use Rattle.kpn_command_stream.specs.Causes.{AreSinkPlaces, AreSourcePlaces, AreWordsRefused, IsDeviceRefusal, IsUnbegun, IsUnstreamed, OfCommon};
-ghost use Rattle.kpn_command_stream.specs.Command.{AreAskedFor, AreWordsOf, IsStreamed, IsStreamedOf, NothingBegun, Streams, end_words_in, known_of, names_of};
+ghost use Rattle.kpn_command_stream.specs.Causes.{AreSinkPlaces, AreSourcePlaces, AreWordsRefused, IsDeviceRefusal, IsUnbegun, IsUnstreamed, end_words_of};
+ghost use Rattle.kpn_command_stream.specs.Command.{AreWordsOf, IsStreamed, IsStreamedOf, NothingBegun, Streams, end_words_in, known_of, names_of};
 
+use crate::concluding::conclude;
 use crate::formats::{are_for_ends, are_formats};
 use crate::places::{EndPlaces, is_dash, places_of, share_an_input, writes_an_input};
 use crate::refusal::StreamRefusal;
-use crate::running::AskedStream;
+use crate::running::run;
 use kpn_command_base::{
     EndKind, FileOption, FileWords, Refusal, StreamRequest, Teller, check_outputs, load_document,
     options_of,
@@ -70,49 +71,45 @@ fn carry_out<S: Shelf + Ports, I: NonblockingRead, O: Write, E: Write + Teller>(
     }
     let words = check_words(alloc, request, shelf)?;
     let document = load_document(alloc, shelf, request.file)?;
-    // It has no other end after this one: to let go of a document once more is dear to prove.
-    match places_for(alloc, &document, request, &words, shelf) {
-        Ok(places) => {
-            let asked = AskedStream {
-                request,
-                document: &document,
-                places: &places,
-            };
-            asked.stream(alloc, shelf, input, out, err, unsaid)
-        }
-        Err(refusal) => Err(refusal),
-    }
+    stream_document(
+        alloc, request, &words, &document, shelf, input, out, err, unsaid,
+    )
 }
 
-impl AskedStream<'_> {
-    /// Streams the network between its inputs and outputs, and concludes.
-    fn stream<S: Shelf + Ports, I: NonblockingRead, O: Write, E: Write + Teller>(
-        self,
-        alloc: Global,
-        shelf: &mut S,
-        input: &mut I,
-        out: &mut O,
-        err: &mut E,
-        unsaid: &mut Vec<u8>,
-    ) -> Result<u8, StreamRefusal>
-        requires asked_for { AreAskedFor self.request.now self.document.now self.places.now }
-        requires own_inputs { HaveOwnInputs (S.are_two_inputs shelf.old) self.places.now.sources.items }
-        ensures streamed { IfOk result (IsStreamedOf S.may_give
-            (names_of S.are_two_inputs S.may_share S.comes_from S.goes_to)
-            (known_of I.remaining S.Input.remaining O.contents S.Output.contents)
-            E.contents E.tells self.entry.request.now self.entry.document.now
-            shelf.old shelf.new input.old input.new out.old out.new err.old err.new) }
-        ensures refused { OnErr result
-            (NothingBegun shelf.old shelf.new input.old input.new out.old out.new) }
-        ensures untold { OnErr result (err.new ≡ err.old) }
-        ensures cause { IfErr result (OfCommon IsDeviceRefusal) }
-    {
-        let request = self.request;
-        make_ready(shelf, request.trace)?;
-        let mut lost = Vec::with_capacity(alloc, self.places.sinks.len())?;
-        let streamed = self.run(alloc, shelf, input, out, err, &mut lost)?;
-        Ok(self.conclude(alloc, streamed, &lost, shelf, err, unsaid))
-    }
+/// Streams a network between the inputs and outputs that these words name, and concludes.
+// It owns no document: a function that owns one and may fail after it is dear to prove.
+fn stream_document<S: Shelf + Ports, I: NonblockingRead, O: Write, E: Write + Teller>(
+    alloc: Global,
+    request: &StreamRequest<'_>,
+    words: &Words<'_>,
+    document: &Document,
+    shelf: &mut S,
+    input: &mut I,
+    out: &mut O,
+    err: &mut E,
+    unsaid: &mut Vec<u8>,
+) -> Result<u8, StreamRefusal>
+    requires { AreWordsOf request.now words.now }
+    ensures streamed { IfOk result (IsStreamedOf S.may_give
+        (names_of S.are_two_inputs S.may_share S.comes_from S.goes_to)
+        (known_of I.remaining S.Input.remaining O.contents S.Output.contents) E.contents E.tells
+        request.now document.now shelf.old shelf.new input.old input.new out.old out.new
+        err.old err.new) }
+    ensures refused { OnErr result
+        (NothingBegun shelf.old shelf.new input.old input.new out.old out.new) }
+    ensures untold { OnErr result (err.new ≡ err.old) }
+    ensures cause { IfErr result (IsUnstreamed (S.may_alias shelf.old) (S.may_share shelf.old)
+        document.now (end_words_of request.now)) }
+{
+    let places = places_for(alloc, document, request, words, shelf)?;
+    make_ready(shelf, request.trace)?;
+    let mut lost = Vec::with_capacity(alloc, places.sinks.len())?;
+    let streamed = run(
+        alloc, request, document, &places, shelf, input, out, err, &mut lost,
+    )?;
+    Ok(conclude(
+        alloc, request, document, streamed, &lost, &places, shelf, err, unsaid,
+    ))
 }
 
 /// What the words after `--source` and `--sink` name.

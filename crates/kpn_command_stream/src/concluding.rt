@@ -1,14 +1,15 @@
 //! The end of a stream: what is told of it, its trace, and the status.
-ghost use Rattle.std.specs.Prelude.{◌≡◌, true, false, [], None, IfOk, unwrap_or};
+ghost use Rattle.std.specs.Prelude.{◌≡◌, Bool, true, false, [], None, IfOk, unwrap_or, Result as Answer};
 ghost use Rattle.std.specs.String.{string_bytes};
-ghost use Rattle.kpn_command_stream.specs.Command.{IsStreamConcluded, IsSummaryMade, IsSummaryOf, IsTextTold, IsTraceKept, summary_with};
+ghost use Rattle.kpn_command_base.specs.declared.refusal.Refusal.{Refusal as Cause};
+ghost use Rattle.kpn_command_stream.specs.Command.{IsEndTold, IsStreamConcluded, IsSummaryMade, IsSummaryOf, IsTextTold, IsTraceKept, end_fault, end_status, summary_with};
 ghost use Rattle.kpn_command_stream.specs.Summary.{stream_status};
 ghost use Rattle.kpn_command_stream.specs.Refusal.{ending_fault, first_status, lost_fault, summary_fault, trace_fault};
 
 use crate::ending::{Over, over_of};
-use crate::places::place_of;
+use crate::places::{EndPlaces, place_of};
 use crate::refusal::{report_memory, report_sink, report_source};
-use crate::running::{AskedStream, Lost, limits_of};
+use crate::running::{Lost, limits_of};
 use crate::stats::tables_of;
 use crate::summary::{SinkEnd, stream_status, summary_of};
 use kpn_command_base::{Refusal, StreamRequest, put, store_trace};
@@ -19,134 +20,59 @@ use kpn_text::Document;
 use std::alloc::{AllocError, Global};
 use std::io::Write;
 
-impl AskedStream<'_> {
-    /// Tells how the stream has ended, stores the trace, and returns the status.
-    pub(crate) fn conclude<S: Shelf, E: Write>(
-        self,
-        alloc: Global,
-        streamed: Streamed<'_>,
-        lost: &[Lost],
-        shelf: &mut S,
-        err: &mut E,
-        unsaid: &mut Vec<u8>,
-    ) -> u8
-        ensures { IsStreamConcluded S.may_give E.contents self.entry.request.now
-            self.entry.document.now streamed.entry.ending streamed.entry.book lost.now
-            shelf.old shelf.new err.old err.new result }
-    {
-        let request = self.request;
-        let ending = streamed.ending;
-        match over_of(alloc, streamed, &limits_of(request), request.stats) {
-            Ok(over) => {
-                let ends = ends_told(alloc, &over, ending, lost);
-                let is_told = self.tell(alloc, &over, ends, err, unsaid);
-                let failed = self.report_failed(ending, lost, err);
-                let stored = keep_trace(alloc, request, self.document.network(), &over, shelf);
-                let unstored = report_trace(&stored, err);
-                let untold = report_summary(is_told, err);
-                let status = first_of(failed, first_of(unstored, untold));
-                status.unwrap_or(status_of_over(&over))
-            }
-            Err(_) => self.conclude_untold(ending, lost, err),
-        }
+/// Tells how the stream has ended, stores the trace, and returns the status.
+pub(crate) fn conclude<S: Shelf, E: Write>(
+    alloc: Global,
+    request: &StreamRequest<'_>,
+    document: &Document,
+    streamed: Streamed<'_>,
+    lost: &[Lost],
+    places: &EndPlaces<'_>,
+    shelf: &mut S,
+    err: &mut E,
+    unsaid: &mut Vec<u8>,
+) -> u8
+    ensures { IsStreamConcluded S.may_give E.contents request.now document.now
+        streamed.entry.ending streamed.entry.book lost.now shelf.old shelf.new
+        err.old err.new result }
+{
+    let ending = streamed.ending;
+    match over_of(alloc, streamed, &limits_of(request), request.stats) {
+        Ok(over) => conclude_over(
+            alloc, request, document, ending, lost, &over, places, shelf, err, unsaid,
+        ),
+        Err(_) => conclude_untold(document, ending, lost, places, err),
     }
+}
 
-    /// There was no memory for what is to be told. So there is none for the trace either.
-    fn conclude_untold<E: Write>(self, ending: StreamEnding, lost: &[Lost], err: &mut E) -> u8
-        ensures { result ≡ unwrap_or (first_status (ending_fault ending) (lost_fault lost.now)) 6 }
-    {
-        let failed = self.report_failed(ending, lost, err);
-        let memory = report_memory(err);
-        failed.unwrap_or(memory)
-    }
-
-    /// Tells how the stream has ended, and the tables, if they are asked for. If it can't, memory ran out.
-    fn tell<E: Write>(
-        self,
-        alloc: Global,
-        over: &Over,
-        ends: Result<Vec<SinkEnd>, AllocError>,
-        err: &mut E,
-        unsaid: &mut Vec<u8>,
-    ) -> bool
-        ensures { let s = self.entry in result ≡ true → s.request.now.stats ≡ false
-            → IsSummaryMade E.contents s.request.now.quiet ends
-            (summary_with s.document.now over.now) err.old err.new }
-    {
-        let request = self.request;
-        let is_told = self.tell_summary(alloc, over, ends, err, unsaid);
-        if !request.stats {
-            return is_told;
-        }
-        let states = over.states.as_slice();
-        let tables = tables_of(alloc, self.document, &over.channels, states, request.quiet);
-        write_text(tables, err) && is_told
-    }
-
-    /// Tells how the stream has ended. If the stream is to be quiet, that is only kept.
-    fn tell_summary<E: Write>(
-        self,
-        alloc: Global,
-        over: &Over,
-        ends: Result<Vec<SinkEnd>, AllocError>,
-        err: &mut E,
-        unsaid: &mut Vec<u8>,
-    ) -> bool
-        ensures { let s = self.entry in result ≡ true → IsSummaryMade E.contents
-            s.request.now.quiet ends (summary_with s.document.now over.now) err.old err.new }
-    {
-        let request = self.request;
-        let summary = summary_with(alloc, self.document, over, ends);
-        if request.quiet {
-            keep_text(summary, unsaid);
-            return true;
-        }
-        write_text(summary, err)
-    }
-
-    /// Reports what has ended the stream, if something has failed, and what was lost at its end. Returns the status of
-    /// the first.
-    fn report_failed<E: Write>(self, ending: StreamEnding, lost: &[Lost], err: &mut E) -> Option<u8>
-        ensures fault { result ≡ first_status (ending_fault ending) (lost_fault lost.now) }
-        ensures silent { result ≡ None → err.new ≡ err.old }
-    {
-        let first = self.report_ending(ending, err);
-        let second = self.report_lost(lost, err);
-        first_of(first, second)
-    }
-
-    /// Reports a device that has failed, or that memory ran out.
-    fn report_ending<E: Write>(self, ending: StreamEnding, err: &mut E) -> Option<u8>
-        ensures fault { result ≡ ending_fault ending }
-        ensures silent { result ≡ None → err.new ≡ err.old }
-    {
-        match ending {
-            StreamEnding::SourceFailed(c, fault) => {
-                let place = place_of(&self.places.sources, c);
-                Some(report_source(self.document, fault, place, err))
-            }
-            StreamEnding::SinkFailed(c, fault) => {
-                let place = place_of(&self.places.sinks, c);
-                Some(report_sink(self.document, fault, place, err))
-            }
-            StreamEnding::NoMemory => Some(report_memory(err)),
-            _ => None,
-        }
-    }
-
-    /// Reports each output that could not hand on what it kept.
-    fn report_lost<E: Write>(self, lost: &[Lost], err: &mut E) -> Option<u8>
-        ensures fault { result ≡ lost_fault lost.now }
-        ensures silent { result ≡ None → err.new ≡ err.old }
-    {
-        let mut status = None;
-        for one in lost {
-            let place = place_of(&self.places.sinks, one.sink);
-            let told = report_sink(self.document, one.fault, place, err);
-            status = first_of(status, Some(told));
-        }
-        status
-    }
+/// The same of what the stream has come to.
+fn conclude_over<S: Shelf, E: Write>(
+    alloc: Global,
+    request: &StreamRequest<'_>,
+    document: &Document,
+    ending: StreamEnding,
+    lost: &[Lost],
+    over: &Over,
+    places: &EndPlaces<'_>,
+    shelf: &mut S,
+    err: &mut E,
+    unsaid: &mut Vec<u8>,
+) -> u8
+    ensures { let t = document.now.tables in
+        (stored : Answer (Unit {0}) Cause) × (is_told : Bool)
+        × IsTraceKept S.may_give request.now.trace t over.now shelf.old shelf.new stored
+        × IsEndTold E.contents request.now (end_fault ending lost.now stored is_told)
+        (summary_with document.now over.now over.now.sinks.items) err.old err.new
+        × (result ≡ end_status ending lost.now stored is_told over.now) }
+{
+    let ends = ends_told(alloc, over, ending, lost);
+    let is_told = tell(alloc, request, document, over, ends, err, unsaid);
+    let failed = report_failed(ending, document, lost, places, err);
+    let stored = keep_trace(alloc, request, document.network(), over, shelf);
+    let unstored = report_trace(&stored, err);
+    let untold = report_summary(is_told, err);
+    let status = first_of(failed, first_of(unstored, untold));
+    status.unwrap_or(status_of_over(over))
 }
 
 /// The status of what a stream has come to, if nothing has failed.
@@ -156,6 +82,21 @@ fn status_of_over(over: &Over) -> u8
 {
     let states = over.states.as_slice();
     stream_status(&over.sinks, states, over.rings.as_slice(), over.outcome)
+}
+
+/// There was no memory for what is to be told. So there is none for the trace either.
+fn conclude_untold<E: Write>(
+    document: &Document,
+    ending: StreamEnding,
+    lost: &[Lost],
+    places: &EndPlaces<'_>,
+    err: &mut E,
+) -> u8
+    ensures { result ≡ unwrap_or (first_status (ending_fault ending) (lost_fault lost.now)) 6 }
+{
+    let failed = report_failed(ending, document, lost, places, err);
+    let memory = report_memory(err);
+    failed.unwrap_or(memory)
 }
 
 /// Stores the trace, if one was asked for.
@@ -219,6 +160,49 @@ fn has_failed(ending: StreamEnding, sink: usize) -> bool
     }
 }
 
+/// Tells how the stream has ended, and the tables, if they are asked for. If it can't, memory ran out.
+fn tell<E: Write>(
+    alloc: Global,
+    request: &StreamRequest<'_>,
+    document: &Document,
+    over: &Over,
+    ends: Result<Vec<SinkEnd>, AllocError>,
+    err: &mut E,
+    unsaid: &mut Vec<u8>,
+) -> bool
+    ensures { result ≡ true → request.now.stats ≡ false → IsSummaryMade E.contents
+        request.now.quiet ends (summary_with document.now over.now) err.old err.new }
+{
+    let is_told = tell_summary(alloc, request, document, over, ends, err, unsaid);
+    if !request.stats {
+        return is_told;
+    }
+    let states = over.states.as_slice();
+    let tables = tables_of(alloc, document, &over.channels, states, request.quiet);
+    write_text(tables, err) && is_told
+}
+
+/// Tells how the stream has ended. If the stream is to be quiet, that is only kept.
+fn tell_summary<E: Write>(
+    alloc: Global,
+    request: &StreamRequest<'_>,
+    document: &Document,
+    over: &Over,
+    ends: Result<Vec<SinkEnd>, AllocError>,
+    err: &mut E,
+    unsaid: &mut Vec<u8>,
+) -> bool
+    ensures { result ≡ true → IsSummaryMade E.contents request.now.quiet ends
+        (summary_with document.now over.now) err.old err.new }
+{
+    let summary = summary_with(alloc, document, over, ends);
+    if request.quiet {
+        keep_text(summary, unsaid);
+        return true;
+    }
+    write_text(summary, err)
+}
+
 /// The summary, with what is told of the sinks.
 fn summary_with(
     alloc: Global,
@@ -261,6 +245,8 @@ fn keep_text(text: Result<String, AllocError>, unsaid: &mut Vec<u8>) {
     }
 }
 
+// ---- what has failed
+
 /// The first of two statuses.
 fn first_of(first: Option<u8>, later: Option<u8>) -> Option<u8>
     ensures { result ≡ first_status first later }
@@ -269,6 +255,66 @@ fn first_of(first: Option<u8>, later: Option<u8>) -> Option<u8>
         Some(status) => Some(status),
         None => later,
     }
+}
+
+/// Reports what has ended the stream, if something has failed, and what was lost at its end. Returns the status of the
+/// first.
+fn report_failed<E: Write>(
+    ending: StreamEnding,
+    document: &Document,
+    lost: &[Lost],
+    places: &EndPlaces<'_>,
+    err: &mut E,
+) -> Option<u8>
+    ensures fault { result ≡ first_status (ending_fault ending) (lost_fault lost.now) }
+    ensures silent { result ≡ None → err.new ≡ err.old }
+{
+    let first = report_ending(ending, document, places, err);
+    let second = report_lost(document, lost, places, err);
+    first_of(first, second)
+}
+
+/// Reports a device that has failed, or that memory ran out.
+fn report_ending<E: Write>(
+    ending: StreamEnding,
+    document: &Document,
+    places: &EndPlaces<'_>,
+    err: &mut E,
+) -> Option<u8>
+    ensures fault { result ≡ ending_fault ending }
+    ensures silent { result ≡ None → err.new ≡ err.old }
+{
+    match ending {
+        StreamEnding::SourceFailed(c, fault) => {
+            let place = place_of(&places.sources, c);
+            Some(report_source(document, fault, place, err))
+        }
+        StreamEnding::SinkFailed(c, fault) => {
+            let place = place_of(&places.sinks, c);
+            Some(report_sink(document, fault, place, err))
+        }
+        StreamEnding::NoMemory => Some(report_memory(err)),
+        _ => None,
+    }
+}
+
+/// Reports each output that could not hand on what it kept.
+fn report_lost<E: Write>(
+    document: &Document,
+    lost: &[Lost],
+    places: &EndPlaces<'_>,
+    err: &mut E,
+) -> Option<u8>
+    ensures fault { result ≡ lost_fault lost.now }
+    ensures silent { result ≡ None → err.new ≡ err.old }
+{
+    let mut status = None;
+    for one in lost {
+        let place = place_of(&places.sinks, one.sink);
+        let told = report_sink(document, one.fault, place, err);
+        status = first_of(status, Some(told));
+    }
+    status
 }
 
 /// Reports that the trace could not be stored.

@@ -5,15 +5,16 @@ ghost use Rattle.kpn_command_stream.specs.Causes.{IsDeviceRefusal};
 ghost use Rattle.kpn_stream.specs.Ending.{is_halted};
 ghost use Rattle.kpn_stream.specs.Watching.{Watched};
 ghost use Rattle.kpn_command_stream.specs.Watching.{KnowsEnded, LooksAt, WasTold};
-ghost use Rattle.kpn_command_stream.specs.Command.{HandedOn, RanAt, RanOver, flushes_of, keeping_for, known_of, most_commits, stream_limits_of, losses, names_of, sinks_of};
+ghost use Rattle.kpn_command_stream.specs.Command.{HandedOn, RanOverFiles, RanAt, RanOver, flushes_of, keeping_for, known_of, most_commits, stream_limits_of, losses, names_of, sinks_of};
 
 use crate::devices::{empty_outputs, open_inputs, open_outputs};
 use crate::places::EndPlaces;
 use crate::watching::StreamWatcher;
 use kpn_command_base::{QUOTA, Refusal, StreamRequest, Teller};
+use kpn_net::Network;
 use kpn_shelf::{NonblockingRead, Ports, Shelf};
 use kpn_stream::{Keeping, Limits, SinkFault, Sinks, Streamed, stream};
-use kpn_stream_devices::{SinkOutputs, SourceInputs};
+use kpn_stream_devices::{SinkOutput, SinkOutputs, SourceInput, SourceInputs};
 use kpn_text::Document;
 use std::alloc::{AllocError, Global};
 use std::io::Write;
@@ -54,102 +55,154 @@ pub(crate) struct Lost {
     pub(crate) fault: SinkFault,
 }
 
-/// A stream that is asked for: its network, and which input and output each end gets.
-#[derive(Clone, Copy)]
-pub(crate) struct AskedStream<'a> {
-    pub(crate) request: &'a StreamRequest<'a>,
-    pub(crate) document: &'a Document,
-    pub(crate) places: &'a EndPlaces<'a>,
+/// Opens the inputs and the outputs, and runs the network between them. It lists what is lost at the end.
+pub(crate) fn run<'n, S: Shelf + Ports, I: NonblockingRead, O: Write, E: Teller>(
+    alloc: Global,
+    request: &StreamRequest<'_>,
+    document: &'n Document,
+    places: &EndPlaces<'_>,
+    shelf: &S,
+    input: &mut I,
+    out: &mut O,
+    err: &mut E,
+    lost: &mut Vec<Lost>,
+) -> Result<Streamed<'n>, Refusal>
+    requires none { lost.old.items ≡ [] }
+    requires room { length places.now.sinks.items ≤ vec_capacity lost.old }
+    ensures ran { IfOk result (λ streamed. RanAt (S.may_give shelf.now)
+        (names_of S.are_two_inputs S.may_share S.comes_from S.goes_to)
+        (known_of I.remaining S.Input.remaining O.contents S.Output.contents) request.now
+        document.now.tables places.now input.old input.new out.old out.new
+        streamed.ending streamed.book lost.new.items) }
+    ensures kept { IfOk result (λ streamed.
+        Remembers (keeping_for request.now.trace) streamed.book) }
+    ensures told { IfOk result (λ streamed. WasTold E.tells request.now document.now
+        streamed.ending streamed.book err.old err.new) }
+    ensures untold { OnErr result (err.new ≡ err.old) }
+    ensures input { OnErr result (input.new ≡ input.old) }
+    ensures output { OnErr result (out.new ≡ out.old) }
+    ensures cause { IfErr result IsDeviceRefusal }
+{
+    let mut inputs = open_inputs(alloc, shelf, places)?;
+    let mut outputs = open_outputs(alloc, shelf, places, request)?;
+    empty_outputs(shelf, places, &mut outputs)?;
+    run_between(
+        alloc,
+        request,
+        document,
+        places,
+        &mut inputs,
+        &mut outputs,
+        input,
+        out,
+        err,
+        lost,
+    )
 }
 
-impl<'a> AskedStream<'a> {
-    /// Opens the inputs and the outputs, and runs the network between them. It lists what is lost at the end.
-    pub(crate) fn run<S: Shelf + Ports, I: NonblockingRead, O: Write, E: Teller>(
-        self,
-        alloc: Global,
-        shelf: &S,
-        input: &mut I,
-        out: &mut O,
-        err: &mut E,
-        lost: &mut Vec<Lost>,
-    ) -> Result<Streamed<'a>, Refusal>
-        requires none { lost.old.items ≡ [] }
-        requires room { length self.places.now.sinks.items ≤ vec_capacity lost.old }
-        ensures ran { let s = self.entry in IfOk result (λ streamed. RanAt (S.may_give shelf.now)
-            (names_of S.are_two_inputs S.may_share S.comes_from S.goes_to)
-            (known_of I.remaining S.Input.remaining O.contents S.Output.contents)
-            s.request.now s.document.now.tables s.places.now input.old input.new out.old out.new
-            streamed.ending streamed.book lost.new.items) }
-        ensures kept { IfOk result (λ streamed.
-            Remembers (keeping_for self.entry.request.now.trace) streamed.book) }
-        ensures told { let s = self.entry in IfOk result (λ streamed. WasTold E.tells
-            s.request.now s.document.now streamed.ending streamed.book err.old err.new) }
-        ensures untold { OnErr result (err.new ≡ err.old) }
-        ensures input { OnErr result (input.new ≡ input.old) }
-        ensures output { OnErr result (out.new ≡ out.old) }
-        ensures cause { IfErr result IsDeviceRefusal }
-    {
-        let mut inputs = open_inputs(alloc, shelf, self.places)?;
-        let mut outputs = open_outputs(alloc, shelf, self.places, self.request)?;
-        empty_outputs(shelf, self.places, &mut outputs)?;
-        let mut sources = SourceInputs {
-            standard: input,
-            each: &mut inputs,
-        };
-        let mut sinks = SinkOutputs {
-            standard: out,
-            each: &mut outputs,
-        };
-        let request = self.request;
-        let mut watcher = StreamWatcher {
-            document: self.document,
-            err,
-            ended: 0,
-            stops: request.stops,
-        };
-        let streamed = self.run_over(alloc, &mut sources, &mut sinks, &mut watcher, lost)?;
-        Ok(streamed)
-    }
+/// Runs the network between these inputs and outputs.
+fn run_between<
+    'n,
+    I: NonblockingRead,
+    F: NonblockingRead + Drop,
+    O: Write,
+    G: Write + Drop,
+    E: Teller,
+>(
+    alloc: Global,
+    request: &StreamRequest<'_>,
+    document: &'n Document,
+    places: &EndPlaces<'_>,
+    inputs: &mut Vec<SourceInput<F>>,
+    outputs: &mut Vec<SinkOutput<G>>,
+    input: &mut I,
+    out: &mut O,
+    err: &mut E,
+    lost: &mut Vec<Lost>,
+) -> Result<Streamed<'n>, Refusal>
+    requires none { lost.old.items ≡ [] }
+    requires room { length places.now.sinks.items ≤ vec_capacity lost.old }
+    ensures ran { IfOk result (λ streamed. RanOverFiles
+        (known_of I.remaining F.remaining O.contents G.contents) request.now
+        document.now.tables (sinks_of places.now)
+        inputs.old.items outputs.old.items input.old input.new out.old out.new
+        streamed.ending streamed.book lost.new.items) }
+    ensures kept { IfOk result (λ streamed.
+        Remembers (keeping_for request.now.trace) streamed.book) }
+    ensures told { IfOk result (λ streamed. WasTold E.tells request.now document.now
+        streamed.ending streamed.book err.old err.new) }
+    ensures untold { OnErr result (err.new ≡ err.old) }
+    ensures input { OnErr result (input.new ≡ input.old) }
+    ensures output { OnErr result (out.new ≡ out.old) }
+    ensures cause { IfErr result IsDeviceRefusal }
+{
+    let mut sources = SourceInputs {
+        standard: input,
+        each: inputs,
+    };
+    let mut sinks = SinkOutputs {
+        standard: out,
+        each: outputs,
+    };
+    let mut watcher = StreamWatcher {
+        document,
+        err,
+        ended: 0,
+        stops: request.stops,
+    };
+    let limits = limits_of(request);
+    let network = document.network();
+    let streamed = run_over(
+        alloc,
+        network,
+        places,
+        &limits,
+        keeping_of(request),
+        &mut sources,
+        &mut sinks,
+        &mut watcher,
+        lost,
+    )?;
+    Ok(streamed)
+}
 
-    /// Runs the network over devices. At the end the outputs hand on what they kept.
-    fn run_over<
-        I: NonblockingRead,
-        F: NonblockingRead + Drop,
-        O: Write,
-        G: Write + Drop,
-        E: Teller,
-    >(
-        self,
-        alloc: Global,
-        sources: &mut SourceInputs<'_, I, F>,
-        sinks: &mut SinkOutputs<'_, O, G>,
-        watcher: &mut StreamWatcher<'_, E>,
-        lost: &mut Vec<Lost>,
-    ) -> Result<Streamed<'a>, AllocError>
-        requires none { lost.old.items ≡ [] }
-        requires room { length self.places.now.sinks.items ≤ vec_capacity lost.old }
-        ensures ran { let s = self.entry in IfOk result (λ streamed. RanOver
-            (known_of I.remaining F.remaining O.contents G.contents)
-            (stream_limits_of s.request.now) s.document.now.tables (sinks_of s.places.now)
-            sources.old sources.new sinks.old sinks.new
-            streamed.ending streamed.book lost.new.items) }
-        ensures kept { IfOk result (λ streamed.
-            Remembers (keeping_for self.entry.request.now.trace) streamed.book) }
-        ensures watched { IfOk result (λ streamed. Watched self.entry.document.now.tables
-            KnowsEnded (LooksAt E.tells) watcher.old
-            streamed.book.history (is_halted (Some streamed.ending)) watcher.new) }
-        ensures same_err { watcher.new.err.ghost_name ≡ watcher.old.err.ghost_name }
-        ensures no_look { OnErr result (watcher.new ≡ watcher.old) }
-        ensures no_source { OnErr result (sources.new ≡ sources.old) }
-        ensures no_sink { OnErr result (sinks.new ≡ sinks.old) }
-    {
-        let network = self.document.network();
-        let limits = limits_of(self.request);
-        let keeping = keeping_of(self.request);
-        let streamed = stream(alloc, network, sources, sinks, &limits, keeping, watcher)?;
-        flush_each(self.places, sinks, lost);
-        Ok(streamed)
-    }
+/// Runs the network over devices. At the end the outputs hand on what they kept.
+fn run_over<
+    'n,
+    I: NonblockingRead,
+    F: NonblockingRead + Drop,
+    O: Write,
+    G: Write + Drop,
+    E: Teller,
+>(
+    alloc: Global,
+    network: &'n Network,
+    places: &EndPlaces<'_>,
+    limits: &Limits,
+    keeping: Keeping,
+    sources: &mut SourceInputs<'_, I, F>,
+    sinks: &mut SinkOutputs<'_, O, G>,
+    watcher: &mut StreamWatcher<'_, E>,
+    lost: &mut Vec<Lost>,
+) -> Result<Streamed<'n>, AllocError>
+    requires none { lost.old.items ≡ [] }
+    requires room { length places.now.sinks.items ≤ vec_capacity lost.old }
+    ensures ran { IfOk result (λ streamed. RanOver
+        (known_of I.remaining F.remaining O.contents G.contents) limits.now network.now
+        (sinks_of places.now)
+        sources.old sources.new sinks.old sinks.new
+        streamed.ending streamed.book lost.new.items) }
+    ensures kept { IfOk result (λ streamed. Remembers keeping streamed.book) }
+    ensures watched { IfOk result (λ streamed. Watched network.now KnowsEnded (LooksAt E.tells)
+        watcher.old streamed.book.history (is_halted (Some streamed.ending)) watcher.new) }
+    ensures same_err { watcher.new.err.ghost_name ≡ watcher.old.err.ghost_name }
+    ensures no_look { OnErr result (watcher.new ≡ watcher.old) }
+    ensures no_source { OnErr result (sources.new ≡ sources.old) }
+    ensures no_sink { OnErr result (sinks.new ≡ sinks.old) }
+{
+    let streamed = stream(alloc, network, sources, sinks, limits, keeping, watcher)?;
+    flush_each(places, sinks, lost);
+    Ok(streamed)
 }
 
 /// Lets the outputs of all sinks hand on what they kept, and lists what is lost. If a device has failed, nobody else

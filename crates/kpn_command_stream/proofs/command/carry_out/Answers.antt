@@ -4,8 +4,7 @@ use Rattle.std.proofs.lemmas.List.Elements.{All-map}
 use Rattle.std.proofs.lemmas.Result.{IfOk-weaker, IfErr-weaker}
 use Rattle.kpn_command_base.specs.Description.{IsDescribed, IsRefusalOfDescription}
 use Rattle.kpn_command_stream.specs.Formats.{SaysFormat}
-use Rattle.kpn_command_stream.specs.Causes.{AreSinkPlaces, AreSourcePlaces, AreWordsRefused, AreWordsRight, EndWords, IsUnstreamed, OfCommon, by_file, by_formats, by_network, by_words, end_words_of}
-use Rattle.kpn_command_stream.proofs.Refusing.{no_device}
+use Rattle.kpn_command_stream.specs.Causes.{AreWordsRefused, AreWordsRight, OfCommon, by_file, by_formats, by_network, by_words}
 use Rattle.kpn_command_stream.proofs.Worded.{All-unmap}
 use Rattle.kpn_command_stream.proofs.command.carry_out.Given as given
 use Rattle.kpn_command_stream.proofs.command.carry_out.Goals.{After-load_document}
@@ -52,50 +51,25 @@ returns-in_err-document-clause-cause g c =
     IfErr-weaker c.from_residual-in_err-document.result Is _
     (λ cause is. by_file (right g (goal.at.returns-in_err-document-clause-cause g c).After-load_document) is) cause
 
-pub stream-requires-clause-asked_for : goal.stream-requires-clause-asked_for
-stream-requires-clause-asked_for g c =
-    let d = c.in_ok-document.document in
-    let places = c.in-Ok.places in
-    let ends = c.in_ok-words.ensures.words.ends in
-    record {
-      sources = subst (λ (words : EndWords). AreSourcePlaces d words places.sources.items) ends c.in-Ok.ensures.sources;
-      sinks = subst (λ (words : EndWords). AreSinkPlaces d words places.sinks.items) ends c.in-Ok.ensures.sinks;
-      formats = c.in-Ok.ensures.formats;
-    }
-
-described : (g : given.Over) (c : After-load_document g)
-    → IsDescribed (g.S.Shelf.may_give c.args.shelf.now) c.args.request.now.file c.in_ok-document.document
-described g c =
-    subst (λ (file : List ℕ). IsDescribed (g.S.Shelf.may_give c.args.shelf.now) file c.in_ok-document.document)
-    (ap (λ r. r.file) c.request.view_is) c.in_ok-document.ensures.ok
-
-pub returns-in-Ok-clause-streamed : goal.returns-in-Ok-clause-streamed
-returns-in-Ok-clause-streamed g c =
-    let before = (goal.at.returns-in-Ok-clause-streamed g c).After-load_document in
-    IfOk-weaker c.stream.result _ _
+pub returns-clause-streamed : goal.returns-clause-streamed
+returns-clause-streamed g c =
+    IfOk-weaker c.stream_document.result _ _
     (λ status streamed. record {
       document = c.in_ok-document.document;
-      described = described g before;
-      words = right g before;
+      described =
+          subst (λ (file : List ℕ). IsDescribed (g.S.Shelf.may_give c.args.shelf.now) file c.in_ok-document.document)
+          (ap (λ r. r.file) c.request.view_is) c.in_ok-document.ensures.ok;
+      words = right g (goal.at.returns-clause-streamed g c).After-load_document;
       streamed = streamed;
     })
-    c.stream.ensures.streamed
+    c.stream_document.ensures.streamed
 
-pub returns-in-Ok-clause-cause : goal.returns-in-Ok-clause-cause
-returns-in-Ok-clause-cause g c =
-    let before = (goal.at.returns-in-Ok-clause-cause g c).After-load_document in
-    IfErr-weaker c.stream.result _ _
-    (λ cause unready. by_network (right g before) c.in_ok-document.document (described g before)
-    (no_device (g.S.Shelf.may_alias c.args.shelf.now) (g.S.Ports.may_share c.args.shelf.now) c.in_ok-document.document
-    (end_words_of c.args.request.now) cause unready))
-    c.stream.ensures.cause
-
-pub returns-in-Err-clause-cause : goal.returns-in-Err-clause-cause
-returns-in-Err-clause-cause g c =
-    let before = (goal.at.returns-in-Err-clause-cause g c).After-load_document in
-    let d = c.in_ok-document.document in
-    by_network (right g before) d (described g before)
-    (subst
-    (λ (words : EndWords).
-    IsUnstreamed (g.S.Shelf.may_alias c.args.shelf.now) (g.S.Ports.may_share c.args.shelf.now) d words
-    c.in-Err.refusal) c.in_ok-words.ensures.words.ends c.in-Err.ensures.cause)
+pub returns-clause-cause : goal.returns-clause-cause
+returns-clause-cause g c =
+    IfErr-weaker c.stream_document.result _ _
+    (λ cause unstreamed.
+    by_network (right g (goal.at.returns-clause-cause g c).After-load_document) c.in_ok-document.document
+    (subst (λ (file : List ℕ). IsDescribed (g.S.Shelf.may_give c.args.shelf.now) file c.in_ok-document.document)
+    (ap (λ r. r.file) c.request.view_is) c.in_ok-document.ensures.ok)
+    unstreamed)
+    c.stream_document.ensures.cause

@@ -3,12 +3,12 @@ use Rattle.std.proofs.Common.{◌≡◌, Bool, false, rules, sym, subst}
 use Rattle.std.specs.String.{string_bytes}
 use Rattle.kpn_command_stream.specs.Command.{IsSummaryMade, summary_with}
 use Rattle.kpn_command_stream.proofs.Ended.{text_told}
-use Rattle.kpn_command_stream.proofs.running.AskedStream.tell_summary.Goals as goal
+use Rattle.kpn_command_stream.proofs.concluding.tell_summary.Goals as goal
 
 pub returns : goal.returns
 returns g c = λ yes.
-    let summary = summary_with c.args.self.document.now c.args.over.now in
-    let loud : c.args.self.request.now.quiet ≡ false = search rules in
+    let summary = summary_with c.args.document.now c.args.over.now in
+    let loud : c.args.request.now.quiet ≡ false = search rules in
     subst
     (λ (quiet : Bool). IsSummaryMade g.E.Write.contents quiet c.args.ends summary c.args.err.now c.write_text.new.err)
     (sym loud)

@@ -1,7 +1,7 @@
 -- The first fault so far, and else the first of those to come. Nothing is told before it.
 use Rattle.std.proofs.Common.{◌≡◌, None, drop}
 use Rattle.kpn_command_stream.specs.Refusal.{first_status, lost_fault}
-use Rattle.kpn_command_stream.proofs.running.AskedStream.report_lost.Given as goal
+use Rattle.kpn_command_stream.proofs.concluding.report_lost.Given as goal
 
 abbrev pub invariant-loop-one : goal.invariant-loop-one
 invariant-loop-one g l = record {
