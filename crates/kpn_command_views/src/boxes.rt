@@ -179,7 +179,7 @@ impl ProcessRow {
         Bar { x, row, wide }
     }
 
-    // A wait from behind the latest tick to before this one, if something of it is shown.
+    // A wait from after the latest tick to before this one, if something of it is shown.
     fn push_wait(self, text: &mut String, kind: &str, what: &str, name: &str, tick: usize) -> Pushed
         requires drawable { IsDrawable self.scale }
         requires row { self.p < 2 ^ 16 }
@@ -192,7 +192,7 @@ impl ProcessRow {
         bar.push_wait(text, kind, what, name, self.latest + 1, end)
     }
 
-    // A wait from behind the latest tick to the one behind the last one, if something of it is shown.
+    // A wait from after the latest tick to the one after the last one, if something of it is shown.
     fn push_last_wait(
         self,
         text: &mut String,

@@ -22,7 +22,7 @@ use std::alloc::{AllocError, Global};
 /// The most ticks of a picture, and the most boxes and marks.
 const MOST_DRAWN: usize = 2_000;
 
-/// A run that is drawn: events of a network, which has the names of the document, and the waits behind them.
+/// A run that is drawn: events of a network, which has the names of the document, and the waits after them.
 #[derive(Clone, Copy)]
 pub(crate) struct DrawnRun<'a> {
     pub(crate) document: &'a Document,
