@@ -122,7 +122,9 @@ fn declaring_habit(
 
 // At another place.
 fn elsewhere_habit_of_two(last: &[u8], here: &[u8]) -> Option<Habit> {
-    if is_word(here, b"table") {
+    if is_word(last, b"for") {
+        Some(Habit::For)
+    } else if is_word(here, b"table") {
         Some(Habit::LateTable)
     } else if is_word(here, b"array") {
         Some(Habit::Outside)

@@ -3,8 +3,10 @@ mod Steps
 mod Folds
 mod Can
 mod PlainCapacities
+mod PlainLoops
 mod PlainSums
 mod SpelledCapacities
+mod SpelledLoops
 mod SpelledSums
 pub mod Plain
 pub mod PlainSpelling

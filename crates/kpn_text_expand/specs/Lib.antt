@@ -4,5 +4,6 @@ pub mod Declaration
 pub mod Constants
 pub mod Capacities
 pub mod Sums
+pub mod Loops
 pub mod Plain
 pub mod Expanding

@@ -45,7 +45,7 @@ impl<'a> Model for Name<'a> {
 
 impl<'a> Name<'a> {
     /// The name with these bytes.
-    pub(crate) fn new(bytes: &'a [u8]) -> Name<'a>
+    pub fn new(bytes: &'a [u8]) -> Name<'a>
         ensures { result ≡ bytes.now }
     {
         Name { bytes }
